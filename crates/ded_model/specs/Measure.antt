@@ -1,0 +1,124 @@
+-- What is measured of names, goals and plans: the greatest length b, the rank, the lines and the clashes.
+use Rattle.std.specs.Prelude.{◌≡◌, ℕ, ◌+◌, max, Bool, false, ◌||◌, List, [], ◌∷◌, ◌++◌, if◌then◌else◌}
+use Rattle.std.specs.Str.{bytes_eq}
+use Rattle.ded_model.specs.declared.name.Column.{Column}
+use Rattle.ded_model.specs.Logic.{rank, greatest}
+use Rattle.ded_model.specs.Form.{Form}
+use Rattle.ded_model.specs.Goal.{GoalAtom, linear, theme, member, GoalForm}
+use Rattle.ded_model.specs.PlanForm.{PlanAtom, scan, rows, PlanForm}
+use Rattle.ded_model.specs.Catalogue.{Entry, relation, view, Catalogue, entry_name, tuples_of}
+use Rattle.ded_model.specs.Slotted.{goal_of}
+use Rattle.ded_model.specs.Scanned.{Scanned, scanned, scanned_slots, tied_atoms, fresh_slots, rational_count}
+use Rattle.ded_model.specs.Width.{row_length, tuple_length, tuples_length, IsNarrowWith}
+use Rattle.ded_model.specs.Lines.{Line, row_lines, atoms_lines, tuples_lines, renamed_lines, elim_past_all, clash_past_all, lines, clashes}
+
+-- ---- names
+
+-- the greatest length of the rows that a name reaches, its rank, its lines, and whether these clash
+pub record Measure : Type 0 where
+  pub b : ℕ
+  pub rank : ℕ
+  pub lines : List Line
+  pub clash : Bool
+
+abbrev pub Measures : Type 0
+Measures = List ℕ → Measure
+
+-- ---- goals
+
+abbrev pub goal_atom_b : Measures → GoalAtom → ℕ
+goal_atom_b M (linear r) = row_length r
+goal_atom_b M (theme a) = 0
+goal_atom_b M (member n ts) = max (M n).b (tuple_length (tied_atoms (scanned ts)))
+
+-- a counting argument counts as a quantifier
+abbrev pub goal_atom_rank : Measures → GoalAtom → ℕ
+goal_atom_rank M (linear r) = 0
+goal_atom_rank M (theme a) = 0
+goal_atom_rank M (member n ts) = (M n).rank + rational_count (fresh_slots (scanned ts))
+
+-- the lines of a name, renamed, with those of the rows of the counting arguments
+abbrev pub scanned_lines : Measures → List ℕ → List Scanned → List Line
+scanned_lines M n gs = renamed_lines (scanned_slots gs) (M n).lines ++ atoms_lines (tied_atoms gs)
+
+-- the new slots are eliminated, the first argument first
+abbrev pub goal_atom_lines : Measures → GoalAtom → List Line
+goal_atom_lines M (linear r) = row_lines r
+goal_atom_lines M (theme a) = []
+goal_atom_lines M (member n ts) = elim_past_all (fresh_slots (scanned ts)) (scanned_lines M n (scanned ts))
+
+abbrev pub goal_atom_clash : Measures → GoalAtom → Bool
+goal_atom_clash M (linear r) = false
+goal_atom_clash M (theme a) = false
+goal_atom_clash M (member n ts) = (M n).clash || clash_past_all (fresh_slots (scanned ts)) (scanned_lines M n (scanned ts))
+
+abbrev pub goal_b : Measures → GoalForm → ℕ
+goal_b M g = greatest (goal_atom_b M) g
+
+abbrev pub goal_rank : Measures → GoalForm → ℕ
+goal_rank M g = rank (goal_atom_rank M) g
+
+abbrev pub goal_lines : Measures → GoalForm → List Line
+goal_lines M g = lines (goal_atom_lines M) g
+
+abbrev pub goal_clashes : Measures → GoalForm → Bool
+goal_clashes M g = clashes (goal_atom_lines M) (goal_atom_clash M) g
+
+-- ---- plans
+
+abbrev pub plan_atom_b : Measures → PlanAtom → ℕ
+plan_atom_b M (scan n ss) = (M n).b
+plan_atom_b M (rows t) = tuple_length t
+
+abbrev pub plan_atom_rank : Measures → PlanAtom → ℕ
+plan_atom_rank M (scan n ss) = (M n).rank
+plan_atom_rank M (rows t) = 0
+
+abbrev pub plan_atom_lines : Measures → PlanAtom → List Line
+plan_atom_lines M (scan n ss) = renamed_lines ss (M n).lines
+plan_atom_lines M (rows t) = atoms_lines t
+
+-- the scan of a name that clashes counts as a clash; over given relations no name does
+abbrev pub plan_atom_clash : Measures → PlanAtom → Bool
+plan_atom_clash M (scan n ss) = (M n).clash
+plan_atom_clash M (rows t) = false
+
+abbrev pub plan_b : Measures → PlanForm → ℕ
+plan_b M f = greatest (plan_atom_b M) f
+
+abbrev pub plan_rank : Measures → PlanForm → ℕ
+plan_rank M f = rank (plan_atom_rank M) f
+
+abbrev pub plan_lines : Measures → PlanForm → List Line
+plan_lines M f = lines (plan_atom_lines M) f
+
+abbrev pub plan_clashes : Measures → PlanForm → Bool
+plan_clashes M f = clashes (plan_atom_lines M) (plan_atom_clash M) f
+
+-- ---- catalogues
+
+-- a relation has the rows of its tuples and the rank 0; a view has what its goal has, over the entries before it
+abbrev pub entry_measure : Measures → Entry → Measure
+entry_measure M (relation n h m ts) = record { b = tuples_length (tuples_of ts); rank = 0; lines = tuples_lines (tuples_of ts); clash = false }
+entry_measure M (view n h f) = record { b = goal_b M (goal_of h f); rank = goal_rank M (goal_of h f); lines = goal_lines M (goal_of h f); clash = goal_clashes M (goal_of h f) }
+
+abbrev pub with_measure : Measures → Entry → Measures
+with_measure M e n = if bytes_eq n (entry_name e) then entry_measure M e else M n
+
+abbrev pub measures_from : Measures → List Entry → Measures
+measures_from M [] = M
+measures_from M (e ∷ es) = measures_from (with_measure M e) es
+
+-- of the names of a catalogue; a name that isn't defined has no rows
+unfoldable pub measures : Catalogue → Measures
+measures c = measures_from (λ n. record { b = 0; rank = 0; lines = []; clash = false }) c.entries
+
+-- ---- formulas over a heading, none for a closed one
+
+-- the lengths are narrow
+unfoldable pub IsNarrow : Catalogue → List Column → Form → Type 0
+IsNarrow c h f = IsNarrowWith (goal_b (measures c) (goal_of h f)) (goal_rank (measures c) (goal_of h f))
+
+-- no number that eliminating the quantifiers can make is too long
+unfoldable pub IsTight : Catalogue → List Column → Form → Type 0
+IsTight c h f = goal_clashes (measures c) (goal_of h f) ≡ false

@@ -1,0 +1,90 @@
+//! Commands, the languages in which they are read, and the causes for which a statement is refused.
+ghost use Rattle.std.specs.Prelude.{◌≡◌, IfOk};
+ghost use Rattle.ded_model.specs.Command.{command_form};
+
+use crate::formula::{Formula, copy_formulas};
+use crate::memory::NoMemory;
+use crate::name::{Heading, Name};
+
+/// The language of a statement. `One` is the plain one, `Two` has fractions and decimals. The first statement of a
+/// script is read in `Opening`, which is `One` with the header besides.
+#[derive(Clone, Copy, PartialEq, Eq, Debug)]
+pub enum Language {
+    Opening,
+    One,
+    Two,
+}
+
+/// A statement that is spelled.
+#[derive(Drop)]
+pub enum Command {
+    Relation(Name, Heading),
+    /// The formulas are comparisons.
+    Insert(Name, Vec<Formula>),
+    Delete(Name, u64),
+    Drop(Name),
+    View(Name, Heading, Formula),
+    Keep(Name),
+    Ask(Formula),
+    Query(Heading, Formula),
+    Show(Name),
+    BoxOf(Name),
+    Explain(Heading, Formula),
+}
+
+/// Why a statement is refused, in order of its number from 1.
+#[derive(Clone, Copy, PartialEq, Eq, Debug)]
+pub enum Refusal {
+    LongStatement,
+    Unfinished,
+    Syntax,
+    LongName,
+    LongNumber,
+    Deep,
+    Many,
+    Twice,
+    Unknown,
+    Taken,
+    Kind,
+    Arity,
+    Unbound,
+    WrongSort,
+    Used,
+    NoTuple,
+    Full,
+    Spent,
+    Level,
+    Wide,
+    Memory,
+}
+
+impl Command {
+    /// A command that stands for the same.
+    pub fn copy(&self) -> Result<Command, NoMemory>
+        ensures { IfOk result (λ c. command_form c ≡ command_form self.now) }
+    {
+        match self {
+            Command::Relation(name, heading) => {
+                Ok(Command::Relation(name.copy()?, heading.copy()?))
+            }
+            Command::Insert(name, formulas) => {
+                Ok(Command::Insert(name.copy()?, copy_formulas(formulas)?))
+            }
+            Command::Delete(name, number) => Ok(Command::Delete(name.copy()?, *number)),
+            Command::Drop(name) => Ok(Command::Drop(name.copy()?)),
+            Command::View(name, heading, formula) => {
+                Ok(Command::View(name.copy()?, heading.copy()?, formula.copy()?))
+            }
+            Command::Keep(name) => Ok(Command::Keep(name.copy()?)),
+            Command::Ask(formula) => Ok(Command::Ask(formula.copy()?)),
+            Command::Query(heading, formula) => {
+                Ok(Command::Query(heading.copy()?, formula.copy()?))
+            }
+            Command::Show(name) => Ok(Command::Show(name.copy()?)),
+            Command::BoxOf(name) => Ok(Command::BoxOf(name.copy()?)),
+            Command::Explain(heading, formula) => {
+                Ok(Command::Explain(heading.copy()?, formula.copy()?))
+            }
+        }
+    }
+}

@@ -1,0 +1,220 @@
+//! Formulas as the user writes them: variables by their names.
+ghost use Rattle.std.specs.Prelude.{◌≡◌, IfOk};
+ghost use Rattle.ded_model.specs.Form.{form, forms, uses, atom_uses};
+ghost use Rattle.ded_model.specs.Logic.{some_atom_of};
+
+use crate::memory::NoMemory;
+use crate::name::{Column, Name};
+use std::marker::Model;
+
+/// The sign of a comparison.
+#[derive(Clone, Copy, PartialEq, Eq, Debug)]
+pub enum CompareOp {
+    Less,
+    LessEq,
+    Equal,
+    NotEqual,
+    GreaterEq,
+    Greater,
+}
+
+/// Names with their coefficients, in order of first occurrence. Contracts see the list of the pairs.
+#[derive(Drop)]
+pub struct Parts {
+    pub list: Vec<(Name, i128)>,
+}
+
+impl Model for Parts {
+    ghost use Rattle.std.specs.Prelude.{List, ℕ, ℤ};
+
+    ghost Value = { List (List ℕ × ℤ) };
+
+    ghost view = { λ p. p.list.items };
+}
+
+/// A sum of names with coefficients and a constant, all of it over a common denominator of at least 1. All numbers
+/// have at most 112 binary digits.
+#[derive(Drop)]
+pub struct Term {
+    pub parts: Parts,
+    pub constant: i128,
+    pub over: i128,
+}
+
+impl Model for Term {
+    ghost use Rattle.ded_model.specs.Sum.{Sum};
+
+    ghost Value = { Sum };
+
+    ghost use Rattle.ded_model.specs.Sum.{IsSum};
+
+    ghost view = { λ t. record { parts = t.parts; constant = t.constant; over = t.over } };
+
+    ghost invariant = { λ t. IsSum (record { parts = t.parts; constant = t.constant; over = t.over }) };
+}
+
+/// What is compared, or given to a relation: one name, a sum, or a quoted text.
+#[derive(Drop)]
+pub enum Operand {
+    Single(Name),
+    Sum(Term),
+    Quoted(Name),
+}
+
+/// The operands of an atom, in order. Contracts see the list.
+#[derive(Drop)]
+pub struct Operands {
+    pub list: Vec<Operand>,
+}
+
+impl Model for Operands {
+    ghost use Rattle.std.specs.Prelude.{List};
+    ghost use Rattle.ded_model.specs.declared.formula.Operand.{Operand};
+
+    ghost Value = { List Operand };
+
+    ghost view = { λ p. p.list.items };
+}
+
+/// A first-order formula over comparisons and atoms of named relations and views.
+#[derive(Drop)]
+pub enum Formula {
+    True,
+    False,
+    Compare(Operand, CompareOp, Operand),
+    Member(Name, Operands),
+    Not(Box<Formula>),
+    And(Vec<Formula>),
+    Or(Vec<Formula>),
+    Implies(Box<Formula>, Box<Formula>),
+    Exists(Column, Box<Formula>),
+    Forall(Column, Box<Formula>),
+}
+
+impl Parts {
+    /// Equal parts.
+    pub fn copy(&self) -> Result<Parts, NoMemory>
+        ensures { IfOk result (λ p. p ≡ self.now) }
+    {
+        let mut list = Vec::with_capacity(*self.list.allocator(), self.list.len())?;
+        for part in &self.list {
+            list.push((part.0.copy()?, part.1))?;
+        }
+        Ok(Parts { list })
+    }
+}
+
+impl Term {
+    /// An equal sum.
+    pub fn copy(&self) -> Result<Term, NoMemory>
+        ensures { IfOk result (λ t. t ≡ self.now) }
+    {
+        Ok(Term {
+            parts: self.parts.copy()?,
+            constant: self.constant,
+            over: self.over,
+        })
+    }
+}
+
+impl Operand {
+    /// An equal operand.
+    pub fn copy(&self) -> Result<Operand, NoMemory>
+        ensures { IfOk result (λ t. t ≡ self.now) }
+    {
+        match self {
+            Operand::Single(name) => Ok(Operand::Single(name.copy()?)),
+            Operand::Sum(term) => Ok(Operand::Sum(term.copy()?)),
+            Operand::Quoted(text) => Ok(Operand::Quoted(text.copy()?)),
+        }
+    }
+}
+
+impl Operands {
+    /// Equal operands.
+    pub fn copy(&self) -> Result<Operands, NoMemory>
+        ensures { IfOk result (λ ts. ts ≡ self.now) }
+    {
+        let mut list = Vec::with_capacity(*self.list.allocator(), self.list.len())?;
+        for operand in &self.list {
+            list.push(operand.copy()?)?;
+        }
+        Ok(Operands { list })
+    }
+}
+
+impl Formula {
+    /// A formula that stands for the same.
+    #[cycle(copy)]
+    pub fn copy(&self) -> Result<Formula, NoMemory>
+        ensures { IfOk result (λ f. form f ≡ form self.now) }
+    {
+        match self {
+            Formula::True => Ok(Formula::True),
+            Formula::False => Ok(Formula::False),
+            Formula::Compare(left, op, right) => {
+                Ok(Formula::Compare(left.copy()?, *op, right.copy()?))
+            }
+            Formula::Member(name, operands) => Ok(Formula::Member(name.copy()?, operands.copy()?)),
+            Formula::Not(part) => Ok(Formula::Not(Box::new(*Box::allocator(part), part.copy()?)?)),
+            Formula::And(parts) => Ok(Formula::And(copy_formulas(parts)?)),
+            Formula::Or(parts) => Ok(Formula::Or(copy_formulas(parts)?)),
+            Formula::Implies(left, right) => Ok(Formula::Implies(
+                Box::new(*Box::allocator(left), left.copy()?)?,
+                Box::new(*Box::allocator(right), right.copy()?)?,
+            )),
+            Formula::Exists(column, part) => {
+                Ok(Formula::Exists(
+                    column.copy()?,
+                    Box::new(*Box::allocator(part), part.copy()?)?,
+                ))
+            }
+            Formula::Forall(column, part) => {
+                Ok(Formula::Forall(
+                    column.copy()?,
+                    Box::new(*Box::allocator(part), part.copy()?)?,
+                ))
+            }
+        }
+    }
+
+    /// Whether an atom of the formula has the name.
+    #[cycle(uses)]
+    pub fn uses(&self, name: &Name) -> bool
+        ensures { result ≡ uses name.now (form self.now) }
+    {
+        match self {
+            Formula::True | Formula::False | Formula::Compare(_, _, _) => false,
+            Formula::Member(member, _) => name.is_same(member),
+            Formula::Not(part) | Formula::Exists(_, part) | Formula::Forall(_, part) => {
+                part.uses(name)
+            }
+            Formula::And(parts) | Formula::Or(parts) => some_uses(parts, name),
+            Formula::Implies(left, right) => left.uses(name) || right.uses(name),
+        }
+    }
+}
+
+/// Formulas that stand for the same, one for each.
+#[cycle(copy)]
+pub fn copy_formulas(parts: &Vec<Formula>) -> Result<Vec<Formula>, NoMemory>
+    ensures { IfOk result (λ fs. forms fs.items ≡ forms parts.now.items) }
+{
+    let mut copies = Vec::with_capacity(*parts.allocator(), parts.len())?;
+    for part in parts {
+        copies.push(part.copy()?)?;
+    }
+    Ok(copies)
+}
+
+#[cycle(uses)]
+fn some_uses(parts: &Vec<Formula>, name: &Name) -> bool
+    ensures { result ≡ some_atom_of (atom_uses name.now) (forms parts.now.items) }
+{
+    for part in parts {
+        if part.uses(name) {
+            return true;
+        }
+    }
+    false
+}

@@ -1,0 +1,5 @@
+//! What all crates above rest on, as contracts of functions that do nothing: each law is proved once, here.
+
+pub mod deciding;
+pub mod lines;
+pub mod points;

@@ -1,0 +1,1 @@
+//! Every formula, goal and plan over every catalogue is decided at every point.

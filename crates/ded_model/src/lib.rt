@@ -1,0 +1,23 @@
+//! The plain data of the database, and what it means.
+//!
+//! The modules hold the data that flows from a script to its replies: names and headings, rows and text atoms,
+//! formulas and goals, plans, commands and answers. `specs/` says what the data means: points, when a row, a tuple, a
+//! formula, a goal or a plan holds at one, catalogues and the meaning of their names, normal forms, widths and lines.
+//! `laws` states what all crates above rest on, as contracts of functions that do nothing.
+//!
+//! It stands on `ded_num` for lengths and divisors and on `smallvec`, in which coefficients are kept. Every type that
+//! owns memory has `copy`, which gives an equal value or answers want of memory.
+#![tactic(auto)]
+
+pub mod answer;
+pub mod bound;
+pub mod command;
+pub mod formula;
+pub mod goal;
+pub mod laws;
+pub mod memory;
+pub mod name;
+pub mod plan;
+pub mod row;
+pub mod slot;
+pub mod tuple;

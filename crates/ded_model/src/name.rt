@@ -1,0 +1,86 @@
+//! Names and quoted texts, both seen as lists of bytes, and headings.
+ghost use Rattle.std.specs.Prelude.{◌≡◌, IfOk};
+ghost use Rattle.std.specs.Str.{bytes_eq};
+
+use crate::memory::NoMemory;
+use crate::slot::Sort;
+use std::marker::Model;
+
+/// The bytes of a name or of a text. Contracts see the list of the bytes.
+#[derive(Drop)]
+pub struct Name {
+    pub bytes: Vec<u8>,
+}
+
+impl Model for Name {
+    ghost use Rattle.std.specs.Prelude.{List, ℕ};
+
+    ghost Value = { List ℕ };
+
+    ghost view = { λ n. n.bytes.items };
+}
+
+impl Name {
+    /// An equal name.
+    pub fn copy(&self) -> Result<Name, NoMemory>
+        ensures { IfOk result (λ n. n ≡ self.now) }
+    {
+        Ok(Name {
+            bytes: self.bytes.clone()?,
+        })
+    }
+
+    /// Whether the bytes are the same.
+    pub fn is_same(&self, other: &Name) -> bool
+        ensures { result ≡ bytes_eq self.now other.now }
+    {
+        self.bytes.as_slice() == other.bytes.as_slice()
+    }
+}
+
+/// A column of a heading, or the variable of a quantifier.
+#[derive(Drop)]
+pub struct Column {
+    pub name: Name,
+    pub sort: Sort,
+}
+
+impl Column {
+    /// An equal column.
+    pub fn copy(&self) -> Result<Column, NoMemory>
+        ensures { IfOk result (λ c. c ≡ self.now) }
+    {
+        Ok(Column {
+            name: self.name.copy()?,
+            sort: self.sort,
+        })
+    }
+}
+
+/// The columns of a relation, a view or a query, in order. Contracts see the list of the columns.
+#[derive(Drop)]
+pub struct Heading {
+    pub columns: Vec<Column>,
+}
+
+impl Model for Heading {
+    ghost use Rattle.std.specs.Prelude.{List};
+    ghost use Rattle.ded_model.specs.declared.name.Column.{Column};
+
+    ghost Value = { List Column };
+
+    ghost view = { λ h. h.columns.items };
+}
+
+impl Heading {
+    /// An equal heading.
+    pub fn copy(&self) -> Result<Heading, NoMemory>
+        ensures { IfOk result (λ h. h ≡ self.now) }
+    {
+        let mut columns = Vec::with_capacity(*self.columns.allocator(), self.columns.len())?;
+        for column in &self.columns {
+            columns.push(column.copy()?)?;
+        }
+        Ok(Heading { columns })
+    }
+}

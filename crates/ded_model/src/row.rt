@@ -1,0 +1,188 @@
+//! Rows: sums of coefficients times slots, plus a constant, compared with zero.
+ghost use Rattle.std.specs.Prelude.{◌≡◌, ◌<◌, false, [], pos, IfOk, OnOk, OnErr, length, slice_set};
+ghost use Rattle.ded_num.specs.Length.{IsShort};
+ghost use Rattle.ded_model.specs.declared.slot.Slot.{Slot};
+ghost use Rattle.ded_model.specs.declared.slot.Sort.TheVariants.{Rat};
+ghost use Rattle.ded_model.specs.Coefs.{AreCoefs, coef_at, with_coef, place_of, is_taken};
+
+use crate::memory::NoMemory;
+use crate::slot::Slot;
+use smallvec::SmallVec;
+use std::alloc::Global;
+use std::marker::Model;
+
+/// How a sum is compared with zero: equal, at most, or below.
+#[derive(Clone, Copy, PartialEq, Eq, Debug)]
+pub enum RowOp {
+    Zero,
+    AtMost,
+    Below,
+}
+
+/// The coefficients of a row: rational slots with ascending numbers, each with a number that is not 0 and has at most
+/// 127 binary digits. Contracts see the list of the pairs. Up to four stand in the value itself.
+#[derive(Drop)]
+pub struct Coefs {
+    list: SmallVec<(Slot, i128), 4>,
+}
+
+impl Model for Coefs {
+    ghost use Rattle.std.specs.Prelude.{List, ℤ};
+    ghost use Rattle.ded_model.specs.declared.slot.Slot.{Slot};
+
+    ghost Value = { List (Slot × ℤ) };
+
+    ghost use Rattle.ded_model.specs.Coefs.{AreCoefs};
+
+    ghost view = { λ c. c.list.items };
+
+    ghost invariant = { λ c. AreCoefs c.list.items };
+}
+
+/// A linear constraint: the sum of the coefficients times the values of their slots, plus the constant, is equal to,
+/// at most or below zero. The constant has at most 127 binary digits.
+#[derive(Drop)]
+pub struct Row {
+    pub coefs: Coefs,
+    pub constant: i128,
+    pub op: RowOp,
+}
+
+impl Model for Row {
+    ghost use Rattle.ded_model.specs.Constraint.{LinearConstraint};
+
+    ghost Value = { LinearConstraint };
+
+    ghost use Rattle.ded_num.specs.Length.{IsShort};
+
+    ghost view = { λ r. record { coefs = r.coefs; constant = r.constant; op = r.op } };
+
+    ghost invariant = { λ r. IsShort r.constant };
+}
+
+impl Coefs {
+    /// No coefficients.
+    pub fn new(alloc: Global) -> Coefs
+        ensures { result ≡ [] }
+    {
+        Coefs {
+            list: SmallVec::new(alloc),
+        }
+    }
+
+    /// The coefficient of the slot, 0 where it has none.
+    pub fn at(&self, slot: Slot) -> i128
+        ensures value { result ≡ coef_at self.now slot }
+        ensures short { IsShort result }
+    {
+        coef_in(self.list(), slot)
+    }
+
+    /// The pairs of a slot and its coefficient.
+    pub fn list(&self) -> &[(Slot, i128)]
+        ensures value { result.now ≡ self.now }
+        ensures kept { AreCoefs self.now }
+    {
+        let _ = &self.list;
+        self.list.as_slice()
+    }
+
+    /// Sets the coefficient of a rational slot. 0 takes it away. On want of memory nothing is changed.
+    pub fn put(&mut self, slot: Slot, a: i128) -> Result<(), NoMemory>
+        requires rational { slot.sort ≡ Rat }
+        requires short { IsShort a }
+        ensures ok { OnOk result (self.new ≡ with_coef slot a self.old) }
+        ensures err { OnErr result (self.new ≡ self.old) }
+    {
+        let place = find(self.list(), slot);
+        if !place.taken {
+            return self.insert_at(place.at, slot, a);
+        }
+        if a == 0 {
+            let _ = self.list.remove(place.at);
+        } else {
+            set_entry(self.list.as_mut_slice(), place.at, (slot, a));
+        }
+        Ok(())
+    }
+
+    fn insert_at(&mut self, at: usize, slot: Slot, a: i128) -> Result<(), NoMemory>
+        requires rational { slot.sort ≡ Rat }
+        requires short { IsShort a }
+        requires place { at ≡ place_of slot self.old }
+        requires absent { is_taken slot self.old ≡ false }
+        ensures ok { OnOk result (self.new ≡ with_coef slot a self.old) }
+        ensures err { OnErr result (self.new ≡ self.old) }
+    {
+        if a != 0 {
+            self.list.insert(at, (slot, a))?;
+        }
+        Ok(())
+    }
+
+    /// Equal coefficients.
+    pub fn copy(&self) -> Result<Coefs, NoMemory>
+        ensures { IfOk result (λ c. c ≡ self.now) }
+    {
+        Ok(Coefs {
+            list: SmallVec::from_slice(*self.list.allocator(), self.list.as_slice())?,
+        })
+    }
+}
+
+impl Row {
+    /// An equal row.
+    pub fn copy(&self) -> Result<Row, NoMemory>
+        ensures { IfOk result (λ r. r ≡ self.now) }
+    {
+        Ok(Row {
+            coefs: self.coefs.copy()?,
+            constant: self.constant,
+            op: self.op,
+        })
+    }
+}
+
+/// Where a slot stands in a list, or would have to stand.
+#[derive(Clone, Copy)]
+struct Place {
+    /// The first place whose slot has no lesser number.
+    at: usize,
+    /// Whether the slot stands there.
+    taken: bool,
+}
+
+fn find(list: &[(Slot, i128)], slot: Slot) -> Place
+    ensures at { result.at ≡ place_of slot list.now }
+    ensures taken { result.taken ≡ is_taken slot list.now }
+{
+    let mut at = 0;
+    while at < list.len() && list[at].0.number < slot.number {
+        at += 1;
+    }
+    Place {
+        at,
+        taken: at < list.len() && list[at].0.is_same(slot),
+    }
+}
+
+/// The coefficient of the slot in a list.
+fn coef_in(list: &[(Slot, i128)], slot: Slot) -> i128
+    requires { AreCoefs list.now }
+    ensures value { result ≡ coef_at list.now slot }
+    ensures short { IsShort result }
+{
+    for (entry_slot, a) in list {
+        if entry_slot.is_same(slot) {
+            return *a;
+        }
+    }
+    0
+}
+
+fn set_entry(list: &mut [(Slot, i128)], at: usize, entry: (Slot, i128))
+    requires { at < length list.old }
+    ensures { list.new ≡ slice_set list.old at entry }
+{
+    list[at] = entry;
+}

@@ -1,0 +1,60 @@
+//! Slots: the columns and variables that rows, text atoms and plans speak of.
+ghost use Rattle.std.specs.Prelude.{◌≡◌, IfOk};
+ghost use Rattle.ded_model.specs.Point.{same_slot};
+
+use crate::memory::NoMemory;
+use std::marker::Model;
+
+/// What a column or a variable ranges over: rational numbers, or texts (finite byte strings).
+#[derive(Clone, Copy, PartialEq, Eq, Debug, Default)]
+pub enum Sort {
+    #[default]
+    Rat,
+    Text,
+}
+
+/// A numbered place for a value. In one relation or query two slots of one number have one sort.
+#[derive(Clone, Copy, PartialEq, Eq, Debug, Default)]
+pub struct Slot {
+    pub number: u32,
+    pub sort: Sort,
+}
+
+impl Slot {
+    /// Whether both slots have the same number and range over the same.
+    pub fn is_same(self, other: Slot) -> bool
+        ensures { result ≡ same_slot self other }
+    {
+        self == other
+    }
+}
+
+/// Slots of which no two are the same, as a scan reads a relation's columns into them. Contracts see the list.
+#[derive(Drop)]
+pub struct Slots {
+    pub list: Vec<Slot>,
+}
+
+impl Model for Slots {
+    ghost use Rattle.std.specs.Prelude.{List};
+    ghost use Rattle.ded_model.specs.declared.slot.Slot.{Slot};
+
+    ghost Value = { List Slot };
+
+    ghost use Rattle.ded_model.specs.Point.{AreDistinctSlots};
+
+    ghost view = { λ s. s.list.items };
+
+    ghost invariant = { λ s. AreDistinctSlots s.list.items };
+}
+
+impl Slots {
+    /// An equal list of slots.
+    pub fn copy(&self) -> Result<Slots, NoMemory>
+        ensures { IfOk result (λ s. s ≡ self.now) }
+    {
+        Ok(Slots {
+            list: self.list.clone()?,
+        })
+    }
+}

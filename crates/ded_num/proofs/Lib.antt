@@ -1,0 +1,4 @@
+pub mod Fractions
+pub mod Gcds
+pub mod Lengths
+pub mod Ring
