@@ -1,1 +1,26 @@
+pub mod Alike
+pub mod Atoms
+pub mod Classical
 pub mod CoefLemmas
+pub mod Computing
+pub mod Core
+pub mod Deciding
+pub mod Definable
+pub mod Eliminating
+pub mod Entries
+mod Examples
+pub mod Likeness
+pub mod Lists
+pub mod Logics
+pub mod Numbers
+pub mod Points
+pub mod Rows
+pub mod Sats
+pub mod Terms
+pub mod Texts
+pub mod Unused
+pub mod ValueForms
+pub mod Values
+mod WorkedPlans
+mod WorkedPoints
+mod WorkedRows

@@ -19,5 +19,6 @@ pub mod Row
 pub mod Scanned
 pub mod Slotted
 pub mod Sum
+pub mod Uses
 pub mod Value
 pub mod Width
