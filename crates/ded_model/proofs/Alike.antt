@@ -40,11 +40,13 @@ module _ {L : Type 0} (H H' : L → Point → Type 0) where
     Sat-alike (exists s k f) h p = (λ some. (some.0, some.1, (Sat-alike f h some.0).0 some.2), λ some. (some.0, some.1, (Sat-alike f h some.0).1 some.2))
     Sat-alike (forall s k f) h p = (λ every q x. (Sat-alike f h q).0 (every q x), λ every q x. (Sat-alike f h q).1 (every q x))
 
+    -- all of a list
     SatEvery-alike : (fs : Logics L) → AllAtomsOf (IsAlike H H') fs → (p : Point) → SatEvery H fs p ↔ SatEvery H' fs p
     SatEvery-alike none h p = iff_refl _
     SatEvery-alike (also f fs) h p =
         let e = Sat-alike f h.0 p in let e' = SatEvery-alike fs h.1 p in (λ s. (e.0 s.0, e'.0 s.1), λ s. (e.1 s.0, e'.1 s.1))
 
+    -- some of a list
     SatSome-alike : (fs : Logics L) → AllAtomsOf (IsAlike H H') fs → (p : Point) → SatSome H fs p ↔ SatSome H' fs p
     SatSome-alike none h p = iff_refl _
     SatSome-alike (also f fs) h p =
@@ -55,6 +57,7 @@ module _ {L : Type 0} (H H' : L → Point → Type 0) where
 -- formula uses has the fact
 module _ {L : Type 0} (test : List ℕ → L → Bool) (Fact : List ℕ → Type 0) (P : L → Type 0) (step : (a : L) → ((n : List ℕ) → test n a ≡ true → Fact n) → P a) where
   mutual
+    -- the law, of a formula
     pub all_atoms : (f : Logic L) → ((n : List ℕ) → some_atom (test n) f ≡ true → Fact n) → AllAtoms P f
     all_atoms (atom a) h = step a h
     all_atoms always h = tt
@@ -67,6 +70,7 @@ module _ {L : Type 0} (test : List ℕ → L → Bool) (Fact : List ℕ → Type
     all_atoms (exists s k f) h = all_atoms f h
     all_atoms (forall s k f) h = all_atoms f h
 
+    -- of a list
     all_atoms_of : (fs : Logics L) → ((n : List ℕ) → some_atom_of (test n) fs ≡ true → Fact n) → AllAtomsOf P fs
     all_atoms_of none h = tt
     all_atoms_of (also f fs) h = (all_atoms f (λ n e. h n (or_left _ _ e)), all_atoms_of fs (λ n e. h n (or_right (some_atom (test n) f) _ e)))
@@ -74,15 +78,18 @@ module _ {L : Type 0} (test : List ℕ → L → Bool) (Fact : List ℕ → Type
 -- ---- formulas, goals and plans
 
 -- what the atoms of each kind owe
+-- an atom of a formula holds alike over both catalogues where the names that it uses do
 form_step : (c d : Catalogue) (a : FormAtom) → ((n : List ℕ) → atom_uses n a ≡ true → MeansAlike c d n) → IsAlike (AtomHolds (meaning c)) (AtomHolds (meaning d)) a
 form_step c d (compare l op r) h p = iff_refl _
 form_step c d (member n ts) h p = h n ((bytes_eq-Decides n n).1 refl) _ _
 
+-- an atom of a goal
 goal_step : (c d : Catalogue) (a : GoalAtom) → ((n : List ℕ) → goal_atom_uses n a ≡ true → MeansAlike c d n) → IsAlike (GoalAtomHolds (meaning c)) (GoalAtomHolds (meaning d)) a
 goal_step c d (linear r) h p = iff_refl _
 goal_step c d (theme a) h p = iff_refl _
 goal_step c d (goal.member n ts) h p = h n ((bytes_eq-Decides n n).1 refl) _ _
 
+-- a scan or a list of atoms
 plan_step : (c d : Catalogue) (a : PlanAtom) → ((n : List ℕ) → plan_atom_uses n a ≡ true → MeansAlike c d n) → IsAlike (PlanAtomHolds (meaning c)) (PlanAtomHolds (meaning d)) a
 plan_step c d (scan n ss) h p = h n ((bytes_eq-Decides n n).1 refl) _ _
 plan_step c d (rows t) h p = iff_refl _

@@ -1,4 +1,5 @@
 pub mod Alike
+pub mod AtomSlots
 pub mod Atoms
 pub mod Classical
 pub mod CoefLemmas
@@ -6,12 +7,20 @@ pub mod Computing
 pub mod Core
 pub mod Deciding
 pub mod Definable
+pub mod Divisors
 pub mod Eliminating
 pub mod Entries
 mod Examples
+pub mod Growth
 pub mod Likeness
+pub mod LineCoefs
+pub mod LineFree
+pub mod LineLengths
+pub mod LineSlots
 pub mod Lists
 pub mod Logics
+pub mod Members
+pub mod Monotone
 pub mod Numbers
 pub mod Points
 pub mod Rows

@@ -27,6 +27,7 @@ pub same_key_refl : (k : Key) → same_key k k ≡ true
 same_key_refl (slot s) = grind (arith, same_sort_refl)
 same_key_refl (name x) = (bytes_eq-Decides x x).1 refl
 
+-- so is a slot
 pub same_slot_refl : (s : Slot) → same_slot s s ≡ true
 same_slot_refl s = same_key_refl (slot s)
 
@@ -41,11 +42,16 @@ same_sort_is Text Text h = refl
 slot_with : (a b : ℕ) (x y : Sort) → a ≡ b → x ≡ y → ◌≡◌ {A = Slot} (record { number = a; sort = x }) (record { number = b; sort = y })
 slot_with a b x y e f = rw (e, f)
 
--- the two parts of `and`, the first one a test of numbers
+-- two numbers that a test finds equal
 numbers_same : (a b : ℕ) (x : Bool) → ((a == b) && x) ≡ true → a ≡ b
 numbers_same a b x h = grind (arith, nat_tests)
 
-and_right : (x y : Bool) → (x && y) ≡ true → y ≡ true
+-- the parts of `and`
+pub and_left : (x y : Bool) → (x && y) ≡ true → x ≡ true
+and_left true y h = refl
+and_left false y h = absurd (true≢false (sym h))
+
+pub and_right : (x y : Bool) → (x && y) ≡ true → y ≡ true
 and_right true y h = h
 and_right false y h = absurd (true≢false (sym h))
 

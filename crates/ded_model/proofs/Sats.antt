@@ -25,6 +25,7 @@ use Rattle.ded_model.proofs.Values.{compare_holds-same, operand_value-same, slot
 
 -- ---- meanings that respect the same values
 
+-- the same arguments mean the same over any denominators
 pub record Respects (I : Meaning) : Type 0 where
   pub keeps : (n : List ℕ) (d d' : ℕ) (xs ys : List Argument) → 0 < d → 0 < d' → AreSameArguments d d' xs ys → I n d xs → I n d' ys
 
@@ -143,6 +144,7 @@ meaning_from-respects : (es : List Entry) (I : Meaning) → Respects I → Respe
 meaning_from-respects [] I R = R
 meaning_from-respects (e ∷ es) I R = meaning_from-respects es (with_entry I e) (with_entry-respects I R e)
 
+-- so the names of a catalogue respect values
 pub meaning-respects : (c : Catalogue) → Respects (meaning c)
 unfolding meaning
 meaning-respects c = meaning_from-respects c.entries (λ n d xs. ⊥) (record { keeps = λ n d d' xs ys i j same h. h })

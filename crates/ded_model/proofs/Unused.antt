@@ -27,6 +27,7 @@ extended : Sort → Point → Key → Point
 extended Rat p k = record { den = p.den * 1; coords = all_times 1 p.coords ++ (k, number (pos 0)) ∷ [] }
 extended Text p k = record { den = p.den; coords = p.coords ++ (k, text []) ∷ [] }
 
+-- it is one
 extended_is : (s : Sort) (p : Point) (k : Key) → IsExtension s p k (extended s p k)
 unfolding extended
 extended_is Rat p k = record { factor = 1; positive = omega arith; value = pos 0; den = refl; coords = refl }
@@ -52,6 +53,7 @@ module _ {L : Type 0} (H : L → Point → Type 0) (in_atom : L → Key → Bool
     λ h. (extended s p k, extended_is s p k, (extension f s k p (extended s p k) i n (extended_is s p k)).0 h),
   )
 
+  -- so does the other quantifier
   pub unused_forall : (f : Logic L) (s : Sort) (k : Key) (p : Point) → 0 < p.den → mentions in_atom f k ≡ false → Sat H (forall s k f) p ↔ Sat H f p
   unused_forall f s k p i n = (
     λ every. (extension f s k p (extended s p k) i n (extended_is s p k)).1 (every (extended s p k) (extended_is s p k)),

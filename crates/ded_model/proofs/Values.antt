@@ -33,6 +33,7 @@ use Rattle.ded_model.proofs.Rows.{sign_meets-same, step_law, row_law, sum_at-sam
 
 -- ---- the same value at two points, of the denominators d and d'
 
+-- the number over the other denominator, the own denominator and the text are the same
 pub record IsSameValue (d d' : ℕ) (v w : OperandValue) : Type 0 where
   pub number : v.number *ℤ pos d' ≡ w.number *ℤ pos d
   pub over : v.over ≡ w.over
@@ -52,9 +53,11 @@ swap_law n x y = rw (parts n, parts x, parts y) (simp ring (diff_same _ _ _ _ (o
 lt_by_sign : (a b : ℤ) → int_lt a b ≡ int_lt (a -ℤ b) (pos 0)
 lt_by_sign a b = grind (arith, ints)
 
+-- of at most
 le_by_sign : (a b : ℤ) → int_le a b ≡ int_le (a -ℤ b) (pos 0)
 le_by_sign a b = grind (arith, ints)
 
+-- of equality
 eq_by_sign : (a b : ℤ) → int_eq a b ≡ int_eq (a -ℤ b) (pos 0)
 eq_by_sign a b = same_from_decides _ _ (Decides-int_eq a b) (λ e. let z : a -ℤ b ≡ pos 0 = (Decides-int_eq _ _).0 e in omega (arith, ints), λ e. let z : a -ℤ b ≡ pos 0 = omega (arith, ints) in (Decides-int_eq _ _).1 z)
 
@@ -62,17 +65,21 @@ eq_by_sign a b = same_from_decides _ _ (Decides-int_eq a b) (λ e. let z : a -�
 sub_law : (a b : ℤ) (d : ℕ) → (a -ℤ b) *ℤ pos d ≡ a *ℤ pos d -ℤ b *ℤ pos d
 sub_law a b d = rw (parts a, parts b, diff-pos d) (simp ring (diff_same _ _ _ _ (omega arith)))
 
+-- differences of numbers over one denominator
 difference-same : (a b a' b' : ℤ) (d d' : ℕ) → a *ℤ pos d' ≡ a' *ℤ pos d → b *ℤ pos d' ≡ b' *ℤ pos d → (a -ℤ b) *ℤ pos d' ≡ (a' -ℤ b') *ℤ pos d
 difference-same a b a' b' d d' e f = sub_law a b d' ∙ rw (e, f) (sym (sub_law a' b' d))
 
 -- so are tests of two numbers over one denominator those of the same two over another
 module _ (a b a' b' : ℤ) (d d' : ℕ) (h : 0 < d) (k : 0 < d') (e : a *ℤ pos d' ≡ a' *ℤ pos d) (f : b *ℤ pos d' ≡ b' *ℤ pos d) where
+  -- less
   int_lt-same : int_lt a b ≡ int_lt a' b'
   int_lt-same = lt_by_sign a b ∙ sign_meets-same Below (a -ℤ b) (a' -ℤ b') d d' h k (difference-same a b a' b' d d' e f) ∙ sym (lt_by_sign a' b')
 
+  -- at most
   int_le-same : int_le a b ≡ int_le a' b'
   int_le-same = le_by_sign a b ∙ sign_meets-same AtMost (a -ℤ b) (a' -ℤ b') d d' h k (difference-same a b a' b' d d' e f) ∙ sym (le_by_sign a' b')
 
+  -- equal
   int_eq-same : int_eq a b ≡ int_eq a' b'
   int_eq-same = eq_by_sign a b ∙ sign_meets-same Zero (a -ℤ b) (a' -ℤ b') d d' h k (difference-same a b a' b' d d' e f) ∙ sym (eq_by_sign a' b')
 
@@ -83,15 +90,19 @@ crosswise-same d d' v w v' w' e f =
 
 -- two values compare alike at both points
 module _ (d d' : ℕ) (i : 0 < d) (j : 0 < d') (v w v' w' : OperandValue) (e : IsSameValue d d' v v') (f : IsSameValue d d' w w') where
+  -- the number of the first
   vw : crosswise v w *ℤ pos d' ≡ crosswise v' w' *ℤ pos d
   vw = crosswise-same d d' v w v' w' e f
 
+  -- of the second
   wv : crosswise w v *ℤ pos d' ≡ crosswise w' v' *ℤ pos d
   wv = crosswise-same d d' w v w' v' f e
 
+  -- they are the same value at both points or at none
   both : is_same_value v w ≡ is_same_value v' w'
   both = rw (int_eq-same (crosswise v w) (crosswise w v) (crosswise v' w') (crosswise w' v') d d' i j vw wv, e.text, f.text)
 
+  -- each comparison
   values_compare-same : (op : CompareOp) → values_compare v op w ≡ values_compare v' op w'
   values_compare-same Less = int_lt-same (crosswise v w) (crosswise w v) (crosswise v' w') (crosswise w' v') d d' i j vw wv
   values_compare-same LessEq = int_le-same (crosswise v w) (crosswise w v) (crosswise v' w') (crosswise w' v') d d' i j vw wv
@@ -137,6 +148,7 @@ sorted_value-same : (s : Sort) (m n : ℤ) (t u : List ℕ) (d d' : ℕ) → m *
 sorted_value-same Rat m n t u d d' e f = record { number = e; over = refl; text = refl }
 sorted_value-same Text m n t u d d' e f = record { number = zeros d d'; over = refl; text = f }
 
+-- a slot has the same value
 pub slot_value-same : (s : Slot) (p q : Point) → IsSameAt p q (slot s) → IsSameValue p.den q.den (slot_value p s) (slot_value q s)
 slot_value-same s p q h = sorted_value-same s.sort _ _ _ _ p.den q.den h.number h.text
 
@@ -148,12 +160,14 @@ place_value-same (place.Quoted t) p q h = record { number = zeros p.den q.den; o
 
 -- ---- arguments
 
+-- value by value
 abbrev pub AreSameValues : ℕ → ℕ → List OperandValue → List OperandValue → Type 0
 AreSameValues d d' [] [] = Unit {0}
 AreSameValues d d' [] (w ∷ ws) = ⊥
 AreSameValues d d' (v ∷ vs) [] = ⊥
 AreSameValues d d' (v ∷ vs) (w ∷ ws) = IsSameValue d d' v w × AreSameValues d d' vs ws
 
+-- arguments over the denominators d and d'
 abbrev pub AreSameArguments : ℕ → ℕ → List Argument → List Argument → Type 0
 AreSameArguments d d' [] [] = Unit {0}
 AreSameArguments d d' [] (b ∷ bs) = ⊥
@@ -201,6 +215,7 @@ numbers-same d d' (v ∷ vs) (w ∷ ws) h = (
   times-same d d' v.over w.over (arguments vs) (arguments ws) h.0.over (numbers-same d d' vs ws h.1),
 )
 
+-- over the denominators times those of the values
 pub arguments-same : (d d' : ℕ) (vs ws : List OperandValue) → AreSameValues d d' vs ws → AreSameArguments (d * overs vs) (d' * overs ws) (arguments vs) (arguments ws)
 arguments-same d d' vs ws h = over-same d d' (overs vs) (overs ws) (arguments vs) (arguments ws) (overs-same d d' vs ws h) (numbers-same d d' vs ws h)
 
@@ -224,6 +239,7 @@ pub denominator-positive : (over : ℤ) → 0 < denominator over
 unfolding denominator
 denominator-positive over = omega arith
 
+-- of an operand
 pub operand_value-positive : (p : Point) (t : Operand) → 0 < (operand_value t p).over
 operand_value-positive p (Single x) = omega arith
 operand_value-positive p (Sum t) = denominator-positive t.over
@@ -234,9 +250,11 @@ sorted : (s : Sort) (n : ℤ) (t : List ℕ) → 0 < (sorted_value s n t).over
 sorted Rat n t = omega arith
 sorted Text n t = omega arith
 
+-- of a slot
 pub slot_value-positive : (p : Point) (s : Slot) → 0 < (slot_value p s).over
 slot_value-positive p s = sorted s.sort (number_at p (slot s)) (text_at p (slot s))
 
+-- of a place
 pub place_value-positive : (p : Point) (t : Place) → 0 < (place_value t p).over
 place_value-positive p (place.At s) = slot_value-positive p s
 place_value-positive p (place.Value t) = denominator-positive t.over

@@ -6,6 +6,7 @@ pub mod Command
 pub mod Constraint
 pub mod Form
 pub mod Goal
+pub mod Grown
 pub mod Interval
 pub mod Known
 pub mod Lines
@@ -15,6 +16,8 @@ pub mod Normal
 pub mod PlanForm
 pub mod Point
 pub mod Pushed
+pub mod Rational
+pub mod Refusals
 pub mod Row
 pub mod Scanned
 pub mod Slotted

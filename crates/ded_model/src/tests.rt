@@ -78,7 +78,11 @@ fn data_is_copied(rt: HostRuntime) -> Result<(), Fail> {
     let copy = answer.copy()?;
     assert_eq!(rt; copy.tuples.list.len(), 1);
     assert_eq!(rt; copy.heading.columns.len(), 1);
-    assert!(rt; copy.heading.columns[0].name.is_same(&answer.heading.columns[0].name));
+    assert!(rt;
+        copy.heading.columns[0]
+            .name
+            .is_same(&answer.heading.columns[0].name)
+    );
     let third = Frac { num: 1, den: 3 };
     let mut list = Vec::new(alloc);
     list.push((Bound::Infinite, Bound::Excluded(third)))?;
@@ -121,9 +125,19 @@ fn quantified(alloc: Global, bytes: &[u8]) -> Result<Formula, NoMemory> {
     let mut parts = Vec::new(alloc);
     parts.push(member_of(alloc, bytes)?)?;
     parts.push(Formula::Not(Box::new(alloc, Formula::False)?))?;
-    parts.push(Formula::Compare(half_of(alloc, b"x")?, CompareOp::Less, half_of(alloc, b"y")?))?;
+    parts.push(Formula::Compare(
+        half_of(alloc, b"x")?,
+        CompareOp::Less,
+        half_of(alloc, b"y")?,
+    ))?;
     let every = Box::new(alloc, Formula::And(parts))?;
-    Ok(Formula::Exists(column, Box::new(alloc, Formula::Implies(every, Box::new(alloc, Formula::True)?))?))
+    Ok(Formula::Exists(
+        column,
+        Box::new(
+            alloc,
+            Formula::Implies(every, Box::new(alloc, Formula::True)?),
+        )?,
+    ))
 }
 
 #[test]
@@ -186,10 +200,17 @@ fn goals_and_plans_are_copied(rt: HostRuntime) -> Result<(), Fail> {
         BothAtom::First(row) => assert_eq!(rt; row.constant, -4),
         BothAtom::Second(_) => assert!(rt; false),
     }
-    let scan = Plan::Scan(name_of(alloc, b"Land")?, Slots { list: Vec::new(alloc) });
+    let scan = Plan::Scan(
+        name_of(alloc, b"Land")?,
+        Slots {
+            list: Vec::new(alloc),
+        },
+    );
     let mut parts = Vec::new(alloc);
     parts.push(scan)?;
-    parts.push(Plan::Rows(Tuple { atoms: Vec::new(alloc) }))?;
+    parts.push(Plan::Rows(Tuple {
+        atoms: Vec::new(alloc),
+    }))?;
     let plan = Plan::Project(rational(0), Box::new(alloc, Plan::Join(parts))?);
     match plan.copy()? {
         Plan::Project(slot, _) => assert_eq!(rt; slot, rational(0)),

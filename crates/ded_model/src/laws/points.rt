@@ -19,7 +19,7 @@ ghost use Rattle.ded_model.specs.Uses.{MeansAlike, goal_uses, plan_uses};
 
 /// A row, a text atom, an atom, a tuple and a list of tuples hold alike at two points that have the same values at the
 /// slots that they mention.
-pub fn tests()
+pub fn constraints()
     ensures row { (r : LinearConstraint) (p q : Point) → 0 < p.den → 0 < q.den
         → ((s : Slot) → row_mentions r s ≡ true → IsSameAt p q (slot s)) → row_holds r p ≡ row_holds r q }
     ensures text { (a : ThemeAtom) (p q : Point)

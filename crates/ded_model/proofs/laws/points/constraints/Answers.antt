@@ -1,5 +1,5 @@
 use Rattle.ded_model.proofs.Rows.{row_holds-same, theme_holds-same, atom_holds-same, tuple_holds-same, tuples_hold-same}
-use Rattle.ded_model.proofs.laws.points.tests.Goals as goal
+use Rattle.ded_model.proofs.laws.points.constraints.Goals as goal
 
 pub returns-clause-row : goal.returns-clause-row
 returns-clause-row c = row_holds-same

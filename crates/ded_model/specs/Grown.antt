@@ -1,0 +1,18 @@
+-- Catalogues that differ in the tuples of their relations, of which the one has at least the lines of the other.
+use Rattle.std.specs.Prelude.{◌≡◌, List, [], ◌∷◌}
+use Rattle.ded_model.specs.Catalogue.{Entry, relation, view, tuples_of}
+use Rattle.ded_model.specs.Lines.{IsSubset, tuples_lines}
+
+-- a relation of the same name whose tuples have at least the lines, or the same view
+abbrev pub HasMoreLines : Entry → Entry → Type 0
+HasMoreLines (relation n h m ts) (relation n' h' m' ts') = (n ≡ n') × IsSubset (tuples_lines (tuples_of ts)) (tuples_lines (tuples_of ts'))
+HasMoreLines (relation n h m ts) (view n' h' f') = ⊥
+HasMoreLines (view n h f) (relation n' h' m' ts') = ⊥
+HasMoreLines (view n h f) (view n' h' f') = (n ≡ n') × (h ≡ h') × (f ≡ f')
+
+-- entry by entry
+abbrev pub HaveMoreLines : List Entry → List Entry → Type 0
+HaveMoreLines [] [] = Unit {0}
+HaveMoreLines [] (d ∷ ds) = ⊥
+HaveMoreLines (e ∷ es) [] = ⊥
+HaveMoreLines (e ∷ es) (d ∷ ds) = HasMoreLines e d × HaveMoreLines es ds
