@@ -1,0 +1,4 @@
+pub mod Causes
+pub mod Devices
+pub mod InMemory
+pub mod Standard

@@ -1,0 +1,65 @@
+//! What a source and a sink promise, and `send`.
+ghost use Rattle.std.specs.Prelude.{◌≡◌, [], List, ℕ, Ok};
+ghost use Rattle.std.specs.Io.{ReadsAtMost};
+ghost use Rattle.std.specs.Io.KnownBytes.{ReadConsumes, WriteAppends};
+ghost use Rattle.std.specs.declared.option.Option.{Option};
+ghost use Rattle.ded_io.specs.Causes.{HasCause};
+ghost use Rattle.ded_io.specs.Devices.{TakesSome, AddsAll};
+
+/// The device failed at this call, and nothing was given or taken.
+///
+/// Its count of faults rose, or stands at 2^64-1, where a counter of 64 bits stays.
+#[derive(Clone, Copy, Debug, PartialEq, Eq)]
+pub struct Failed;
+
+/// Where bytes come from.
+pub trait Source {
+    /// The bytes that are left, where it tells them.
+    ghost left: { Self → Option (List ℕ) };
+
+    /// How many faults it has counted. A call never lowers this.
+    ghost faults: { Self → ℕ };
+
+    /// Gives the next bytes into the front of `into`, and answers how many.
+    ///
+    /// 0 into a buffer that isn't empty is the end of the input.
+    /// `Failed` comes only where the count of faults rose, and then nothing was taken.
+    fn read(&mut self, into: &mut [u8]) -> Result<usize, Failed>
+        ensures bound { ReadsAtMost result into.new }
+        ensures bytes { ReadConsumes (left self.old) (left self.new) result into.new }
+        ensures cause { HasCause (faults self.old) (faults self.new) result };
+}
+
+/// Where bytes go.
+pub trait Sink {
+    /// The bytes that it holds, where it tells them.
+    ghost held: { Self → Option (List ℕ) };
+
+    /// How many faults it has counted. A call never lowers this.
+    ghost faults: { Self → ℕ };
+
+    /// Takes at least the first of the bytes, and at most all, and answers how many.
+    ///
+    /// Of an empty piece it answers 0.
+    /// `Failed` comes only where the count of faults rose, and then nothing was taken.
+    fn write(&mut self, bytes: &[u8]) -> Result<usize, Failed>
+        ensures bound { TakesSome result bytes.now }
+        ensures empty { bytes.now ≡ [] → result ≡ Ok 0 }
+        ensures bytes { WriteAppends (held self.old) (held self.new) result bytes.now }
+        ensures cause { HasCause (faults self.old) (faults self.new) result };
+}
+
+/// Writes all of the bytes, in as many pieces as the sink takes them.
+///
+/// `Failed` comes only where the sink's count of faults rose, and then it holds a front of the bytes.
+pub fn send<K: Sink>(sink: &mut K, bytes: &[u8]) -> Result<(), Failed>
+    ensures bytes { AddsAll (K.held sink.old) (K.held sink.new) result bytes.now }
+    ensures cause { HasCause (K.faults sink.old) (K.faults sink.new) result }
+{
+    let mut rest = bytes;
+    while !rest.is_empty() {
+        let taken = sink.write(rest)?;
+        rest = &rest[taken..];
+    }
+    Ok(())
+}

@@ -1,0 +1,14 @@
+pub mod Cases
+pub mod Walk
+pub mod Finds
+pub mod Blanks
+pub mod Cuts
+pub mod Feeding
+pub mod Counting
+pub mod Rests
+pub mod Signs
+pub mod FrontReads
+pub mod TokenLists
+pub mod Spans
+pub mod Said
+pub mod BlankTokens

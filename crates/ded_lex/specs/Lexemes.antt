@@ -1,0 +1,83 @@
+-- Words, numbers, quoted texts and signs.
+use Rattle.std.specs.Prelude.{◌≡◌, ◌⊎◌, ℕ, Bool, true, false, List, [], ◌∷◌, ◌++◌, if◌then◌else◌, ◌==◌, ◌&&◌, ◌||◌, nat_le, codes}
+use Rattle.std.specs.List.{AllByRecursion}
+
+-- 0 to 9
+abbrev pub digit_byte : ℕ → Bool
+digit_byte b = nat_le 48 b && nat_le b 57
+
+-- A to Z, a to z and _
+abbrev pub letter_byte : ℕ → Bool
+letter_byte b = (nat_le 65 b && nat_le b 90) || ((nat_le 97 b && nat_le b 122) || (b == 95))
+
+abbrev pub word_byte : ℕ → Bool
+word_byte b = letter_byte b || digit_byte b
+
+-- what may stand between quotes: no control character
+abbrev pub text_byte : ℕ → Bool
+text_byte b = (nat_le 32 b && nat_le b 126) || (nat_le 128 b && nat_le b 255)
+
+-- A word by its bytes, a number by its digits, a quoted text by its value, and a sign by its bytes.
+pub data Lexeme : Type 0 where
+  Word : List ℕ → Lexeme
+  Number : List ℕ → Lexeme
+  Quoted : List ℕ → Lexeme
+  Sign : List ℕ → Lexeme
+
+-- each quote (39) twice
+abbrev pub doubled : List ℕ → List ℕ
+doubled [] = []
+doubled (b ∷ bs) = if b == 39 then 39 ∷ 39 ∷ doubled bs else b ∷ doubled bs
+
+abbrev pub lexeme_bytes : Lexeme → List ℕ
+lexeme_bytes (Word bs) = bs
+lexeme_bytes (Number digits) = digits
+lexeme_bytes (Quoted value) = 39 ∷ doubled value ++ 39 ∷ []
+lexeme_bytes (Sign bs) = bs
+
+-- each byte passes the test
+abbrev pub Each : (ℕ → Bool) → List ℕ → Type 0
+Each test = AllByRecursion (λ b. test b ≡ true)
+
+-- the bytes begin with one that passes the test
+abbrev pub BeginsWith : (ℕ → Bool) → List ℕ → Type 0
+BeginsWith test [] = ⊥
+BeginsWith test (b ∷ bs) = test b ≡ true
+
+-- the bytes don't begin with one that passes the test
+abbrev pub BeginsNot : (ℕ → Bool) → List ℕ → Type 0
+BeginsNot test [] = Unit {0}
+BeginsNot test (b ∷ bs) = test b ≡ false
+
+abbrev pub equals_byte : ℕ → Bool
+equals_byte b = b == 61
+
+abbrev pub dash_byte : ℕ → Bool
+dash_byte b = b == 45
+
+abbrev pub quote_byte : ℕ → Bool
+quote_byte b = b == 39
+
+abbrev pub IsOneOf : List ℕ → List (List ℕ) → Type 0
+IsOneOf bs [] = ⊥
+IsOneOf bs (xs ∷ rest) = (bs ≡ xs) ⊎ IsOneOf bs rest
+
+-- signs that no longer sign begins with
+abbrev pub lone_signs : List (List ℕ)
+lone_signs = codes "(" ∷ codes ")" ∷ codes "{" ∷ codes "}" ∷ codes "," ∷ codes "=" ∷ codes "+" ∷ codes "*" ∷ codes ":=" ∷ codes "<=" ∷ codes ">=" ∷ codes "!=" ∷ []
+
+-- signs that an = makes longer
+abbrev pub open_signs : List (List ℕ)
+open_signs = codes ":" ∷ codes "<" ∷ codes ">" ∷ []
+
+-- The longest sign, where these bytes come next. Two dashes begin a comment.
+abbrev pub IsSign : List ℕ → List ℕ → Type 0
+IsSign bs next =
+    IsOneOf bs lone_signs ⊎ (IsOneOf bs open_signs × BeginsNot equals_byte next) ⊎ ((bs ≡ codes "-") × BeginsNot dash_byte next)
+
+-- The longest lexeme, where these bytes come next. A digit that a letter or _ follows is in none.
+abbrev pub IsLexeme : Lexeme → List ℕ → Type 0
+IsLexeme (Word bs) next = BeginsWith letter_byte bs × Each word_byte bs × BeginsNot word_byte next
+IsLexeme (Number digits) next = BeginsWith digit_byte digits × Each digit_byte digits × BeginsNot word_byte next
+IsLexeme (Quoted value) next = Each text_byte value × BeginsNot quote_byte next
+IsLexeme (Sign bs) next = IsSign bs next
