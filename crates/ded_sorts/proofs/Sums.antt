@@ -1,0 +1,159 @@
+-- Sums of slots at a point, and the row of a comparison of two sums.
+--
+-- Putting a number at a slot adds it times the slot's number to the sum, and leaving zeros out changes no sum. So the sum of
+-- the row of `l - r` is the difference of the two values, each over the denominators of both (`difference_at`), and its sign
+-- says how they compare (`sums_mean`).
+use Rattle.std.proofs.Common.{◌≡◌, ◌<◌, nat_lt, Bool, true, false, not, ◌&&◌, cond, List, [], ◌∷◌, arith, refl, sym, ap, ◌∙◌, true≢false}
+use Rattle.std.specs.Prelude.{ℤ, pos, ◌+ℤ◌, ◌-ℤ◌, ◌*ℤ◌, int_lt, int_le, ◌↔◌, IsTrue}
+use lib.IntN.{neg_ℤ, +ℤ_idr}
+use Rattle.std.specs.Ordering.{int_eq}
+use Rattle.std.proofs.lemmas.Int.{ints}
+use Rattle.std.proofs.lemmas.Bool.Decides.{same_from_decides, Decides-int_eq}
+use Rattle.ded_num.proofs.Ring.{parts, ring, diff-pos, diff_same}
+use Rattle.ded_model.specs.declared.slot.Slot.{Slot}
+use Rattle.ded_model.specs.declared.row.RowOp.{RowOp}
+use Rattle.ded_model.specs.declared.row.RowOp.TheVariants.{Zero, AtMost, Below}
+use Rattle.ded_model.specs.declared.formula.CompareOp.{CompareOp}
+use Rattle.ded_model.specs.declared.formula.CompareOp.TheVariants.{Less, LessEq, Equal, NotEqual, GreaterEq, Greater}
+use Rattle.ded_model.specs.Point.{slot, Point, number_at, same_slot}
+use Rattle.ded_model.specs.Sum.{SlotSum, denominator}
+use Rattle.ded_model.specs.Coefs.{put, put_all, mixed, nonzero}
+use Rattle.ded_model.specs.Row.{sum_at, row_at, sign_meets, row_holds}
+use Rattle.ded_model.specs.Normal.{normal_row}
+use Rattle.ded_model.specs.Logic.{Sat}
+use Rattle.ded_model.specs.Goal.{GoalAtomHolds}
+use Rattle.ded_model.specs.Value.{OperandValue, crosswise, is_same_value, values_compare, Meaning}
+use Rattle.ded_model.specs.Slotted.{difference_row, sums_goal}
+use Rattle.ded_model.proofs.Points.{same_slot_is}
+use Rattle.ded_sorts.proofs.Normals.{normal_row-holds}
+
+-- ---- sums of lists
+
+-- more of a coefficient that is there
+more_law : (z c x r : ℤ) → (z +ℤ c) *ℤ x +ℤ r ≡ z *ℤ x +ℤ (c *ℤ x +ℤ r)
+more_law z c x r = rw (parts z, parts c, parts x, parts r) (simp ring (diff_same _ _ _ _ (omega arith)))
+
+-- a number goes past another one
+past_law : (x y r : ℤ) → y +ℤ (x +ℤ r) ≡ x +ℤ (y +ℤ r)
+past_law x y r = omega (arith, ints)
+
+-- one place of the list
+put_step : (s : Slot) (z : ℤ) (c : Slot × ℤ) (cs : List (Slot × ℤ)) (p : Point) (b b' : Bool) → same_slot c.0 s ≡ b
+    → sum_at (put s z cs) p ≡ z *ℤ number_at p (slot s) +ℤ sum_at cs p
+    → sum_at (cond b ((c.0, z +ℤ c.1) ∷ cs) (cond b' ((s, z) ∷ c ∷ cs) (c ∷ put s z cs))) p ≡ z *ℤ number_at p (slot s) +ℤ (c.1 *ℤ number_at p (slot c.0) +ℤ sum_at cs p)
+put_step s z c cs p true b' e ih =
+    more_law z c.1 (number_at p (slot c.0)) (sum_at cs p) ∙ ap (λ t. z *ℤ number_at p (slot t) +ℤ (c.1 *ℤ number_at p (slot c.0) +ℤ sum_at cs p)) (same_slot_is c.0 s e)
+put_step s z c cs p false true e ih = refl
+put_step s z c cs p false false e ih = ap (λ w. c.1 *ℤ number_at p (slot c.0) +ℤ w) ih ∙ past_law (z *ℤ number_at p (slot s)) (c.1 *ℤ number_at p (slot c.0)) (sum_at cs p)
+
+-- a number more at a slot
+pub sum_at-put : (s : Slot) (z : ℤ) (cs : List (Slot × ℤ)) (p : Point) → sum_at (put s z cs) p ≡ z *ℤ number_at p (slot s) +ℤ sum_at cs p
+sum_at-put s z [] p = refl
+sum_at-put s z (c ∷ cs) p = put_step s z c cs p (same_slot c.0 s) (nat_lt s.number c.0.number) refl (sum_at-put s z cs p)
+
+-- a multiple of a product and of the rest
+times_law : (k c x s y : ℤ) → (k *ℤ c) *ℤ x +ℤ (k *ℤ s +ℤ y) ≡ k *ℤ (c *ℤ x +ℤ s) +ℤ y
+times_law k c x s y = rw (parts k, parts c, parts x, parts s, parts y) (simp ring (diff_same _ _ _ _ (omega arith)))
+
+-- nothing, multiplied
+none_law : (k y : ℤ) → y ≡ k *ℤ pos 0 +ℤ y
+none_law k y = rw (parts k, parts y, diff-pos 0) (simp ring (diff_same _ _ _ _ (omega arith)))
+
+-- the multiples of a list more
+pub sum_at-put_all : (k : ℤ) (cs ys : List (Slot × ℤ)) (p : Point) → sum_at (put_all k cs ys) p ≡ k *ℤ sum_at cs p +ℤ sum_at ys p
+sum_at-put_all k [] ys p = none_law k (sum_at ys p)
+sum_at-put_all k (c ∷ cs) ys p =
+    sum_at-put c.0 (k *ℤ c.1) (put_all k cs ys) p ∙ ap (λ w. (k *ℤ c.1) *ℤ number_at p (slot c.0) +ℤ w) (sum_at-put_all k cs ys p)
+    ∙ times_law k c.1 (number_at p (slot c.0)) (sum_at cs p) (sum_at ys p)
+
+-- two lists
+pub sum_at-mixed : (k : ℤ) (xs : List (Slot × ℤ)) (m : ℤ) (ys : List (Slot × ℤ)) (p : Point) → sum_at (mixed k xs m ys) p ≡ k *ℤ sum_at xs p +ℤ m *ℤ sum_at ys p
+sum_at-mixed k xs m ys p = sum_at-put_all k xs (put_all m ys []) p ∙ ap (λ w. k *ℤ sum_at xs p +ℤ w) (sum_at-put_all m ys [] p ∙ +ℤ_idr (m *ℤ sum_at ys p))
+
+-- a product with 0
+skip_law : (x r : ℤ) → r ≡ pos 0 *ℤ x +ℤ r
+skip_law x r = rw (parts x, parts r, diff-pos 0) (simp ring (diff_same _ _ _ _ (omega arith)))
+
+-- one place of the list
+nonzero_step : (c : Slot × ℤ) (cs : List (Slot × ℤ)) (p : Point) (b : Bool) → int_eq c.1 (pos 0) ≡ b → sum_at (nonzero cs) p ≡ sum_at cs p
+    → sum_at (cond b (nonzero cs) (c ∷ nonzero cs)) p ≡ c.1 *ℤ number_at p (slot c.0) +ℤ sum_at cs p
+nonzero_step c cs p true e ih = ih ∙ skip_law (number_at p (slot c.0)) (sum_at cs p) ∙ ap (λ z. z *ℤ number_at p (slot c.0) +ℤ sum_at cs p) (sym ((Decides-int_eq c.1 (pos 0)).0 e))
+nonzero_step c cs p false e ih = ap (λ w. c.1 *ℤ number_at p (slot c.0) +ℤ w) ih
+
+-- leaving zeros out
+pub sum_at-nonzero : (cs : List (Slot × ℤ)) (p : Point) → sum_at (nonzero cs) p ≡ sum_at cs p
+sum_at-nonzero [] p = refl
+sum_at-nonzero (c ∷ cs) p = nonzero_step c cs p (int_eq c.1 (pos 0)) refl (sum_at-nonzero cs p)
+
+-- ---- values of sums
+
+-- the number of a sum of slots, over the point's denominator times the sum's
+abbrev pub slot_sum_at : SlotSum → Point → ℤ
+slot_sum_at l q = sum_at l.coefs q +ℤ l.constant *ℤ pos q.den
+
+-- the value is the number of the sum
+pub record IsSumValue (v : OperandValue) (l : SlotSum) (q : Point) : Type 0 where
+  pub number : v.number ≡ slot_sum_at l q
+  pub over : v.over ≡ denominator l.over
+  pub text : v.text ≡ []
+
+-- the sum of the row of a difference
+difference_law : (a b x y m n d : ℤ) → (a *ℤ x +ℤ neg_ℤ b *ℤ y) +ℤ (a *ℤ m -ℤ b *ℤ n) *ℤ d ≡ (x +ℤ m *ℤ d) *ℤ a -ℤ (y +ℤ n *ℤ d) *ℤ b
+difference_law a b x y m n d = rw (parts a, parts b, parts x, parts y, parts m, parts n, parts d) (simp ring (diff_same _ _ _ _ (omega arith)))
+
+-- it is the difference of the values, each over the denominators of both
+difference_at : (v w : OperandValue) (l r : SlotSum) (op : RowOp) (q : Point) → IsSumValue v l q → IsSumValue w r q → row_at (difference_row l r op) q ≡ crosswise v w -ℤ crosswise w v
+difference_at v w l r op q e f =
+    let a = pos (denominator r.over) in
+    let b = pos (denominator l.over) in
+    ap (λ s. s +ℤ (a *ℤ l.constant -ℤ b *ℤ r.constant) *ℤ pos q.den) (sum_at-nonzero (mixed a l.coefs (neg_ℤ b) r.coefs) q ∙ sum_at-mixed a l.coefs (neg_ℤ b) r.coefs q)
+    ∙ difference_law a b (sum_at l.coefs q) (sum_at r.coefs q) l.constant r.constant (pos q.den)
+    ∙ rw (e.number, e.over, f.number, f.over) refl
+
+-- ---- comparisons
+
+-- tests of two numbers are tests of the sign of their difference
+lt_by_sign : (a b : ℤ) → int_lt a b ≡ int_lt (a -ℤ b) (pos 0)
+lt_by_sign a b = grind (arith, ints)
+
+-- of at most
+le_by_sign : (a b : ℤ) → int_le a b ≡ int_le (a -ℤ b) (pos 0)
+le_by_sign a b = grind (arith, ints)
+
+-- of equality
+eq_by_sign : (a b : ℤ) → int_eq a b ≡ int_eq (a -ℤ b) (pos 0)
+eq_by_sign a b = same_from_decides _ _ (Decides-int_eq a b) (λ e. let z : a -ℤ b ≡ pos 0 = (Decides-int_eq _ _).0 e in omega (arith, ints), λ e. let z : a -ℤ b ≡ pos 0 = omega (arith, ints) in (Decides-int_eq _ _).1 z)
+
+-- `and` with what is true
+and_true : (a : Bool) → (a && true) ≡ a
+and_true true = refl
+and_true false = refl
+
+-- equal tests are passed alike
+pub iff_true : (a b : Bool) → a ≡ b → IsTrue a ↔ IsTrue b
+iff_true a b e = (λ h. sym e ∙ h, λ h. e ∙ h)
+
+-- a test isn't passed where its opposite is
+pub iff_not : (a b : Bool) → a ≡ b → (¬ IsTrue a) ↔ IsTrue (not b)
+iff_not true b e = (λ h. absurd (h refl), λ h k. true≢false (sym h ∙ ap not (sym e)))
+iff_not false b e = (λ h. ap not (sym e), λ h k. true≢false (sym k))
+
+module _ (v w : OperandValue) (l r : SlotSum) (q : Point) (h : 0 < q.den) (e : IsSumValue v l q) (f : IsSumValue w r q) where
+  -- the normal row holds where the difference has its sign
+  row_means : (op : RowOp) → row_holds (normal_row (difference_row l r op)) q ≡ sign_meets op (crosswise v w -ℤ crosswise w v)
+  unfolding row_holds
+  row_means op = normal_row-holds (difference_row l r op) q h ∙ ap (sign_meets op) (difference_at v w l r op q e f)
+
+  -- two numbers are the same value where they are equal
+  same_means : is_same_value v w ≡ sign_meets Zero (crosswise v w -ℤ crosswise w v)
+  same_means = rw (e.text, f.text) (and_true (int_eq (crosswise v w) (crosswise w v))) ∙ eq_by_sign (crosswise v w) (crosswise w v)
+
+-- the goal of a comparison of sums holds where their values compare so
+pub sums_mean : (I : Meaning) (v w : OperandValue) (l r : SlotSum) (op : CompareOp) (q : Point) → 0 < q.den → IsSumValue v l q → IsSumValue w r q
+    → Sat (GoalAtomHolds I) (sums_goal l op r) q ↔ IsTrue (values_compare v op w)
+sums_mean I v w l r Less q h e f = iff_true _ _ (row_means v w l r q h e f Below ∙ sym (lt_by_sign (crosswise v w) (crosswise w v)))
+sums_mean I v w l r LessEq q h e f = iff_true _ _ (row_means v w l r q h e f AtMost ∙ sym (le_by_sign (crosswise v w) (crosswise w v)))
+sums_mean I v w l r Equal q h e f = iff_true _ _ (row_means v w l r q h e f Zero ∙ sym (same_means v w l r q h e f))
+sums_mean I v w l r NotEqual q h e f = iff_not _ _ (row_means v w l r q h e f Zero ∙ sym (same_means v w l r q h e f))
+sums_mean I v w l r GreaterEq q h e f = iff_true _ _ (row_means w v r l q h f e AtMost ∙ sym (le_by_sign (crosswise w v) (crosswise v w)))
+sums_mean I v w l r Greater q h e f = iff_true _ _ (row_means w v r l q h f e Below ∙ sym (lt_by_sign (crosswise w v) (crosswise v w)))
