@@ -1,0 +1,2 @@
+mod GroundLemmas
+mod StepLemmas

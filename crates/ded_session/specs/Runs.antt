@@ -1,0 +1,31 @@
+-- Which replies a script may get, and the catalogue that it leaves.
+use Rattle.std.specs.Prelude.{◌≡◌, ℕ, List, [], ◌∷◌}
+use Rattle.ded_lex.specs.Pieces.{Statement, AreStatements}
+use Rattle.ded_model.specs.declared.command.Language.{Language}
+use Rattle.ded_model.specs.declared.command.Language.TheVariants.{Opening, One, Two}
+use Rattle.ded_model.specs.Catalogue.{Catalogue}
+use Rattle.ded_session.specs.Replies.{ReplyForm}
+use Rattle.ded_session.specs.Steps.{Step}
+
+-- the language after a statement: the first one alone is read in the opening language
+abbrev pub next_language : Language → Language
+next_language Opening = One
+next_language One = One
+next_language Two = Two
+
+-- one reply for each statement, in order, each over the catalogue that those before it left
+abbrev pub Steps : Language → Catalogue → List Statement → List ReplyForm → Catalogue → Type 0
+Steps language c [] [] d = d ≡ c
+Steps language c [] (reply ∷ replies) d = ⊥
+Steps language c (s ∷ ss) [] d = ⊥
+Steps language c (s ∷ ss) (reply ∷ replies) d = (e : Catalogue) × Step language c s reply e × Steps (next_language language) e ss replies d
+
+-- the catalogue without entries
+abbrev pub empty_catalogue : ℕ → Catalogue
+empty_catalogue limit = record { limit = limit; entries = [] }
+
+-- the script may get these replies, and then leaves the catalogue
+pub record Run (limit : ℕ) (script : List ℕ) (replies : List ReplyForm) (last : Catalogue) : Type 0 where
+  pub statements : List Statement
+  pub cut : AreStatements script statements
+  pub steps : Steps Opening (empty_catalogue limit) statements replies last

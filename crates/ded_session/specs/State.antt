@@ -1,0 +1,13 @@
+-- What a session stands for.
+use Rattle.ded_model.specs.declared.command.Language.{Language}
+use Rattle.ded_model.specs.Catalogue.{Catalogue}
+use Rattle.ded_session.specs.declared.session.Session.{Session}
+use Rattle.ded_session.specs.Runs.{empty_catalogue}
+
+-- the present catalogue
+unfoldable pub catalogue_in : Session → Catalogue
+catalogue_in s = empty_catalogue s.limit
+
+-- the language in which the next statement is read
+unfoldable pub language_in : Session → Language
+language_in s = s.language

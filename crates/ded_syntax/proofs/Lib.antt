@@ -1,0 +1,10 @@
+pub mod Numbers
+pub mod Seen
+pub mod Steps
+pub mod Says
+pub mod Complete
+pub mod Sound
+pub mod Values
+pub mod One
+pub mod Refused
+pub mod Decided

@@ -1,0 +1,12 @@
+use Rattle.std.proofs.Common.{◌≡◌, ◌≤◌, drop}
+use Rattle.std.specs.Prelude.{◌^◌}
+use Rattle.ded_syntax.specs.Grammar.{number_from, number_of}
+use Rattle.ded_syntax.specs.Items.{capped}
+use Rattle.ded_syntax.proofs.item.value_of.Given as goal
+
+-- the digits so far and those to come are the number
+abbrev pub invariant-loop-byte : goal.invariant-loop-byte
+invariant-loop-byte l = record {
+  value : capped (number_from l.value (drop l.byte-index l.digits)) ≡ capped (number_of l.digits);
+  least : l.value ≤ 2 ^ 63;
+}

@@ -1,0 +1,4 @@
+pub mod Grammar
+pub mod Spelling
+pub mod Items
+pub mod Reading

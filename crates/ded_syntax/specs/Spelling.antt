@@ -1,0 +1,64 @@
+-- Which bytes spell a command, and what is refused of bytes alone.
+use Rattle.std.specs.Prelude.{◌≡◌, ◌^◌, ◌<◌, ℕ, nat_lt, nat_le, Bool, true, false, List, length}
+use Rattle.std.specs.List.{list_any}
+use Rattle.ded_lex.specs.Lexemes.{Lexeme, Word, Number, Quoted, Sign}
+use Rattle.ded_lex.specs.Tokens.{AreLexemes}
+use Rattle.ded_model.specs.declared.command.Language.{Language}
+use Rattle.ded_model.specs.declared.command.Refusal.{Refusal}
+use Rattle.ded_model.specs.declared.command.Refusal.TheVariants.{Syntax, LongName, LongNumber, Deep}
+use Rattle.ded_model.specs.Command.{CommandForm}
+use Rattle.ded_model.specs.Refusals.{refusal_number}
+use Rattle.ded_syntax.specs.Grammar.{number_of, SpellsCommand}
+
+-- the bytes spell the command in the language, with this nesting
+pub record Spells (language : Language) (bytes : List ℕ) (c : CommandForm) (depth : ℕ) : Type 0 where
+  pub lexemes : List Lexeme
+  pub are : AreLexemes bytes lexemes
+  pub command : SpellsCommand language lexemes c depth
+
+-- a word of more than 64 bytes; no reserved word is that long
+abbrev pub is_long_word : Lexeme → Bool
+is_long_word (Word w) = nat_lt 64 (length w)
+is_long_word (Number ds) = false
+is_long_word (Quoted t) = false
+is_long_word (Sign s) = false
+
+-- a number above 2^63 - 1
+abbrev pub is_long_number : Lexeme → Bool
+is_long_number (Word w) = false
+is_long_number (Number ds) = nat_le (2 ^ 63) (number_of ds)
+is_long_number (Quoted t) = false
+is_long_number (Sign s) = false
+
+-- some lexeme of the bytes passes the test
+pub record SomeLexeme (test : Lexeme → Bool) (bytes : List ℕ) : Type 0 where
+  pub lexemes : List Lexeme
+  pub are : AreLexemes bytes lexemes
+  pub passes : list_any test lexemes ≡ true
+
+-- a command is spelled whose nesting is above 64
+pub record IsDeep (language : Language) (bytes : List ℕ) : Type 0 where
+  pub command : CommandForm
+  pub depth : ℕ
+  pub spells : Spells language bytes command depth
+  pub above : 64 < depth
+
+-- the causes of the refusals that bytes alone decide. Each is read only where no lesser one applies; where names are read
+-- by no command, no row can have a coefficient, so a number is too long only where it is written so.
+abbrev pub AppliesIn : Refusal → Language → List ℕ → Type 0
+AppliesIn Syntax language bytes = (c : CommandForm) (depth : ℕ) → Spells language bytes c depth → ⊥
+AppliesIn LongName language bytes = SomeLexeme is_long_word bytes
+AppliesIn LongNumber language bytes = SomeLexeme is_long_number bytes
+AppliesIn Deep language bytes = IsDeep language bytes
+AppliesIn _ language bytes = ⊥
+
+-- the refusal applies, and none of a lesser number does
+pub record IsLeastIn (r : Refusal) (language : Language) (bytes : List ℕ) : Type 0 where
+  pub applies : AppliesIn r language bytes
+  pub least : (q : Refusal) → refusal_number q < refusal_number r → AppliesIn q language bytes → ⊥
+
+-- the bytes spell the command, and no refusal applies to them
+pub record IsRead (language : Language) (bytes : List ℕ) (c : CommandForm) : Type 0 where
+  pub depth : ℕ
+  pub spells : Spells language bytes c depth
+  pub accepted : (q : Refusal) → AppliesIn q language bytes → ⊥

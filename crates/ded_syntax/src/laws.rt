@@ -1,0 +1,24 @@
+// Laws of the grammar. Each is the contract of a function that does nothing.
+ghost use Rattle.std.specs.Prelude.{◌≡◌, ◌⊎◌, List, ℕ};
+ghost use Rattle.ded_model.specs.declared.command.Language.{Language};
+ghost use Rattle.ded_model.specs.declared.command.Refusal.{Refusal};
+ghost use Rattle.ded_model.specs.declared.command.Refusal.TheVariants.{Syntax};
+ghost use Rattle.ded_model.specs.Command.{CommandForm};
+ghost use Rattle.ded_syntax.specs.Spelling.{Spells, AppliesIn, IsRead};
+
+/// Bytes spell one command at most, with one nesting.
+pub fn one_command()
+    ensures { (language : Language) (bytes : List ℕ) (these those : CommandForm) (m n : ℕ) →
+        Spells language bytes these m → Spells language bytes those n → (these ≡ those) × (m ≡ n) }
+{}
+
+/// Bytes spell a command, or `Syntax` applies to them; and where no refusal applies, they are read as a command.
+pub fn some_command()
+    ensures decided { (language : Language) (bytes : List ℕ) →
+        ((command : CommandForm) × (depth : ℕ) × Spells language bytes command depth) ⊎ AppliesIn Syntax language bytes }
+    ensures spelled { (language : Language) (bytes : List ℕ) → (AppliesIn Syntax language bytes → ⊥) →
+        (command : CommandForm) × (depth : ℕ) × Spells language bytes command depth }
+    ensures read { (language : Language) (bytes : List ℕ) →
+        ((refusal : Refusal) → AppliesIn refusal language bytes → ⊥) →
+        (command : CommandForm) × IsRead language bytes command }
+{}
