@@ -10,6 +10,7 @@
 mod ground;
 mod reply;
 mod session;
+mod statement;
 #[cfg(test)]
 mod tests;
 

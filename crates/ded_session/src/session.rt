@@ -1,17 +1,13 @@
 //! A session: the catalogue that the statements so far have made.
 
-ghost use Rattle.std.specs.Prelude.{◌≡◌, ◌≤◌, length};
-ghost use Rattle.ded_lex.specs.Pieces.{Whole};
-ghost use Rattle.ded_model.specs.Catalogue.{Catalogue};
-ghost use Rattle.ded_session.specs.Answered.{reply_form};
+ghost use Rattle.std.specs.Prelude.{◌≡◌};
 ghost use Rattle.ded_session.specs.Runs.{next_language};
-ghost use Rattle.ded_session.specs.Steps.{Step};
 
-use crate::ground::answer;
 use crate::reply::Reply;
+use crate::statement::reply_to;
+use ded_catalog::Catalogue;
 use ded_model::command::{Language, Refusal};
 use ded_model::memory::NoMemory;
-use ded_syntax::read_command;
 use std::alloc::Global;
 
 /// What stands between two ends of statements.
@@ -28,7 +24,7 @@ pub enum Piece<'a> {
 /// The state of a script between two statements.
 #[derive(Drop)]
 pub struct Session {
-    limit: u32,
+    catalogue: Catalogue,
     language: Language,
     alloc: Global,
 }
@@ -37,6 +33,7 @@ impl Session {
     ghost use Rattle.std.specs.Prelude.{◌≡◌, ◌≤◌, IfOk, length};
     ghost use Rattle.ded_lex.specs.Pieces.{Whole};
     ghost use Rattle.ded_model.specs.declared.command.Language.TheVariants.{Opening};
+    ghost use Rattle.ded_catalog.specs.State.{catalogue_of};
     ghost use Rattle.ded_session.specs.Answered.{reply_form};
     ghost use Rattle.ded_session.specs.Pieces.{IsShortPiece, StepsPiece};
     ghost use Rattle.ded_session.specs.Replies.{refused};
@@ -56,10 +53,18 @@ impl Session {
         ensures language { IfOk result (λ s. language_in s ≡ Opening) }
     {
         Ok(Session {
-            limit,
+            catalogue: Catalogue::new(alloc, limit)?,
             language: Language::Opening,
             alloc,
         })
+    }
+
+    /// The present catalogue. Takes no memory.
+    #[tactic(auto, unfolding(crate::specs::State::catalogue_in))]
+    pub fn catalogue(&self) -> &Catalogue
+        ensures { catalogue_of result.now ≡ catalogue_in self.now }
+    {
+        &self.catalogue
     }
 
     /// Answers the next statement and changes the catalogue as the rules say. A refused statement changes nothing.
@@ -95,17 +100,6 @@ impl Session {
         let reply = reply_to(self.alloc, bytes, self.language);
         self.language = after(self.language);
         reply
-    }
-}
-
-/// The reply to the bytes of a whole piece, over any catalogue: as yet no command changes or reads one.
-fn reply_to(alloc: Global, bytes: &[u8], language: Language) -> Reply
-    requires { length bytes.now ≤ 65536 }
-    ensures { (c : Catalogue) → Step language c (Whole bytes.now) (reply_form result) c }
-{
-    match read_command(alloc, bytes, language) {
-        Ok(command) => answer(command),
-        Err(refusal) => Reply::Refused(refusal),
     }
 }
 

@@ -1,0 +1,169 @@
+-- What is put piece by piece is put in order.
+use Rattle.std.proofs.Common.{◌≡◌, ℕ, List, [], ◌++◌, refl, sym, ap, ◌∙◌, append_assoc, append-nil, subst, arith, Bool, true, false}
+use Rattle.std.specs.Prelude.{Result, Ok, Err, MatchResult, if◌then◌else◌}
+use Rattle.std.specs.declared.option.Option.{Option}
+use Rattle.std.specs.declared.option.Option.TheVariants.{Some, None}
+use Rattle.std.specs.Io.KnownBytes.{Appends}
+use Rattle.ded_io.specs.declared.device.Failed.{Failed}
+use Rattle.ded_io.specs.Causes.{HasCause}
+use Rattle.ded_io.specs.Devices.{Sent, AddsAll}
+use Rattle.ded_io.proofs.Steps.{appends_both}
+use Rattle.ded_print.specs.Gathering.{Output, Printed, Puts, SendsAfter, Finishes}
+
+differ : false ≡ true → ⊥
+differ e = cc
+
+-- one piece after another
+pub puts_both : (a b c : Output) (t u : List ℕ) → Puts a b t → Puts b c u → Puts a c (t ++ u)
+puts_both a b c t u p q = record {
+  goes = λ held faults text h. subst (λ z. Printed held faults z c) (append_assoc text t u) (q.goes held faults (text ++ t) (p.goes held faults text h));
+}
+
+pub puts_none : (a : Output) → Puts a a []
+puts_none a = record {
+  goes = λ held faults text h. subst (λ z. Printed held faults z a) (sym (append-nil text)) h;
+}
+
+-- the bytes wait after those that wait
+pub puts_pending : (held : Option (List ℕ)) (faults : ℕ) (pending bytes : List ℕ) (sent : Result (Unit {0}) Failed) → Puts (record { held = held; faults = faults; pending = pending; sent = sent }) (record { held = held; faults = faults; pending = pending ++ bytes; sent = sent }) bytes
+puts_pending held faults pending bytes (Ok u) = record {
+  goes = λ before faults_before text h. record {
+    bytes = record {
+      front = h.bytes.front;
+      is = sym (append_assoc h.bytes.front pending bytes) ∙ ap (λ z. z ++ bytes) h.bytes.is;
+      adds = h.bytes.adds;
+    };
+    cause = h.cause;
+  };
+}
+puts_pending held faults pending bytes (Err e) = record {
+  goes = λ before faults_before text h. record {
+    bytes = (
+      h.bytes.0 ++ bytes,
+      record {
+        front = h.bytes.1.front;
+        is = sym (append_assoc h.bytes.1.front h.bytes.0 bytes) ∙ ap (λ z. z ++ bytes) h.bytes.1.is;
+        adds = h.bytes.1.adds;
+      },
+    );
+    cause = h.cause;
+  };
+}
+
+-- a front of what was left was sent
+sent_both : (a b c : Option (List ℕ)) (text rest more : List ℕ) → Sent a b text rest → Sent b c rest more → Sent a c text more
+sent_both a b c text rest more s q = record {
+  front = s.front ++ q.front;
+  is = append_assoc s.front q.front more ∙ ap (λ z. s.front ++ z) q.is ∙ s.is;
+  adds = appends_both a b c s.front q.front s.adds q.adds;
+}
+
+sent_whole : (b c : Option (List ℕ)) (rest : List ℕ) → Appends b c rest → Sent b c rest []
+sent_whole b c rest h = record { front = rest; is = append-nil rest; adds = h }
+
+-- more text, all of which is left
+sent_longer : (a b : Option (List ℕ)) (text rest more : List ℕ) → Sent a b text rest → Sent a b (text ++ more) (rest ++ more)
+sent_longer a b text rest more s = record {
+  front = s.front;
+  is = sym (append_assoc s.front rest more) ∙ ap (λ z. z ++ more) s.is;
+  adds = s.adds;
+}
+
+adds_after : (a b c : Option (List ℕ)) (text rest : List ℕ) (result : Result (Unit {0}) Failed) → Sent a b text rest → AddsAll b c result rest → MatchResult result (λ _. Sent a c text []) (λ _. (more : List ℕ) × Sent a c text more)
+adds_after a b c text rest (Ok u) s h = sent_both a b c text rest [] s (sent_whole b c rest h)
+adds_after a b c text rest (Err e) s h = (h.0, sent_both a b c text rest h.0 s h.1)
+
+cause_after : (before middle now : ℕ) (u : Unit {0}) (result : Result (Unit {0}) Failed) → HasCause {E = Failed} before middle (Ok u) → HasCause middle now result → HasCause before now result
+cause_after before middle now u result h g = subst (λ k. HasCause k now result) h.done g
+
+-- what was pending and these bytes are sent, where nothing failed
+pub puts_sent : (so_far : Result (Unit {0}) Failed) (held held_now : Option (List ℕ)) (faults faults_now : ℕ) (pending bytes : List ℕ) (result : Result (Unit {0}) Failed)
+    → SendsAfter so_far held faults held_now faults_now result (pending ++ bytes)
+    → Puts (record { held = held; faults = faults; pending = pending; sent = so_far }) (record { held = held_now; faults = faults_now; pending = []; sent = result }) bytes
+puts_sent (Ok u) held held_now faults faults_now pending bytes result s = record {
+  goes = λ before faults_before text h. record {
+    bytes = adds_after before held held_now (text ++ bytes) (pending ++ bytes) result (sent_longer before held text pending bytes h.bytes) s.0;
+    cause = cause_after faults_before faults faults_now u result h.cause s.1;
+  };
+}
+puts_sent (Err e) held held_now faults faults_now pending bytes result s = record {
+  goes = λ before faults_before text h. rw s.0 (rw s.1 (rw s.2 (record {
+    bytes = (h.bytes.0 ++ bytes, sent_longer before held text h.bytes.0 bytes h.bytes.1);
+    cause = h.cause;
+  })));
+}
+
+pub sends_pending : (so_far : Result (Unit {0}) Failed) (held held_now : Option (List ℕ)) (faults faults_now : ℕ) (pending : List ℕ) (result : Result (Unit {0}) Failed)
+    → SendsAfter so_far held faults held_now faults_now result pending
+    → Puts (record { held = held; faults = faults; pending = pending; sent = so_far }) (record { held = held_now; faults = faults_now; pending = []; sent = result }) []
+sends_pending so_far held held_now faults faults_now pending result s =
+    puts_sent so_far held held_now faults faults_now pending [] result (subst (λ z. SendsAfter so_far held faults held_now faults_now result z) (sym (append-nil pending)) s)
+
+ends_with : (held held_now : Option (List ℕ)) (result : Result (Unit {0}) Failed) (text : List ℕ) → MatchResult result (λ _. Sent held held_now text []) (λ _. (rest : List ℕ) × Sent held held_now text rest) → AddsAll held held_now result text
+ends_with held held_now (Ok u) text s = subst (λ z. Appends held held_now z) (sym (append-nil s.front) ∙ s.is) s.adds
+ends_with held held_now (Err e) text s = s
+
+pub finishes : (so_far : Result (Unit {0}) Failed) (held held_now : Option (List ℕ)) (faults faults_now : ℕ) (pending : List ℕ) (result : Result (Unit {0}) Failed)
+    → SendsAfter so_far held faults held_now faults_now result pending
+    → Finishes (record { held = held; faults = faults; pending = pending; sent = so_far }) held_now faults_now result
+finishes so_far held held_now faults faults_now pending result s = record {
+  ends = λ before faults_before text h.
+      let p : Printed before faults_before (text ++ []) (record { held = held_now; faults = faults_now; pending = []; sent = result }) = (sends_pending so_far held held_now faults faults_now pending result s).goes before faults_before text h in
+      let q : Printed before faults_before text (record { held = held_now; faults = faults_now; pending = []; sent = result }) = subst (λ z. Printed before faults_before z (record { held = held_now; faults = faults_now; pending = []; sent = result })) (append-nil text) p in
+      (ends_with before held_now result text q.bytes, q.cause);
+}
+
+-- ---- steps of a writer with little room: r tells whether the bytes were gathered
+
+pub kept : (r : Bool) (held : Option (List ℕ)) (faults : ℕ) (pending bytes after : List ℕ) (sent sent_after : Result (Unit {0}) Failed)
+    → r ≡ true → after ≡ (if r then (pending ++ bytes) else pending) → sent_after ≡ sent
+    → Puts (record { held = held; faults = faults; pending = pending; sent = sent }) (record { held = held; faults = faults; pending = after; sent = sent_after }) bytes
+kept true held faults pending bytes after sent sent_after is e same = rw e (rw same (puts_pending held faults pending bytes sent))
+kept false held faults pending bytes after sent sent_after is e same = absurd (differ is)
+
+pub unkept : (r : Bool) (held : Option (List ℕ)) (faults : ℕ) (pending bytes after : List ℕ) (sent sent_after : Result (Unit {0}) Failed) (b : Output) (more : List ℕ)
+    → r ≡ false → after ≡ (if r then (pending ++ bytes) else pending) → sent_after ≡ sent
+    → Puts (record { held = held; faults = faults; pending = after; sent = sent_after }) b more
+    → Puts (record { held = held; faults = faults; pending = pending; sent = sent }) b more
+unkept true held faults pending bytes after sent sent_after b more is e same h = absurd (differ (sym is))
+unkept false held faults pending bytes after sent sent_after b more is e same h =
+    subst (λ z. Puts (record { held = held; faults = faults; pending = z; sent = sent }) b more) e
+    (subst (λ z. Puts (record { held = held; faults = faults; pending = after; sent = z }) b more) same h)
+
+pub still_none : (r : Bool) (pending bytes after : List ℕ) → r ≡ false → after ≡ (if r then (pending ++ bytes) else pending) → pending ≡ [] → after ≡ []
+still_none true pending bytes after is e none = absurd (differ (sym is))
+still_none false pending bytes after is e none = e ∙ none
+
+-- nothing was pending, and the bytes go to the sink at once
+pub direct : (held held_now : Option (List ℕ)) (faults faults_now : ℕ) (pending bytes : List ℕ) (so_far result : Result (Unit {0}) Failed)
+    → pending ≡ [] → SendsAfter so_far held faults held_now faults_now result bytes
+    → Puts (record { held = held; faults = faults; pending = pending; sent = so_far }) (record { held = held_now; faults = faults_now; pending = pending; sent = result }) bytes
+direct held held_now faults faults_now pending bytes so_far result none h = rw none (puts_sent so_far held held_now faults faults_now [] bytes result h)
+
+-- ---- a whole reply
+
+adds_none : (held : Option (List ℕ)) → Appends held held []
+adds_none None = tt
+adds_none (Some bytes) = sym (append-nil bytes)
+
+-- nothing was put yet
+begins : (held : Option (List ℕ)) (faults : ℕ) → Printed held faults [] (record { held = held; faults = faults; pending = []; sent = Ok tt })
+begins held faults = record {
+  bytes = record { front = []; is = refl; adds = adds_none held };
+  cause = record { later = omega arith; done = refl; failed = tt };
+}
+
+-- a text that is put after nothing, and then finished
+pub prints : (held held_now : Option (List ℕ)) (faults faults_now : ℕ) (pending : List ℕ) (sent : Result (Unit {0}) Failed) (middle : Output) (result : Result (Unit {0}) Failed) (text : List ℕ)
+    → pending ≡ [] → sent ≡ Ok tt
+    → Puts (record { held = held; faults = faults; pending = pending; sent = sent }) middle text
+    → Finishes middle held_now faults_now result
+    → AddsAll held held_now result text × HasCause faults faults_now result
+prints held held_now faults faults_now pending sent middle result text none well put ends =
+    ends.ends held faults text (put.goes held faults [] (rw none (rw well (begins held faults))))
+
+pub adds_as : (held held_now : Option (List ℕ)) (result : Result (Unit {0}) Failed) (text other : List ℕ) → text ≡ other → AddsAll held held_now result text → AddsAll held held_now result other
+adds_as held held_now result text other is h = subst (λ z. AddsAll held held_now result z) is h
+
+pub puts_as : (a b : Output) (text other : List ℕ) → text ≡ other → Puts a b text → Puts a b other
+puts_as a b text other is h = subst (λ z. Puts a b z) is h

@@ -1,0 +1,24 @@
+//! The texts of replies.
+//!
+//! `specs/` says what the text of each reply is: numbers, rows, tuples, answers, stored tuples, boxes, plans, and the
+//! replies of one line. The calls here print a reply to a sink: it then holds exactly that text more, and where it
+//! failed a front of the text. No call takes memory.
+//!
+//! It stands on `ded_model` for the data and on `ded_io` for the sink.
+#![tactic(auto)]
+
+mod answer;
+mod gathered;
+pub mod laws;
+mod line;
+mod naming;
+mod number;
+mod row;
+#[cfg(test)]
+mod tests;
+mod theme;
+mod tuple;
+
+pub use answer::print_answer;
+pub use line::{print_done, print_number, print_refusal, print_truth};
+pub use tuple::print_tuple;

@@ -1,0 +1,17 @@
+use Rattle.std.proofs.Common.{◌≡◌, ℕ}
+use Rattle.ded_run.specs.Streams.{Reading}
+use Rattle.ded_run.proofs.program.serve.Given as goal
+
+-- what was taken is answered, and no call failed
+abbrev pub invariant-loop-count : goal.invariant-loop-count
+invariant-loop-count g l =
+    let left = g.S.Source.left in
+    let held = g.K.Sink.held in
+    record {
+      reading : Reading l.fn.setup.limit l.fn.setup.input_limit l.room l.dialogue (left l.fn.source) (left l.source) (held l.fn.sink) (held l.sink);
+      read : g.S.Source.faults l.source ≡ g.S.Source.faults l.fn.source;
+      written : g.K.Sink.faults l.sink ≡ g.K.Sink.faults l.fn.sink;
+    }
+
+abbrev pub decreases-loop-count : goal.decreases-loop-count
+decreases-loop-count g l = l.room

@@ -1,0 +1,4 @@
+pub mod Texts
+pub mod Outcome
+pub mod Streams
+pub mod Words

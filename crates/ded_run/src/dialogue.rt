@@ -1,0 +1,129 @@
+//! A script's statements, answered as their last bytes come.
+ghost use Rattle.std.specs.Prelude.{◌≡◌};
+ghost use Rattle.ded_io.specs.Causes.{HasCause};
+ghost use Rattle.ded_session.specs.Pieces.{IsShortPiece};
+ghost use Rattle.ded_session.specs.State.{catalogue_in, language_in};
+ghost use Rattle.ded_run.specs.Streams.{IsReplied};
+
+use crate::reply::write_reply;
+use ded_io::{Failed, Sink};
+use ded_lex::{Fed, Rest, Splitter};
+use ded_model::memory::NoMemory;
+use ded_session::{Piece, Session};
+use std::alloc::Global;
+
+/// The statement that is coming in, the session that answers it when it ends, and whether some reply so far is a
+/// refusal.
+#[derive(Drop)]
+pub struct Dialogue {
+    splitter: Splitter,
+    session: Session,
+    refused: bool,
+}
+
+impl Dialogue {
+    ghost use Rattle.std.specs.Prelude.{◌≡◌, ◌≤◌, ◌++◌, ◌∷◌, [], List, ℕ, Option, IfOk, OnErr};
+    ghost use Rattle.ded_io.specs.Causes.{HasCause};
+    ghost use Rattle.ded_run.specs.Outcome.{Concluded, Interrupted};
+    ghost use Rattle.ded_run.specs.Streams.{IsFresh, Streamed, Stopped};
+
+    /// Nothing came in yet.
+    ///
+    /// # Errors
+    /// `NoMemory` where the splitter's buffer or the catalogue isn't had.
+    pub fn new(alloc: Global, limit: u32) -> Result<Dialogue, NoMemory>
+        requires low { 1 ≤ limit }
+        requires high { limit ≤ 1000000 }
+        ensures { IfOk result (IsFresh limit) }
+    {
+        Ok(Dialogue {
+            splitter: Splitter::new(alloc)?,
+            session: Session::new(alloc, limit)?,
+            refused: false,
+        })
+    }
+
+    /// Whether some reply so far is a refusal.
+    pub fn refused(&self) -> bool
+        ensures { result ≡ self.now.refused }
+    {
+        self.refused
+    }
+
+    // Takes the next byte, and answers the statement that ends there.
+    fn feed_byte<K: Sink>(&mut self, byte: u8, sink: &mut K) -> Result<(), Failed>
+        ensures streamed { IfOk result (λ _. (limit : ℕ) (taken : List ℕ) (held : Option (List ℕ)) →
+            Streamed limit self.old taken held (K.held sink.old) →
+            Streamed limit self.new (taken ++ byte ∷ []) held (K.held sink.new)) }
+        ensures stopped { OnErr result ((limit : ℕ) (taken : List ℕ) (held : Option (List ℕ)) →
+            Streamed limit self.old taken held (K.held sink.old) →
+            Stopped limit (taken ++ byte ∷ []) held (K.held sink.new)) }
+        ensures cause { HasCause (K.faults sink.old) (K.faults sink.new) result }
+    {
+        match self.splitter.feed(byte) {
+            Fed::More => Ok(()),
+            Fed::Ended => {
+                let piece = Piece::Whole(self.splitter.piece());
+                answer(&mut self.session, piece, &mut self.refused, sink)
+            }
+            Fed::EndedLong => answer(&mut self.session, Piece::Long, &mut self.refused, sink),
+        }
+    }
+
+    /// Takes the next bytes, and answers the statements that end in them.
+    ///
+    /// # Errors
+    /// `Failed` only where the sink's count of faults rose.
+    pub fn feed<K: Sink>(&mut self, bytes: &[u8], sink: &mut K) -> Result<(), Failed>
+        ensures streamed { IfOk result (λ _. (limit : ℕ) (taken : List ℕ) (held : Option (List ℕ)) →
+            Streamed limit self.old taken held (K.held sink.old) →
+            Streamed limit self.new (taken ++ bytes.now) held (K.held sink.new)) }
+        ensures stopped { OnErr result ((limit : ℕ) (taken : List ℕ) (held : Option (List ℕ)) →
+            Streamed limit self.old taken held (K.held sink.old) →
+            Stopped limit (taken ++ bytes.now) held (K.held sink.new)) }
+        ensures cause { HasCause (K.faults sink.old) (K.faults sink.new) result }
+    {
+        for byte in bytes {
+            self.feed_byte(*byte, sink)?;
+        }
+        Ok(())
+    }
+
+    /// Answers the statement that the end of the script cuts, where there is one.
+    ///
+    /// # Errors
+    /// `Failed` only where the sink's count of faults rose.
+    pub fn finish<K: Sink>(&mut self, sink: &mut K) -> Result<(), Failed>
+        ensures concluded { IfOk result (λ _. (limit : ℕ) (taken : List ℕ) (held : Option (List ℕ)) →
+            Streamed limit self.old taken held (K.held sink.old) →
+            Concluded limit taken held (K.held sink.new) self.new.refused) }
+        ensures stopped { OnErr result ((limit : ℕ) (taken : List ℕ) (held : Option (List ℕ)) →
+            Streamed limit self.old taken held (K.held sink.old) →
+            Interrupted limit taken held (K.held sink.new)) }
+        ensures cause { HasCause (K.faults sink.old) (K.faults sink.new) result }
+    {
+        match self.splitter.finish() {
+            Rest::Blank => Ok(()),
+            Rest::Cut => answer(&mut self.session, Piece::Cut, &mut self.refused, sink),
+            Rest::CutLong => answer(&mut self.session, Piece::Long, &mut self.refused, sink),
+        }
+    }
+}
+
+// Answers a piece, notes whether the reply is a refusal, and writes it.
+fn answer<K: Sink>(
+    session: &mut Session,
+    piece: Piece<'_>,
+    refused: &mut bool,
+    sink: &mut K,
+) -> Result<(), Failed>
+    requires { IsShortPiece piece }
+    ensures replied { IsReplied piece.entry (language_in session.old) (catalogue_in session.old)
+        (language_in session.new) (catalogue_in session.new) refused.old refused.new
+        (K.held sink.old) (K.held sink.new) result }
+    ensures cause { HasCause (K.faults sink.old) (K.faults sink.new) result }
+{
+    let reply = session.step(piece);
+    *refused |= reply.is_refusal();
+    write_reply(&reply, sink)
+}

@@ -1,0 +1,133 @@
+//! A whole run: from the bytes of a source to the texts of a sink.
+ghost use Rattle.std.specs.Prelude.{◌≡◌, ◌≢◌, ◌≤◌, ◌^◌, ◌⊎◌, ◌↔◌, false, true, ℕ, List, Option};
+ghost use Rattle.ded_io.specs.Causes.{Rose};
+ghost use Rattle.ded_run.specs.Outcome.{Answered, Broken, Concluded, Interrupted, Overlong, Unread};
+ghost use Rattle.ded_run.specs.Streams.{Streamed};
+ghost use Rattle.ded_run.specs.Words.{AcceptedWords, WithLimit, texts_in};
+
+use crate::dialogue::Dialogue;
+use crate::words::{Words, limit_in};
+use ded_io::{Failed, Sink, Source};
+use std::alloc::Global;
+
+/// The limits of a run.
+#[derive(Clone, Copy, Debug, PartialEq, Eq)]
+pub struct Setup {
+    /// The most tuples that a relation holds.
+    pub limit: u32,
+    /// The most bytes that a script has.
+    pub input_limit: u64,
+}
+
+/// How a run ended.
+#[derive(Clone, Copy, Debug, PartialEq, Eq)]
+pub enum Status {
+    /// Each statement has its reply, and none is a refusal.
+    Done,
+    /// Each statement has its reply, and some is a refusal.
+    DoneWithRefusals,
+    /// The words are no accepted list. Nothing was read or written.
+    BadWords,
+    /// The source failed.
+    ReadFault,
+    /// The sink failed.
+    WriteFault,
+    /// There was no room for the buffers and the empty catalogue. Nothing was read or written.
+    NoMemory,
+    /// The source gave more bytes than a script may have.
+    TooLong,
+}
+
+const READ_AT_ONCE: usize = 4_096;
+
+/// Reads a script to its end, answers each statement before the next read, and writes a reply to each.
+pub fn serve<S: Source, K: Sink>(
+    alloc: Global,
+    setup: &Setup,
+    source: &mut S,
+    sink: &mut K,
+) -> Status
+    requires low { 1 ≤ setup.now.limit }
+    requires high { setup.now.limit ≤ 1000000 }
+    requires input_low { 1 ≤ setup.now.input_limit }
+    requires input_high { setup.now.input_limit ≤ 2 ^ 40 }
+    ensures done { result ≡ Status.Done → Answered setup.now.limit setup.now.input_limit (S.left source.old) (S.left source.new) (K.held sink.old) (K.held sink.new) false }
+    ensures done_with_refusals { result ≡ Status.DoneWithRefusals → Answered setup.now.limit setup.now.input_limit (S.left source.old) (S.left source.new) (K.held sink.old) (K.held sink.new) true }
+    ensures faultless { (result ≡ Status.Done) ⊎ (result ≡ Status.DoneWithRefusals) ⊎ (result ≡ Status.TooLong) → (S.faults source.new ≡ S.faults source.old) × (K.faults sink.new ≡ K.faults sink.old) }
+    ensures bad_words { result ≢ Status.BadWords }
+    ensures read_fault { result ≡ Status.ReadFault → Rose (S.faults source.old) (S.faults source.new) × (K.faults sink.new ≡ K.faults sink.old) }
+    ensures unread { result ≡ Status.ReadFault → Unread setup.now.limit setup.now.input_limit (S.left source.old) (S.left source.new) (K.held sink.old) (K.held sink.new) }
+    ensures write_fault { result ≡ Status.WriteFault → Rose (K.faults sink.old) (K.faults sink.new) × (S.faults source.new ≡ S.faults source.old) }
+    ensures broken { result ≡ Status.WriteFault → Broken setup.now.limit (S.left source.old) (S.left source.new) (K.held sink.old) (K.held sink.new) }
+    ensures no_memory { result ≡ Status.NoMemory → (source.new ≡ source.old) × (sink.new ≡ sink.old) }
+    ensures overlong { result ≡ Status.TooLong → Overlong setup.now.limit setup.now.input_limit (S.left source.old) (S.left source.new) (K.held sink.old) (K.held sink.new) }
+    ensures ends { (Rose (S.faults source.old) (S.faults source.new) → ⊥) → (Rose (K.faults sink.old) (K.faults sink.new) → ⊥) → result ≢ Status.NoMemory → result ≢ Status.TooLong → (result ≡ Status.Done) ⊎ (result ≡ Status.DoneWithRefusals) }
+{
+    let Ok(mut dialogue) = Dialogue::new(alloc, setup.limit) else {
+        return Status::NoMemory;
+    };
+    let mut buffer = [0u8; READ_AT_ONCE];
+    let mut room = setup.input_limit;
+    loop {
+        let Ok(count) = source.read(&mut buffer) else {
+            return Status::ReadFault;
+        };
+        if count == 0 {
+            return conclude(&mut dialogue, sink);
+        }
+        let within = room.min(count as u64) as usize;
+        if let Err(Failed) = dialogue.feed(&buffer[..within], sink) {
+            return Status::WriteFault;
+        }
+        if within < count {
+            return Status::TooLong;
+        }
+        room -= count as u64;
+    }
+}
+
+// Answers the last statement of an input that ended.
+fn conclude<K: Sink>(dialogue: &mut Dialogue, sink: &mut K) -> Status
+    ensures kinds { (result ≡ Status.Done) ⊎ (result ≡ Status.DoneWithRefusals) ⊎ (result ≡ Status.WriteFault) }
+    ensures done { result ≡ Status.Done → (limit : ℕ) (taken : List ℕ) (held : Option (List ℕ)) →
+        Streamed limit dialogue.old taken held (K.held sink.old) → Concluded limit taken held (K.held sink.new) false }
+    ensures done_with_refusals { result ≡ Status.DoneWithRefusals → (limit : ℕ) (taken : List ℕ) (held : Option (List ℕ)) →
+        Streamed limit dialogue.old taken held (K.held sink.old) → Concluded limit taken held (K.held sink.new) true }
+    ensures faultless { (result ≡ Status.Done) ⊎ (result ≡ Status.DoneWithRefusals) → K.faults sink.new ≡ K.faults sink.old }
+    ensures broken { result ≡ Status.WriteFault → (limit : ℕ) (taken : List ℕ) (held : Option (List ℕ)) →
+        Streamed limit dialogue.old taken held (K.held sink.old) → Interrupted limit taken held (K.held sink.new) }
+    ensures write_fault { result ≡ Status.WriteFault → Rose (K.faults sink.old) (K.faults sink.new) }
+{
+    match dialogue.finish(sink) {
+        Ok(()) if dialogue.refused() => Status::DoneWithRefusals,
+        Ok(()) => Status::Done,
+        Err(Failed) => Status::WriteFault,
+    }
+}
+
+const INPUT_LIMIT: u64 = 1 << 40;
+
+/// All that the program does: reads the words, and then serves.
+pub fn run<S: Source, K: Sink>(alloc: Global, words: &Words, source: &mut S, sink: &mut K) -> Status
+    ensures bad_words { result ≡ Status.BadWords ↔ ((limit : ℕ) → AcceptedWords (texts_in words.now) limit → ⊥) }
+    ensures no_words { result ≡ Status.BadWords → (source.new ≡ source.old) × (sink.new ≡ sink.old) }
+    ensures done { result ≡ Status.Done → WithLimit (texts_in words.now) (λ limit. Answered limit (2 ^ 40) (S.left source.old) (S.left source.new) (K.held sink.old) (K.held sink.new) false) }
+    ensures done_with_refusals { result ≡ Status.DoneWithRefusals → WithLimit (texts_in words.now) (λ limit. Answered limit (2 ^ 40) (S.left source.old) (S.left source.new) (K.held sink.old) (K.held sink.new) true) }
+    ensures faultless { (result ≡ Status.Done) ⊎ (result ≡ Status.DoneWithRefusals) ⊎ (result ≡ Status.TooLong) → (S.faults source.new ≡ S.faults source.old) × (K.faults sink.new ≡ K.faults sink.old) }
+    ensures read_fault { result ≡ Status.ReadFault → Rose (S.faults source.old) (S.faults source.new) × (K.faults sink.new ≡ K.faults sink.old) }
+    ensures unread { result ≡ Status.ReadFault → WithLimit (texts_in words.now) (λ limit. Unread limit (2 ^ 40) (S.left source.old) (S.left source.new) (K.held sink.old) (K.held sink.new)) }
+    ensures write_fault { result ≡ Status.WriteFault → Rose (K.faults sink.old) (K.faults sink.new) × (S.faults source.new ≡ S.faults source.old) }
+    ensures broken { result ≡ Status.WriteFault → WithLimit (texts_in words.now) (λ limit. Broken limit (S.left source.old) (S.left source.new) (K.held sink.old) (K.held sink.new)) }
+    ensures no_memory { result ≡ Status.NoMemory → (source.new ≡ source.old) × (sink.new ≡ sink.old) }
+    ensures overlong { result ≡ Status.TooLong → WithLimit (texts_in words.now) (λ limit. Overlong limit (2 ^ 40) (S.left source.old) (S.left source.new) (K.held sink.old) (K.held sink.new)) }
+    ensures ends { (Rose (S.faults source.old) (S.faults source.new) → ⊥) → (Rose (K.faults sink.old) (K.faults sink.new) → ⊥) → result ≢ Status.NoMemory → result ≢ Status.TooLong → result ≢ Status.BadWords → (result ≡ Status.Done) ⊎ (result ≡ Status.DoneWithRefusals) }
+{
+    let Some(limit) = limit_in(&words.list) else {
+        return Status::BadWords;
+    };
+    let setup = Setup {
+        limit,
+        input_limit: INPUT_LIMIT,
+    };
+    serve(alloc, &setup, source, sink)
+}

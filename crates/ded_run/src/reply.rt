@@ -1,0 +1,24 @@
+//! The text of a reply.
+ghost use Rattle.std.specs.Prelude.{◌≡◌};
+ghost use Rattle.ded_io.specs.Causes.{HasCause};
+ghost use Rattle.ded_io.specs.Devices.{AddsAll};
+ghost use Rattle.ded_session.specs.Answered.{reply_form};
+ghost use Rattle.ded_run.specs.Texts.{text_of};
+
+use ded_io::{Failed, Sink};
+use ded_print::{print_refusal, print_truth};
+use ded_session::Reply;
+
+/// Writes the text of a reply, or a front of it where the sink fails. Takes no memory.
+///
+/// # Errors
+/// `Failed` only where the sink's count of faults rose.
+pub fn write_reply<K: Sink>(reply: &Reply, sink: &mut K) -> Result<(), Failed>
+    ensures bytes { AddsAll (K.held sink.old) (K.held sink.new) result (text_of (reply_form reply.now)) }
+    ensures cause { HasCause (K.faults sink.old) (K.faults sink.new) result }
+{
+    match reply {
+        Reply::Truth(holds) => print_truth(*holds, sink),
+        Reply::Refused(refusal) => print_refusal(refusal, sink),
+    }
+}

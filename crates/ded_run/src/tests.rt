@@ -1,0 +1,196 @@
+//! What no contract says: that calls can succeed, and the bytes of whole runs.
+use crate::{Setup, Status, Words, run, serve};
+use ded_io::{BytesSink, BytesSource};
+use std::alloc::Global;
+use std::process::Abort;
+use std::test::Fail;
+
+// A script, the texts of its replies, and how it ends.
+const SCRIPTS: [(&[u8], &[u8], Status); 5] = [
+    (b"ask 3 <= 7;", b"yes\n", Status::Done),
+    (b"", b"", Status::Done),
+    (b"ask 1 = 1; -- the end", b"yes\n", Status::Done),
+    (
+        b"ask 1 = 1",
+        b"refused 2 unfinished\n",
+        Status::DoneWithRefusals,
+    ),
+    (
+        b"ask 8 <= 7; ask 'a",
+        b"no\nrefused 2 unfinished\n",
+        Status::DoneWithRefusals,
+    ),
+];
+
+// A run whose devices are given in full.
+#[derive(Clone, Copy)]
+struct Run<'a> {
+    script: &'a [u8],
+    piece: usize,
+    failing_reads: &'a [u64],
+    failing_writes: &'a [u64],
+    input_limit: u64,
+}
+
+impl Run<'_> {
+    fn check(
+        &self,
+        rt: &impl Abort,
+        alloc: Global,
+        replies: &[u8],
+        status: Status,
+    ) -> Result<(), Fail> {
+        let setup = Setup {
+            limit: 100,
+            input_limit: self.input_limit.clamp(1, 100_000),
+        };
+        let mut source = BytesSource::new(alloc, self.script, self.piece, self.failing_reads)?;
+        let mut sink = BytesSink::new(alloc, 1_000, self.piece, self.failing_writes)?;
+        assert_eq!(rt; serve(alloc, &setup, &mut source, &mut sink), status);
+        assert_eq!(rt; sink.held(), replies);
+        Ok(())
+    }
+}
+
+const WHOLE: Run<'static> = Run {
+    script: b"",
+    piece: 100,
+    failing_reads: &[],
+    failing_writes: &[],
+    input_limit: 1_000,
+};
+
+#[test]
+fn scripts_are_answered_in_any_pieces(rt: HostRuntime) -> Result<(), Fail> {
+    for (script, replies, status) in SCRIPTS {
+        for piece in [1, 2, 5, 100] {
+            Run {
+                script,
+                piece,
+                ..WHOLE
+            }
+            .check(&rt, rt.alloc(), replies, status)?;
+        }
+    }
+    Ok(())
+}
+
+#[test]
+fn a_failed_call_ends_the_run(rt: HostRuntime) -> Result<(), Fail> {
+    let alloc = rt.alloc();
+    let script = b"ask 1 = 1; ask 2";
+    Run {
+        script,
+        failing_reads: &[2],
+        ..WHOLE
+    }
+    .check(&rt, alloc, b"yes\n", Status::ReadFault)?;
+    let script = b"ask 3 <= 7;";
+    Run {
+        script,
+        failing_writes: &[1],
+        ..WHOLE
+    }
+    .check(&rt, alloc, b"", Status::WriteFault)?;
+    Run {
+        script,
+        piece: 2,
+        failing_writes: &[2],
+        ..WHOLE
+    }
+    .check(&rt, alloc, b"ye", Status::WriteFault)?;
+    Ok(())
+}
+
+#[test]
+fn an_input_has_a_limit(rt: HostRuntime) -> Result<(), Fail> {
+    let alloc = rt.alloc();
+    let script = b"ask 1 = 1; ask 2 = 2;";
+    Run {
+        script,
+        input_limit: 12,
+        ..WHOLE
+    }
+    .check(&rt, alloc, b"yes\n", Status::TooLong)?;
+    let script = b"ask 1 = 1;";
+    Run {
+        script,
+        input_limit: 10,
+        ..WHOLE
+    }
+    .check(&rt, alloc, b"yes\n", Status::Done)?;
+    Ok(())
+}
+
+// A question that has so many bytes before its `;`, and another one.
+fn long_script(alloc: Global, length: usize) -> Result<Vec<u8>, Fail> {
+    let mut script = Vec::new(alloc);
+    script.extend_from_slice(b"ask 1 = 1")?;
+    script.resize(length, b' ')?;
+    script.extend_from_slice(b"; ask 1 = 2;")?;
+    Ok(script)
+}
+
+#[test]
+fn a_statement_has_a_greatest_length(rt: HostRuntime) -> Result<(), Fail> {
+    let alloc = rt.alloc();
+    let script = long_script(alloc, 65_536)?;
+    Run {
+        script: &script,
+        piece: 5_000,
+        input_limit: 100_000,
+        ..WHOLE
+    }
+    .check(&rt, alloc, b"yes\nno\n", Status::Done)?;
+    let script = long_script(alloc, 65_537)?;
+    Run {
+        script: &script,
+        piece: 5_000,
+        input_limit: 100_000,
+        ..WHOLE
+    }
+    .check(
+        &rt,
+        alloc,
+        b"refused 1 long statement\nno\n",
+        Status::DoneWithRefusals,
+    )?;
+    Ok(())
+}
+
+// Lists of words, and how a run with them ends.
+const WORDS: [(&[&str], Status); 10] = [
+    (&[], Status::Done),
+    (&["--limit", "5"], Status::Done),
+    (&["--limit=2"], Status::Done),
+    (&["--limit=0000005"], Status::Done),
+    (&["x"], Status::BadWords),
+    (&["--limit"], Status::BadWords),
+    (&["--limit", "0"], Status::BadWords),
+    (&["--limit=00000005"], Status::BadWords),
+    (&["--limit=+5"], Status::BadWords),
+    (&["--limit", "2", "--limit", "3"], Status::BadWords),
+];
+
+#[test]
+fn words_are_accepted_or_nothing_is_done(rt: HostRuntime) -> Result<(), Fail> {
+    let alloc = rt.alloc();
+    for (texts, status) in WORDS {
+        let mut words = Words {
+            list: Vec::new(alloc),
+        };
+        for text in texts {
+            words.list.push(String::from_str(alloc, text)?)?;
+        }
+        let mut source = BytesSource::new(alloc, b"ask 3 <= 7;", 100, &[])?;
+        let mut sink = BytesSink::new(alloc, 100, 100, &[])?;
+        assert_eq!(rt; run(alloc, &words, &mut source, &mut sink), status);
+        let replies: &[u8] = if status == Status::Done {
+            b"yes\n"
+        } else {
+            b""
+        };
+        assert_eq!(rt; sink.held(), replies);
+    }
+    Ok(())
+}

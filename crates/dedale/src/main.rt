@@ -1,0 +1,51 @@
+//! Answers a script from standard input on standard output.
+//!
+//! `dedale [--limit N]` writes one reply for each statement, and nothing to standard error. Its exit status says how the
+//! run ended: 0 done, 1 done with some refusal, 2 words that aren't accepted, 3 a failed read, 4 a failed write, 5 want
+//! of memory before the first read, 6 an input of more than 2^40 bytes. All that it does is `ded_run::run`.
+#![tactic(auto)]
+
+use ded_io::{StdSink, StdSource};
+use ded_run::{Status, Words, run};
+use std::env;
+use std::io::ErrorKind;
+use std::process::ExitCode;
+use std::rt::Env;
+
+// The words behind the program's name. Where they aren't all texts, they are no accepted list.
+fn words(rt: &(impl Env + AllocGlobal)) -> Result<Words, Status> {
+    let mut list = Vec::new(rt.alloc());
+    let args = match env::args(rt) {
+        Ok(args) => args,
+        Err(error) if error.kind() == ErrorKind::OutOfMemory => return Err(Status::NoMemory),
+        Err(_) => return Err(Status::BadWords),
+    };
+    for word in args.skip(1) {
+        if list.push(word).is_err() {
+            return Err(Status::NoMemory);
+        }
+    }
+    Ok(Words { list })
+}
+
+fn code(status: Status) -> u8 {
+    match status {
+        Status::Done => 0,
+        Status::DoneWithRefusals => 1,
+        Status::BadWords => 2,
+        Status::ReadFault => 3,
+        Status::WriteFault => 4,
+        Status::NoMemory => 5,
+        Status::TooLong => 6,
+    }
+}
+
+fn main(rt: HostRuntime) -> ExitCode {
+    let words = match words(&rt) {
+        Ok(words) => words,
+        Err(status) => return ExitCode::from(code(status)),
+    };
+    let mut source = StdSource::new(rt.stdin());
+    let mut sink = StdSink::new(rt.stdout());
+    ExitCode::from(code(run(rt.alloc(), &words, &mut source, &mut sink)))
+}
