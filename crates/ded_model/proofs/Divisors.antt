@@ -13,16 +13,12 @@ use Rattle.ded_num.proofs.Gcds.{DividesAll, DividesAll-gcd_all}
 use Rattle.ded_model.specs.declared.slot.Slot.{Slot}
 use Rattle.ded_model.specs.declared.row.RowOp.{RowOp}
 use Rattle.ded_model.specs.declared.row.RowOp.TheVariants.{Zero, AtMost, Below}
+pub use Rattle.ded_model.specs.Normal.{DivideWhole}
 use Rattle.ded_model.specs.Normal.{divisor_for, divisor_of}
 
 -- k divides z without rest
 pub Whole : ℤ → ℤ → Type 0
 Whole k z = k *ℤ int_div z k ≡ z
-
--- k divides each coefficient without rest
-abbrev pub DivideWhole : ℤ → List (Slot × ℤ) → Type 0
-DivideWhole k [] = Unit {0}
-DivideWhole k (c ∷ cs) = (k *ℤ int_div c.1 k ≡ c.1) × DivideWhole k cs
 
 -- a division without rest of the magnitudes is one of the numbers
 rem_zero : (z k : ℤ) → unsigned_abs z % unsigned_abs k ≡ 0 → int_rem z k ≡ pos 0

@@ -2,6 +2,7 @@ pub mod Alike
 pub mod AtomSlots
 pub mod Atoms
 pub mod Classical
+pub mod CoefDivision
 pub mod CoefLemmas
 pub mod Computing
 pub mod Core

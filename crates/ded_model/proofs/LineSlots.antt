@@ -62,7 +62,7 @@ cut_slot s c cs t false e ih h = elim (or_split (same_slot c.0 t) _ h) [
 ]
 
 -- what is cut has no such slot
-cut_slots : (s : Slot) (cs : List (Slot × ℤ)) (t : Slot) → has_slot (cut s cs) t ≡ true → (same_slot t s ≡ false) × (has_slot cs t ≡ true)
+pub cut_slots : (s : Slot) (cs : List (Slot × ℤ)) (t : Slot) → has_slot (cut s cs) t ≡ true → (same_slot t s ≡ false) × (has_slot cs t ≡ true)
 cut_slots s [] t h = absurd (true≢false (sym h))
 cut_slots s (c ∷ cs) t h = cut_slot s c cs t (same_slot c.0 s) refl (cut_slots s cs t) h
 
@@ -73,7 +73,7 @@ nonzero_slot c cs t true ih h = or_right (same_slot c.0 t) _ (ih h)
 nonzero_slot c cs t false ih h = elim (or_split (same_slot c.0 t) _ h) [ inl x ↦ or_left _ _ x | inr x ↦ or_right (same_slot c.0 t) _ (ih x) ]
 
 -- what is not 0
-nonzero_slots : (cs : List (Slot × ℤ)) (t : Slot) → has_slot (nonzero cs) t ≡ true → has_slot cs t ≡ true
+pub nonzero_slots : (cs : List (Slot × ℤ)) (t : Slot) → has_slot (nonzero cs) t ≡ true → has_slot cs t ≡ true
 nonzero_slots [] t h = h
 nonzero_slots (c ∷ cs) t h = nonzero_slot c cs t (int_eq c.1 (pos 0)) (nonzero_slots cs t) h
 

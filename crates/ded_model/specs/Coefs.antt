@@ -10,6 +10,10 @@ abbrev pub AllAbove : ℕ → List (Slot × ℤ) → Type 0
 AllAbove n [] = Unit {0}
 AllAbove n (c ∷ cs) = (n < c.0.number) × AllAbove n cs
 
+abbrev pub AllBelow : ℕ → List (Slot × ℤ) → Type 0
+AllBelow n [] = Unit {0}
+AllBelow n (c ∷ cs) = (c.0.number < n) × AllBelow n cs
+
 -- rational slots with ascending numbers, and coefficients of at most 127 digits that are not 0
 abbrev pub AreCoefs : List (Slot × ℤ) → Type 0
 AreCoefs [] = Unit {0}

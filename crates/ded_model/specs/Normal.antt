@@ -1,5 +1,5 @@
 -- Normal rows, text atoms and tuples, and the order of atoms.
-use Rattle.std.specs.Prelude.{◌≡◌, ◌<◌, ℕ, ℤ, pos, int_lt, int_div, Bool, true, false, List, [], ◌∷◌, map, if◌then◌else◌}
+use Rattle.std.specs.Prelude.{◌≡◌, ◌<◌, ℕ, ℤ, pos, ◌*ℤ◌, int_lt, int_div, Bool, true, false, List, [], ◌∷◌, map, if◌then◌else◌}
 use lib.IntN.{neg_ℤ}
 use Rattle.std.specs.declared.cmp.Ordering.{Ordering}
 use Rattle.std.specs.declared.cmp.Ordering.TheVariants.{Less, Equal, Greater}
@@ -25,6 +25,11 @@ numbers r = r.constant ∷ map (λ c. c.1) r.coefs
 
 abbrev pub coefs_over : ℤ → List (Slot × ℤ) → List (Slot × ℤ)
 coefs_over k cs = map (λ c. (c.0, int_div c.1 k)) cs
+
+-- k divides each coefficient without rest
+abbrev pub DivideWhole : ℤ → List (Slot × ℤ) → Type 0
+DivideWhole k [] = Unit {0}
+DivideWhole k (c ∷ cs) = (k *ℤ int_div c.1 k ≡ c.1) × DivideWhole k cs
 
 abbrev pub row_over : ℤ → LinearConstraint → LinearConstraint
 row_over k r = record { coefs = coefs_over k r.coefs; constant = int_div r.constant k; op = r.op }

@@ -1,12 +1,14 @@
 //! Rows: sums of coefficients times slots, plus a constant, compared with zero.
-ghost use Rattle.std.specs.Prelude.{◌≡◌, ◌<◌, false, [], pos, IfOk, OnOk, OnErr, length, slice_set};
+ghost use Rattle.std.specs.Prelude.{◌≡◌, ◌≢◌, ◌<◌, false, [], ◌∷◌, ◌++◌, pos, IfOk, OnOk, OnErr, length, slice_set};
 ghost use Rattle.ded_num.specs.Length.{IsShort};
 ghost use Rattle.ded_model.specs.declared.slot.Slot.{Slot};
 ghost use Rattle.ded_model.specs.declared.slot.Sort.TheVariants.{Rat};
-ghost use Rattle.ded_model.specs.Coefs.{AreCoefs, coef_at, with_coef, place_of, is_taken};
+ghost use Rattle.ded_model.specs.Coefs.{AllBelow, AreCoefs, coef_at, with_coef, place_of, is_taken};
+ghost use Rattle.ded_model.specs.Normal.{coefs_over, DivideWhole};
 
 use crate::memory::NoMemory;
 use crate::slot::Slot;
+use ded_num::quotient;
 use smallvec::SmallVec;
 use std::alloc::Global;
 use std::marker::Model;
@@ -120,6 +122,33 @@ impl Coefs {
         Ok(())
     }
 
+    /// The allocator that the coefficients are kept by.
+    pub fn allocator(&self) -> Global {
+        *self.list.allocator()
+    }
+
+    /// Adds a coefficient at the end, of a rational slot above all others. On want of memory nothing is changed.
+    pub fn push(&mut self, slot: Slot, a: i128) -> Result<(), NoMemory>
+        requires rational { slot.sort ≡ Rat }
+        requires short { IsShort a }
+        requires nonzero { a ≢ pos 0 }
+        requires last { AllBelow slot.number self.old }
+        ensures ok { OnOk result (self.new ≡ self.old ++ (slot, a) ∷ []) }
+        ensures err { OnErr result (self.new ≡ self.old) }
+    {
+        self.list.push((slot, a))?;
+        Ok(())
+    }
+
+    /// Divides each coefficient by a number that divides them all. It takes no memory.
+    pub fn divide(&mut self, by: i128)
+        requires nonzero { by ≢ pos 0 }
+        requires whole { DivideWhole by self.old }
+        ensures { self.new ≡ coefs_over by self.old }
+    {
+        divide_all(self.list.as_mut_slice(), by);
+    }
+
     /// Equal coefficients.
     pub fn copy(&self) -> Result<Coefs, NoMemory>
         ensures { IfOk result (λ c. c ≡ self.now) }
@@ -185,4 +214,14 @@ fn set_entry(list: &mut [(Slot, i128)], at: usize, entry: (Slot, i128))
     ensures { list.new ≡ slice_set list.old at entry }
 {
     list[at] = entry;
+}
+
+fn divide_all(list: &mut [(Slot, i128)], by: i128)
+    requires nonzero { by ≢ pos 0 }
+    requires short { AreCoefs list.old }
+    ensures { list.new ≡ coefs_over by list.old }
+{
+    for entry in list.iter_mut() {
+        entry.1 = quotient(entry.1, by);
+    }
 }
