@@ -1,3 +1,5 @@
 pub mod Steps
 pub mod Answering
 pub mod Reading
+pub mod Parsing
+pub mod Accepting

@@ -1,12 +1,12 @@
 //! A whole run: from the bytes of a source to the texts of a sink.
-ghost use Rattle.std.specs.Prelude.{◌≡◌, ◌≢◌, ◌≤◌, ◌^◌, ◌⊎◌, ◌↔◌, false, true, ℕ, List, Option};
+ghost use Rattle.std.specs.Prelude.{◌≡◌, ◌≢◌, ◌≤◌, ◌^◌, ◌⊎◌, false, true, ℕ, List, Option};
 ghost use Rattle.ded_io.specs.Causes.{Rose};
 ghost use Rattle.ded_run.specs.Outcome.{Answered, Broken, Concluded, Interrupted, Overlong, Unread};
 ghost use Rattle.ded_run.specs.Streams.{Streamed};
 ghost use Rattle.ded_run.specs.Words.{AcceptedWords, WithLimit, texts_in};
 
 use crate::dialogue::Dialogue;
-use crate::words::{Words, limit_in};
+use crate::words::{WordFault, Words, limit_in};
 use ded_io::{Failed, Sink, Source};
 use std::alloc::Global;
 
@@ -109,7 +109,8 @@ const INPUT_LIMIT: u64 = 1 << 40;
 
 /// All that the program does: reads the words, and then serves.
 pub fn run<S: Source, K: Sink>(alloc: Global, words: &Words, source: &mut S, sink: &mut K) -> Status
-    ensures bad_words { result ≡ Status.BadWords ↔ ((limit : ℕ) → AcceptedWords (texts_in words.now) limit → ⊥) }
+    ensures bad_words { result ≡ Status.BadWords → (limit : ℕ) → AcceptedWords (texts_in words.now) limit → ⊥ }
+    ensures no_limit { ((limit : ℕ) → AcceptedWords (texts_in words.now) limit → ⊥) → (result ≡ Status.BadWords) ⊎ (result ≡ Status.NoMemory) }
     ensures no_words { result ≡ Status.BadWords → (source.new ≡ source.old) × (sink.new ≡ sink.old) }
     ensures done { result ≡ Status.Done → WithLimit (texts_in words.now) (λ limit. Answered limit (2 ^ 40) (S.left source.old) (S.left source.new) (K.held sink.old) (K.held sink.new) false) }
     ensures done_with_refusals { result ≡ Status.DoneWithRefusals → WithLimit (texts_in words.now) (λ limit. Answered limit (2 ^ 40) (S.left source.old) (S.left source.new) (K.held sink.old) (K.held sink.new) true) }
@@ -122,8 +123,10 @@ pub fn run<S: Source, K: Sink>(alloc: Global, words: &Words, source: &mut S, sin
     ensures overlong { result ≡ Status.TooLong → WithLimit (texts_in words.now) (λ limit. Overlong limit (2 ^ 40) (S.left source.old) (S.left source.new) (K.held sink.old) (K.held sink.new)) }
     ensures ends { (Rose (S.faults source.old) (S.faults source.new) → ⊥) → (Rose (K.faults sink.old) (K.faults sink.new) → ⊥) → result ≢ Status.NoMemory → result ≢ Status.TooLong → result ≢ Status.BadWords → (result ≡ Status.Done) ⊎ (result ≡ Status.DoneWithRefusals) }
 {
-    let Some(limit) = limit_in(&words.list) else {
-        return Status::BadWords;
+    let limit = match limit_in(alloc, &words.list) {
+        Ok(limit) => limit,
+        Err(WordFault::Bad) => return Status::BadWords,
+        Err(WordFault::Memory) => return Status::NoMemory,
     };
     let setup = Setup {
         limit,
