@@ -38,7 +38,6 @@ r = record limit_rule {
   parser = Some parser.String;
 }
 
-
 -- ---- lists of faults
 
 cons_nil : {k : ErrorKind} {ks : Kinds} → k ∷ ks ≡ [] → ⊥
@@ -98,16 +97,16 @@ split [] = inl (λ i lt. absurd (omega (arith, lt)))
 split (x ∷ xs) = ⊎_elim
     (λ same. inr ([], xs, ap (λ (y : ℕ). y ∷ xs) same.1, λ i lt. absurd (omega (arith, lt))))
     (λ differs. ⊎_elim
-        (λ (lacks : Lacks 61 xs). inl (lacks_more x xs differs.1 lacks))
-        (λ (cut : (front : List ℕ) × (back : List ℕ) × (xs ≡ front ++ 61 ∷ back) × Lacks 61 front). inr (x ∷ cut.0, cut.1, ap (λ (l : List ℕ). x ∷ l) cut.2, lacks_more x cut.0 differs.1 cut.3))
-        (split xs))
+    (λ (lacks : Lacks 61 xs). inl (lacks_more x xs differs.1 lacks))
+    (λ (cut : (front : List ℕ) × (back : List ℕ) × (xs ≡ front ++ 61 ∷ back) × Lacks 61 front). inr (x ∷ cut.0, cut.1, ap (λ (l : List ℕ). x ∷ l) cut.2, lacks_more x cut.0 differs.1 cut.3))
+    (split xs))
     (eqb_tells x 61)
 
 value_spells : (xs name : Text) (v : Option Text) → name_and_value xs ≡ (name, v) → xs ≡ spelled name v
 value_spells xs name v e = ⊎_elim
     (λ (lacks : Lacks 61 xs). ap (λ (p : Text × Option Text). spelled p.0 p.1) (sym (name_and_value-without xs lacks) ∙ e))
     (λ (cut : (front : List ℕ) × (back : List ℕ) × (xs ≡ front ++ 61 ∷ back) × Lacks 61 front).
-        cut.2 ∙ ap (λ (p : Text × Option Text). spelled p.0 p.1) (sym (ap name_and_value cut.2 ∙ name_and_value-at cut.0 cut.1 cut.3) ∙ e))
+    cut.2 ∙ ap (λ (p : Text × Option Text). spelled p.0 p.1) (sym (ap name_and_value cut.2 ∙ name_and_value-at cut.0 cut.1 cut.3) ∙ e))
     (split xs)
 
 rest_spells : (xs name : Text) (v : Option Text) → long_of_rest xs ≡ Some (name, v) → xs ≡ spelled name v
@@ -289,11 +288,11 @@ reads (word ∷ rest) n e =
     let plain_words = no_dashes word rest n in
     ⊎_elim
     (λ a.
-        let last = subst (λ (w : Walk). Last a.0 rest w) (sym a.3) (behind_attached a.0 rest plain_words.1) more.1 in
-        subst (λ (o : Option Text). IsRead (word ∷ rest) o) (sym last.1) (inl (ap (λ (t : Text). t ∷ rest) a.1 ∙ ap (λ (l : List Text). (codes "--limit=" ++ a.0) ∷ l) last.0)))
+    let last = subst (λ (w : Walk). Last a.0 rest w) (sym a.3) (behind_attached a.0 rest plain_words.1) more.1 in
+    subst (λ (o : Option Text). IsRead (word ∷ rest) o) (sym last.1) (inl (ap (λ (t : Text). t ∷ rest) a.1 ∙ ap (λ (l : List Text). (codes "--limit=" ++ a.0) ∷ l) last.0)))
     (λ a.
-        let last = subst (λ (w : Walk). Ends w rest → (v : Text) × (rest ≡ v ∷ []) × (value_after w rest ≡ Some v)) (sym a.2) (behind_option rest plain_words.1) more.1 in
-        subst (λ (o : Option Text). IsRead (word ∷ rest) o) (sym last.2) (inr (ap (λ (t : Text). t ∷ rest) a.0 ∙ ap (λ (l : List Text). codes "--limit" ∷ l) last.1)))
+    let last = subst (λ (w : Walk). Ends w rest → (v : Text) × (rest ≡ v ∷ []) × (value_after w rest ≡ Some v)) (sym a.2) (behind_option rest plain_words.1) more.1 in
+    subst (λ (o : Option Text). IsRead (word ∷ rest) o) (sym last.2) (inr (ap (λ (t : Text). t ∷ rest) a.0 ∙ ap (λ (l : List Text). codes "--limit" ∷ l) last.1)))
     (idle_turn [] None word plain_words.0 more.0)
 
 -- ---- the parse

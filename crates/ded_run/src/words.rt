@@ -71,7 +71,9 @@ fn has_dashes(words: &[String]) -> bool
 fn command<'a>(alloc: Global) -> Result<Command<'a>, NoMemory>
     ensures { IfOk result (λ command. app_of command ≡ dedale) }
 {
-    let limit = Arg::new(alloc, "limit").long("limit").action(ArgAction::Set);
+    let limit = Arg::new(alloc, "limit")
+        .long("limit")
+        .action(ArgAction::Set);
     Command::new(alloc, "dedale")
         .no_binary_name(true)
         .disable_help_flag(true)
