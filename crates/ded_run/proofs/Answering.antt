@@ -7,7 +7,7 @@ use Rattle.std.proofs.lemmas.List.Concat.{flat_map-append}
 use Rattle.ded_io.specs.Devices.{Sent, AddsAll}
 use Rattle.ded_io.proofs.Steps.{appends_both}
 use Rattle.ded_lex.specs.Gaps.{IsBlank}
-use Rattle.ded_lex.specs.Pieces.{Statement, Whole, Begins, HasNoWhole, IsCut, EndsPiece}
+use Rattle.ded_lex.specs.Pieces.{Statement, Whole, HasNoWhole, IsCut, EndsPiece}
 use Rattle.ded_lex.specs.Pieces as pieces
 use Rattle.ded_lex.proofs.Cuts.{goes_on, has_statements, statements_on}
 use Rattle.ded_model.specs.declared.command.Language.{Language}

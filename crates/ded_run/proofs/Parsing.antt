@@ -1,10 +1,9 @@
 -- What `clap` makes of the words, for a command with one option that takes a value.
-use Rattle.std.proofs.Common.{◌≡◌, ◌⊎◌, ℕ, List, [], ◌∷◌, ◌++◌, length, refl, sym, ap, ◌∙◌, inl, inr, ⊎_elim, subst, Bool, true, false, ◌||◌, zero, suc, codes, ◌≢◌, ◌<◌, arith, Decides, true≢false}
+use Rattle.std.proofs.Common.{◌≡◌, ◌⊎◌, ℕ, List, [], ◌∷◌, ◌++◌, length, refl, sym, ap, ◌∙◌, inl, inr, ⊎_elim, subst, Bool, true, false, ◌||◌, zero, suc, codes, ◌≢◌, arith, Decides, true≢false}
 use Rattle.std.proofs.lemmas.Bool.Decides.{eqb_tells}
 use Rattle.std.proofs.lemmas.Bool.{ne_eqb}
 use Rattle.std.proofs.lemmas.Slice.Eq.{bytes_eq-Decides}
 use Rattle.std.specs.Prelude.{Option, None, Some, fold, slice_get, if◌then◌else◌, option_and_then, ◌==◌}
-use Rattle.std.specs.List.{list_any}
 use Rattle.std.specs.Option.{option_map_or}
 use Rattle.std.specs.Str.{bytes_eq, chars}
 use Rattle.clap.specs.Lexer.{long_of, long_of_rest, short_of, strip_byte, name_and_value}
@@ -20,7 +19,7 @@ use Rattle.clap.specs.declared.parser.matches.ArgMatches.{ArgMatches}
 use Rattle.clap.proofs.WalkLemmas.{first_value-rows}
 use Rattle.clap.proofs.FaultLemmas.{leaf_fault}
 use Rattle.ded_run.specs.CommandLine.{limit_rule, dedale, has_dashes}
-use Rattle.clap.specs.Walk.{Text, nothing_held, Rule, Row, Held, Walk, Waiting, Outcome, Step, idle, option, arg_by_long, reading_by, reacted, settled, pushed, walked, after_step, after_flag, long_met, long_or_other, short_or_plain, plain_word, bundle_met, bundle_step, plain, trailing, next as proceed, rows_of, first_of, finished}
+use Rattle.clap.specs.Walk.{Text, nothing_held, Rule, Row, Held, Walk, Waiting, Outcome, Step, idle, option, arg_by_long, reading_by, reacted, settled, walked, after_step, after_flag, long_met, long_or_other, short_or_plain, plain_word, bundle_met, bundle_step, plain, trailing, next as proceed, rows_of, first_of, finished}
 use Rattle.clap.specs.declared.builder.value_parser.ValueParser.TheVariants as parser
 use Rattle.clap.specs.declared.parser.matches.ValueSource.TheVariants.{CommandLine}
 

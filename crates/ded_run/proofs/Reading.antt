@@ -1,15 +1,13 @@
 -- Reads that go on, and how they end.
-use Rattle.std.proofs.Common.{◌≡◌, ℕ, ◌+◌, ◌<◌, ◌≤◌, length, take, drop, List, [], ◌∷◌, ◌++◌, refl, sym, ap, ◌∙◌, append_assoc, length-append, subst, arith, Bool}
-use Rattle.std.specs.Prelude.{Option, None, Some, min, IfSome}
-use Rattle.std.specs.Io.KnownBytes.{Appends, Consumes, Keeps, IsAtEnd}
+use Rattle.std.proofs.Common.{◌≡◌, ℕ, ◌+◌, ◌<◌, ◌≤◌, length, take, drop, List, [], ◌++◌, refl, sym, ap, ◌∙◌, append_assoc, length-append, subst, arith, Bool}
+use Rattle.std.specs.Prelude.{Option, None, Some, IfSome}
+use Rattle.std.specs.Io.KnownBytes.{Consumes, Keeps, IsAtEnd}
 use Rattle.std.proofs.lemmas.List.{append-nil, length-take-le, take-take, take-append-drop}
 use Rattle.std.proofs.Math.Seq.{take-append-add}
 use Rattle.ded_run.specs.declared.dialogue.Dialogue.{Dialogue}
-use Rattle.ded_model.specs.Catalogue.{Catalogue}
-use Rattle.ded_session.specs.Replies.{ReplyForm}
 use Rattle.ded_session.specs.Runs.{Run}
 use Rattle.ded_run.specs.Outcome.{Answered, Concluded, WholesAnswered, Unread, Overlong, Interrupted, Broken}
-use Rattle.ded_run.specs.Streams.{IsFresh, SoFar, Streamed, Stopped, Reading}
+use Rattle.ded_run.specs.Streams.{IsFresh, Streamed, Stopped, Reading}
 use Rattle.ded_run.proofs.Answering.{starts, wholes_answered}
 
 -- ---- bytes that are told

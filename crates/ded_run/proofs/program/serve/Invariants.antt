@@ -1,4 +1,4 @@
-use Rattle.std.proofs.Common.{◌≡◌, ℕ}
+use Rattle.std.proofs.Common.{◌≡◌}
 use Rattle.ded_run.specs.Streams.{Reading}
 use Rattle.ded_run.proofs.program.serve.Given as goal
 

@@ -1,4 +1,4 @@
-use Rattle.std.proofs.Common.{◌≡◌, sym, ap, ◌∙◌, true, rules, true≢false}
+use Rattle.std.proofs.Common.{◌≡◌, sym, ap, ◌∙◌, rules, true≢false}
 use Rattle.std.specs.Prelude.{Err, option_map}
 use Rattle.ded_run.specs.declared.words.WordFault.TheVariants.{Bad}
 use Rattle.ded_run.specs.declared.words.WordFault.{WordFault}
