@@ -1,0 +1,5 @@
+pub mod Merging
+pub mod Mixing
+pub mod Multiples
+pub mod Negation
+pub mod Renaming

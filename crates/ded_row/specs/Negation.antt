@@ -1,0 +1,41 @@
+-- The negation of a row, in pieces.
+use Rattle.std.specs.Prelude.{ℤ, Bool, false, not, ◌&&◌, ◌||◌, List, [], ◌∷◌}
+use Rattle.ded_model.specs.declared.slot.Slot.{Slot}
+use Rattle.ded_model.specs.declared.row.RowOp.{RowOp}
+use Rattle.ded_model.specs.declared.row.RowOp.TheVariants.{Zero, AtMost, Below}
+use Rattle.ded_model.specs.declared.tuple.Negated.{Negated}
+use Rattle.ded_model.specs.declared.tuple.Negated.TheVariants.{One, Two}
+use Rattle.ded_model.specs.Constraint.{LinearConstraint}
+use Rattle.ded_model.specs.Point.{Point}
+use Rattle.ded_model.specs.Row.{sign_meets, row_holds}
+use Rattle.ded_model.specs.Normal.{constant_row}
+use Rattle.ded_row.specs.Multiples.{turned, with_op}
+
+-- of a sum that is 0, the sum below 0 and its negative below 0; of an inequality, the turned one
+abbrev pub negated_by : RowOp → LinearConstraint → Negated LinearConstraint
+negated_by Zero r = Two (with_op Below r) (with_op Below (turned r))
+negated_by AtMost r = One (with_op Below (turned r))
+negated_by Below r = One (with_op AtMost (turned r))
+
+-- a row without coefficients gives the true or the false row
+abbrev pub negated_with : List (Slot × ℤ) → LinearConstraint → Negated LinearConstraint
+negated_with [] r = One (constant_row (not (sign_meets r.op r.constant)))
+negated_with (c ∷ cs) r = negated_by r.op r
+
+abbrev pub negated_row : LinearConstraint → Negated LinearConstraint
+negated_row r = negated_with r.coefs r
+
+-- P holds of each piece
+abbrev pub EachPiece : (LinearConstraint → Type 0) → Negated LinearConstraint → Type 0
+EachPiece P (One r) = P r
+EachPiece P (Two r s) = P r × P s
+
+-- the point satisfies some piece
+abbrev pub some_piece_holds : Negated LinearConstraint → Point → Bool
+some_piece_holds (One r) p = row_holds r p
+some_piece_holds (Two r s) p = row_holds r p || row_holds s p
+
+-- it satisfies two of them
+abbrev pub both_pieces_hold : Negated LinearConstraint → Point → Bool
+both_pieces_hold (One r) p = false
+both_pieces_hold (Two r s) p = row_holds r p && row_holds s p
