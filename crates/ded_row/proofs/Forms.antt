@@ -1,12 +1,10 @@
 -- Normal rows: what the code makes, that they are normal, their lines and their slots.
-use Rattle.std.proofs.Common.{◌≡◌, ◌≢◌, ℕ, zero, suc, ◌*◌, ◌<◌, Bool, true, false, cond, ◌==◌, List, [], ◌∷◌, map, length, arith, refl, sym, ap, ap₂, ◌∙◌, subst, true≢false}
-use Rattle.std.specs.Prelude.{ℤ, pos, negsuc, ◌*ℤ◌, ◌<ℤ◌, int_div, unsigned_abs}
-use lib.IntN.{neg_ℤ}
+use Rattle.std.proofs.Common.{◌≡◌, ◌≢◌, ℕ, zero, suc, Bool, true, false, ◌==◌, List, [], ◌∷◌, map, length, arith, refl, sym, ap, ap₂, ◌∙◌, true≢false}
+use Rattle.std.specs.Prelude.{ℤ, pos, ◌*ℤ◌, int_div, unsigned_abs}
 use Rattle.std.proofs.lemmas.Int.{ints}
 use Rattle.std.proofs.lemmas.Bool.Decides.{nat_tests}
 use Rattle.std.proofs.Math.IntN.{*ℤ-zero}
 use Rattle.ded_num.specs.Gcd.{gcd_all}
-use Rattle.ded_num.specs.Length.{IsShort}
 use Rattle.ded_model.specs.declared.slot.Slot.{Slot}
 use Rattle.ded_model.specs.declared.row.RowOp.{RowOp}
 use Rattle.ded_model.specs.declared.row.RowOp.TheVariants.{Zero, AtMost, Below}
@@ -17,7 +15,7 @@ use Rattle.ded_model.specs.Normal.{DivideWhole, IsNormalRow, coefs_over, row_ove
 use Rattle.ded_model.specs.Lines.{Line, line_with, row_lines}
 use Rattle.ded_model.proofs.Divisors.{divisor-whole, divisor-whole_constant, divisor-nonzero_first}
 use Rattle.ded_model.proofs.LineSlots.{has_slot, over_slots}
-use Rattle.ded_row.specs.Multiples.{coefs_times, row_times, with_op}
+use Rattle.ded_row.specs.Multiples.{coefs_times, row_times}
 use Rattle.ded_row.proofs.Scaling.{BeginsNonzero, IsFactor, IsSignFor, normal_row-times}
 
 -- ---- a normal row is normal

@@ -2,8 +2,8 @@
 --
 -- A combination is made of the numbers of two lines up to factors that are not 0, which change no line. The factors of normal
 -- rows are 1 or -1, which change no length either.
-use Rattle.std.proofs.Common.{◌≡◌, ◌≢◌, ℕ, zero, suc, ◌*◌, Bool, true, false, not, cond, ◌&&◌, ◌||◌, List, [], ◌∷◌, ◌⊎◌, inl, inr, map, nat_lt, arith, refl, sym, ap, ap₂, ◌∙◌, subst, true≢false}
-use Rattle.std.specs.Prelude.{ℤ, pos, negsuc, ◌+ℤ◌, ◌-ℤ◌, ◌*ℤ◌, int_div, unsigned_abs, ◌^◌}
+use Rattle.std.proofs.Common.{◌≡◌, ◌≢◌, ℕ, ◌*◌, Bool, true, false, not, cond, ◌&&◌, ◌||◌, List, [], ◌∷◌, inl, inr, map, nat_lt, arith, refl, sym, ap, ap₂, ◌∙◌}
+use Rattle.std.specs.Prelude.{ℤ, pos, negsuc, ◌+ℤ◌, ◌-ℤ◌, ◌*ℤ◌, unsigned_abs, ◌^◌}
 use lib.IntN.{neg_ℤ, +ℤ_idl}
 use Rattle.std.specs.List.{list_any}
 use Rattle.std.specs.Ordering.{int_eq}
@@ -17,18 +17,18 @@ use Rattle.ded_model.specs.declared.row.RowOp.{RowOp}
 use Rattle.ded_model.specs.declared.row.RowOp.TheVariants.{Zero}
 use Rattle.ded_model.specs.Constraint.{LinearConstraint}
 use Rattle.ded_model.specs.Point.{same_slot}
-use Rattle.ded_model.specs.Coefs.{AreCoefs, coef_at, put, put_all, mixed, nonzero, cut}
-use Rattle.ded_model.specs.Normal.{IsNormalRow, DivideWhole, coefs_over, divisor_of, divisor_for, normal_row}
+use Rattle.ded_model.specs.Coefs.{coef_at, put, put_all, mixed, nonzero, cut}
+use Rattle.ded_model.specs.Normal.{IsNormalRow, divisor_of, normal_row}
 use Rattle.ded_model.specs.Lines.{Line, In, line_with, row_lines, combination, is_long, products_clash, slots_clash, lines_clash}
 use Rattle.ded_model.proofs.Divisors.{abs_divisor, divisor-whole, divisor-whole_constant, divisor-nonzero_first}
 use Rattle.ded_model.proofs.LineCoefs.{AllNonzero, nonzero-nonzero}
-use Rattle.ded_row.specs.Multiples.{coefs_times, row_times}
-use Rattle.ded_row.specs.Mixing.{BoundsAbove, BoundsBelow, factor, join_op, mixed_coefs, mixed_row, mix_of, sum_is_long, long_at, coefs_are_long}
+use Rattle.ded_row.specs.Multiples.{coefs_times}
+use Rattle.ded_row.specs.Mixing.{factor, mixed_coefs, mixed_row, mix_of, sum_is_long, long_at, coefs_are_long}
 use Rattle.ded_row.proofs.Scaling.{BeginsNonzero, cancel_factor, product_nonzero, regroup}
-use Rattle.ded_row.proofs.Forms.{begins, coefs_back, row_lines-times, row_lines-normal}
+use Rattle.ded_row.proofs.Forms.{coefs_back, row_lines-times, row_lines-normal}
 use Rattle.ded_row.proofs.Pieces.{neg_is, normal_gcd}
 use Rattle.ded_row.proofs.Normals.{turned_law}
-use Rattle.ded_row.proofs.Mixes.{IsPair, turned_first, turned_second, factors, bound_nonzero, below_nonzero}
+use Rattle.ded_row.proofs.Mixes.{IsPair, turned_first, turned_second, factors}
 
 -- ---- multiples of sums
 

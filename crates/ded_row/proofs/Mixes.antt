@@ -2,10 +2,9 @@
 --
 -- The factors cancel the slot's coefficients, so the sum of the combination is the sum of the two rows, each times its factor,
 -- and a factor keeps the sign that a row asks for.
-use Rattle.std.proofs.Common.{◌≡◌, ◌≢◌, ℕ, zero, suc, ◌<◌, Bool, true, false, cond, ◌||◌, List, [], ◌∷◌, ◌⊎◌, inl, inr, arith, refl, sym, ap, ap₂, ◌∙◌, subst, true≢false}
+use Rattle.std.proofs.Common.{◌≡◌, ◌≢◌, ℕ, zero, suc, ◌<◌, Bool, true, false, cond, List, [], ◌∷◌, ◌⊎◌, inl, inr, arith, refl, sym, ap, ap₂, ◌∙◌, subst, true≢false}
 use Rattle.std.specs.Prelude.{ℤ, pos, negsuc, ◌+ℤ◌, ◌*ℤ◌, ◌<ℤ◌, int_lt, int_le, unsigned_abs}
 use lib.IntN.{neg_ℤ, +ℤ_idl, +ℤ_idr}
-use Rattle.std.specs.Ordering.{int_eq}
 use Rattle.std.proofs.lemmas.Int.{ints}
 use Rattle.std.proofs.lemmas.Bool.Decides.{nat_tests, Decides-int_eq}
 use Rattle.std.proofs.Math.IntN.{zero-*ℤ}
@@ -15,9 +14,8 @@ use Rattle.ded_model.specs.declared.row.RowOp.{RowOp}
 use Rattle.ded_model.specs.declared.row.RowOp.TheVariants.{Zero, AtMost, Below}
 use Rattle.ded_model.specs.Constraint.{LinearConstraint}
 use Rattle.ded_model.specs.Point.{same_slot, Point, slot, number_at}
-use Rattle.ded_model.specs.Coefs.{coef_at, put_all, mixed, nonzero, cut}
+use Rattle.ded_model.specs.Coefs.{coef_at, put_all, mixed, cut}
 use Rattle.ded_model.specs.Row.{sum_at, row_at, sign_meets, row_holds, row_mentions}
-use Rattle.ded_model.specs.Normal.{normal_row}
 use Rattle.ded_model.proofs.Points.{same_slot_is, same_slot_refl}
 use Rattle.ded_model.proofs.LineCoefs.{coef_at-mixed}
 use Rattle.ded_model.proofs.LineSlots.{has_slot, put_all_slots, cut_slots, nonzero_slots}

@@ -1,30 +1,27 @@
 -- The pieces of a negated row.
-use Rattle.std.proofs.Common.{◌≡◌, ◌≢◌, ℕ, zero, suc, ◌*◌, ◌<◌, Bool, true, false, not, ◌&&◌, ◌||◌, cond, List, [], ◌∷◌, map, arith, refl, sym, ap, ap₂, ◌∙◌, subst, true≢false}
+use Rattle.std.proofs.Common.{◌≡◌, ◌≢◌, zero, suc, ◌*◌, ◌<◌, false, not, ◌&&◌, ◌||◌, List, [], ◌∷◌, map, arith, refl, sym, ap, ap₂, ◌∙◌}
 use Rattle.std.specs.Prelude.{ℤ, pos, negsuc, ◌+ℤ◌, ◌*ℤ◌, int_lt, int_le, int_div, unsigned_abs}
 use lib.IntN.{neg_ℤ}
 use Rattle.std.specs.Ordering.{int_eq}
 use Rattle.std.proofs.lemmas.Int.{ints}
 use Rattle.std.proofs.lemmas.Bool.Decides.{nat_tests}
 use Rattle.ded_num.specs.Gcd.{gcd_all}
-use Rattle.ded_num.proofs.Ring.{parts, ring, ring_pos, diff_same}
+use Rattle.ded_num.proofs.Ring.{parts, ring, diff_same}
 use Rattle.ded_model.specs.declared.slot.Slot.{Slot}
 use Rattle.ded_model.specs.declared.row.RowOp.{RowOp}
 use Rattle.ded_model.specs.declared.row.RowOp.TheVariants.{Zero, AtMost, Below}
-use Rattle.ded_model.specs.declared.tuple.Negated.{Negated}
-use Rattle.ded_model.specs.declared.tuple.Negated.TheVariants.{One, Two}
 use Rattle.ded_model.specs.Constraint.{LinearConstraint}
 use Rattle.ded_model.specs.Point.{Point, slot, number_at, same_slot}
 use Rattle.ded_model.specs.Row.{sum_at, row_at, sign_meets, row_holds, row_mentions}
-use Rattle.ded_model.specs.Coefs.{AreCoefs}
-use Rattle.ded_model.specs.Normal.{DivideWhole, IsNormalRow, coefs_over, row_over, constant_row, divisor_for, divisor_of, normal_with, normal_row}
-use Rattle.ded_model.specs.Lines.{Line, line_with, row_lines}
-use Rattle.ded_model.proofs.Divisors.{abs_divisor, divisor-whole, divisor-whole_constant, divisor-nonzero_first}
+use Rattle.ded_model.specs.Normal.{DivideWhole, IsNormalRow, coefs_over, row_over, divisor_for, normal_row}
+use Rattle.ded_model.specs.Lines.{line_with, row_lines}
+use Rattle.ded_model.proofs.Divisors.{abs_divisor, divisor-whole}
 use Rattle.ded_model.proofs.LineSlots.{has_slot}
 use Rattle.ded_row.specs.Multiples.{coefs_times, row_times, with_op, turned}
 use Rattle.ded_row.specs.Negation.{negated_by, negated_with, negated_row, EachPiece, some_piece_holds, both_pieces_hold}
 use Rattle.ded_row.proofs.Normals.{constant_row-holds, no_coefs}
 use Rattle.ded_row.proofs.Scaling.{BeginsNonzero, cancel_factor, exact_quotient, gcd_all-times}
-use Rattle.ded_row.proofs.Forms.{begins, constant_row-normal, row_lines-times}
+use Rattle.ded_row.proofs.Forms.{constant_row-normal, row_lines-times}
 
 -- ---- turned rows
 

@@ -2,7 +2,7 @@
 --
 -- The greatest common divisor of multiples is that multiple of the greatest common divisor, so the divisor of a multiple of a
 -- row is that multiple of the row's divisor, and the quotients are the same. A negative factor turns an equality alone.
-use Rattle.std.proofs.Common.{◌≡◌, ◌≢◌, ℕ, zero, suc, ◌+◌, ◌*◌, ◌/◌, ◌<◌, ◌≤◌, ◌%◌, Bool, true, false, not, cond, List, [], ◌∷◌, ◌⊎◌, inl, inr, map, arith, refl, sym, ap, ap₂, ◌∙◌, subst, mul-pos}
+use Rattle.std.proofs.Common.{◌≡◌, ◌≢◌, ℕ, zero, suc, ◌+◌, ◌*◌, ◌/◌, ◌<◌, ◌≤◌, ◌%◌, Bool, true, false, not, cond, List, [], ◌∷◌, map, arith, refl, sym, ap, ap₂, ◌∙◌, subst}
 use Rattle.std.specs.Prelude.{ℤ, pos, negsuc, ◌-ℤ◌, ◌*ℤ◌, ◌<ℤ◌, int_lt, int_div, unsigned_abs}
 use lib.IntN.{neg_ℤ}
 use Prim.Native.Nat.{◌∣◌}

@@ -1,7 +1,7 @@
 -- Sums of slots at a point.
 --
 -- Putting a number at a slot adds it times the slot's number to the sum, and leaving zeros out changes no sum.
-use Rattle.std.proofs.Common.{◌≡◌, ◌<◌, nat_lt, Bool, true, false, cond, List, [], ◌∷◌, arith, refl, sym, ap, ◌∙◌}
+use Rattle.std.proofs.Common.{◌≡◌, nat_lt, Bool, true, false, cond, List, [], ◌∷◌, arith, refl, sym, ap, ◌∙◌}
 use Rattle.std.specs.Prelude.{ℤ, pos, ◌+ℤ◌, ◌*ℤ◌}
 use lib.IntN.{+ℤ_idr}
 use Rattle.std.specs.Ordering.{int_eq}

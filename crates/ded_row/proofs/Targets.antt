@@ -6,18 +6,15 @@ use Rattle.std.proofs.Common.{◌≡◌, ◌≢◌, ℕ, zero, suc, ◌+◌, ◌
 use Rattle.std.specs.Prelude.{ℤ, pos, ◌+ℤ◌, ◌*ℤ◌}
 use Rattle.std.proofs.lemmas.Int.{ints}
 use lib.IntN.{+ℤ_idl, +ℤ_idr}
-use Rattle.std.proofs.lemmas.Bool.Decides.{nat_tests}
-use Rattle.ded_num.proofs.Ring.{parts, ring, diff_same}
 use Rattle.ded_model.specs.declared.slot.Slot.{Slot}
 use Rattle.ded_model.specs.declared.slot.Sort.TheVariants.{Rat}
 use Rattle.ded_model.specs.Constraint.{LinearConstraint}
 use Rattle.ded_model.specs.Point.{same_slot, Point, slot, number_at}
-use Rattle.ded_model.specs.Coefs.{AllAbove, AreCoefs, coef_at, put, cut, nonzero, with_coef}
-use Rattle.ded_model.specs.Row.{sum_at, row_at, sign_meets, row_holds, row_mentions}
+use Rattle.ded_model.specs.Coefs.{AllAbove, AreCoefs, coef_at, put, cut, with_coef}
+use Rattle.ded_model.specs.Row.{sum_at, sign_meets, row_holds, row_mentions}
 use Rattle.ded_model.specs.Normal.{normal_row}
 use Rattle.ded_model.proofs.Points.{same_slot_is, same_slot_refl}
 use Rattle.ded_model.proofs.Rows.{or_left, or_right}
-use Rattle.ded_model.proofs.Members.{or_split}
 use Rattle.ded_model.proofs.CoefLemmas.{greater_slot, coef_at-here, coef_at-past}
 use Rattle.ded_model.proofs.LineCoefs.{coef_at-put, coef_at-nonzero}
 use Rattle.ded_model.proofs.LineSlots.{has_slot, put_slots, cut_slots, nonzero_slots}
@@ -210,3 +207,14 @@ pub renamed_row_is : (map : List (Slot × Slot)) (r r' : LinearConstraint) (cs :
     → ◌≡◌ {A = LinearConstraint} (record { coefs = cs; constant = z; op = r.op }) (renamed_row map r')
 renamed_row_is map r r' cs z e f g =
     ap₂ (λ (xs : List (Slot × ℤ)) (y : ℤ). record { coefs = xs; constant = y; op = r.op }) (e ∙ ap (λ (q : LinearConstraint). renamed_onto map [] q.coefs) (sym g)) f ∙ ap (renamed_row map) g
+
+-- one slot for another that the row doesn't mention
+pub one_pair : (r : LinearConstraint) (x y : Slot) → AreCoefs r.coefs → coef_at r.coefs y ≡ pos 0 → IsOneToOne ((x, y) ∷ []) r
+unfolding row_mentions
+one_pair r x y k z = record { apart = λ s t e f g. go s t e f (same_slot x s) refl (same_slot x t) refl g }
+  where
+    go : (s t : Slot) → has_slot r.coefs s ≡ true → has_slot r.coefs t ≡ true → (b : Bool) → same_slot x s ≡ b → (d : Bool) → same_slot x t ≡ d → cond b y s ≡ cond d y t → s ≡ t
+    go s t e f true p true q g = sym (same_slot_is x s p) ∙ same_slot_is x t q
+    go s t e f true p false q g = absurd (coef_at-mentioned r.coefs t k f (ap (coef_at r.coefs) (sym g) ∙ z))
+    go s t e f false p true q g = absurd (coef_at-mentioned r.coefs s k e (ap (coef_at r.coefs) g ∙ z))
+    go s t e f false p false q g = g

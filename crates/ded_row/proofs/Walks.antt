@@ -2,7 +2,7 @@
 --
 -- What is left of the lists begins with a slot, its coefficients are those that the whole lists have there, and the sum of the
 -- multiples begins with it too. So each step takes one slot off the sum of what is left and adds it to what is done.
-use Rattle.std.proofs.Common.{◌≡◌, ◌≢◌, ℕ, zero, suc, ◌<◌, ◌≤◌, Bool, true, false, not, ◌&&◌, ◌||◌, cond, List, [], ◌∷◌, ◌++◌, ◌⊎◌, inl, inr, nat_lt, arith, refl, sym, ap, ap₂, ◌∙◌, subst, true≢false}
+use Rattle.std.proofs.Common.{◌≡◌, ◌≢◌, ℕ, ◌<◌, Bool, true, false, not, ◌&&◌, ◌||◌, cond, List, [], ◌∷◌, ◌++◌, ◌⊎◌, inl, inr, nat_lt, arith, refl, sym, ap, ap₂, ◌∙◌, subst, true≢false}
 use Rattle.std.specs.Prelude.{ℤ, pos, ◌+ℤ◌, ◌*ℤ◌, ◌^◌, unsigned_abs}
 use Rattle.ded_num.specs.Length.{IsShort}
 use Rattle.ded_model.specs.Lines.{is_long}

@@ -1,5 +1,5 @@
 -- Combinations of two rows in which a slot falls out.
-use Rattle.std.specs.Prelude.{◌≡◌, ◌≢◌, ℤ, pos, ◌+ℤ◌, ◌*ℤ◌, ◌<ℤ◌, int_lt, unsigned_abs, Bool, not, ◌&&◌, ◌||◌, List, if◌then◌else◌}
+use Rattle.std.specs.Prelude.{◌≢◌, ℤ, pos, ◌+ℤ◌, ◌*ℤ◌, ◌<ℤ◌, int_lt, unsigned_abs, Bool, not, ◌&&◌, ◌||◌, List, if◌then◌else◌}
 use lib.IntN.{neg_ℤ}
 use Rattle.std.specs.List.{list_any}
 use Rattle.ded_model.specs.declared.slot.Slot.{Slot}

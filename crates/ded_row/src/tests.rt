@@ -104,24 +104,30 @@ fn normal_rows(rt: HostRuntime) -> Result<(), Fail> {
     Ok(())
 }
 
+/// The pieces of the negation of the row's normal form: the first one and, where there is one, the second.
+fn pieces(row: Row) -> Result<(Row, Option<Row>), NoMemory> {
+    let row = normal(row);
+    match negate(&row)? {
+        Negated::One(first) => Ok((first, None)),
+        Negated::Two(first, second) => Ok((first, Some(second))),
+    }
+}
+
 #[test]
 fn negations(rt: HostRuntime) -> Result<(), Fail> {
     let alloc = rt.alloc();
-    match negate(&normal(row_of(alloc, [(0, 1)].as_slice(), -1, RowOp::AtMost)?))? {
-        Negated::One(r) => assert!(rt; is_row(&r, [(0, -1)].as_slice(), 1, RowOp::Below)),
-        Negated::Two(_, _) => assert!(rt; false),
+    let (first, second) = pieces(row_of(alloc, [(0, 1)].as_slice(), -1, RowOp::AtMost)?)?;
+    assert!(rt; is_row(&first, [(0, -1)].as_slice(), 1, RowOp::Below));
+    assert!(rt; second.is_none());
+    let (first, second) = pieces(row_of(alloc, [(0, 3)].as_slice(), 0, RowOp::Zero)?)?;
+    assert!(rt; is_row(&first, [(0, 1)].as_slice(), 0, RowOp::Below));
+    match second {
+        Some(row) => assert!(rt; is_row(&row, [(0, -1)].as_slice(), 0, RowOp::Below)),
+        None => assert!(rt; false),
     }
-    match negate(&normal(row_of(alloc, [(0, 3)].as_slice(), 0, RowOp::Zero)?))? {
-        Negated::One(_) => assert!(rt; false),
-        Negated::Two(r, s) => {
-            assert!(rt; is_row(&r, [(0, 1)].as_slice(), 0, RowOp::Below));
-            assert!(rt; is_row(&s, [(0, -1)].as_slice(), 0, RowOp::Below));
-        }
-    }
-    match negate(&normal(row_of(alloc, [].as_slice(), 0, RowOp::Zero)?))? {
-        Negated::One(r) => assert!(rt; is_row(&r, [].as_slice(), 0, RowOp::Below)),
-        Negated::Two(_, _) => assert!(rt; false),
-    }
+    let (first, second) = pieces(row_of(alloc, [].as_slice(), 0, RowOp::Zero)?)?;
+    assert!(rt; is_row(&first, [].as_slice(), 0, RowOp::Below));
+    assert!(rt; second.is_none());
     Ok(())
 }
 
@@ -176,7 +182,7 @@ fn orders(rt: HostRuntime) -> Result<(), Fail> {
 fn moved(row: &Row, from: Slot, to: Slot) -> Result<Option<Row>, NoMemory>
     requires { to.sort ≡ from.sort }
 {
-    if row.coefs.at(to) != 0 {
+    if row.coefs.list().is_empty() || row.coefs.at(to) != 0 {
         return Ok(None);
     }
     Ok(Some(rename(row, [(from, to)].as_slice())?))

@@ -1,5 +1,5 @@
-use Rattle.std.proofs.Common.{◌≡◌, ◌≢◌, ◌==◌, true, false, List, length, ap, sym, subst, ◌∙◌, SFits, rules, to_z, of_z}
-use Rattle.std.specs.Prelude.{ℤ, pos, int_div}
+use Rattle.std.proofs.Common.{◌≡◌, ◌==◌, true, false, List, length, ap, sym, subst, ◌∙◌, SFits, rules, to_z, of_z}
+use Rattle.std.specs.Prelude.{ℤ, int_div}
 use Rattle.std.specs.Int.{w128}
 use Rattle.std.proofs.lemmas.Int.{to_z-of_z, fits_signed_from_abs}
 use Rattle.ded_num.specs.Length.{IsShort}
@@ -7,10 +7,9 @@ use Rattle.ded_model.specs.declared.slot.Slot.{Slot}
 use Rattle.ded_model.specs.declared.row.RowOp.{RowOp}
 use Rattle.ded_model.specs.Constraint.{LinearConstraint}
 use Rattle.ded_model.specs.Row.{sign_meets}
-use Rattle.ded_model.specs.Coefs.{AreCoefs}
 use Rattle.ded_model.specs.Normal.{DivideWhole, IsNormalRow, normal_row, divisor_of}
 use Rattle.ded_model.proofs.Divisors.{divisor-whole}
-use Rattle.ded_row.proofs.Forms.{begins, normal_row-normal, divided_row, truth_row_is, none_there, divisor-nonzero}
+use Rattle.ded_row.proofs.Forms.{begins, normal_row-normal, divided_row, truth_row_is, divisor-nonzero}
 use Rattle.ded_row.proofs.lowest.normal.Goals as goal
 use Rattle.ded_row.proofs.lowest.normal.Goals.{After-truth_row, After-quotient}
 

@@ -1,4 +1,4 @@
-use Rattle.std.proofs.Common.{◌≡◌, ◌<◌, length, arith, inl, inr}
+use Rattle.std.proofs.Common.{◌<◌, length, arith}
 use Rattle.ded_row.proofs.FirstSlots.{first_left, first_right, first_both}
 use Rattle.ded_row.proofs.merging.next_slot.Goals as goal
 use Rattle.ded_row.proofs.merging.next_slot.Goals.{then-j-ys-via-then-j-ys, then-j-ys-via-else-j-ys+then-xs-i}

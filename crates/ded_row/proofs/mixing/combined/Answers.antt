@@ -1,4 +1,4 @@
-use Rattle.std.proofs.Common.{◌≡◌, ◌||◌, true, false, ap, ap₂, sym, ◌∙◌, SFits, rules}
+use Rattle.std.proofs.Common.{◌||◌, ap, ap₂, sym, ◌∙◌, SFits}
 use Rattle.std.specs.Int.{w128}
 use Rattle.std.proofs.lemmas.Int.{to_z-of_z, fits_signed_from_abs}
 use Rattle.ded_model.proofs.Rows.{or_right}

@@ -1,9 +1,8 @@
-use Rattle.std.proofs.Common.{◌≡◌, ap, sym, subst, ◌∙◌, SFits, Err, drop, rules}
+use Rattle.std.proofs.Common.{◌≡◌, ap, sym, subst, SFits, Err}
 use Rattle.std.specs.Int.{w128}
 use Rattle.std.proofs.lemmas.Int.{to_z-of_z}
 use Rattle.std.proofs.lemmas.Result.{err_from_is_err_and}
 use Rattle.ded_model.specs.declared.memory.Refused.TheVariants.{Wide}
-use Rattle.ded_row.specs.Mixing.{coefs_are_long}
 use Rattle.ded_row.proofs.Walks.{Walking, walking_skip, walking_add, walking_wide}
 use Rattle.ded_row.proofs.mixing.combined_coefs.Goals as goal
 

@@ -1,4 +1,4 @@
-use Rattle.std.proofs.Common.{◌≡◌, ◌+◌, ◌-◌, ◌≤◌, drop, length}
+use Rattle.std.proofs.Common.{◌+◌, ◌-◌, ◌≤◌, drop, length}
 use Rattle.ded_row.proofs.Walks.{Walking}
 use Rattle.ded_row.proofs.mixing.combined_coefs.Given as goal
 

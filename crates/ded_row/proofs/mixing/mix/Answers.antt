@@ -1,8 +1,8 @@
-use Rattle.std.proofs.Common.{◌≡◌, ◌≢◌, ◌<◌, ◌||◌, true, false, ap, ap₂, sym, ◌∙◌, SFits, Err, rules, to_z, of_z, arith}
-use Rattle.std.specs.Prelude.{ℤ, pos, unsigned_abs}
+use Rattle.std.proofs.Common.{◌≡◌, ◌||◌, ap, ap₂, sym, ◌∙◌, SFits, Err, rules, to_z, of_z}
+use Rattle.std.specs.Prelude.{ℤ}
 use lib.IntN.{neg_ℤ}
 use Rattle.std.specs.Int.{w128}
-use Rattle.std.proofs.lemmas.Int.{ints, to_z-of_z, fits_signed_from_abs}
+use Rattle.std.proofs.lemmas.Int.{to_z-of_z, fits_signed_from_abs}
 use Rattle.std.proofs.lemmas.Result.{err_from_is_err_and}
 use Rattle.ded_num.specs.Length.{IsShort}
 use Rattle.ded_model.specs.declared.memory.Refused.TheVariants.{Wide}

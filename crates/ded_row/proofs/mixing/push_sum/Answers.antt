@@ -1,5 +1,5 @@
-use Rattle.std.proofs.Common.{◌≡◌, ◌≢◌, ap, sym, ◌∙◌, SFits, rules, of_z, to_z}
-use Rattle.std.specs.Prelude.{pos, ◌+ℤ◌, ◌*ℤ◌}
+use Rattle.std.proofs.Common.{ap, ◌∙◌, SFits, rules, of_z}
+use Rattle.std.specs.Prelude.{◌+ℤ◌, ◌*ℤ◌}
 use Rattle.std.specs.Int.{w128}
 use Rattle.std.proofs.lemmas.Int.{to_z-of_z}
 use Rattle.ded_row.proofs.Walks.{push_nonzero, sum_is_short}

@@ -1,9 +1,7 @@
-use Rattle.std.proofs.Common.{◌≡◌, ◌<◌, false, not, sym, subst}
+use Rattle.std.proofs.Common.{◌≡◌, false, not, sym, subst}
 use Rattle.std.proofs.lemmas.Result.{IfOk-weaker}
 use Rattle.ded_model.specs.declared.tuple.Negated.{Negated}
-use Rattle.ded_model.specs.declared.slot.Slot.{Slot}
 use Rattle.ded_model.specs.Constraint.{LinearConstraint}
-use Rattle.ded_model.specs.Point.{Point}
 use Rattle.ded_model.specs.Row.{row_holds, row_mentions}
 use Rattle.ded_model.specs.Normal.{IsNormalRow}
 use Rattle.ded_model.specs.Lines.{row_lines}

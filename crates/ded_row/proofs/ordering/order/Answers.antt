@@ -1,7 +1,7 @@
-use Rattle.std.proofs.Common.{◌≡◌, ap, ap₂, ◌∙◌, SFits, rules}
+use Rattle.std.proofs.Common.{◌≡◌, ap, ap₂, ◌∙◌, SFits}
 use Rattle.std.specs.Int.{w128}
 use Rattle.std.specs.Ordering.{ordering_then, int_cmp, nat_cmp}
-use Rattle.std.proofs.lemmas.Int.{to_z-of_z, fits_signed_from_abs}
+use Rattle.std.proofs.lemmas.Int.{fits_signed_from_abs}
 use Rattle.ded_model.specs.Normal.{coefs_order, op_place}
 use Rattle.ded_row.proofs.Orders.{row_order_is}
 use Rattle.ded_row.proofs.ordering.order.Goals as goal

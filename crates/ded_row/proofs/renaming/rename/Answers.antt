@@ -1,7 +1,6 @@
-use Rattle.std.proofs.Common.{◌≡◌, true, ap, sym, subst, ◌∙◌}
+use Rattle.std.proofs.Common.{◌≡◌, ap, sym, ◌∙◌}
 use Rattle.std.specs.Int.{w128}
 use Rattle.std.proofs.lemmas.Int.{to_z-of_z, fits_signed_from_abs}
-use Rattle.ded_model.specs.Constraint.{LinearConstraint}
 use Rattle.ded_model.specs.Row.{row_holds, row_mentions}
 use Rattle.ded_model.specs.Normal.{normal_row}
 use Rattle.ded_row.specs.Renaming.{renamed, renamed_row}

@@ -1,11 +1,10 @@
 use Rattle.std.proofs.Common.{◌≡◌, subst, sym, ap, ap₂, ◌∙◌, [], drop, ◌+◌}
 use Rattle.std.proofs.Math.ListN.{drop_of_length-le}
 use Rattle.ded_num.specs.Length.{IsShort}
-use Rattle.ded_model.specs.declared.slot.Sort.TheVariants.{Rat}
 use Rattle.ded_model.specs.Constraint.{LinearConstraint}
 use Rattle.ded_model.specs.Coefs.{AreCoefs, with_coef}
 use Rattle.ded_row.specs.Renaming.{renamed_onto, KeepsSorts}
-use Rattle.ded_row.proofs.FirstSlots.{entry, entry-in_code, split, drop-kept}
+use Rattle.ded_row.proofs.FirstSlots.{entry-in_code, split, drop-kept}
 use Rattle.ded_row.proofs.Targets.{target_rational, onto_step}
 use Rattle.ded_row.proofs.renaming.renamed_coefs.Goals as goal
 
