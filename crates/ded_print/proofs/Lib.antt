@@ -5,4 +5,5 @@ pub mod Examples
 pub mod Gathering
 pub mod LineReplies
 pub mod Refusals
+pub mod Telling
 pub mod Terms

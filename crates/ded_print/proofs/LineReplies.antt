@@ -87,7 +87,5 @@ same_line (a ∷ p) (b ∷ q) xs ys hp hq e =
     let more = same_line p q xs ys (not_feed a p hp).1 (not_feed b q hq).1 t.1 in
     (ap (λ (x : ℕ). x ∷ p) t.0 ∙ ap (λ (l : List ℕ). b ∷ l) more.0, more.1)
 
-pub first_text : (r s : LineReply) (xs ys : List ℕ) → reply_text r ++ xs ≡ reply_text s ++ ys → (reply_text r ≡ reply_text s) × (xs ≡ ys)
-first_text r s xs ys e =
-    let both = same_line (reply_line r) (reply_line s) xs ys (lines r) (lines s) (sym (append_assoc (reply_line r) (10 ∷ []) xs) ∙ e ∙ append_assoc (reply_line s) (10 ∷ []) ys) in
-    (ap (λ (l : List ℕ). l ++ 10 ∷ []) both.0, both.1)
+pub first_line : (r s : LineReply) (xs ys : List ℕ) → reply_text r ++ xs ≡ reply_text s ++ ys → (reply_line r ≡ reply_line s) × (xs ≡ ys)
+first_line r s xs ys e = same_line (reply_line r) (reply_line s) xs ys (lines r) (lines s) (sym (append_assoc (reply_line r) (10 ∷ []) xs) ∙ e ∙ append_assoc (reply_line s) (10 ∷ []) ys)

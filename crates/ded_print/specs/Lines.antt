@@ -1,5 +1,5 @@
 -- Lines, and the replies that are one line.
-use Rattle.std.specs.Prelude.{ℕ, Bool, true, false, List, [], ◌∷◌, ◌++◌, codes, ◌==◌, if◌then◌else◌}
+use Rattle.std.specs.Prelude.{ℕ, ◌<◌, ◌^◌, Bool, true, false, List, [], ◌∷◌, ◌++◌, codes, ◌==◌, if◌then◌else◌}
 use Rattle.std.specs.List.{flat_map}
 use Rattle.ded_model.specs.declared.command.Refusal.{Refusal}
 use Rattle.ded_model.specs.Refusals.{refusal_number, refusal_word}
@@ -59,6 +59,13 @@ reply_line (refused r) = refusal_line r
 
 abbrev pub reply_text : LineReply → List ℕ
 reply_text reply = line_text (reply_line reply)
+
+-- its number, where it has one, has at most 64 binary digits
+abbrev pub IsPrintable : LineReply → Type 0
+IsPrintable done = Unit {0}
+IsPrintable (truth b) = Unit {0}
+IsPrintable (numbered k) = k < 2 ^ 64
+IsPrintable (refused r) = Unit {0}
 
 -- no line feed stands in the bytes
 abbrev pub is_one_line : List ℕ → Bool

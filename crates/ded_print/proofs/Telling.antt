@@ -1,0 +1,98 @@
+-- Replies of one line that are written alike are the same.
+use Rattle.std.proofs.Common.{◌≡◌, ℕ, ◌<◌, ◌^◌, List, [], ◌∷◌, ◌++◌, refl, sym, ap, ◌∙◌, drop, arith, true, false}
+use Rattle.std.specs.Prelude.{Option, None, Some, if◌then◌else◌}
+use Rattle.std.specs.Str.{bytes_eq}
+use Rattle.std.proofs.lemmas.Fmt.{decimal_injective}
+use Rattle.ded_model.specs.declared.command.Refusal.{Refusal}
+use Rattle.ded_model.specs.declared.command.Refusal.TheVariants.{LongStatement, Unfinished, Syntax, LongName, LongNumber, Deep, Many, Twice, Unknown, Taken, Kind, Arity, Unbound, WrongSort, Used, NoTuple, Full, Spent, Level, Wide, Memory}
+use Rattle.ded_print.specs.Lines.{LineReply, done, truth, numbered, refused, reply_line, reply_text, refusal_line, line_text, IsPrintable}
+use Rattle.ded_print.specs.Numbers.{number_text}
+use Rattle.ded_print.proofs.Decimals.{decimal_is}
+use Rattle.ded_print.proofs.LineReplies.{first_line}
+use Rattle.ded_print.proofs.Refusals.{written, as_written}
+
+-- ---- numbers
+
+same_number : (k j : ℕ) → k < 2 ^ 64 → j < 2 ^ 64 → number_text k ≡ number_text j → k ≡ j
+same_number k j hk hj e = decimal_injective k j hk hj (decimal_is k ∙ e ∙ sym (decimal_is j))
+
+-- ---- refusals
+
+-- the first of these refusals that is written so
+refusal_at : List ℕ → List Refusal → Option Refusal
+refusal_at text [] = None
+refusal_at text (r ∷ rs) = if bytes_eq text (line_text (written r)) then Some r else refusal_at text rs
+
+all : List Refusal
+all = LongStatement ∷ Unfinished ∷ Syntax ∷ LongName ∷ LongNumber ∷ Deep ∷ Many ∷ Twice ∷ Unknown ∷ Taken ∷ Kind ∷ Arity ∷ Unbound ∷ WrongSort ∷ Used ∷ NoTuple ∷ Full ∷ Spent ∷ Level ∷ Wide ∷ Memory ∷ []
+
+reads : (r : Refusal) → refusal_at (line_text (written r)) all ≡ Some r
+unfolding refusal_at all
+reads LongStatement = refl
+reads Unfinished = refl
+reads Syntax = refl
+reads LongName = refl
+reads LongNumber = refl
+reads Deep = refl
+reads Many = refl
+reads Twice = refl
+reads Unknown = refl
+reads Taken = refl
+reads Kind = refl
+reads Arity = refl
+reads Unbound = refl
+reads WrongSort = refl
+reads Used = refl
+reads NoTuple = refl
+reads Full = refl
+reads Spent = refl
+reads Level = refl
+reads Wide = refl
+reads Memory = refl
+
+same_some : {A : Type 0} {x y : A} → Some x ≡ Some y → x ≡ y
+same_some e = cc
+
+same_refusal : (r q : Refusal) → refusal_line r ≡ refusal_line q → r ≡ q
+same_refusal r q e =
+    let texts : line_text (written r) ≡ line_text (written q) = as_written r ∙ ap line_text e ∙ sym (as_written q) in
+    same_some (sym (reads r) ∙ ap (λ (t : List ℕ). refusal_at t all) texts ∙ reads q)
+
+-- ---- replies
+
+first : List ℕ → ℕ
+first [] = 0
+first (b ∷ bs) = b
+
+same_reply : (r s : LineReply) → IsPrintable r → IsPrintable s → reply_line r ≡ reply_line s → r ≡ s
+unfolding first
+same_reply done done p q e = refl
+same_reply done (truth true) p q e = absurd (omega (arith, ap first e))
+same_reply done (truth false) p q e = absurd (omega (arith, ap first e))
+same_reply done (numbered j) p q e = absurd (omega (arith, ap first e))
+same_reply done (refused t) p q e = absurd (omega (arith, ap first e))
+same_reply (truth true) done p q e = absurd (omega (arith, ap first e))
+same_reply (truth true) (truth true) p q e = refl
+same_reply (truth true) (truth false) p q e = absurd (omega (arith, ap first e))
+same_reply (truth true) (numbered j) p q e = absurd (omega (arith, ap first e))
+same_reply (truth true) (refused t) p q e = absurd (omega (arith, ap first e))
+same_reply (truth false) done p q e = absurd (omega (arith, ap first e))
+same_reply (truth false) (truth true) p q e = absurd (omega (arith, ap first e))
+same_reply (truth false) (truth false) p q e = refl
+same_reply (truth false) (numbered j) p q e = absurd (omega (arith, ap first e))
+same_reply (truth false) (refused t) p q e = absurd (omega (arith, ap first e))
+same_reply (numbered k) done p q e = absurd (omega (arith, ap first e))
+same_reply (numbered k) (truth true) p q e = absurd (omega (arith, ap first e))
+same_reply (numbered k) (truth false) p q e = absurd (omega (arith, ap first e))
+same_reply (numbered k) (numbered j) p q e = ap numbered (same_number k j p q (ap (drop 6) e))
+same_reply (numbered k) (refused t) p q e = absurd (omega (arith, ap first e))
+same_reply (refused r) done p q e = absurd (omega (arith, ap first e))
+same_reply (refused r) (truth true) p q e = absurd (omega (arith, ap first e))
+same_reply (refused r) (truth false) p q e = absurd (omega (arith, ap first e))
+same_reply (refused r) (numbered j) p q e = absurd (omega (arith, ap first e))
+same_reply (refused r) (refused t) p q e = ap refused (same_refusal r t e)
+
+pub first_reply : (r s : LineReply) (xs ys : List ℕ) → IsPrintable r → IsPrintable s → reply_text r ++ xs ≡ reply_text s ++ ys → (r ≡ s) × (xs ≡ ys)
+first_reply r s xs ys p q e =
+    let both = first_line r s xs ys e in
+    (same_reply r s p q both.0, both.1)
