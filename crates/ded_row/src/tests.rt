@@ -10,7 +10,7 @@ use ded_model::memory::{NoMemory, Refused};
 use ded_model::row::{Coefs, Row, RowOp};
 use ded_model::slot::{Slot, Sort};
 use ded_model::tuple::Negated;
-use std::alloc::Global;
+use std::alloc::{AllocError, Global};
 use std::cmp::Ordering;
 use std::test::Fail;
 
@@ -88,20 +88,33 @@ fn is_below(row: &Row, slot: Slot) -> bool
     }
 }
 
+/// Whether there is a row, and it is the wanted one.
+fn is_some_row(row: Option<Row>, terms: &[(u32, i128)], constant: i128, op: RowOp) -> bool {
+    match row {
+        Some(row) => is_row(&row, terms, constant, op),
+        None => false,
+    }
+}
+
 #[test]
 fn normal_rows(rt: HostRuntime) -> Result<(), Fail> {
-    let alloc = rt.alloc();
-    let row = normal(row_of(alloc, [(0, 4)].as_slice(), -6, RowOp::AtMost)?);
-    assert!(rt; is_row(&row, [(0, 2)].as_slice(), -3, RowOp::AtMost));
-    let row = normal(row_of(alloc, [(0, -2), (1, 2)].as_slice(), 0, RowOp::Zero)?);
-    assert!(rt; is_row(&row, [(0, 1), (1, -1)].as_slice(), 0, RowOp::Zero));
-    let row = normal(row_of(alloc, [(0, -2), (1, 2)].as_slice(), 0, RowOp::Below)?);
-    assert!(rt; is_row(&row, [(0, -1), (1, 1)].as_slice(), 0, RowOp::Below));
-    let row = normal(row_of(alloc, [].as_slice(), -5, RowOp::AtMost)?);
-    assert!(rt; is_row(&row, [].as_slice(), 0, RowOp::Zero));
-    let row = normal(row_of(alloc, [].as_slice(), 5, RowOp::Zero)?);
-    assert!(rt; is_row(&row, [].as_slice(), 0, RowOp::Below));
+    assert!(rt; normal_rows_are(rt.alloc())?);
     Ok(())
+}
+
+fn normal_rows_are(alloc: Global) -> Result<bool, NoMemory> {
+    let halved = normal(row_of(alloc, [(0, 4)].as_slice(), -6, RowOp::AtMost)?);
+    let turned = normal(row_of(alloc, [(0, -2), (1, 2)].as_slice(), 0, RowOp::Zero)?);
+    let kept = normal(row_of(alloc, [(0, -2), (1, 2)].as_slice(), 0, RowOp::Below)?);
+    let truth = normal(row_of(alloc, [].as_slice(), -5, RowOp::AtMost)?);
+    let falsehood = normal(row_of(alloc, [].as_slice(), 5, RowOp::Zero)?);
+    Ok(
+        is_row(&halved, [(0, 2)].as_slice(), -3, RowOp::AtMost)
+            && is_row(&turned, [(0, 1), (1, -1)].as_slice(), 0, RowOp::Zero)
+            && is_row(&kept, [(0, -1), (1, 1)].as_slice(), 0, RowOp::Below)
+            && is_row(&truth, [].as_slice(), 0, RowOp::Zero)
+            && is_row(&falsehood, [].as_slice(), 0, RowOp::Below),
+    )
 }
 
 /// The pieces of the negation of the row's normal form: the first one and, where there is one, the second.
@@ -115,91 +128,112 @@ fn pieces(row: Row) -> Result<(Row, Option<Row>), NoMemory> {
 
 #[test]
 fn negations(rt: HostRuntime) -> Result<(), Fail> {
-    let alloc = rt.alloc();
-    let (first, second) = pieces(row_of(alloc, [(0, 1)].as_slice(), -1, RowOp::AtMost)?)?;
-    assert!(rt; is_row(&first, [(0, -1)].as_slice(), 1, RowOp::Below));
-    assert!(rt; second.is_none());
-    let (first, second) = pieces(row_of(alloc, [(0, 3)].as_slice(), 0, RowOp::Zero)?)?;
-    assert!(rt; is_row(&first, [(0, 1)].as_slice(), 0, RowOp::Below));
-    match second {
-        Some(row) => assert!(rt; is_row(&row, [(0, -1)].as_slice(), 0, RowOp::Below)),
-        None => assert!(rt; false),
-    }
-    let (first, second) = pieces(row_of(alloc, [].as_slice(), 0, RowOp::Zero)?)?;
-    assert!(rt; is_row(&first, [].as_slice(), 0, RowOp::Below));
-    assert!(rt; second.is_none());
+    assert!(rt; negations_are(rt.alloc())?);
     Ok(())
+}
+
+fn negations_are(alloc: Global) -> Result<bool, NoMemory> {
+    let (less, none) = pieces(row_of(alloc, [(0, 1)].as_slice(), -1, RowOp::AtMost)?)?;
+    let (low, high) = pieces(row_of(alloc, [(0, 3)].as_slice(), 0, RowOp::Zero)?)?;
+    let (falsehood, nothing) = pieces(row_of(alloc, [].as_slice(), 0, RowOp::Zero)?)?;
+    Ok(
+        is_row(&less, [(0, -1)].as_slice(), 1, RowOp::Below)
+            && none.is_none()
+            && is_row(&low, [(0, 1)].as_slice(), 0, RowOp::Below)
+            && is_some_row(high, [(0, -1)].as_slice(), 0, RowOp::Below)
+            && is_row(&falsehood, [].as_slice(), 0, RowOp::Below)
+            && nothing.is_none(),
+    )
+}
+
+/// The combination at slot 0, if the rows bound it from above and from below and no number is too long.
+fn mixed(first: Row, second: Row) -> Result<Option<Row>, NoMemory> {
+    let slot = rational(0);
+    if !is_above(&first, slot) || !is_below(&second, slot) {
+        return Ok(None);
+    }
+    match mix(&first, &second, slot) {
+        Ok(row) => Ok(Some(row)),
+        Err(Refused::Wide) => Ok(None),
+        Err(Refused::Memory) => Err(AllocError),
+    }
 }
 
 #[test]
 fn combinations(rt: HostRuntime) -> Result<(), Fail> {
-    let alloc = rt.alloc();
-    let x = rational(0);
+    assert!(rt; combination_is_short(rt.alloc())?);
+    assert!(rt; combination_is_wide(rt.alloc())?);
+    assert!(rt; equalities_are_combined(rt.alloc())?);
+    Ok(())
+}
+
+fn combination_is_short(alloc: Global) -> Result<bool, NoMemory> {
     let upper = row_of(alloc, [(0, 1)].as_slice(), -4, RowOp::AtMost)?;
     let lower = row_of(alloc, [(0, -1), (1, 1)].as_slice(), 0, RowOp::Below)?;
-    assert!(rt; is_above(&upper, x) && is_below(&lower, x));
-    match mix(&upper, &lower, x) {
-        Ok(row) => assert!(rt; is_row(&row, [(1, 1)].as_slice(), -4, RowOp::Below)),
-        Err(_) => assert!(rt; false),
-    }
+    Ok(is_some_row(mixed(upper, lower)?, [(1, 1)].as_slice(), -4, RowOp::Below))
+}
+
+fn combination_is_wide(alloc: Global) -> Result<bool, NoMemory> {
     let upper = row_of(alloc, [(0, LONG)].as_slice(), LONG, RowOp::AtMost)?;
     let lower = row_of(alloc, [(0, -LONG)].as_slice(), 1, RowOp::AtMost)?;
-    assert!(rt; is_above(&upper, x) && is_below(&lower, x));
-    assert!(rt; matches!(mix(&upper, &lower, x), Err(Refused::Wide)));
+    Ok(mixed(upper, lower)?.is_none())
+}
+
+/// Two equalities with one sign: one of them is turned.
+fn equalities_are_combined(alloc: Global) -> Result<bool, NoMemory> {
     let first = row_of(alloc, [(0, -LONG), (1, 1)].as_slice(), 0, RowOp::Zero)?;
     let second = row_of(alloc, [(0, -2), (2, 1)].as_slice(), 3, RowOp::Zero)?;
-    assert!(rt; is_above(&first, x) && is_below(&second, x));
-    match mix(&first, &second, x) {
-        Ok(row) => assert!(rt;
-            is_row(
-                &row,
-                [(1, 1), (2, -HALF)].as_slice(),
-                -3 * HALF,
-                RowOp::Zero
-            )
-        ),
-        Err(_) => assert!(rt; false),
-    }
-    Ok(())
+    Ok(is_some_row(
+        mixed(first, second)?,
+        [(1, 1), (2, -HALF)].as_slice(),
+        -3 * HALF,
+        RowOp::Zero,
+    ))
 }
 
 #[test]
 fn orders(rt: HostRuntime) -> Result<(), Fail> {
-    let alloc = rt.alloc();
+    assert!(rt; orders_are(rt.alloc())?);
+    Ok(())
+}
+
+fn orders_are(alloc: Global) -> Result<bool, NoMemory> {
     let below = row_of(alloc, [(0, -1)].as_slice(), 0, RowOp::AtMost)?;
     let above = row_of(alloc, [(0, 1)].as_slice(), -4, RowOp::AtMost)?;
     let later = row_of(alloc, [(1, -1)].as_slice(), 7, RowOp::AtMost)?;
     let strict = row_of(alloc, [(0, 1)].as_slice(), -4, RowOp::Below)?;
-    assert!(rt; order(&below, &above) == Ordering::Less);
-    assert!(rt; order(&below, &later) == Ordering::Less);
-    assert!(rt; order(&above, &later) == Ordering::Greater);
-    assert!(rt; order(&above, &strict) == Ordering::Less);
-    assert!(rt; order(&strict, &strict) == Ordering::Equal);
-    Ok(())
+    Ok(
+        order(&below, &above) == Ordering::Less
+            && order(&below, &later) == Ordering::Less
+            && order(&above, &later) == Ordering::Greater
+            && order(&above, &strict) == Ordering::Less
+            && order(&strict, &strict) == Ordering::Equal,
+    )
 }
 
 /// The row with the slot `to` in the place of `from`, if it doesn't mention `to` yet.
-fn moved(row: &Row, from: Slot, to: Slot) -> Result<Option<Row>, NoMemory>
+fn moved(row: Row, from: Slot, to: Slot) -> Result<Option<Row>, NoMemory>
     requires { to.sort ≡ from.sort }
 {
     if row.coefs.list().is_empty() || row.coefs.at(to) != 0 {
         return Ok(None);
     }
-    Ok(Some(rename(row, [(from, to)].as_slice())?))
+    Ok(Some(rename(&row, [(from, to)].as_slice())?))
 }
 
 #[test]
 fn other_slots(rt: HostRuntime) -> Result<(), Fail> {
-    let alloc = rt.alloc();
-    let row = row_of(alloc, [(0, 1)].as_slice(), -4, RowOp::AtMost)?;
-    match moved(&row, rational(0), rational(1))? {
-        Some(result) => assert!(rt; is_row(&result, [(1, 1)].as_slice(), -4, RowOp::AtMost)),
-        None => assert!(rt; false),
-    }
-    let row = row_of(alloc, [(0, 2), (1, -4)].as_slice(), 0, RowOp::Zero)?;
-    match moved(&row, rational(0), rational(5))? {
-        Some(result) => assert!(rt; is_row(&result, [(1, 2), (5, -1)].as_slice(), 0, RowOp::Zero)),
-        None => assert!(rt; false),
-    }
+    assert!(rt; other_slots_are(rt.alloc())?);
     Ok(())
+}
+
+fn other_slots_are(alloc: Global) -> Result<bool, NoMemory> {
+    let row = row_of(alloc, [(0, 1)].as_slice(), -4, RowOp::AtMost)?;
+    let next = moved(row, rational(0), rational(1))?;
+    let row = row_of(alloc, [(0, 2), (1, -4)].as_slice(), 0, RowOp::Zero)?;
+    let last = moved(row, rational(0), rational(5))?;
+    Ok(
+        is_some_row(next, [(1, 1)].as_slice(), -4, RowOp::AtMost)
+            && is_some_row(last, [(1, 2), (5, -1)].as_slice(), 0, RowOp::Zero),
+    )
 }

@@ -13,5 +13,5 @@ rename-requires-clause-one c =
     let r : LinearConstraint = record { coefs = c.row.inside.coefs; constant = c.row.inside.constant; op = c.row.inside.op } in
     let none : coef_at r.coefs c.args.to ≡ pos 0 =
     sym c.at.ensures.value ∙ sym (to_z-of_z w128 c.at.result (fits_signed_from_abs w128 c.at.result c.at.ensures.short)) ∙ ap (to_z w128) c.if-at-ne0.false in
-    subst (λ m. IsOneToOne m c.args.row.now) (sym c.as_slice.ensures)
+    subst (λ m. IsOneToOne m c.args.row) (sym c.as_slice.ensures)
     (subst (IsOneToOne ((c.args.from, c.args.to) ∷ [])) c.row.view_is (one_pair r c.args.from c.args.to c.list.ensures.kept none))
