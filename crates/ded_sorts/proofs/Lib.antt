@@ -1,4 +1,3 @@
-pub mod Normals
 pub mod Sums
 pub mod Sides
 pub mod Scopes

@@ -23,7 +23,8 @@ use Rattle.ded_model.specs.Value.{OperandValue, parts_at, operand_value, compare
 use Rattle.ded_model.specs.Catalogue.{AtomHolds}
 use Rattle.ded_model.specs.Slotted.{SlotScope, slot_of, add_parts, slot_sum, sums_goal, text_side, texts_goal, is_text_operand, compare_goal, place_of, atom_goal, goal_below, goals_below}
 use Rattle.ded_model.specs.Known.{KnownNames, is_unbound_name, is_unbound_operand, is_unbound_atom, operand_sort, is_text_sum, sorts_differ, is_equality, is_missorted_atom}
-use Rattle.ded_sorts.proofs.Sums.{sum_at-put, sum_at-nonzero, IsSumValue, sums_mean}
+use Rattle.ded_row.proofs.Sums.{sum_at-put, sum_at-nonzero}
+use Rattle.ded_sorts.proofs.Sums.{IsSumValue, sums_mean}
 use Rattle.ded_sorts.proofs.Sides.{IsSideValue, texts_mean}
 use Rattle.ded_sorts.proofs.Scopes.{sorts_of, sort_in-slot, IsOnlyOf, Agrees, extend_slots, extend_names}
 

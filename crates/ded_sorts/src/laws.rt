@@ -1,10 +1,8 @@
 //! What the readers of formulas and the makers of goals rest on.
 ghost use Rattle.std.specs.Prelude.{◌≡◌, ◌↔◌, ℕ, ◌<◌, true, false, List, []};
 ghost use Rattle.ded_model.specs.declared.name.Column.{Column};
-ghost use Rattle.ded_model.specs.Constraint.{LinearConstraint};
-ghost use Rattle.ded_model.specs.Point.{Key, Point, stands_in};
-ghost use Rattle.ded_model.specs.Row.{row_holds, at_slot};
-ghost use Rattle.ded_model.specs.Normal.{normal_row};
+ghost use Rattle.ded_model.specs.Point.{Key, stands_in};
+ghost use Rattle.ded_model.specs.Row.{at_slot};
 ghost use Rattle.ded_model.specs.Logic.{IsSorted};
 ghost use Rattle.ded_model.specs.Form.{Form};
 ghost use Rattle.ded_model.specs.Goal.{goal_mentions};
@@ -13,11 +11,6 @@ ghost use Rattle.ded_model.specs.Value.{Argument};
 ghost use Rattle.ded_model.specs.Catalogue.{Catalogue, at_slots, at_names, origin, Holds, GoalHolds, IsTruth};
 ghost use Rattle.ded_model.specs.Known.{KnownNames, has_twice, has_unbound, has_missorted, known_of, IsAccepted, heading_slots};
 ghost use Rattle.ded_model.specs.Slotted.{goal_of};
-
-/// A row and its normal row hold at the same points.
-pub fn normal_rows_hold_alike()
-    ensures { (r : LinearConstraint) (p : Point) → 0 < p.den → row_holds (normal_row r) p ≡ row_holds r p }
-{}
 
 /// A goal holds of values at the slots of its heading exactly where the formula holds of them at the heading's names. Of
 /// the formula this asks that no column name comes twice, that each variable is bound, and that no text stands where a
