@@ -4,11 +4,12 @@ use Rattle.std.specs.Prelude.{Option, Some, None, ◌==◌, ◌&&◌}
 use Rattle.std.proofs.lemmas.List.{append-nil}
 use Rattle.std.proofs.lemmas.Bool.{eqb-true}
 use Rattle.std.proofs.lemmas.Bool.Decides.{nat_tests}
+use Rattle.ded_model.specs.Quoting.{doubled}
 use Rattle.ded_lex.specs.declared.front.Front.{Front}
 use Rattle.ded_lex.specs.declared.token.TokenKind.{TokenKind}
 use Rattle.ded_lex.specs.declared.token.TokenKind.TheVariants as kind
 use Rattle.ded_lex.specs.Gaps.{blank_byte, Space, Comment, OpenComment}
-use Rattle.ded_lex.specs.Lexemes.{Word, Number, Quoted, Sign, digit_byte, letter_byte, word_byte, doubled, BeginsNot, Each}
+use Rattle.ded_lex.specs.Lexemes.{Word, Number, Quoted, Sign, digit_byte, letter_byte, word_byte, BeginsNot, Each}
 use Rattle.ded_lex.specs.Tokens.{Cell, GapCell, LexemeCell, cell_bytes, IsCell, kind_of}
 use Rattle.ded_lex.specs.Fronts.{word_rest, number_rest, quoted_rest, line_length, begins_with, sign_rest, front_with, front_of}
 use Rattle.ded_lex.proofs.Rests.{word_sound, word_found, digit_no_letter, number_sound, number_found, LineRead, line_sound, line_ended, line_open, text_sound, text_found}

@@ -2,8 +2,9 @@
 use Rattle.std.proofs.Common.{◌≡◌, ◌≢◌, ◌⊎◌, ℕ, ◌+◌, List, [], ◌∷◌, ◌++◌, length, refl, sym, ap, ◌∙◌, subst, inl, inr, ⊎_elim, Bool, true, false, arith}
 use Rattle.std.specs.Prelude.{Option, Some, None, ◌||◌}
 use Rattle.std.proofs.lemmas.Bool.Decides.{nat_tests}
+use Rattle.ded_model.specs.Quoting.{doubled}
 use Rattle.ded_lex.specs.Gaps.{IsLine}
-use Rattle.ded_lex.specs.Lexemes.{digit_byte, letter_byte, word_byte, text_byte, doubled, Each, BeginsNot, quote_byte}
+use Rattle.ded_lex.specs.Lexemes.{digit_byte, letter_byte, word_byte, text_byte, Each, BeginsNot, quote_byte}
 use Rattle.ded_lex.specs.Fronts.{longer, word_rest, number_rest, quoted_rest, line_length}
 use Rattle.ded_lex.proofs.Counting.{text_step}
 use Rattle.ded_lex.proofs.Cases.{tested, same_or, is_not, same_some, none_some}

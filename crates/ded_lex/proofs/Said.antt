@@ -2,9 +2,10 @@
 use Rattle.std.proofs.Common.{◌≡◌, ◌≢◌, ℕ, ◌+◌, ◌-◌, ◌<◌, List, [], ◌∷◌, ◌++◌, length, take, drop, refl, sym, ap, ◌∙◌, subst, ⊎_elim, arith, append_assoc, length-append}
 use Rattle.std.specs.Prelude.{flat_map, map}
 use Rattle.std.proofs.Math.Seq.{drop-append_seam, take-append_seam}
+use Rattle.ded_model.specs.Quoting.{doubled}
 use Rattle.ded_lex.specs.declared.token.Token.{Token}
 use Rattle.ded_lex.specs.Gaps.{gap_bytes}
-use Rattle.ded_lex.specs.Lexemes.{Lexeme, Word, Number, Quoted, Sign, doubled, lexeme_bytes}
+use Rattle.ded_lex.specs.Lexemes.{Lexeme, Word, Number, Quoted, Sign, lexeme_bytes}
 use Rattle.ded_lex.specs.Tokens.{Cell, GapCell, LexemeCell, cell_bytes, tokens_from, lexemes_of, AreTokens, AreLexemes, undoubled, kind_of, lexeme_of, lexeme}
 use Rattle.ded_lex.proofs.Cases.{same_or, is_not}
 

@@ -1,6 +1,7 @@
 -- Words, numbers, quoted texts and signs.
 use Rattle.std.specs.Prelude.{◌≡◌, ◌⊎◌, ℕ, Bool, true, false, List, [], ◌∷◌, ◌++◌, if◌then◌else◌, ◌==◌, ◌&&◌, ◌||◌, nat_le, codes}
 use Rattle.std.specs.List.{AllByRecursion}
+use Rattle.ded_model.specs.Quoting.{quoted}
 
 -- 0 to 9
 abbrev pub digit_byte : ℕ → Bool
@@ -24,15 +25,10 @@ pub data Lexeme : Type 0 where
   Quoted : List ℕ → Lexeme
   Sign : List ℕ → Lexeme
 
--- each quote (39) twice
-abbrev pub doubled : List ℕ → List ℕ
-doubled [] = []
-doubled (b ∷ bs) = if b == 39 then 39 ∷ 39 ∷ doubled bs else b ∷ doubled bs
-
 abbrev pub lexeme_bytes : Lexeme → List ℕ
 lexeme_bytes (Word bs) = bs
 lexeme_bytes (Number digits) = digits
-lexeme_bytes (Quoted value) = 39 ∷ doubled value ++ 39 ∷ []
+lexeme_bytes (Quoted value) = quoted value
 lexeme_bytes (Sign bs) = bs
 
 -- each byte passes the test

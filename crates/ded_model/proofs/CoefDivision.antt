@@ -53,7 +53,7 @@ factor_short k q z e n h =
     below (suc a) b c e h l = omega arith
 
 -- and is 0 only of 0
-factor_nonzero : (k q z : ℤ) → k *ℤ q ≡ z → z ≢ pos 0 → q ≢ pos 0
+pub factor_nonzero : (k q z : ℤ) → k *ℤ q ≡ z → z ≢ pos 0 → q ≢ pos 0
 factor_nonzero k q z e n f = n (sym e ∙ ap (λ x. k *ℤ x) f ∙ *ℤ-zero k)
 
 -- divided coefficients keep what lists of coefficients keep

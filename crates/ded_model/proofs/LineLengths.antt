@@ -48,7 +48,7 @@ not_lt : (n m : ℕ) → n < m → not (nat_lt n m) ≡ false
 not_lt n m h = grind (arith, nat_tests)
 
 -- a number of at most 127 digits is not too long
-not_long : (z : ℤ) → IsWithin 127 z → is_long z ≡ false
+pub not_long : (z : ℤ) → IsWithin 127 z → is_long z ≡ false
 not_long z h = not_lt (unsigned_abs z) (2 ^ 127) h
 
 -- `or` fails where both parts fail

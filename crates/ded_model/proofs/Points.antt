@@ -133,11 +133,11 @@ IsSamePoint-scaled e p k = record {
 -- ---- what an extension has at each key
 
 -- a choice where the test is true
-cond_true : {A : Type 0} (b : Bool) (x y : A) → b ≡ true → cond b x y ≡ x
+pub cond_true : {A : Type 0} (b : Bool) (x y : A) → b ≡ true → cond b x y ≡ x
 cond_true b x y e = rw e
 
 -- a choice where the test is false
-cond_false : {A : Type 0} (b : Bool) (x y : A) → b ≡ false → cond b x y ≡ y
+pub cond_false : {A : Type 0} (b : Bool) (x y : A) → b ≡ false → cond b x y ≡ y
 cond_false b x y e = rw e
 
 -- the last coordinate counts

@@ -50,15 +50,15 @@ swap_law n x y = rw (parts n, parts x, parts y) (simp ring (diff_same _ _ _ _ (o
 -- ---- comparisons
 
 -- tests of two numbers are tests of the sign of their difference
-lt_by_sign : (a b : ℤ) → int_lt a b ≡ int_lt (a -ℤ b) (pos 0)
+pub lt_by_sign : (a b : ℤ) → int_lt a b ≡ int_lt (a -ℤ b) (pos 0)
 lt_by_sign a b = grind (arith, ints)
 
 -- of at most
-le_by_sign : (a b : ℤ) → int_le a b ≡ int_le (a -ℤ b) (pos 0)
+pub le_by_sign : (a b : ℤ) → int_le a b ≡ int_le (a -ℤ b) (pos 0)
 le_by_sign a b = grind (arith, ints)
 
 -- of equality
-eq_by_sign : (a b : ℤ) → int_eq a b ≡ int_eq (a -ℤ b) (pos 0)
+pub eq_by_sign : (a b : ℤ) → int_eq a b ≡ int_eq (a -ℤ b) (pos 0)
 eq_by_sign a b = same_from_decides _ _ (Decides-int_eq a b) (λ e. let z : a -ℤ b ≡ pos 0 = (Decides-int_eq _ _).0 e in omega (arith, ints), λ e. let z : a -ℤ b ≡ pos 0 = omega (arith, ints) in (Decides-int_eq _ _).1 z)
 
 -- a difference, multiplied

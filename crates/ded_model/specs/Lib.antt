@@ -12,12 +12,15 @@ pub mod Known
 pub mod Lines
 pub mod Logic
 pub mod Measure
+pub mod Negation
 pub mod Normal
 pub mod PlanForm
 pub mod Point
 pub mod Pushed
+pub mod Quoting
 pub mod Rational
 pub mod Refusals
+pub mod Renaming
 pub mod Row
 pub mod Scanned
 pub mod Slotted

@@ -1,6 +1,7 @@
 //! Slots: the columns and variables that rows, text atoms and plans speak of.
 ghost use Rattle.std.specs.Prelude.{◌≡◌, IfOk};
 ghost use Rattle.ded_model.specs.Point.{same_slot};
+ghost use Rattle.ded_model.specs.Renaming.{renamed};
 
 use crate::memory::NoMemory;
 use std::marker::Model;
@@ -27,6 +28,18 @@ impl Slot {
     {
         self == other
     }
+}
+
+/// The slot that the pairs give a slot; one that they don't name stays.
+pub fn renamed(map: &[(Slot, Slot)], slot: Slot) -> Slot
+    ensures { result ≡ renamed map.now slot }
+{
+    for (from, to) in map {
+        if from.is_same(slot) {
+            return *to;
+        }
+    }
+    slot
 }
 
 /// Slots of which no two are the same, as a scan reads a relation's columns into them. Contracts see the list.

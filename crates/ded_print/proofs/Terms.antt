@@ -11,7 +11,8 @@ use Rattle.ded_model.specs.Coefs.{AreCoefs}
 use Rattle.ded_model.specs.Row.{Atom}
 use Rattle.ded_print.specs.Gathering.{Output, Puts}
 use Rattle.ded_print.specs.Numbers.{number_text, integer_text}
-use Rattle.ded_print.specs.Tuples.{Names, term_text, sign_text, signed, later_term_text, later_terms_text, op_text, sides_text, row_with_text, doubled, doubled_byte, quoted, theme_text, tuple_text, atom_text, later_atoms_text}
+use Rattle.ded_model.specs.Quoting.{doubled, doubled_byte, quoted}
+use Rattle.ded_print.specs.Tuples.{Names, term_text, sign_text, signed, later_term_text, later_terms_text, op_text, sides_text, row_with_text, theme_text, tuple_text, atom_text, later_atoms_text}
 use Rattle.ded_print.proofs.Gathering.{puts_both}
 
 other : (m : ℕ) (x y : List ℕ) → (m ≡ 1 → ⊥) → (if m == 1 then x else y) ≡ y

@@ -10,6 +10,7 @@ use Rattle.ded_model.specs.declared.tuple.ThemeAtom.TheVariants.{EqText, NeText,
 use Rattle.ded_model.specs.declared.tuple.BothAtom.TheVariants.{First, Second}
 use Rattle.ded_model.specs.Constraint.{LinearConstraint}
 use Rattle.ded_model.specs.Row.{Atom}
+use Rattle.ded_model.specs.Quoting.{quoted}
 use Rattle.ded_print.specs.Lines.{counted_text}
 use Rattle.ded_print.specs.Numbers.{number_text, integer_text}
 
@@ -78,19 +79,6 @@ abbrev pub row_text : Names → LinearConstraint → List ℕ
 row_text names r = row_with_text names r.coefs r.op r.constant
 
 -- ---- text atoms
-
--- a quote twice, each other byte once
-abbrev pub doubled_byte : ℕ → List ℕ
-doubled_byte b = if b == 39 then (39 ∷ 39 ∷ []) else (b ∷ [])
-
--- each quote twice
-abbrev pub doubled : List ℕ → List ℕ
-doubled [] = []
-doubled (b ∷ bs) = doubled_byte b ++ doubled bs
-
--- a text between quotes
-abbrev pub quoted : List ℕ → List ℕ
-quoted t = 39 ∷ (doubled t ++ (39 ∷ []))
 
 -- `n = 'a'`, `n != 'a'`, `n = m`, `n != m`
 abbrev pub theme_text : Names → ThemeAtom → List ℕ

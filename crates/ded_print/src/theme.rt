@@ -1,7 +1,8 @@
 //! Text atoms.
 ghost use Rattle.std.specs.Prelude.{◌≡◌};
 ghost use Rattle.ded_print.specs.Gathering.{output, Puts};
-ghost use Rattle.ded_print.specs.Tuples.{doubled, doubled_byte, quoted, theme_text};
+ghost use Rattle.ded_model.specs.Quoting.{doubled, doubled_byte, quoted};
+ghost use Rattle.ded_print.specs.Tuples.{theme_text};
 
 use crate::gathered::Gathered;
 use crate::naming::{SlotNames, name_bytes};

@@ -13,6 +13,7 @@ use Rattle.ded_model.specs.Row.{sign_meets, row_mentions}
 use Rattle.ded_model.specs.Coefs.{AreCoefs}
 use Rattle.ded_model.specs.Normal.{DivideWhole, IsNormalRow, coefs_over, row_over, constant_row, divisor_for, divisor_of, normal_with, normal_row}
 use Rattle.ded_model.specs.Lines.{Line, line_with, row_lines}
+use Rattle.ded_model.proofs.CoefDivision.{factor_nonzero}
 use Rattle.ded_model.proofs.Divisors.{divisor-whole, divisor-whole_constant, divisor-nonzero_first}
 use Rattle.ded_model.proofs.LineSlots.{has_slot, over_slots}
 use Rattle.ded_row.specs.Multiples.{coefs_times, row_times}
@@ -38,15 +39,11 @@ pub coefs_back : (d : ℤ) (cs : List (Slot × ℤ)) → DivideWhole d cs → co
 coefs_back d [] w = refl
 coefs_back d (c ∷ cs) w = ap₂ (λ z zs. (c.0, z) ∷ zs) w.0 (coefs_back d cs w.1)
 
--- a quotient of what isn't 0
-quotient_nonzero : (d q z : ℤ) → d *ℤ q ≡ z → z ≢ pos 0 → q ≢ pos 0
-quotient_nonzero d q z e n f = n (sym e ∙ ap (λ x. d *ℤ x) f ∙ *ℤ-zero d)
-
 -- a row divided by its divisor has the row's normal form, under another op too
 over_normal : (op : RowOp) (m d : ℤ) (c : Slot × ℤ) (cs : List (Slot × ℤ)) → c.1 ≢ pos 0 → DivideWhole d (c ∷ cs) → d *ℤ int_div m d ≡ m → IsFactor op d
     → normal_row (record { coefs = coefs_over d (c ∷ cs); constant = int_div m d; op = op }) ≡ normal_row (record { coefs = c ∷ cs; constant = m; op = op })
 over_normal op m d c cs n w e f =
-    sym (normal_row-times d (record { coefs = coefs_over d (c ∷ cs); constant = int_div m d; op = op }) f (quotient_nonzero d (int_div c.1 d) c.1 w.0 n))
+    sym (normal_row-times d (record { coefs = coefs_over d (c ∷ cs); constant = int_div m d; op = op }) f (factor_nonzero d (int_div c.1 d) c.1 w.0 n))
     ∙ ap₂ (λ (xs : List (Slot × ℤ)) (z : ℤ). normal_row (record { coefs = xs; constant = z; op = op })) (coefs_back d (c ∷ cs) w) e
 
 -- the true and the false row are normal

@@ -18,7 +18,8 @@ use Rattle.ded_model.specs.Lines.{line_with, row_lines}
 use Rattle.ded_model.proofs.Divisors.{abs_divisor, divisor-whole}
 use Rattle.ded_model.proofs.LineSlots.{has_slot}
 use Rattle.ded_row.specs.Multiples.{coefs_times, row_times, with_op, turned}
-use Rattle.ded_row.specs.Negation.{negated_by, negated_with, negated_row, EachPiece, some_piece_holds, both_pieces_hold}
+use Rattle.ded_model.specs.Negation.{EachPiece, some_piece_holds, both_pieces_hold}
+use Rattle.ded_row.specs.Negation.{negated_by, negated_with, negated_row}
 use Rattle.ded_row.proofs.Normals.{constant_row-holds, no_coefs}
 use Rattle.ded_row.proofs.Scaling.{BeginsNonzero, cancel_factor, exact_quotient, gcd_all-times}
 use Rattle.ded_row.proofs.Forms.{constant_row-normal, row_lines-times}
@@ -104,33 +105,33 @@ apart_sign (negsuc n) = grind (arith, ints)
 
 -- ---- where the pieces hold
 
-pieces_by : (op : RowOp) (r : LinearConstraint) (p : Point) → r.op ≡ op → some_piece_holds (negated_by op r) p ≡ not (row_holds r p)
+pieces_by : (op : RowOp) (r : LinearConstraint) (p : Point) → r.op ≡ op → some_piece_holds row_holds (negated_by op r) p ≡ not (row_holds r p)
 unfolding row_holds
 pieces_by Zero r p e = ap (λ z. int_lt (row_at r p) (pos 0) || int_lt z (pos 0)) (row_at-turned r p) ∙ zero_sign (row_at r p) ∙ ap (λ o. not (sign_meets o (row_at r p))) (sym e)
 pieces_by AtMost r p e = ap (λ z. int_lt z (pos 0)) (row_at-turned r p) ∙ at_most_sign (row_at r p) ∙ ap (λ o. not (sign_meets o (row_at r p))) (sym e)
 pieces_by Below r p e = ap (λ z. int_le z (pos 0)) (row_at-turned r p) ∙ below_sign (row_at r p) ∙ ap (λ o. not (sign_meets o (row_at r p))) (sym e)
 
 pieces_with : (op : RowOp) (m : ℤ) (cs : List (Slot × ℤ)) (p : Point) → 0 < p.den
-    → some_piece_holds (negated_with cs (record { coefs = cs; constant = m; op = op })) p ≡ not (row_holds (record { coefs = cs; constant = m; op = op }) p)
+    → some_piece_holds row_holds (negated_with cs (record { coefs = cs; constant = m; op = op })) p ≡ not (row_holds (record { coefs = cs; constant = m; op = op }) p)
 unfolding row_holds
 pieces_with op m [] p h = constant_row-holds (not (sign_meets op m)) p ∙ ap not (no_coefs op m p.den h)
 pieces_with op m (c ∷ cs) p h = pieces_by op (record { coefs = c ∷ cs; constant = m; op = op }) p refl
 
 -- the pieces hold together where the row doesn't
-pub pieces_hold : (r : LinearConstraint) (p : Point) → 0 < p.den → some_piece_holds (negated_row r) p ≡ not (row_holds r p)
+pub pieces_hold : (r : LinearConstraint) (p : Point) → 0 < p.den → some_piece_holds row_holds (negated_row r) p ≡ not (row_holds r p)
 pieces_hold r p h = pieces_with r.op r.constant r.coefs p h
 
-apart_by : (op : RowOp) (r : LinearConstraint) (p : Point) → both_pieces_hold (negated_by op r) p ≡ false
+apart_by : (op : RowOp) (r : LinearConstraint) (p : Point) → both_pieces_hold row_holds (negated_by op r) p ≡ false
 unfolding row_holds
 apart_by Zero r p = ap (λ z. int_lt (row_at r p) (pos 0) && int_lt z (pos 0)) (row_at-turned r p) ∙ apart_sign (row_at r p)
 apart_by AtMost r p = refl
 apart_by Below r p = refl
 
 -- no point satisfies two
-pub pieces_apart : (r : LinearConstraint) (p : Point) → both_pieces_hold (negated_row r) p ≡ false
+pub pieces_apart : (r : LinearConstraint) (p : Point) → both_pieces_hold row_holds (negated_row r) p ≡ false
 pieces_apart r p = go r.coefs
   where
-    go : (cs : List (Slot × ℤ)) → both_pieces_hold (negated_with cs r) p ≡ false
+    go : (cs : List (Slot × ℤ)) → both_pieces_hold row_holds (negated_with cs r) p ≡ false
     go [] = refl
     go (c ∷ cs) = apart_by r.op r p
 

@@ -18,7 +18,8 @@ use Rattle.ded_model.proofs.Rows.{or_left, or_right}
 use Rattle.ded_model.proofs.CoefLemmas.{greater_slot, coef_at-here, coef_at-past}
 use Rattle.ded_model.proofs.LineCoefs.{coef_at-put, coef_at-nonzero}
 use Rattle.ded_model.proofs.LineSlots.{has_slot, put_slots, cut_slots, nonzero_slots}
-use Rattle.ded_row.specs.Renaming.{renamed, renamed_onto, renamed_row, IsOneToOne, KeepsSorts, IsRenamedPoint}
+use Rattle.ded_model.specs.Renaming.{renamed, renamed_onto, IsOneToOne, KeepsSorts, HaveOneValue, IsRenamedPoint}
+use Rattle.ded_row.specs.Renaming.{renamed_row}
 use Rattle.ded_row.proofs.FirstSlots.{entry, split, drop-kept}
 use Rattle.ded_row.proofs.Normals.{normal_row-holds}
 use Rattle.ded_row.proofs.Forms.{row_mentions-normal}
@@ -33,7 +34,7 @@ has_entry (x ∷ xs) zero h = or_left (same_slot x.0 x.0) (has_slot xs x.0) (sam
 has_entry (x ∷ xs) (suc i) h = or_right (same_slot x.0 (entry xs i).0) (has_slot xs (entry xs i).0) (has_entry xs i (omega arith))
 
 -- its new slot is rational
-pub target_rational : (map : List (Slot × Slot)) (r : LinearConstraint) (xs : List (Slot × ℤ)) (i : ℕ) → KeepsSorts map r → xs ≡ r.coefs → AreCoefs xs → i < length xs → (renamed map (entry xs i).0).sort ≡ Rat
+pub target_rational : (map : List (Slot × Slot)) (r : LinearConstraint) (xs : List (Slot × ℤ)) (i : ℕ) → KeepsSorts map (row_mentions r) → xs ≡ r.coefs → AreCoefs xs → i < length xs → (renamed map (entry xs i).0).sort ≡ Rat
 unfolding row_mentions
 target_rational map r xs i h e k l =
     h.sort (entry xs i).0 (ap (λ ys. has_slot ys (entry xs i).0) (sym e) ∙ has_entry xs i l) ∙ (subst AreCoefs (split xs i l) (drop-kept xs i k)).0
@@ -42,10 +43,6 @@ target_rational map r xs i h e k l =
 pub onto_step : (map : List (Slot × Slot)) (out xs : List (Slot × ℤ)) (i : ℕ) → i < length xs
     → renamed_onto map (with_coef (renamed map (entry xs i).0) (entry xs i).1 out) (drop (i + 1) xs) ≡ renamed_onto map out (drop i xs)
 onto_step map out xs i l = sym (ap (renamed_onto map out) (split xs i l))
-
--- the first pair decides, or else the rest
-pub renamed_step : (map : List (Slot × Slot)) (s : Slot) (i : ℕ) (d : Slot × Slot) → i < length map → renamed (drop i map) s ≡ (cond (same_slot (get_or map i d).0 s) (get_or map i d).1 (renamed (drop (i + 1) map) s))
-renamed_step map s i d l = ap (λ m. renamed m s) (drop-cons map i d l) ∙ ap (λ k. cond (same_slot (get_or map i d).0 s) (get_or map i d).1 (renamed (drop k map) s)) (sym (add-one i))
 
 -- ---- a coefficient at an absent slot
 
@@ -112,17 +109,26 @@ sum_at-onto map out (c ∷ cs) p q h k n =
     ∙ move_law x (sum_at out q) (sum_at cs p)
 
 -- at first all are free
-free_first : (map : List (Slot × Slot)) (r : LinearConstraint) → IsOneToOne map r → AreFree map [] r.coefs
+free_first : (map : List (Slot × Slot)) (r : LinearConstraint) → IsOneToOne map (row_mentions r) → AreFree map [] r.coefs
 unfolding row_mentions
 free_first map r h = record { free = λ s e. refl; apart = λ s t e f g. h.apart s t e f g }
 
+-- a slot of the coefficients is rational
+is_rational : (s : Slot) (cs : List (Slot × ℤ)) → AreCoefs cs → has_slot cs s ≡ true → s.sort ≡ Rat
+is_rational s [] k e = absurd (true≢false (sym e))
+is_rational s (c ∷ cs) k e = go (same_slot c.0 s) refl e (is_rational s cs k.4)
+  where
+    go : (b : Bool) → same_slot c.0 s ≡ b → (b || has_slot cs s) ≡ true → (has_slot cs s ≡ true → s.sort ≡ Rat) → s.sort ≡ Rat
+    go true f g ih = ap (λ t. t.sort) (sym (same_slot_is c.0 s f)) ∙ k.0
+    go false f g ih = ih g
+
 -- the renamed row holds where the row does
-pub renamed-holds : (map : List (Slot × Slot)) (r : LinearConstraint) (p q : Point) → IsOneToOne map r → AreCoefs r.coefs → 0 < p.den → IsRenamedPoint map r p q → row_holds (normal_row (renamed_row map r)) q ≡ row_holds r p
+pub renamed-holds : (map : List (Slot × Slot)) (r : LinearConstraint) (p q : Point) → IsOneToOne map (row_mentions r) → AreCoefs r.coefs → 0 < p.den → IsRenamedPoint map (row_mentions r) p q → row_holds (normal_row (renamed_row map r)) q ≡ row_holds r p
 unfolding row_holds row_mentions
 renamed-holds map r p q h k l n =
     let positive : 0 < q.den = subst (λ d. 0 < d) (sym n.den) l in
     normal_row-holds (renamed_row map r) q positive
-    ∙ ap (λ s. sign_meets r.op (s +ℤ r.constant *ℤ pos q.den)) (sum_at-onto map [] r.coefs p q (free_first map r h) k n.number ∙ +ℤ_idl (sum_at r.coefs p))
+    ∙ ap (λ s. sign_meets r.op (s +ℤ r.constant *ℤ pos q.den)) (sum_at-onto map [] r.coefs p q (free_first map r h) k (λ s e. subst (λ t. HaveOneValue t p (slot s) q (slot (renamed map s))) (is_rational s r.coefs k e) (n.value s e)) ∙ +ℤ_idl (sum_at r.coefs p))
     ∙ ap (λ d. sign_meets r.op (sum_at r.coefs p +ℤ r.constant *ℤ pos d)) n.den
 
 -- ---- slots
@@ -191,7 +197,7 @@ coef_at-absent (c ∷ cs) s h = go (same_slot c.0 s) refl (coef_at-absent cs s)
     go false f ih = coef_at-past s c cs f ∙ ih (sym (ap (λ b. b || has_slot cs s) f) ∙ h)
 
 -- each slot of the row is mentioned at its new slot
-pub renamed_mentions : (map : List (Slot × Slot)) (r : LinearConstraint) (s : Slot) → IsOneToOne map r → AreCoefs r.coefs → row_mentions r s ≡ true → row_mentions (normal_row (renamed_row map r)) (renamed map s) ≡ true
+pub renamed_mentions : (map : List (Slot × Slot)) (r : LinearConstraint) (s : Slot) → IsOneToOne map (row_mentions r) → AreCoefs r.coefs → row_mentions r s ≡ true → row_mentions (normal_row (renamed_row map r)) (renamed map s) ≡ true
 unfolding row_mentions
 renamed_mentions map r s h k e = row_mentions-normal (renamed_row map r) (renamed map s) ∙ go (has_slot (renamed_onto map [] r.coefs) (renamed map s)) refl
   where
@@ -209,7 +215,7 @@ renamed_row_is map r r' cs z e f g =
     ap₂ (λ (xs : List (Slot × ℤ)) (y : ℤ). record { coefs = xs; constant = y; op = r.op }) (e ∙ ap (λ (q : LinearConstraint). renamed_onto map [] q.coefs) (sym g)) f ∙ ap (renamed_row map) g
 
 -- one slot for another that the row doesn't mention
-pub one_pair : (r : LinearConstraint) (x y : Slot) → AreCoefs r.coefs → coef_at r.coefs y ≡ pos 0 → IsOneToOne ((x, y) ∷ []) r
+pub one_pair : (r : LinearConstraint) (x y : Slot) → AreCoefs r.coefs → coef_at r.coefs y ≡ pos 0 → IsOneToOne ((x, y) ∷ []) (row_mentions r)
 unfolding row_mentions
 one_pair r x y k z = record { apart = λ s t e f g. go s t e f (same_slot x s) refl (same_slot x t) refl g }
   where

@@ -18,6 +18,7 @@ use Rattle.ded_model.specs.Coefs.{AllAbove, AllBelow, AreCoefs, coef_at, put, pu
 use Rattle.ded_model.proofs.Points.{same_slot_is, same_slot_refl}
 use Rattle.ded_model.proofs.Rows.{or_left, or_right}
 use Rattle.ded_model.proofs.CoefLemmas.{not_zero, lesser_slot, put-above, coef_at-above, coef_at-here, coef_at-past}
+use Rattle.ded_model.proofs.LineLengths.{not_long}
 use Rattle.ded_model.proofs.LineSlots.{has_slot}
 use Rattle.ded_row.specs.Merging.{IsFirst, in_left, in_right, in_both}
 use Rattle.ded_row.specs.Mixing.{mixed_coefs, sum_is_long, long_at, coefs_are_long}
@@ -307,16 +308,9 @@ module _ (s : Slot) (k : ℤ) (xs : List (Slot × ℤ)) (m : ℤ) (ys xs' ys' ou
 
 -- ---- numbers that are too long
 
--- a short number isn't
-pub short_is_not_long : (z : ℤ) → IsShort z → is_long z ≡ false
-short_is_not_long z h = ap not (less (unsigned_abs z) (2 ^ 127) h)
-  where
-    less : (m n : ℕ) → m < n → nat_lt m n ≡ true
-    less m n h = grind (arith, nat_tests)
-
 -- short products with a short sum
 pub sum_is_short : (k a m b : ℤ) → IsShort (k *ℤ a) → IsShort (m *ℤ b) → IsShort (k *ℤ a +ℤ m *ℤ b) → sum_is_long k a m b ≡ false
-sum_is_short k a m b h i j = rw (short_is_not_long (k *ℤ a) h, short_is_not_long (m *ℤ b) i, short_is_not_long (k *ℤ a +ℤ m *ℤ b) j) refl
+sum_is_short k a m b h i j = rw (not_long (k *ℤ a) h, not_long (m *ℤ b) i, not_long (k *ℤ a +ℤ m *ℤ b) j) refl
 
 -- what the code adds at the end
 pub push_nonzero : (out : List (Slot × ℤ)) (t : Slot) (y z : ℤ) → y ≡ z → z ≢ pos 0 → out ++ (t, y) ∷ [] ≡ out ++ nonzero ((t, z) ∷ [])

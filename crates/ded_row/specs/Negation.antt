@@ -24,18 +24,3 @@ negated_with (c ∷ cs) r = negated_by r.op r
 
 abbrev pub negated_row : LinearConstraint → Negated LinearConstraint
 negated_row r = negated_with r.coefs r
-
--- P holds of each piece
-abbrev pub EachPiece : (LinearConstraint → Type 0) → Negated LinearConstraint → Type 0
-EachPiece P (One r) = P r
-EachPiece P (Two r s) = P r × P s
-
--- the point satisfies some piece
-abbrev pub some_piece_holds : Negated LinearConstraint → Point → Bool
-some_piece_holds (One r) p = row_holds r p
-some_piece_holds (Two r s) p = row_holds r p || row_holds s p
-
--- it satisfies two of them
-abbrev pub both_pieces_hold : Negated LinearConstraint → Point → Bool
-both_pieces_hold (One r) p = false
-both_pieces_hold (Two r s) p = row_holds r p && row_holds s p

@@ -8,7 +8,8 @@ ghost use Rattle.ded_model.specs.Row.{row_holds, row_mentions};
 ghost use Rattle.ded_model.specs.Normal.{IsNormalRow};
 ghost use Rattle.ded_model.specs.Lines.{row_lines};
 ghost use Rattle.ded_row.specs.Multiples.{turned, with_op};
-ghost use Rattle.ded_row.specs.Negation.{negated_row, EachPiece, some_piece_holds, both_pieces_hold};
+ghost use Rattle.ded_model.specs.Negation.{EachPiece, some_piece_holds, both_pieces_hold};
+ghost use Rattle.ded_row.specs.Negation.{negated_row};
 
 use crate::lowest::{meets_zero, truth_row};
 use ded_model::memory::NoMemory;
@@ -20,8 +21,8 @@ use ded_model::tuple::Negated;
 pub fn negate(row: &Row) -> Result<Negated<Row>, NoMemory>
     requires normal { IsNormalRow row.now }
     ensures value { IfOk result (λ n. n ≡ negated_row row.now) }
-    ensures exact { IfOk result (λ n. (p : Point) → 0 < p.den → some_piece_holds n p ≡ not (row_holds row.now p)) }
-    ensures disjoint { IfOk result (λ n. (p : Point) → both_pieces_hold n p ≡ false) }
+    ensures exact { IfOk result (λ n. (p : Point) → 0 < p.den → some_piece_holds row_holds n p ≡ not (row_holds row.now p)) }
+    ensures disjoint { IfOk result (λ n. (p : Point) → both_pieces_hold row_holds n p ≡ false) }
     ensures normal { IfOk result (λ n. EachPiece IsNormalRow n) }
     ensures mentions { IfOk result (λ n. (s : Slot) → EachPiece (λ r. row_mentions r s ≡ row_mentions row.now s) n) }
     ensures lines { IfOk result (λ n. EachPiece (λ r. row_lines r ≡ row_lines row.now) n) }

@@ -6,22 +6,23 @@ ghost use Rattle.ded_model.specs.Point.{Point};
 ghost use Rattle.ded_model.specs.Coefs.{AreCoefs};
 ghost use Rattle.ded_model.specs.Row.{row_holds, row_mentions};
 ghost use Rattle.ded_model.specs.Normal.{IsNormalRow, normal_row};
-ghost use Rattle.ded_row.specs.Renaming.{renamed, renamed_onto, renamed_row, IsOneToOne, KeepsSorts, IsRenamedPoint};
+ghost use Rattle.ded_model.specs.Renaming.{renamed, renamed_onto, IsOneToOne, KeepsSorts, IsRenamedPoint};
+ghost use Rattle.ded_row.specs.Renaming.{renamed_row};
 
 use crate::lowest::normal;
 use ded_model::memory::NoMemory;
 use ded_model::row::{Coefs, Row};
-use ded_model::slot::Slot;
+use ded_model::slot::{Slot, renamed};
 
 /// The normal form of the row with each slot replaced as the pairs say; a slot that no pair names stays. The pairs are one
 /// to one on the row's slots and keep their sorts. The result holds at a point exactly where the row does at a point that has
 /// the same numbers at the slots before.
 pub fn rename(row: &Row, map: &[(Slot, Slot)]) -> Result<Row, NoMemory>
-    requires one { IsOneToOne map.now row.now }
-    requires sorts { KeepsSorts map.now row.now }
+    requires one { IsOneToOne map.now (row_mentions row.now) }
+    requires sorts { KeepsSorts map.now (row_mentions row.now) }
     ensures value { IfOk result (λ r. r ≡ normal_row (renamed_row map.now row.now)) }
     ensures normal { IfOk result (λ r. IsNormalRow r) }
-    ensures alike { IfOk result (λ r. (p q : Point) → 0 < p.den → IsRenamedPoint map.now row.now p q → row_holds r q ≡ row_holds row.now p) }
+    ensures alike { IfOk result (λ r. (p q : Point) → 0 < p.den → IsRenamedPoint map.now (row_mentions row.now) p q → row_holds r q ≡ row_holds row.now p) }
     ensures mentions { IfOk result (λ r. (s : Slot) → row_mentions row.now s ≡ true → row_mentions r (renamed map.now s) ≡ true) }
     ensures only { IfOk result (λ r. (t : Slot) → row_mentions r t ≡ true → (s : Slot) × (row_mentions row.now s ≡ true) × (renamed map.now s ≡ t)) }
 {
@@ -35,7 +36,7 @@ pub fn rename(row: &Row, map: &[(Slot, Slot)]) -> Result<Row, NoMemory>
 
 /// The coefficients at their new slots.
 fn renamed_coefs(row: &Row, map: &[(Slot, Slot)]) -> Result<Coefs, NoMemory>
-    requires sorts { KeepsSorts map.now row.now }
+    requires sorts { KeepsSorts map.now (row_mentions row.now) }
     ensures value { IfOk result (λ cs. cs ≡ renamed_onto map.now [] row.now.coefs) }
     ensures kept { AreCoefs row.now.coefs }
 {
@@ -44,16 +45,4 @@ fn renamed_coefs(row: &Row, map: &[(Slot, Slot)]) -> Result<Coefs, NoMemory>
         coefs.put(renamed(map, *slot), *a)?;
     }
     Ok(coefs)
-}
-
-/// The slot that the pairs give a slot.
-fn renamed(map: &[(Slot, Slot)], slot: Slot) -> Slot
-    ensures { result ≡ renamed map.now slot }
-{
-    for (from, to) in map {
-        if from.is_same(slot) {
-            return *to;
-        }
-    }
-    slot
 }

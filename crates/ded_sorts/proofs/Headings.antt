@@ -18,7 +18,7 @@ use Rattle.ded_model.specs.Value.{Argument, Meaning}
 use Rattle.ded_model.specs.Catalogue.{AtomHolds, argument_coordinate, at_slots, at_names}
 use Rattle.ded_model.specs.Slotted.{nearest, slot_of, heading_scope, goal_of}
 use Rattle.ded_model.specs.Known.{KnownNames, has_twice, has_unbound, has_missorted, scope_of, is_unbound_name, is_unbound_atom, is_missorted_atom}
-use Rattle.ded_model.proofs.Points.{same_key_refl}
+use Rattle.ded_model.proofs.Points.{same_key_refl, cond_true, cond_false}
 use Rattle.ded_sorts.proofs.Sides.{bytes_eq-sym}
 use Rattle.ded_sorts.proofs.Scopes.{sorts_of, no_slot, older_slot, newer_slot, IsOnlyOf, Agrees}
 use Rattle.ded_sorts.proofs.Meanings.{or_fails_left, or_fails_right, goal_means}
@@ -29,14 +29,6 @@ sorts_of-heading i [] = refl
 sorts_of-heading i (c ∷ cs) = ap (λ s. (name c.name, c.sort) ∷ s) (sorts_of-heading (i + 1) cs)
 
 -- ---- coordinates of other keys
-
--- a choice where the test fails
-cond_false : {A : Type 0} (b : Bool) (x y : A) → b ≡ false → cond b x y ≡ y
-cond_false b x y e = rw e refl
-
--- a choice where the test is passed
-cond_true : {A : Type 0} (b : Bool) (x y : A) → b ≡ true → cond b x y ≡ x
-cond_true b x y e = rw e refl
 
 -- a name that no column has
 other_names : (cs : List Column) (xs : List Argument) (v : Value) (x : List ℕ) → list_any (λ d. bytes_eq x d.name) cs ≡ false → last_from v (at_names cs xs) (name x) ≡ v

@@ -22,6 +22,7 @@ use Rattle.ded_model.specs.Logic.{Sat}
 use Rattle.ded_model.specs.Goal.{GoalAtomHolds}
 use Rattle.ded_model.specs.Value.{OperandValue, crosswise, is_same_value, values_compare, Meaning}
 use Rattle.ded_model.specs.Slotted.{difference_row, sums_goal}
+use Rattle.ded_model.proofs.Values.{lt_by_sign, le_by_sign, eq_by_sign}
 use Rattle.ded_row.proofs.Normals.{normal_row-holds}
 use Rattle.ded_row.proofs.Sums.{sum_at-mixed, sum_at-nonzero}
 
@@ -51,18 +52,6 @@ difference_at v w l r op q e f =
     ∙ rw (e.number, e.over, f.number, f.over) refl
 
 -- ---- comparisons
-
--- tests of two numbers are tests of the sign of their difference
-lt_by_sign : (a b : ℤ) → int_lt a b ≡ int_lt (a -ℤ b) (pos 0)
-lt_by_sign a b = grind (arith, ints)
-
--- of at most
-le_by_sign : (a b : ℤ) → int_le a b ≡ int_le (a -ℤ b) (pos 0)
-le_by_sign a b = grind (arith, ints)
-
--- of equality
-eq_by_sign : (a b : ℤ) → int_eq a b ≡ int_eq (a -ℤ b) (pos 0)
-eq_by_sign a b = same_from_decides _ _ (Decides-int_eq a b) (λ e. let z : a -ℤ b ≡ pos 0 = (Decides-int_eq _ _).0 e in omega (arith, ints), λ e. let z : a -ℤ b ≡ pos 0 = omega (arith, ints) in (Decides-int_eq _ _).1 z)
 
 -- `and` with what is true
 and_true : (a : Bool) → (a && true) ≡ a

@@ -1,7 +1,7 @@
 -- What is left to put makes the text whole.
 use Rattle.std.proofs.Common.{drop}
 use Rattle.ded_print.specs.Gathering.{Output, output, Puts}
-use Rattle.ded_print.specs.Tuples.{doubled}
+use Rattle.ded_model.specs.Quoting.{doubled}
 use Rattle.ded_print.proofs.theme.put_doubled.Given as goal
 
 abbrev pub invariant-loop-byte : goal.invariant-loop-byte

@@ -3,7 +3,8 @@ use Rattle.std.specs.Int.{w128}
 use Rattle.std.proofs.lemmas.Int.{to_z-of_z, fits_signed_from_abs}
 use Rattle.ded_model.specs.Row.{row_holds, row_mentions}
 use Rattle.ded_model.specs.Normal.{normal_row}
-use Rattle.ded_row.specs.Renaming.{renamed, renamed_row}
+use Rattle.ded_model.specs.Renaming.{renamed}
+use Rattle.ded_row.specs.Renaming.{renamed_row}
 use Rattle.ded_row.proofs.Targets.{renamed-holds, renamed_only, renamed_mentions, renamed_row_is}
 use Rattle.ded_row.proofs.renaming.rename.Goals as goal
 use Rattle.ded_row.proofs.renaming.rename.Goals.{After-normal}

@@ -3,7 +3,8 @@ use Rattle.std.proofs.Math.ListN.{drop_of_length-le}
 use Rattle.ded_num.specs.Length.{IsShort}
 use Rattle.ded_model.specs.Constraint.{LinearConstraint}
 use Rattle.ded_model.specs.Coefs.{AreCoefs, with_coef}
-use Rattle.ded_row.specs.Renaming.{renamed_onto, KeepsSorts}
+use Rattle.ded_model.specs.Row.{row_mentions}
+use Rattle.ded_model.specs.Renaming.{renamed_onto, KeepsSorts}
 use Rattle.ded_row.proofs.FirstSlots.{entry-in_code, split, drop-kept}
 use Rattle.ded_row.proofs.Targets.{target_rational, onto_step}
 use Rattle.ded_row.proofs.renaming.renamed_coefs.Goals as goal
@@ -13,7 +14,7 @@ put-requires-clause-rational c =
     let xs = c.list-slot-items.result.now in
     let r : LinearConstraint = record { coefs = c.row.inside.coefs; constant = c.row.inside.constant; op = c.row.inside.op } in
     let kept = subst AreCoefs (sym c.list-slot-items.ensures.value) c.list-slot-items.ensures.kept in
-    ap (λ s. s.sort) c.renamed.ensures ∙ target_rational c.args.map.now r xs c.loop-slot.slot-index (subst (KeepsSorts c.args.map.now) (sym c.row.view_is) c.requires.sorts) c.list-slot-items.ensures.value kept c.loop-slot-test.true
+    ap (λ s. s.sort) c.renamed.ensures ∙ target_rational c.args.map.now r xs c.loop-slot.slot-index (subst (λ q. KeepsSorts c.args.map.now (row_mentions q)) (sym c.row.view_is) c.requires.sorts) c.list-slot-items.ensures.value kept c.loop-slot-test.true
 
 pub put-requires-clause-short : goal.put-requires-clause-short
 put-requires-clause-short c =

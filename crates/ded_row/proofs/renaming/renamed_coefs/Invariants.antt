@@ -1,5 +1,5 @@
 use Rattle.std.proofs.Common.{◌≡◌, [], drop}
-use Rattle.ded_row.specs.Renaming.{renamed_onto}
+use Rattle.ded_model.specs.Renaming.{renamed_onto}
 use Rattle.ded_row.proofs.renaming.renamed_coefs.Given as goal
 
 abbrev pub invariant-loop-slot : goal.invariant-loop-slot

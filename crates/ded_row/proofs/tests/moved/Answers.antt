@@ -4,7 +4,8 @@ use Rattle.std.specs.Int.{w128}
 use Rattle.std.proofs.lemmas.Int.{to_z-of_z, fits_signed_from_abs}
 use Rattle.ded_model.specs.Constraint.{LinearConstraint}
 use Rattle.ded_model.specs.Coefs.{coef_at}
-use Rattle.ded_row.specs.Renaming.{IsOneToOne}
+use Rattle.ded_model.specs.Row.{row_mentions}
+use Rattle.ded_model.specs.Renaming.{IsOneToOne}
 use Rattle.ded_row.proofs.Targets.{one_pair}
 use Rattle.ded_row.proofs.tests.moved.Goals as goal
 
@@ -13,5 +14,5 @@ rename-requires-clause-one c =
     let r : LinearConstraint = record { coefs = c.row.inside.coefs; constant = c.row.inside.constant; op = c.row.inside.op } in
     let none : coef_at r.coefs c.args.to ≡ pos 0 =
     sym c.at.ensures.value ∙ sym (to_z-of_z w128 c.at.result (fits_signed_from_abs w128 c.at.result c.at.ensures.short)) ∙ ap (to_z w128) c.if-at-ne0.false in
-    subst (λ m. IsOneToOne m c.args.row) (sym c.as_slice.ensures)
-    (subst (IsOneToOne ((c.args.from, c.args.to) ∷ [])) c.row.view_is (one_pair r c.args.from c.args.to c.list.ensures.kept none))
+    subst (λ m. IsOneToOne m (row_mentions c.args.row)) (sym c.as_slice.ensures)
+    (subst (λ q. IsOneToOne ((c.args.from, c.args.to) ∷ []) (row_mentions q)) c.row.view_is (one_pair r c.args.from c.args.to c.list.ensures.kept none))

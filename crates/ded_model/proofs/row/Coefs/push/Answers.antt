@@ -1,4 +1,4 @@
-use Rattle.std.proofs.Common.{◌≡◌, subst, sym, ap, ◌∙◌, SFits, ◌++◌, ◌∷◌, []}
+use Rattle.std.proofs.Common.{subst, sym, ap, ◌∙◌, SFits, ◌++◌, ◌∷◌, []}
 use Rattle.std.specs.Int.{w128}
 use Rattle.std.proofs.lemmas.Int.{to_z-of_z}
 use Rattle.ded_model.specs.Coefs.{AreCoefs}
