@@ -25,7 +25,7 @@ use Rattle.ded_model.proofs.Terms.{linear_at}
 use Rattle.ded_model.proofs.Numbers.{coef, rest, linear-extended, at_level, cancel_pair, extended, extended_is, positive_is}
 use Rattle.ded_model.proofs.Atoms.{row_linear, row_linear-at}
 
-meets-decides : (op : RowOp) (z : ℤ) → Decides (sign_meets op z) (Meets op z)
+pub meets-decides : (op : RowOp) (z : ℤ) → Decides (sign_meets op z) (Meets op z)
 meets-decides Zero z = Decides-int_eq z (pos 0)
 meets-decides AtMost z = (λ e. grind (arith, ints), λ e. grind (arith, ints))
 meets-decides Below z = (λ e. grind (arith, ints), λ e. grind (arith, ints))

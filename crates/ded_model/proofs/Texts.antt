@@ -36,16 +36,16 @@ bytes_from [] e = tt
 bytes_from (b ∷ bs) e = ((Decides-ltb b 256).0 (and_left (ltb b 256) (all_bytes bs) e), bytes_from bs (and_right (ltb b 256) (all_bytes bs) e))
 
 -- ---- a text that is far from given words: zeros, and more of them than any word has
-zeros : ℕ → List ℕ
+pub zeros : ℕ → List ℕ
 zeros zero = []
 zeros (suc n) = 0 ∷ zeros n
 
-zeros-bytes : (n : ℕ) → AllBytes (zeros n)
+pub zeros-bytes : (n : ℕ) → AllBytes (zeros n)
 unfolding zeros
 zeros-bytes zero = tt
 zeros-bytes (suc n) = (omega arith, zeros-bytes n)
 
-zeros-length : (n : ℕ) → length (zeros n) ≡ n
+pub zeros-length : (n : ℕ) → length (zeros n) ≡ n
 unfolding zeros
 zeros-length zero = refl
 zeros-length (suc n) = ap suc (zeros-length n)

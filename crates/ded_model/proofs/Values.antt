@@ -72,7 +72,7 @@ difference-same a b a' b' d d' e f = sub_law a b d' ∙ rw (e, f) (sym (sub_law 
 -- so are tests of two numbers over one denominator those of the same two over another
 module _ (a b a' b' : ℤ) (d d' : ℕ) (h : 0 < d) (k : 0 < d') (e : a *ℤ pos d' ≡ a' *ℤ pos d) (f : b *ℤ pos d' ≡ b' *ℤ pos d) where
   -- less
-  int_lt-same : int_lt a b ≡ int_lt a' b'
+  pub int_lt-same : int_lt a b ≡ int_lt a' b'
   int_lt-same = lt_by_sign a b ∙ sign_meets-same Below (a -ℤ b) (a' -ℤ b') d d' h k (difference-same a b a' b' d d' e f) ∙ sym (lt_by_sign a' b')
 
   -- at most
@@ -80,7 +80,7 @@ module _ (a b a' b' : ℤ) (d d' : ℕ) (h : 0 < d) (k : 0 < d') (e : a *ℤ pos
   int_le-same = le_by_sign a b ∙ sign_meets-same AtMost (a -ℤ b) (a' -ℤ b') d d' h k (difference-same a b a' b' d d' e f) ∙ sym (le_by_sign a' b')
 
   -- equal
-  int_eq-same : int_eq a b ≡ int_eq a' b'
+  pub int_eq-same : int_eq a b ≡ int_eq a' b'
   int_eq-same = eq_by_sign a b ∙ sign_meets-same Zero (a -ℤ b) (a' -ℤ b') d d' h k (difference-same a b a' b' d d' e f) ∙ sym (eq_by_sign a' b')
 
 -- the numbers over the denominators of both

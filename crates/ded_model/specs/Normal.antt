@@ -14,6 +14,7 @@ use Rattle.ded_model.specs.declared.tuple.ThemeAtom.{ThemeAtom}
 use Rattle.ded_model.specs.declared.tuple.ThemeAtom.TheVariants.{EqText, NeText, EqSlot, NeSlot}
 use Rattle.ded_model.specs.declared.tuple.BothAtom.TheVariants.{First, Second}
 use Rattle.ded_model.specs.Constraint.{LinearConstraint}
+use Rattle.ded_model.specs.Coefs.{AreCoefs}
 use Rattle.ded_model.specs.Point.{AllBytes}
 use Rattle.ded_model.specs.Row.{Atom, sign_meets}
 
@@ -152,9 +153,9 @@ atom_order (First r) (First q) = row_order r q
 
 -- ---- normal tuples
 
--- a normal atom that isn't the true row
+-- a normal atom that isn't the true row; a row is over rational slots in order, with coefficients that aren't 0
 abbrev pub IsNormalAtom : Atom → Type 0
-IsNormalAtom (First r) = IsNormalRow r × (is_true_row r ≡ false)
+IsNormalAtom (First r) = AreCoefs r.coefs × IsNormalRow r × (is_true_row r ≡ false)
 IsNormalAtom (Second a) = IsNormalTheme a
 
 -- the list is empty, or its first atom stands after a

@@ -1,9 +1,16 @@
 //! Names and quoted texts, both seen as lists of bytes, and headings.
 ghost use Rattle.std.specs.Prelude.{◌≡◌, IfOk};
 ghost use Rattle.std.specs.Str.{bytes_eq};
+ghost use Rattle.std.specs.Cmp.{partial_equiv_from_equiv};
+ghost use Rattle.std.specs.Cmp.Lexicographic.{nat_list_eq_equiv};
+ghost use Rattle.std.specs.Cmp.Rules.{hashing};
+ghost use Rattle.std.specs.Hash as fed;
+ghost use Rattle.std.proofs.Common.{rules};
 
 use crate::memory::NoMemory;
 use crate::slot::Sort;
+use std::alloc::AllocError;
+use std::hash::{Hash, Hasher};
 use std::marker::Model;
 
 /// The bytes of a name or of a text. Contracts see the list of the bytes.
@@ -35,6 +42,38 @@ impl Name {
         ensures { result ≡ bytes_eq self.now other.now }
     {
         self.bytes.as_slice() == other.bytes.as_slice()
+    }
+}
+
+impl Clone for Name {
+    ghost is_clone = { λ n c. c ≡ n };
+
+    fn clone(&self) -> Result<Name, AllocError> {
+        self.copy()
+    }
+}
+
+impl PartialEq for Name {
+    ghost eq = { bytes_eq };
+
+    ghost laws = { partial_equiv_from_equiv nat_list_eq_equiv };
+
+    fn eq(&self, other: &Name) -> bool {
+        self.is_same(other)
+    }
+}
+
+impl Eq for Name {
+    ghost laws = { nat_list_eq_equiv };
+}
+
+impl Hash for Name {
+    ghost hash_input = { fed.slice fed.u8 };
+
+    ghost respects_eq = { Prim.search (hashing, rules) };
+
+    fn hash<H: Hasher>(&self, state: &mut H) {
+        self.bytes.as_slice().hash(state);
     }
 }
 

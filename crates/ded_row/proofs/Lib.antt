@@ -5,6 +5,7 @@ pub mod Mixes
 pub mod Normals
 pub mod Orders
 pub mod Pieces
+pub mod RenamedLines
 pub mod Scaling
 pub mod Sums
 pub mod Targets

@@ -36,7 +36,7 @@ use Rattle.ded_row.proofs.Mixes.{IsPair, turned_first, turned_second, factors}
 add_law : (j z c : ℤ) → j *ℤ (z +ℤ c) ≡ j *ℤ z +ℤ j *ℤ c
 add_law j z c = rw (parts j, parts z, parts c) (simp ring (diff_same _ _ _ _ (omega arith)))
 
-times-put : (j : ℤ) (s : Slot) (z : ℤ) (cs : List (Slot × ℤ)) → coefs_times j (put s z cs) ≡ put s (j *ℤ z) (coefs_times j cs)
+pub times-put : (j : ℤ) (s : Slot) (z : ℤ) (cs : List (Slot × ℤ)) → coefs_times j (put s z cs) ≡ put s (j *ℤ z) (coefs_times j cs)
 times-put j s z [] = refl
 times-put j s z (c ∷ cs) = go (same_slot c.0 s) (nat_lt s.number c.0.number) (times-put j s z cs)
   where
@@ -58,7 +58,7 @@ put_all-times k j [] ys = refl
 put_all-times k j (x ∷ xs) ys = ap₂ (put x.0) (regroup k j x.1) (put_all-times k j xs ys)
 
 -- a multiple without a slot
-times-cut : (j : ℤ) (s : Slot) (cs : List (Slot × ℤ)) → coefs_times j (cut s cs) ≡ cut s (coefs_times j cs)
+pub times-cut : (j : ℤ) (s : Slot) (cs : List (Slot × ℤ)) → coefs_times j (cut s cs) ≡ cut s (coefs_times j cs)
 times-cut j s [] = refl
 times-cut j s (c ∷ cs) = go (same_slot c.0 s) (times-cut j s cs)
   where
@@ -76,7 +76,7 @@ zero_times j z n = same_from_decides _ _ (Decides-int_eq (j *ℤ z) (pos 0)) (fr
     from_factor : int_eq z (pos 0) ≡ true → j *ℤ z ≡ pos 0
     from_factor e = ap (λ w. j *ℤ w) ((Decides-int_eq z (pos 0)).0 e) ∙ *ℤ-zero j
 
-times-nonzero : (j : ℤ) (cs : List (Slot × ℤ)) → j ≢ pos 0 → coefs_times j (nonzero cs) ≡ nonzero (coefs_times j cs)
+pub times-nonzero : (j : ℤ) (cs : List (Slot × ℤ)) → j ≢ pos 0 → coefs_times j (nonzero cs) ≡ nonzero (coefs_times j cs)
 times-nonzero j [] n = refl
 times-nonzero j (c ∷ cs) n = go (int_eq c.1 (pos 0)) (times-nonzero j cs n) ∙ ap (λ b. cond b (nonzero (coefs_times j cs)) ((c.0, j *ℤ c.1) ∷ nonzero (coefs_times j cs))) (sym (zero_times j c.1 n))
   where
@@ -92,7 +92,7 @@ times-mixed j s k xs m ys n =
 -- ---- lines of combinations
 
 -- what is not 0 begins so
-nonzero_begins : (cs : List (Slot × ℤ)) → AllNonzero cs → BeginsNonzero cs
+pub nonzero_begins : (cs : List (Slot × ℤ)) → AllNonzero cs → BeginsNonzero cs
 nonzero_begins [] h = tt
 nonzero_begins (c ∷ cs) h = h.0
 
@@ -237,14 +237,14 @@ combination_times s j h xs c ys d n l =
     ∙ line_times g s b xs (neg_ℤ a) ys (b *ℤ c -ℤ a *ℤ d) (product_nonzero h j l n)
 
 -- the numbers of a row are those of its line, times a factor; it is 1 or -1 for a normal row
-record IsLineOf (q : LinearConstraint) (l : Line) : Type 0 where
-  times : ℤ
-  nonzero_times : times ≢ pos 0
-  coefs : q.coefs ≡ coefs_times times l.coefs
-  constant : q.constant ≡ times *ℤ l.constant
-  size : IsNormalRow q → unsigned_abs times ≡ 1
+pub record IsLineOf (q : LinearConstraint) (l : Line) : Type 0 where
+  pub times : ℤ
+  pub nonzero_times : times ≢ pos 0
+  pub coefs : q.coefs ≡ coefs_times times l.coefs
+  pub constant : q.constant ≡ times *ℤ l.constant
+  pub size : IsNormalRow q → unsigned_abs times ≡ 1
 
-line_of : (q : LinearConstraint) (l : Line) → BeginsNonzero q.coefs → In l (row_lines q) → IsLineOf q l
+pub line_of : (q : LinearConstraint) (l : Line) → BeginsNonzero q.coefs → In l (row_lines q) → IsLineOf q l
 unfolding normal_row
 line_of q l h i = go q.op q.constant q.coefs h i
   where

@@ -59,7 +59,7 @@ second_law : (a b : ℤ) → b *ℤ a +ℤ neg_ℤ a *ℤ b ≡ pos 0
 second_law a b = rw (parts a, parts b, diff-pos 0) (simp ring (diff_same _ _ _ _ (omega arith)))
 
 -- they cancel the coefficients
-cancels : (a b k m : ℤ) → IsPair a b k m → k *ℤ a +ℤ m *ℤ b ≡ pos 0
+pub cancels : (a b k m : ℤ) → IsPair a b k m → k *ℤ a +ℤ m *ℤ b ≡ pos 0
 cancels a b k m (turned_first e f) = ap₂ (λ x y. x *ℤ a +ℤ y *ℤ b) e f ∙ first_law a b
 cancels a b k m (turned_second e f) = ap₂ (λ x y. x *ℤ a +ℤ y *ℤ b) e f ∙ second_law a b
 
@@ -130,7 +130,7 @@ past_law w x z y e = law w x z ∙ ap (λ v. w +ℤ v) e
     law w x z = omega (arith, ints)
 
 -- a slot that is cut takes its part of the sum away
-sum_at-cut : (s : Slot) (cs : List (Slot × ℤ)) (p : Point) → sum_at (cut s cs) p +ℤ coef_at cs s *ℤ number_at p (slot s) ≡ sum_at cs p
+pub sum_at-cut : (s : Slot) (cs : List (Slot × ℤ)) (p : Point) → sum_at (cut s cs) p +ℤ coef_at cs s *ℤ number_at p (slot s) ≡ sum_at cs p
 sum_at-cut s [] p = +ℤ_idl (pos 0 *ℤ number_at p (slot s)) ∙ zero-*ℤ (number_at p (slot s))
 sum_at-cut s (c ∷ cs) p = go (same_slot c.0 s) refl (sum_at-cut s cs p)
   where
@@ -152,7 +152,7 @@ spread_law k x c m y d n = rw (parts k, parts x, parts c, parts m, parts y, part
 nothing_more : (x z n y : ℤ) → z ≡ pos 0 → x +ℤ z *ℤ n ≡ y → x ≡ y
 nothing_more x z n y e f = sym (ap (λ w. x +ℤ w) (ap (λ w. w *ℤ n) e ∙ zero-*ℤ n) ∙ +ℤ_idr x) ∙ f
 
-row_at-mixed : (s : Slot) (k : ℤ) (q : LinearConstraint) (m : ℤ) (r : LinearConstraint) (p : Point) → IsPair (coef_at q.coefs s) (coef_at r.coefs s) k m → row_at (mixed_row s k q m r) p ≡ k *ℤ row_at q p +ℤ m *ℤ row_at r p
+pub row_at-mixed : (s : Slot) (k : ℤ) (q : LinearConstraint) (m : ℤ) (r : LinearConstraint) (p : Point) → IsPair (coef_at q.coefs s) (coef_at r.coefs s) k m → row_at (mixed_row s k q m r) p ≡ k *ℤ row_at q p +ℤ m *ℤ row_at r p
 row_at-mixed s k q m r p h =
     let all = mixed k q.coefs m r.coefs in
     let gone : coef_at all s ≡ pos 0 = coef_at-mixed k q.coefs m r.coefs s ∙ cancels (coef_at q.coefs s) (coef_at r.coefs s) k m h in

@@ -4,8 +4,10 @@ use Rattle.std.proofs.lemmas.Int.{to_z-of_z, fits_signed_from_abs}
 use Rattle.ded_model.specs.Row.{row_holds, row_mentions}
 use Rattle.ded_model.specs.Normal.{normal_row}
 use Rattle.ded_model.specs.Renaming.{renamed}
+use Rattle.ded_model.specs.Lines.{row_lines}
 use Rattle.ded_row.specs.Renaming.{renamed_row}
 use Rattle.ded_row.proofs.Targets.{renamed-holds, renamed_only, renamed_mentions, renamed_row_is}
+use Rattle.ded_row.proofs.RenamedLines.{renamed-lines}
 use Rattle.ded_row.proofs.renaming.rename.Goals as goal
 use Rattle.ded_row.proofs.renaming.rename.Goals.{After-normal}
 
@@ -23,3 +25,6 @@ returns-clause-mentions c = λ s e. ap (λ r. row_mentions r (renamed c.args.map
 
 pub returns-clause-only : goal.returns-clause-only
 returns-clause-only c = λ t e. renamed_only c.args.map.now c.args.row.now t (ap (λ r. row_mentions r t) (sym (value c)) ∙ e)
+
+pub returns-clause-lines : goal.returns-clause-lines
+returns-clause-lines c = ap row_lines (value c) ∙ renamed-lines c.args.map.now c.args.row.now c.in_ok-coefs.ensures.kept
