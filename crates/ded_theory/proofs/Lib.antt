@@ -1,0 +1,5 @@
+pub mod Conjunctions
+pub mod Merged
+pub mod Parted
+pub mod PartLaws
+pub mod TwoKinds

@@ -1,0 +1,36 @@
+use Rattle.std.proofs.Common.{◌∙◌, sym, subst}
+use Rattle.std.specs.List.{AllByRecursion}
+use Rattle.ded_model.specs.declared.slot.Sort.TheVariants.{Rat, Text}
+use Rattle.ded_theory.specs.Verdicts.{IsVerdict}
+use Rattle.ded_theory.specs.Both.{by_kind}
+use Rattle.ded_theory.proofs.TwoKinds.{firsts_normal, seconds_normal}
+use Rattle.ded_theory.proofs.PartLaws.{IsOfSort, only_rational, only_texts, verdicts_joined}
+use Rattle.ded_theory.proofs.both.BothTheory.refute.Goals as goal
+use Rattle.ded_theory.proofs.both.BothTheory.refute.Given.{Over}
+
+first_laws : (g : Over) → IsOfSort g.A.Theory.holds g.A.Theory.mentions g.A.Theory.lines g.A.Theory.normal Rat
+first_laws g = record {
+  respects = g.met.A.Theory.respects;
+  sort = λ a t n m. only_rational g.A.Theory.owned g.met.A.OfNumbers.no_texts t.sort (g.met.A.Theory.owned_slots a t n m);
+  line_slots = g.met.A.Theory.line_slots;
+}
+
+second_laws : (g : Over) → IsOfSort g.B.Theory.holds g.B.Theory.mentions g.B.Theory.lines g.B.Theory.normal Text
+second_laws g = record {
+  respects = g.met.B.Theory.respects;
+  sort = λ a t n m. only_texts g.B.Theory.owned g.met.B.OfTexts.no_numbers t.sort (g.met.B.Theory.owned_slots a t n m);
+  line_slots = g.met.B.Theory.line_slots;
+}
+
+pub refute-requires : goal.refute-requires
+refute-requires g c = record { normal = subst (AllByRecursion g.A.Theory.normal) (sym (c.deref.ensures.value ∙ c.in_ok-first_part.ensures)) (firsts_normal g.A.Theory.normal g.B.Theory.normal c.args.atoms.now c.requires.normal) }
+
+pub refute-requires-2 : goal.refute-requires-2
+refute-requires-2 g c = record { normal = subst (AllByRecursion g.B.Theory.normal) (sym (c.deref-2.ensures.value ∙ c.in_ok-second_part.ensures)) (seconds_normal g.A.Theory.normal g.B.Theory.normal c.args.atoms.now c.requires.normal) }
+
+pub returns : goal.returns
+returns g c =
+    subst (IsVerdict (by_kind g.A.Theory.holds g.B.Theory.holds) (by_kind g.A.Theory.mentions g.B.Theory.mentions) (by_kind g.A.Theory.lines g.B.Theory.lines) c.args.atoms.now) (sym c.joined_verdict.ensures)
+    (verdicts_joined g.A.Theory.holds g.A.Theory.mentions g.A.Theory.lines g.A.Theory.normal (first_laws g) g.B.Theory.holds g.B.Theory.mentions g.B.Theory.lines g.B.Theory.normal (second_laws g) c.args.atoms.now c.requires.normal c.in_ok-first.first c.in_ok-second.second
+    (subst (λ xs. IsVerdict g.A.Theory.holds g.A.Theory.mentions g.A.Theory.lines xs c.in_ok-first.first) (c.deref.ensures.value ∙ c.in_ok-first_part.ensures) c.in_ok-first.ensures)
+    (subst (λ xs. IsVerdict g.B.Theory.holds g.B.Theory.mentions g.B.Theory.lines xs c.in_ok-second.second) (c.deref-2.ensures.value ∙ c.in_ok-second_part.ensures) c.in_ok-second.ensures))

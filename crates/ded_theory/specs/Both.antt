@@ -1,0 +1,26 @@
+-- Atoms of one of two kinds, and the atoms of each kind in a conjunction of them.
+use Rattle.std.specs.Prelude.{List, [], ◌∷◌}
+use Rattle.ded_model.specs.declared.tuple.BothAtom.{BothAtom}
+use Rattle.ded_model.specs.declared.tuple.BothAtom.TheVariants.{First, Second}
+
+-- what is said of each kind
+abbrev pub by_kind : {A B R : Type 0} → (A → R) → (B → R) → BothAtom A B → R
+by_kind f g (First a) = f a
+by_kind f g (Second b) = g b
+
+-- what holds of each kind
+abbrev pub IsByKind : {A B : Type 0} → (A → Type 0) → (B → Type 0) → BothAtom A B → Type 0
+IsByKind P Q (First a) = P a
+IsByKind P Q (Second b) = Q b
+
+-- the atoms of the first kind, in order
+abbrev pub firsts : {A B : Type 0} → List (BothAtom A B) → List A
+firsts [] = []
+firsts (First a ∷ atoms) = a ∷ firsts atoms
+firsts (Second b ∷ atoms) = firsts atoms
+
+-- those of the second kind
+abbrev pub seconds : {A B : Type 0} → List (BothAtom A B) → List B
+seconds [] = []
+seconds (First a ∷ atoms) = seconds atoms
+seconds (Second b ∷ atoms) = b ∷ seconds atoms
