@@ -1,0 +1,10 @@
+pub mod Bounding
+pub mod Comparing
+pub mod Extending
+pub mod Filling
+pub mod Freeing
+pub mod Lists
+pub mod Loops
+pub mod Pinning
+pub mod Ruling
+pub mod Turning

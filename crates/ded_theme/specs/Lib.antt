@@ -1,0 +1,5 @@
+pub mod Classes
+pub mod Laws
+pub mod Replacing
+pub mod Sources
+pub mod Turning
