@@ -1,0 +1,9 @@
+pub mod Additions
+pub mod Bridge
+pub mod Conjunctions
+pub mod Exactness
+pub mod Keeps
+pub mod Outcomes
+pub mod Passed
+pub mod Remains
+pub mod Stronger

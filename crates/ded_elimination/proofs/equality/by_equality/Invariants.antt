@@ -1,0 +1,7 @@
+use Rattle.std.proofs.Common.{true}
+use Rattle.ded_elimination.specs.Adding.{Adds, OfFirst}
+use Rattle.ded_elimination.specs.Equalities.{SettledHolds}
+use Rattle.ded_elimination.proofs.equality.by_equality.Given as goal
+
+abbrev pub invariant-loop-i : goal.invariant-loop-i
+invariant-loop-i l = Adds l.slot l.rows (OfFirst (SettledHolds l.slot l.equal) l.rows l.i) l.fn.out.items true l.out.items

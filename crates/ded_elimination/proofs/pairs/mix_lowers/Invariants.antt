@@ -1,0 +1,7 @@
+use Rattle.std.proofs.Common.{true}
+use Rattle.ded_elimination.specs.Adding.{Adds, OfFirst}
+use Rattle.ded_elimination.specs.Pairs.{PairHolds}
+use Rattle.ded_elimination.proofs.pairs.mix_lowers.Given as goal
+
+abbrev pub invariant-loop-lower : goal.invariant-loop-lower
+invariant-loop-lower l = Adds l.slot l.rows (OfFirst (PairHolds l.slot l.fn.upper) l.rows l.lower-index) l.fn.out.items true l.out.items

@@ -1,0 +1,5 @@
+pub mod Adding
+pub mod Equalities
+pub mod Keeping
+pub mod LinearAtoms
+pub mod Pairs

@@ -1,0 +1,117 @@
+//! Elimination of a slot that no equality mentions.
+ghost use Rattle.std.specs.Prelude.{◌≡◌, ◌<ℤ◌, pos, true, List, length, IfOk, IsErrOf};
+ghost use Rattle.ded_model.specs.declared.memory.Refused.TheVariants.{Wide};
+ghost use Rattle.ded_model.specs.Constraint.{LinearConstraint};
+ghost use Rattle.ded_model.specs.Coefs.{coef_at};
+ghost use Rattle.ded_model.specs.Lines.{In, row_lines, clash_at};
+ghost use Rattle.ded_theory.specs.Conjunctions.{conj_lines};
+ghost use Rattle.ded_elimination.specs.LinearAtoms.{IsLinearAtom};
+ghost use Rattle.ded_elimination.specs.Adding.{AreLinear, HoldExtended, Adds, OfFirst};
+ghost use Rattle.ded_elimination.specs.Equalities.{NoEquality};
+ghost use Rattle.ded_elimination.specs.Pairs.{LevelHolds, PairHolds, UpperHolds};
+
+use crate::keeping::keep;
+use ded_model::memory::{NoMemory, Refused};
+use ded_model::row::Row;
+use ded_model::slot::Slot;
+use ded_row::mix;
+
+/// Adds the rows without the slot, and the combinations of each row that bounds the slot from above with each one that bounds it
+/// from below. Whether something may satisfy them.
+pub fn by_pairs(out: &mut Vec<Row>, rows: &[Row], slot: Slot) -> Result<bool, Refused>
+    requires normal { AreLinear rows.now }
+    requires none { NoEquality slot rows.now (length rows.now) }
+    ensures adds { IfOk result (λ more. Adds slot rows.now (HoldExtended slot rows.now) out.old.items more out.new.items) }
+    ensures wide { IsErrOf result Wide → clash_at slot (conj_lines row_lines rows.now) ≡ true }
+{
+    if keep_level(out, rows, slot)? {
+        mix_uppers(out, rows, slot)
+    } else {
+        Ok(false)
+    }
+}
+
+/// Adds the rows without the slot.
+fn keep_level(out: &mut Vec<Row>, rows: &[Row], slot: Slot) -> Result<bool, NoMemory>
+    requires { AreLinear rows.now }
+    ensures { IfOk result (λ more. Adds slot rows.now (OfFirst (LevelHolds slot) rows.now (length rows.now)) out.old.items more out.new.items) }
+{
+    for row in rows {
+        if !add_level(out, row, slot)? {
+            return Ok(false);
+        }
+    }
+    Ok(true)
+}
+
+/// Adds the row if it is without the slot.
+fn add_level(out: &mut Vec<Row>, row: &Row, slot: Slot) -> Result<bool, NoMemory>
+    requires { IsLinearAtom row.now }
+    ensures { IfOk result (λ more. (rows : List LinearConstraint) → AreLinear rows → In row.now rows → Adds slot rows (LevelHolds slot row.now) out.old.items more out.new.items) }
+{
+    if row.coefs.at(slot) == 0 {
+        keep(out, row.copy()?)
+    } else {
+        Ok(true)
+    }
+}
+
+/// Adds the combinations of each row that bounds the slot from above.
+fn mix_uppers(out: &mut Vec<Row>, rows: &[Row], slot: Slot) -> Result<bool, Refused>
+    requires { AreLinear rows.now }
+    ensures adds { IfOk result (λ more. Adds slot rows.now (OfFirst (UpperHolds slot rows.now) rows.now (length rows.now)) out.old.items more out.new.items) }
+    ensures wide { IsErrOf result Wide → clash_at slot (conj_lines row_lines rows.now) ≡ true }
+{
+    for upper in rows {
+        if !add_upper(out, upper, rows, slot)? {
+            return Ok(false);
+        }
+    }
+    Ok(true)
+}
+
+/// Adds the combinations of the row if it bounds the slot from above.
+fn add_upper(out: &mut Vec<Row>, upper: &Row, rows: &[Row], slot: Slot) -> Result<bool, Refused>
+    requires normal { AreLinear rows.now }
+    requires inside { In upper.now rows.now }
+    ensures adds { IfOk result (λ more. Adds slot rows.now (UpperHolds slot rows.now upper.now) out.old.items more out.new.items) }
+    ensures wide { IsErrOf result Wide → clash_at slot (conj_lines row_lines rows.now) ≡ true }
+{
+    if upper.coefs.at(slot) > 0 {
+        mix_lowers(out, upper, rows, slot)
+    } else {
+        Ok(true)
+    }
+}
+
+/// Adds the combinations of an upper row with each row that bounds the slot from below.
+fn mix_lowers(out: &mut Vec<Row>, upper: &Row, rows: &[Row], slot: Slot) -> Result<bool, Refused>
+    requires normal { AreLinear rows.now }
+    requires inside { In upper.now rows.now }
+    requires above { pos 0 <ℤ coef_at upper.now.coefs slot }
+    ensures adds { IfOk result (λ more. Adds slot rows.now (OfFirst (PairHolds slot upper.now) rows.now (length rows.now)) out.old.items more out.new.items) }
+    ensures wide { IsErrOf result Wide → clash_at slot (conj_lines row_lines rows.now) ≡ true }
+{
+    for lower in rows {
+        if !add_pair(out, upper, lower, slot)? {
+            return Ok(false);
+        }
+    }
+    Ok(true)
+}
+
+/// Adds the combination of an upper row with a row if that bounds the slot from below.
+fn add_pair(out: &mut Vec<Row>, upper: &Row, lower: &Row, slot: Slot) -> Result<bool, Refused>
+    requires above { pos 0 <ℤ coef_at upper.now.coefs slot }
+    ensures adds { IfOk result (λ more. (rows : List LinearConstraint) → AreLinear rows → In upper.now rows → In lower.now rows
+        → Adds slot rows (PairHolds slot upper.now lower.now) out.old.items more out.new.items) }
+    ensures wide { IsErrOf result Wide → (rows : List LinearConstraint) → AreLinear rows → In upper.now rows → In lower.now rows
+        → clash_at slot (conj_lines row_lines rows) ≡ true }
+{
+    if lower.coefs.at(slot) < 0 {
+        let row = mix(upper, lower, slot)?;
+        Ok(keep(out, row)?)
+    } else {
+        Ok(true)
+    }
+}
