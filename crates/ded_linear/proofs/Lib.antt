@@ -1,0 +1,11 @@
+pub mod Boxes
+pub mod Exacts
+pub mod Gaps
+pub mod Insides
+pub mod Pieces
+pub mod Roots
+pub mod Shadows
+pub mod SlotLists
+pub mod Steps
+pub mod Told
+pub mod Wide

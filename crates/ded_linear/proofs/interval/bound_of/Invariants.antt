@@ -1,0 +1,7 @@
+use Rattle.std.proofs.Common.{◌≡◌, drop}
+use Rattle.ded_model.specs.declared.bound.Bound.TheVariants.{Infinite}
+use Rattle.ded_linear.specs.Intervals.{end_of, narrowed}
+use Rattle.ded_linear.proofs.interval.bound_of.Given as goal
+
+abbrev pub invariant-loop-row : goal.invariant-loop-row
+invariant-loop-row l = narrowed (end_of l.side) l.slot l.bound (drop l.row-index l.rows) ≡ narrowed (end_of l.side) l.slot Infinite l.rows

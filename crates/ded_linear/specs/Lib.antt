@@ -1,0 +1,4 @@
+pub mod Intervals
+pub mod Laws
+pub mod SlotLists
+pub mod Told

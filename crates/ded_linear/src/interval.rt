@@ -1,0 +1,231 @@
+//! The interval of one slot's values, where each row mentions at most one slot.
+ghost use Rattle.std.specs.Prelude.{◌≡◌, ◌≢◌, pos, true};
+ghost use Rattle.std.specs.List.{AllByRecursion, list_all, list_any};
+ghost use Rattle.ded_num.specs.Length.{IsShort};
+ghost use Rattle.ded_model.specs.declared.bound.Bound.TheVariants.{Infinite, Excluded, Included};
+ghost use Rattle.ded_model.specs.Row.{row_holds, row_mentions, sign_meets};
+ghost use Rattle.ded_model.specs.Bound.{lower, upper, is_outside};
+ghost use Rattle.ded_model.specs.Lines.{row_lines};
+ghost use Rattle.ded_theory.specs.Verdicts.{IsSpan, IsVerdict};
+ghost use Rattle.ded_elimination.specs.LinearAtoms.{IsLinearAtom};
+ghost use Rattle.ded_linear.specs.Intervals.{end_of, narrower, may_meet, root_of, faces, row_bound, narrowed, is_single, row_fits, same_place};
+ghost use Rattle.ded_linear.specs.Told.{verdict_of};
+
+use ded_model::bound::{Bound, Frac};
+use ded_model::row::{Row, RowOp};
+use ded_model::slot::Slot;
+use ded_num::cmp_frac;
+use ded_theory::Span;
+use std::cmp::Ordering;
+
+/// A side of an interval.
+#[derive(Clone, Copy)]
+enum Side {
+    Lower,
+    Upper,
+}
+
+/// Whether each row mentions at most one slot.
+pub fn are_single(rows: &[Row]) -> bool
+    ensures { result ≡ list_all is_single rows.now }
+{
+    rows.iter().all(|row| row.coefs.list().len() < 2)
+}
+
+/// The exact bounds of a slot, where each row mentions at most one slot.
+pub fn interval(rows: &[Row], slot: Slot) -> Span
+    requires normal { AllByRecursion IsLinearAtom rows.now }
+    requires single { list_all is_single rows.now ≡ true }
+    ensures span { IsSpan row_holds row_mentions row_lines rows.now slot result }
+    ensures verdict { IsVerdict row_holds row_mentions row_lines rows.now (verdict_of result) }
+{
+    if !all_fit(rows, slot) {
+        return Span::Nothing;
+    }
+    let lower = bound_of(Side::Lower, rows, slot);
+    let upper = bound_of(Side::Upper, rows, slot);
+    if may_meet(&lower, &upper) {
+        Span::Exact(lower, upper)
+    } else {
+        Span::Nothing
+    }
+}
+
+/// Whether the rows without slots hold, and each slot but the one has some value. Each slot is looked at where it stands first.
+fn all_fit(rows: &[Row], slot: Slot) -> bool
+    ensures { result ≡ list_all (row_fits rows.now slot) rows.now }
+{
+    for i in 0..rows.len() {
+        let row = &rows[i];
+        if !has_place(&rows[..i], row) && !row_fits(rows, slot, row) {
+            return false;
+        }
+    }
+    true
+}
+
+/// Whether the row's first slot is that of one of the rows.
+fn has_place(rows: &[Row], row: &Row) -> bool
+    ensures { result ≡ list_any (λ q. same_place q row.now) rows.now }
+{
+    rows.iter().any(|other| same_place(other, row))
+}
+
+/// Whether two rows have the same first slot.
+fn same_place(a: &Row, b: &Row) -> bool
+    ensures { result ≡ same_place a.now b.now }
+{
+    match (a.coefs.list(), b.coefs.list()) {
+        ([(first, _), ..], [(second, _), ..]) => first.is_same(*second),
+        _ => false,
+    }
+}
+
+/// Whether a row without slots holds, and the row's slot, where it is another, has some value.
+fn row_fits(rows: &[Row], slot: Slot, row: &Row) -> bool
+    ensures { result ≡ row_fits rows.now slot row.now }
+{
+    match row.coefs.list() {
+        [] => meets_zero(row),
+        [(other, _), ..] => other.is_same(slot) || has_value(rows, *other),
+    }
+}
+
+/// Whether the bounds of the slot may meet.
+fn has_value(rows: &[Row], slot: Slot) -> bool
+    ensures { result ≡ may_meet (narrowed lower slot Infinite rows.now) (narrowed upper slot Infinite rows.now) }
+{
+    may_meet(
+        &bound_of(Side::Lower, rows, slot),
+        &bound_of(Side::Upper, rows, slot),
+    )
+}
+
+/// Whether the constant compares with zero as the row says.
+fn meets_zero(row: &Row) -> bool
+    ensures { result ≡ sign_meets row.now.op row.now.constant }
+{
+    match row.op {
+        RowOp::Zero => row.constant == 0,
+        RowOp::AtMost => row.constant <= 0,
+        RowOp::Below => row.constant < 0,
+    }
+}
+
+/// The bound that the rows give together.
+fn bound_of(side: Side, rows: &[Row], slot: Slot) -> Bound
+    ensures { result ≡ narrowed (end_of side) slot Infinite rows.now }
+{
+    let mut bound = Bound::Infinite;
+    for row in rows {
+        bound = narrower(side, bound, row_bound(side, row, slot));
+    }
+    bound
+}
+
+/// The bound that lets through what both let through.
+fn narrower(side: Side, a: Bound, b: Bound) -> Bound
+    ensures { result ≡ narrower (end_of side) a b }
+{
+    match a {
+        Bound::Infinite => b,
+        Bound::Excluded(f) => narrower_than_excluded(side, f, b),
+        Bound::Included(f) => narrower_than_included(side, f, b),
+    }
+}
+
+/// The same, of a bound that isn't attained.
+fn narrower_than_excluded(side: Side, f: Frac, b: Bound) -> Bound
+    ensures { result ≡ narrower (end_of side) (Excluded f) b }
+{
+    match b {
+        Bound::Excluded(g) if is_outside(side, f, g) => Bound::Excluded(g),
+        Bound::Included(g) if is_outside(side, f, g) => Bound::Included(g),
+        _ => Bound::Excluded(f),
+    }
+}
+
+/// The same, of one that is.
+fn narrower_than_included(side: Side, f: Frac, b: Bound) -> Bound
+    ensures { result ≡ narrower (end_of side) (Included f) b }
+{
+    match b {
+        Bound::Excluded(g) if !is_outside(side, g, f) => Bound::Excluded(g),
+        Bound::Included(g) if !is_outside(side, g, f) => Bound::Included(g),
+        _ => Bound::Included(f),
+    }
+}
+
+/// Whether some value is within both bounds.
+fn may_meet(lower: &Bound, upper: &Bound) -> bool
+    ensures { result ≡ may_meet lower.now upper.now }
+{
+    match lower {
+        Bound::Infinite => true,
+        Bound::Excluded(f) => match upper {
+            Bound::Infinite => true,
+            Bound::Excluded(g) => is_outside(Side::Lower, *f, *g),
+            Bound::Included(g) => is_outside(Side::Lower, *f, *g),
+        },
+        Bound::Included(f) => match upper {
+            Bound::Infinite => true,
+            Bound::Excluded(g) => is_outside(Side::Lower, *f, *g),
+            Bound::Included(g) => !is_outside(Side::Lower, *g, *f),
+        },
+    }
+}
+
+/// Whether `f` lies outside of `g`.
+fn is_outside(side: Side, f: Frac, g: Frac) -> bool
+    ensures { result ≡ is_outside (end_of side) f g }
+{
+    let order = cmp_frac(f.num, f.den, g.num, g.den);
+    match side {
+        Side::Lower => order == Ordering::Less,
+        Side::Upper => order == Ordering::Greater,
+    }
+}
+
+/// The bound that a row gives a slot, none where it doesn't mention the slot.
+fn row_bound(side: Side, row: &Row, slot: Slot) -> Bound
+    ensures { result ≡ row_bound (end_of side) slot row.now }
+{
+    let a = row.coefs.at(slot);
+    match row.op {
+        _ if a == 0 => Bound::Infinite,
+        RowOp::Zero => Bound::Included(root_of(a, row.constant)),
+        RowOp::AtMost if faces(side, a) => Bound::Included(root_of(a, row.constant)),
+        RowOp::Below if faces(side, a) => Bound::Excluded(root_of(a, row.constant)),
+        _ => Bound::Infinite,
+    }
+}
+
+/// Whether an inequality with the coefficient bounds its slot on the side.
+fn faces(side: Side, a: i128) -> bool
+    ensures { result ≡ faces (end_of side) a }
+{
+    match side {
+        Side::Lower => a < 0,
+        Side::Upper => a > 0,
+    }
+}
+
+/// Where `a` times the slot plus the constant is 0.
+fn root_of(a: i128, constant: i128) -> Frac
+    requires nonzero { a ≢ pos 0 }
+    requires short_a { IsShort a }
+    requires short_constant { IsShort constant }
+    ensures { result ≡ root_of a constant }
+{
+    if a < 0 {
+        Frac {
+            num: constant,
+            den: -a,
+        }
+    } else {
+        Frac {
+            num: -constant,
+            den: a,
+        }
+    }
+}

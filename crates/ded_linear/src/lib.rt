@@ -1,0 +1,20 @@
+//! The theory of linear constraints over the rationals: [`Linear`], whose atoms are rows in normal form.
+//!
+//! A conjunction of rows is a convex polyhedron. Whether it has a point, and between which values a slot stands in it, is
+//! found by eliminating slot after slot, after Fourier and Motzkin, until each row mentions one slot at most. Then each slot
+//! has an interval of values, and their ends are compared exactly. Each answer is exact, and it is left open only where a
+//! number on the way would have more than 127 digits, which only wide rows come to.
+//!
+//! It stands on `ded_row` for rows, on `ded_elimination` for one elimination, and on `ded_num` for the order of fractions.
+//! What a theory promises is `ded_theory`'s to say.
+#![tactic(auto)]
+
+mod bounds;
+mod interval;
+mod order;
+#[cfg(test)]
+mod tests;
+mod theory;
+mod verdict;
+
+pub use theory::Linear;

@@ -1,0 +1,80 @@
+//! Rows as the atoms of a theory.
+ghost use Rattle.std.specs.Prelude.{refl};
+ghost use Rattle.ded_model.specs.Row.{row_holds, row_mentions};
+ghost use Rattle.ded_model.specs.Cell.{row_cell};
+ghost use Rattle.ded_model.specs.Lines.{row_lines};
+ghost use Rattle.ded_elimination.specs.LinearAtoms.{IsLinearAtom, is_rational};
+ghost use Rattle.ded_model.proofs.Rows.{row_holds-same};
+ghost use Rattle.ded_linear.specs.Laws.{cells_tell, owned_slots, slots_of_lines};
+
+use crate::{bounds, verdict};
+use ded_model::memory::{NoMemory, Refused};
+use ded_model::row::Row;
+use ded_model::slot::{Slot, Sort};
+use ded_model::tuple::Negated;
+use ded_theory::{Eliminated, OfNumbers, Span, Theory, Verdict};
+use std::alloc::Global;
+
+/// Linear constraints over rational slots: the atoms are rows in normal form.
+pub struct Linear {}
+
+impl Theory for Linear {
+    type Atom = Row;
+
+    ghost holds = { row_holds };
+
+    ghost mentions = { row_mentions };
+
+    ghost cell = { row_cell };
+
+    ghost lines = { row_lines };
+
+    ghost normal = { IsLinearAtom };
+
+    ghost owned = { is_rational };
+
+    fn owns(sort: Sort) -> bool {
+        match sort {
+            Sort::Rat => true,
+            Sort::Text => false,
+        }
+    }
+
+    fn copy(atom: &Row) -> Result<Row, NoMemory> {
+        atom.copy()
+    }
+
+    fn rename(atom: &Row, map: &[(Slot, Slot)]) -> Result<Row, NoMemory> {
+        ded_row::rename(atom, map)
+    }
+
+    fn negate(atom: &Row) -> Result<Negated<Row>, NoMemory> {
+        ded_row::negate(atom)
+    }
+
+    fn eliminate(alloc: Global, atoms: &[Row], slot: Slot) -> Result<Eliminated<Row>, Refused> {
+        ded_elimination::eliminate(alloc, atoms, slot)
+    }
+
+    fn refute(alloc: Global, atoms: &[Row]) -> Result<Verdict, NoMemory> {
+        verdict::refute(alloc, atoms)
+    }
+
+    fn bounds(alloc: Global, atoms: &[Row], slot: Slot) -> Result<Span, NoMemory> {
+        bounds::bounds(alloc, atoms, slot)
+    }
+
+    ghost respects = { row_holds-same };
+
+    ghost cells_tell = { cells_tell };
+
+    ghost owned_slots = { owned_slots };
+
+    ghost line_slots = { slots_of_lines };
+}
+
+impl OfNumbers for Linear {
+    ghost numbers = { refl };
+
+    ghost no_texts = { refl };
+}
