@@ -1,0 +1,2 @@
+pub mod Conjunctive
+pub mod Narrowness
