@@ -1,0 +1,7 @@
+use Rattle.std.proofs.Common.{take}
+use Rattle.ded_genrel.specs.Lists.{conjs_of}
+use Rattle.ded_genrel.specs.Operations.{IsProjection}
+use Rattle.ded_genrel.proofs.list.GenRel.project.Given as goal
+
+abbrev pub invariant-loop-conj : goal.invariant-loop-conj
+invariant-loop-conj g l = IsProjection g.T.Theory.holds g.T.Theory.mentions g.T.Theory.lines (conjs_of (take l.conj-index l.conj-items)) l.slot l.out
