@@ -1,0 +1,5 @@
+pub mod Plain
+pub mod Readable
+pub mod Scope
+pub mod Sides
+pub mod Tuples
