@@ -1,0 +1,10 @@
+pub mod Agreeing
+pub mod Calls
+pub mod Copies
+pub mod Keeping
+pub mod Levels
+pub mod Lookups
+pub mod Numbers
+pub mod Reading
+pub mod Results
+pub mod Simplest

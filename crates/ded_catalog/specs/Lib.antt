@@ -1,1 +1,5 @@
+pub mod Changed
+pub mod Copies
+pub mod Kept
 pub mod State
+pub mod Tuples

@@ -1,29 +1,177 @@
 //! Catalogues.
+ghost use Rattle.std.specs.Prelude.{◌≡◌, ◌==◌, ◌≤◌, true, false, None, [], is_some, IsOk, IfOk, IfErr, OnOk, OnErr};
+ghost use Rattle.std.specs.List.{list_any};
 
+mod names;
+mod reads;
+
+use crate::hashing::NameHashing;
+use crate::stored::{Relation, Stored, View};
+use crate::table::{Table, add, delete_from, insert_into, level_in, take_out};
+use ded_model::command::Refusal;
+use ded_model::formula::Formula;
+use ded_model::goal::Goal;
 use ded_model::memory::NoMemory;
+use ded_model::name::{Heading, Name};
+use ded_model::tuple::Tuple;
+use indexmap::IndexMap;
 use std::alloc::Global;
+use std::marker::Model;
 
-/// Relations and views in order of definition, and the limit of tuples of a relation.
+/// Relations and views in order of definition, and the limit of tuples of a relation. Contracts see the catalogue that it
+/// stands for.
 #[derive(Drop)]
 pub struct Catalogue {
     limit: u32,
+    names: Table,
+}
+
+impl Model for Catalogue {
+    ghost use Rattle.std.specs.Coded.{codes};
+    ghost use Rattle.ded_model.specs.contracts.formula.Formula as formula;
+    ghost use Rattle.ded_model.specs.contracts.goal.Goal as goal;
+    ghost use Rattle.ded_catalog.specs.State.{Table};
+
+    ghost Value = { Table };
+
+    ghost coded = { Prim.hlevel (codes, formula.the_row.coded, goal.the_row.coded) };
+
+    ghost use Rattle.ded_catalog.specs.Kept.{IsKept};
+
+    ghost view = { λ c. record { limit = c.limit; names = c.names.entries } };
+
+    ghost invariant = { λ c. IsKept c.limit c.names.entries };
 }
 
 impl Catalogue {
-    ghost use Rattle.std.specs.Prelude.{◌≡◌, ◌≤◌, [], IfOk};
+    ghost use Rattle.std.specs.Option.{unwrap_or};
+    ghost use Rattle.ded_model.specs.declared.command.Refusal.TheVariants.{Memory};
+    ghost use Rattle.ded_model.specs.Catalogue.{relation, view};
+    ghost use Rattle.ded_model.specs.Form.{form};
+    ghost use Rattle.ded_model.specs.Goal.{goal_form};
+    ghost use Rattle.ded_model.specs.Known.{IsAccepted, IsTupleOver, IsWellFormed, level_of};
+    ghost use Rattle.ded_model.specs.Slotted.{goal_of};
+    ghost use Rattle.ded_model.specs.Width.{tuple_length};
+    ghost use Rattle.ded_sorts.specs.Causes.{insert_refusal, is_relation_with};
+    ghost use Rattle.ded_sorts.specs.Changes.{AddsEntry, Inserts, Deletes, DropsEntry};
+    ghost use Rattle.ded_sorts.specs.Entries.{known, tuples_in, columns_in, entry_uses};
     ghost use Rattle.ded_catalog.specs.State.{catalogue_of};
 
-    /// A catalogue without entries, whose relations may have `limit` tuples, 1 to 1,000,000.
+    /// A catalogue without entries, whose relations may have `limit` tuples, 1 to 1,000,000. It takes no memory yet.
     ///
     /// # Errors
-    /// `NoMemory` where its table isn't had.
-    #[tactic(auto, unfolding(crate::specs::State::catalogue_of))]
+    /// None: the first name that is defined takes memory.
     pub fn new(alloc: Global, limit: u32) -> Result<Catalogue, NoMemory>
         requires low { 1 ≤ limit }
         requires high { limit ≤ 1000000 }
-        ensures { IfOk result (λ c. catalogue_of c ≡ record { limit = limit; entries = [] }) }
+        ensures made { IsOk result }
+        ensures empty { IfOk result (λ c. catalogue_of c ≡ record { limit = limit; entries = [] }) }
     {
-        let _ = alloc;
-        Ok(Catalogue { limit })
+        Ok(Catalogue::hashed_with(alloc, limit, (0, 0)))
+    }
+
+    /// The same, with keys by which the names are hashed. Where names come from strangers, draw the keys at random: then
+    /// nobody can choose names that are slow to find.
+    pub fn hashed_with(alloc: Global, limit: u32, keys: (u64, u64)) -> Catalogue
+        requires low { 1 ≤ limit }
+        requires high { limit ≤ 1000000 }
+        ensures { catalogue_of result ≡ record { limit = limit; entries = [] } }
+    {
+        Catalogue {
+            limit,
+            names: IndexMap::with_hasher(alloc, NameHashing { keys }),
+        }
+    }
+
+    /// Defines a relation without tuples under a new name.
+    ///
+    /// # Errors
+    /// `NoMemory`, where nothing is changed.
+    pub fn define(&mut self, name: Name, heading: Heading) -> Result<(), NoMemory>
+        requires { known (catalogue_of self.old) name ≡ None }
+        ensures ok { OnOk result (AddsEntry (catalogue_of self.old) (catalogue_of self.new) (relation name heading 0 [])) }
+        ensures err { OnErr result (catalogue_of self.new ≡ catalogue_of self.old) }
+    {
+        self.define_at(name, heading, 0)
+    }
+
+    /// Defines a relation without tuples under a new name, which counts as one that has accepted `inserts` inserts.
+    ///
+    /// # Errors
+    /// `NoMemory`, where nothing is changed.
+    pub fn define_at(&mut self, name: Name, heading: Heading, inserts: u32) -> Result<(), NoMemory>
+        requires { known (catalogue_of self.old) name ≡ None }
+        ensures ok { OnOk result (AddsEntry (catalogue_of self.old) (catalogue_of self.new) (relation name heading inserts [])) }
+        ensures err { OnErr result (catalogue_of self.new ≡ catalogue_of self.old) }
+    {
+        let tuples = Vec::new(*self.names.allocator());
+        let relation = Stored::Relation(Relation {
+            heading,
+            inserts,
+            tuples,
+        });
+        add(&mut self.names, name, relation)
+    }
+
+    /// Inserts a tuple into the relation of the name, and gives the tuple's number.
+    ///
+    /// # Errors
+    /// `Full` exactly where the relation has as many tuples as the limit allows, else `Spent` exactly where it has
+    /// accepted 4,294,967,295 inserts, else `Memory`. A refused insert changes nothing.
+    pub fn insert(&mut self, name: &Name, t: Tuple) -> Result<u32, Refusal>
+        requires relation { is_relation_with (known (catalogue_of self.old) name.now) ≡ true }
+        requires over { IsTupleOver (columns_in (catalogue_of self.old) name.now) t }
+        requires short { tuple_length t ≤ 63 }
+        ensures ok { IfOk result (λ k. Inserts (catalogue_of self.old) (catalogue_of self.new) name.now t k) }
+        ensures room { IfOk result (λ k. insert_refusal (catalogue_of self.old) name.now ≡ None) }
+        ensures cause { IfErr result (λ r. r ≡ unwrap_or (insert_refusal (catalogue_of self.old) name.now) Memory) }
+        ensures err { OnErr result (catalogue_of self.new ≡ catalogue_of self.old) }
+    {
+        insert_into(&mut self.names, name, self.limit, t)
+    }
+
+    /// Deletes the tuple of the number, which has to be there, from the relation of the name. It takes no memory.
+    pub fn delete(&mut self, name: &Name, number: u32)
+        requires { list_any (λ t. t.0 == number) (tuples_in (catalogue_of self.old) name.now) ≡ true }
+        ensures { Deletes (catalogue_of self.old) (catalogue_of self.new) name.now number }
+    {
+        delete_from(&mut self.names, name, number)
+    }
+
+    /// Defines a view under a new name: its formula as written, and the goal of that.
+    ///
+    /// # Errors
+    /// `NoMemory`, where nothing is changed.
+    pub fn define_view(
+        &mut self,
+        name: Name,
+        heading: Heading,
+        f: Formula,
+        g: Goal,
+    ) -> Result<(), NoMemory>
+        requires new { known (catalogue_of self.old) name ≡ None }
+        requires accepted { IsAccepted (known (catalogue_of self.old)) heading (form f) }
+        requires level { level_of (known (catalogue_of self.old)) (form f) ≤ 16 }
+        requires goal { goal_form g ≡ goal_of heading (form f) }
+        ensures ok { OnOk result (AddsEntry (catalogue_of self.old) (catalogue_of self.new) (view name heading (form f))) }
+        ensures err { OnErr result (catalogue_of self.new ≡ catalogue_of self.old) }
+    {
+        let level = level_in(&self.names, &f) + 1;
+        let view = Stored::View(View {
+            heading,
+            formula: f,
+            goal: g,
+            level,
+        });
+        add(&mut self.names, name, view)
+    }
+
+    /// Drops a name that is defined and that no view uses. The others keep their order. It takes no memory.
+    pub fn drop_name(&mut self, name: &Name)
+        requires defined { is_some (known (catalogue_of self.old) name.now) ≡ true }
+        requires unused { list_any (entry_uses name.now) (catalogue_of self.old).entries ≡ false }
+        ensures { DropsEntry (catalogue_of self.old) (catalogue_of self.new) name.now }
+    {
+        take_out(&mut self.names, name)
     }
 }

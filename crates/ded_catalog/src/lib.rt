@@ -1,9 +1,20 @@
 //! The catalogue: the relations and views that the statements so far have defined.
 //!
-//! As yet no statement defines one, so a catalogue has its limit alone: how many tuples a relation may have. What it
-//! stands for is `specs/State.antt`, over the definition of catalogues in `ded_model`, on which it stands.
+//! Names are found by their hash, and stand in order of definition. A relation has its tuples in ascending order of their
+//! numbers, a view its formula as written and the goal of it. Contracts see a [`Catalogue`] as the catalogue of
+//! `ded_model` that it stands for. It is well formed: names are new, tuples are normal and over their columns, views are
+//! accepted over the entries before them. Each change is one of `ded_sorts`, and a refused one changes nothing.
+//!
+//! It stands on `ded_sorts` for what is known of names and what changes them, and on `indexmap`.
 #![tactic(auto)]
 
 mod catalogue;
+mod copying;
+mod hashing;
+mod relation;
+mod stored;
+mod table;
+#[cfg(test)]
+mod tests;
 
 pub use catalogue::Catalogue;

@@ -1,49 +1,87 @@
 -- From what the reader says of bytes to what the rules say of a statement. Every command that is spelled compares two whole
 -- numbers, and none of the refusals that look at the catalogue has a cause in such a command.
-use Rattle.std.proofs.Common.{◌≡◌, ◌≢◌, ◌<◌, ◌≤◌, ℕ, false, arith, refl, sym, ap, ◌∙◌, subst, true≢false, List, length}
-use Rattle.std.specs.Prelude.{ℤ}
-use Rattle.ded_lex.specs.Lexemes.{Lexeme}
+use Rattle.std.proofs.Common.{◌≡◌, ◌≢◌, ◌<◌, ◌≤◌, ℕ, false, arith, refl, sym, ap, ◌∙◌, subst, true≢false, Bool, true, List, [], ◌∷◌, length}
+use Rattle.std.specs.Prelude.{ℤ, pos, ◌&&◌}
+use Rattle.std.specs.Ordering.{int_eq}
+use Rattle.std.proofs.lemmas.Bool.Decides.{Decides-int_eq}
 use Rattle.ded_lex.specs.Pieces.{Whole}
 use Rattle.ded_model.specs.declared.command.Language.{Language}
 use Rattle.ded_model.specs.declared.command.Refusal.{Refusal}
 use Rattle.ded_model.specs.declared.command.Refusal.TheVariants.{LongStatement, Unfinished, Syntax, LongName, LongNumber, Deep, Many, Twice, Unknown, Taken, Kind, Arity, Unbound, WrongSort, Used, NoTuple, Full, Spent, Level, Wide, Memory}
 use Rattle.ded_model.specs.declared.formula.CompareOp.{CompareOp}
 use Rattle.ded_model.specs.declared.formula.CompareOp.TheVariants.{Less, LessEq, Equal, NotEqual, GreaterEq, Greater}
+use Rattle.ded_model.specs.declared.formula.Operand.{Operand}
+use Rattle.ded_model.specs.declared.formula.Operand.TheVariants.{Single, Sum, Quoted}
 use Rattle.ded_model.specs.Catalogue.{Catalogue}
 use Rattle.ded_model.specs.Command.{CommandForm, relation, insert, delete, drop, view, keep, ask, query, show, box_of, explain}
-use Rattle.ded_model.specs.Form.{compare}
-use Rattle.ded_model.specs.Logic.{atom}
+use Rattle.ded_model.specs.Form.{Form, compare, member}
+use Rattle.ded_model.specs.Logic.{atom, always, never, negation, every_of, some_of, implies, minus, exists, forall}
 use Rattle.ded_model.specs.Refusals.{refusal_number}
-use Rattle.ded_syntax.specs.Grammar.{side_value, SpellsCommand}
+use Rattle.ded_syntax.specs.Answered.{is_none, is_whole, compares_wholes, is_answered}
 use Rattle.ded_syntax.specs.Spelling.{Spells, AppliesIn, IsRead, IsLeastIn}
 use Rattle.ded_session.specs.declared.reply.Reply.{Reply}
 use Rattle.ded_session.specs.declared.reply.Reply.TheVariants.{Truth, Refused}
 use Rattle.ded_session.specs.Answered.{reply_form}
-use Rattle.ded_session.specs.Causes.{Commands, has_cause, Applies, NoneApplies}
-use Rattle.ded_session.specs.Ground.{AsksGround, whole}
+use Rattle.ded_sorts.specs.Causes.{has_cause}
+use Rattle.ded_session.specs.Causes.{Commands, Applies, NoneApplies}
+use Rattle.ded_session.specs.Ground.{IsWholeNumber, IsGround, AsksGround, whole}
 use Rattle.ded_session.specs.Steps.{Does, Step, MayRefuse}
 
 -- ---- what is spelled
 
-asks_of : (l : Language) (ts : List Lexeme) (x : CommandForm) (depth : ℕ) → SpellsCommand l ts x depth → AsksGround x
-asks_of l ts (ask f) depth h = record {
-  question = f;
-  ground = record { left = side_value h.comparison.left; op = h.comparison.op; right = side_value h.comparison.right; is = h.means };
-  is = refl;
-}
-asks_of l ts (relation n k) depth h = absurd h
-asks_of l ts (insert n fs) depth h = absurd h
-asks_of l ts (delete n k) depth h = absurd h
-asks_of l ts (drop n) depth h = absurd h
-asks_of l ts (view n k f) depth h = absurd h
-asks_of l ts (keep n) depth h = absurd h
-asks_of l ts (query k f) depth h = absurd h
-asks_of l ts (show n) depth h = absurd h
-asks_of l ts (box_of n) depth h = absurd h
-asks_of l ts (explain k f) depth h = absurd h
+both : (a b : Bool) → (a && b) ≡ true → (a ≡ true) × (b ≡ true)
+both true b e = (refl, e)
+both false b e = absurd cc
+
+no_parts : (ps : List (List ℕ × ℤ)) → is_none ps ≡ true → ps ≡ []
+no_parts [] e = refl
+no_parts (p ∷ ps) e = absurd cc
+
+-- an operand that the reader lets through is a whole number
+whole_of : (t : Operand) → is_whole t ≡ true → IsWholeNumber t
+whole_of (Sum t) e =
+    let h = both (is_none t.parts) (int_eq t.over (pos 1)) e in
+    record {
+      number = t.constant;
+      is =
+          ap (λ (ps : List (List ℕ × ℤ)). Sum (record { parts = ps; constant = t.constant; over = t.over })) (no_parts t.parts h.0)
+          ∙ ap (λ (m : ℤ). Sum (record { parts = []; constant = t.constant; over = m })) ((Decides-int_eq t.over (pos 1)).0 h.1);
+    }
+whole_of (Single n) e = absurd cc
+whole_of (Quoted n) e = absurd cc
+
+ground_of : (f : Form) → compares_wholes f ≡ true → IsGround f
+ground_of (atom (compare l op r)) e =
+    let h = both (is_whole l) (is_whole r) e in
+    let a = whole_of l h.0 in
+    let b = whole_of r h.1 in
+    record { left = a.number; op = op; right = b.number; is = ap (λ (x : Operand). atom (compare x op r)) a.is ∙ ap (λ (x : Operand). atom (compare (whole a.number) op x)) b.is }
+ground_of (atom (member n ts)) e = absurd cc
+ground_of always e = absurd cc
+ground_of never e = absurd cc
+ground_of (negation f) e = absurd cc
+ground_of (every_of fs) e = absurd cc
+ground_of (some_of fs) e = absurd cc
+ground_of (implies f g) e = absurd cc
+ground_of (minus f g) e = absurd cc
+ground_of (exists s k f) e = absurd cc
+ground_of (forall s k f) e = absurd cc
+
+asks_of : (x : CommandForm) → is_answered x ≡ true → AsksGround x
+asks_of (ask f) e = record { question = f; ground = ground_of f e; is = refl }
+asks_of (relation n k) e = absurd cc
+asks_of (insert n fs) e = absurd cc
+asks_of (delete n k) e = absurd cc
+asks_of (drop n) e = absurd cc
+asks_of (view n k f) e = absurd cc
+asks_of (keep n) e = absurd cc
+asks_of (query k f) e = absurd cc
+asks_of (show n) e = absurd cc
+asks_of (box_of n) e = absurd cc
+asks_of (explain k f) e = absurd cc
 
 pub asks : (l : Language) (bytes : List ℕ) (x : CommandForm) (depth : ℕ) → Spells l bytes x depth → AsksGround x
-asks l bytes x depth h = asks_of l h.lexemes x depth h.command
+asks l bytes x depth h = asks_of x h.passes
 
 -- ---- no cause over the catalogue
 

@@ -16,7 +16,7 @@ use Rattle.ded_model.specs.declared.bound.BoxReply.TheVariants.{Nowhere, NoRatio
 use Rattle.ded_model.specs.Bound.{lower, upper}
 use Rattle.ded_model.specs.Interval.{IsExactBound}
 use Rattle.ded_model.specs.Cell.{IsReduced, HoldsSomewhere}
-use Rattle.ded_model.specs.Catalogue.{Entry, Catalogue, entry_name, tuples_of, at_slots, at_names, Holds, IsTruth, PlanHolds}
+use Rattle.ded_model.specs.Catalogue.{Catalogue, tuples_of, at_slots, at_names, Holds, IsTruth, PlanHolds}
 use Rattle.ded_model.specs.Catalogue as entry
 use Rattle.ded_model.specs.Command.{CommandForm, relation, insert, delete, drop, view, keep, ask, query, show, box_of, explain}
 use Rattle.ded_model.specs.Form.{Form, FormAtom}
@@ -34,45 +34,11 @@ use Rattle.ded_model.specs.Slotted.{goal_of, tuple_of}
 use Rattle.ded_model.specs.Value.{Argument}
 use Rattle.ded_model.specs.Width.{IsNarrowList, IsBoxNarrow, rational_columns}
 use Rattle.ded_syntax.specs.Spelling.{Spells}
-use Rattle.ded_session.specs.Causes.{known, tuples_in, columns_in, IsLeast, NoneApplies}
+use Rattle.ded_sorts.specs.Changes.{AddsEntry, DropsEntry, Inserts, Deletes}
+use Rattle.ded_sorts.specs.Checks.{forms_of}
+use Rattle.ded_sorts.specs.Entries.{known, tuples_in, columns_in}
+use Rattle.ded_session.specs.Causes.{IsLeast, NoneApplies}
 use Rattle.ded_session.specs.Replies.{ReplyForm, done, number, truth, tuples, stored, boxes, steps, refused}
-
--- ---- changes of the entries
-
-abbrev pub AddsEntry : Catalogue → Catalogue → Entry → Type 0
-AddsEntry c d e = d ≡ record c { entries = c.entries ++ e ∷ [] }
-
--- one entry in place of another of the name, the others in their order
-pub record ChangesEntry (c d : Catalogue) (n : List ℕ) (old new : Entry) : Type 0 where
-  pub before : List Entry
-  pub after : List Entry
-  pub was : c.entries ≡ before ++ old ∷ after
-  pub is : d ≡ record c { entries = before ++ new ∷ after }
-  pub named : entry_name old ≡ n
-
--- without the entry of the name, the others in their order
-pub record DropsEntry (c d : Catalogue) (n : List ℕ) : Type 0 where
-  pub before : List Entry
-  pub old : Entry
-  pub after : List Entry
-  pub was : c.entries ≡ before ++ old ∷ after
-  pub is : d ≡ record c { entries = before ++ after }
-  pub named : entry_name old ≡ n
-
--- the relation has one insert more, whose tuple has its number and stands at the end
-pub record Inserts (c d : Catalogue) (n : List ℕ) (fs : List Form) (m : ℕ) : Type 0 where
-  pub columns : List Column
-  pub present : List (ℕ × List Atom)
-  pub changes : ChangesEntry c d n (entry.relation n columns m present) (entry.relation n columns (m + 1) (present ++ (m + 1, tuple_of columns fs) ∷ []))
-
--- the tuple of the number is gone
-pub record Deletes (c d : Catalogue) (n : List ℕ) (k : ℕ) : Type 0 where
-  pub columns : List Column
-  pub inserts : ℕ
-  pub before : List (ℕ × List Atom)
-  pub tuple : List Atom
-  pub after : List (ℕ × List Atom)
-  pub changes : ChangesEntry c d n (entry.relation n columns inserts (before ++ (k, tuple) ∷ after)) (entry.relation n columns inserts (before ++ after))
 
 -- ---- answers
 
@@ -147,15 +113,10 @@ pub record IsPlanOf (c : Catalogue) (h : List Column) (f : Form) (plan : PlanFor
 
 -- ---- commands
 
--- the comparisons of an insert, one for each
-abbrev pub forms_of : Logics FormAtom → List Form
-forms_of logic.none = []
-forms_of (logic.also f fs) = f ∷ forms_of fs
-
 -- what an accepted command is answered, and what it makes of the catalogue
 abbrev pub Does : CommandForm → Catalogue → ReplyForm → Catalogue → Type 0
 Does (relation n h) c done d = AddsEntry c d (entry.relation n h 0 [])
-Does (insert n fs) c (number k) d = Inserts c d n (forms_of fs) k
+Does (insert n fs) c (number k) d = Inserts c d n (tuple_of (columns_in c n) (forms_of fs)) k
 Does (delete n k) c done d = Deletes c d n k
 Does (drop n) c done d = DropsEntry c d n
 Does (view n h f) c done d = AddsEntry c d (entry.view n h f)

@@ -1,3 +1,4 @@
+pub mod KnownEntries
 pub mod Sums
 pub mod Sides
 pub mod Scopes
@@ -6,3 +7,4 @@ pub mod Headings
 pub mod Overs
 pub mod Rationals
 pub mod Frees
+pub mod Unscoped

@@ -1,11 +1,28 @@
-//! Formulas and their goals mean the same.
+//! Which commands are accepted over the names that are defined, and what formulas mean by slots.
 //!
-//! A formula names its variables; its goal has a numbered slot for each. The laws here say that a goal holds at a point
-//! by slots exactly where the formula does at that point by names, and that goals are over sorted slots. They are contracts
-//! of functions that do nothing.
+//! `check` refuses a command for the least of the reasons that the command and the names decide: too many columns, a name
+//! given twice, unknown or taken, another kind or number of columns, an unbound variable, a text in the place of a number,
+//! a name that is still used, a tuple that isn't there, a view of too high a level. It takes no memory but for what is known
+//! of a name. A formula names its variables; its goal has a numbered slot for each. The laws say that a goal holds at a
+//! point by slots exactly where the formula does at that point by names, and that goals are over sorted slots.
 //!
 //! It stands on `ded_model`, whose specifications say what formulas, goals and points are, on the laws of rows of `ded_row`
 //! and on the laws of numbers of `ded_num`.
 #![tactic(auto)]
 
+mod atoms;
+mod causes;
+mod checked;
+mod checking;
 pub mod laws;
+mod names;
+mod scope;
+mod shape;
+mod sorts;
+#[cfg(test)]
+mod tests;
+mod uses;
+
+pub use checked::Checked;
+pub use checking::check;
+pub use names::{Known, Names};

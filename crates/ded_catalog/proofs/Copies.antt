@@ -1,0 +1,49 @@
+-- A copy of the table stands for the same entries, and is kept where the table is.
+use Rattle.std.proofs.Common.{◌≡◌, ℕ, None, List, [], ◌∷◌, refl, sym, ap, ◌∙◌, subst}
+use Rattle.std.specs.List.{AllZip}
+use Rattle.ded_model.specs.Catalogue.{Entry}
+use Rattle.ded_model.specs.Catalogue as entry
+use Rattle.ded_model.specs.Known.{KnownNames, IsEntryOver, with_known, level_of}
+use Rattle.ded_model.specs.Slotted.{goal_of}
+use Rattle.ded_catalog.specs.declared.stored.Stored.{Stored}
+use Rattle.ded_catalog.specs.declared.stored.Stored.TheVariants.{Relation, View}
+use Rattle.ded_catalog.specs.Copies.{IsCopy}
+use Rattle.ded_catalog.specs.Kept.{IsRight, AreKept, IsKept}
+use Rattle.ded_catalog.specs.State.{entry_form, entry_forms}
+
+abbrev pub AreCopies : List (List ℕ × Stored) → List (List ℕ × Stored) → Type 0
+AreCopies es fs = AllZip (λ p q. (q.0 ≡ p.0) × IsCopy p.1 q.1) es fs
+
+-- a copy is the same entry
+entry_copy : (n m : List ℕ) (s w : Stored) → m ≡ n → IsCopy s w → entry_form m w ≡ entry_form n s
+entry_copy n m (Relation r) (Relation s) e c = λ i. entry.relation (e i) (c.0 i) (c.1 i) (c.2 i)
+entry_copy n m (Relation r) (View w) e c = absurd c
+entry_copy n m (View v) (Relation s) e c = absurd c
+entry_copy n m (View v) (View w) e c = λ i. entry.view (e i) (c.0 i) (c.1 i)
+
+right_copy : (K : KnownNames) (s w : Stored) → IsCopy s w → IsRight K s → IsRight K w
+right_copy K (Relation r) (Relation s) c h = tt
+right_copy K (Relation r) (View w) c h = absurd c
+right_copy K (View v) (Relation s) c h = absurd c
+right_copy K (View v) (View w) c h = (c.3 ∙ h.0 ∙ ap (level_of K) (sym c.1), c.2 ∙ h.1 ∙ (λ i. goal_of (sym c.0 i) (sym c.1 i)))
+
+pub forms_copy : (es fs : List (List ℕ × Stored)) → AreCopies es fs → entry_forms fs ≡ entry_forms es
+forms_copy [] [] c = refl
+forms_copy [] (f ∷ fs) c = absurd c
+forms_copy (e ∷ es) [] c = absurd c
+forms_copy (e ∷ es) (f ∷ fs) c = λ i. entry_copy e.0 f.0 e.1 f.1 c.0.0 c.0.1 i ∷ forms_copy es fs c.1 i
+
+kept_copied : (limit : ℕ) (es fs : List (List ℕ × Stored)) (K : KnownNames) → AreCopies es fs → AreKept limit K es → AreKept limit K fs
+kept_copied limit [] [] K c h = tt
+kept_copied limit [] (f ∷ fs) K c h = absurd c
+kept_copied limit (e ∷ es) [] K c h = absurd c
+kept_copied limit (e ∷ es) (f ∷ fs) K c h =
+    let same = entry_copy e.0 f.0 e.1 f.1 c.0.0 c.0.1 in (
+      ap K c.0.0 ∙ h.0,
+      subst (IsEntryOver limit K) (sym same) h.1,
+      right_copy K e.1 f.1 c.0.1 h.2,
+      subst (λ x. AreKept limit (with_known K x) fs) (sym same) (kept_copied limit es fs (with_known K (entry_form e.0 e.1)) c.1 h.3),
+    )
+
+pub kept_copy : (limit : ℕ) (es fs : List (List ℕ × Stored)) → AreCopies es fs → IsKept limit es → IsKept limit fs
+kept_copy limit es fs c h = record { low = h.low; high = h.high; entries = kept_copied limit es fs (λ m. None) c h.entries }

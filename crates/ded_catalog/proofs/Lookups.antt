@@ -1,0 +1,213 @@
+-- What the table has under a name is what the catalogue has under it.
+use Rattle.std.proofs.Common.{◌≡◌, ℕ, zero, suc, ◌+◌, nat_lt, not, length, Bool, true, false, cond, List, [], ◌∷◌, ◌++◌, Option, None, Some, is_some, refl, sym, ap, ◌∙◌, true≢false, bytes_eq, slice_get, arith}
+use Rattle.std.specs.Prelude.{if◌then◌else◌}
+use Rattle.std.specs.Option.{option_map}
+use Rattle.std.specs.Map.{lookup, set_value, remove_entry, keys_of}
+use Rattle.std.specs.Prelude.{position}
+use Rattle.std.specs.List.{position_or_len}
+use Rattle.indexmap.specs.IndexMap.{set_value_at}
+use Rattle.std.proofs.lemmas.Option.{same_Some, none-some}
+use Rattle.std.proofs.lemmas.Slice.Eq.{bytes_eq-Decides}
+use Rattle.ded_model.specs.Catalogue.{entry_name}
+use Rattle.ded_model.specs.Known.{KnownNames, entry_known, with_known, known_from, known_of}
+use Rattle.ded_sorts.specs.Entries.{entry_of}
+use Rattle.ded_catalog.specs.declared.stored.Stored.{Stored}
+use Rattle.ded_catalog.specs.declared.stored.Stored.TheVariants.{View}
+use Rattle.ded_catalog.specs.declared.stored.Stored.TheVariants as stored
+use Rattle.ded_catalog.specs.declared.stored.Relation.{Relation}
+use Rattle.ded_catalog.specs.Changed.{AreRelations, ChangesRelation}
+use Rattle.ded_catalog.specs.State.{entry_form, entry_forms, stored_known, known_with}
+use Rattle.ded_catalog.specs.Kept.{IsRight, AreKept, IsKept}
+
+-- ---- names
+
+-- a name is the same as itself
+pub own : (n : List ℕ) → bytes_eq n n ≡ true
+own n = (bytes_eq-Decides n n).1 refl
+
+-- names that compare as the same are so
+pub same_names : (m n : List ℕ) → bytes_eq m n ≡ true → m ≡ n
+same_names m n e = (bytes_eq-Decides m n).0 e
+
+-- an entry has its name
+pub named : (n : List ℕ) (s : Stored) → entry_name (entry_form n s) ≡ n
+named n (stored.Relation r) = refl
+named n (View v) = refl
+
+-- ---- where a name stands
+
+-- the place of a name, what another value there makes of the table, and what the table is without it
+pub record Split (es : List (List ℕ × Stored)) (n : List ℕ) (s : Stored) : Type 0 where
+  pub before : List (List ℕ × Stored)
+  pub after : List (List ℕ × Stored)
+  pub was : es ≡ before ++ (n, s) ∷ after
+  pub set : (w : Stored) → set_value (bytes_eq n) es w ≡ before ++ (n, w) ∷ after
+  pub removed : remove_entry (bytes_eq n) es ≡ before ++ after
+
+-- the name stands where it is found
+pub split : (n : List ℕ) (s : Stored) (es : List (List ℕ × Stored)) → lookup (bytes_eq n) es ≡ Some s → Split es n s
+split n s [] h = absurd (none-some s h)
+split n s (e ∷ es) h = by (bytes_eq n e.0) refl (split n s es)
+  where
+    by : (b : Bool) → bytes_eq n e.0 ≡ b → (lookup (bytes_eq n) es ≡ Some s → Split es n s) → Split (e ∷ es) n s
+    by true b next =
+        let key : e.0 ≡ n = sym (same_names n e.0 b) in
+        let value : e.1 ≡ s = same_Some e.1 s (sym (ap (λ c. cond c (Some e.1) (lookup (bytes_eq n) es)) b) ∙ h) in
+        record {
+          before = [];
+          after = es;
+          was = λ i. (key i, value i) ∷ es;
+          set = λ w. ap (λ c. cond c ((e.0, w) ∷ es) (e ∷ set_value (bytes_eq n) es w)) b ∙ ap (λ k. (k, w) ∷ es) key;
+          removed = ap (λ c. cond c es (e ∷ remove_entry (bytes_eq n) es)) b;
+        }
+    by false b next =
+        let rest = next (sym (ap (λ c. cond c (Some e.1) (lookup (bytes_eq n) es)) b) ∙ h) in
+        record {
+          before = e ∷ rest.before;
+          after = rest.after;
+          was = ap (λ l. e ∷ l) rest.was;
+          set = λ w. ap (λ c. cond c ((e.0, w) ∷ es) (e ∷ set_value (bytes_eq n) es w)) b ∙ ap (λ l. e ∷ l) (rest.set w);
+          removed = ap (λ c. cond c es (e ∷ remove_entry (bytes_eq n) es)) b ∙ ap (λ l. e ∷ l) rest.removed;
+        }
+
+-- ---- entries
+
+-- the entries of a table in two parts
+pub forms-append : (xs ys : List (List ℕ × Stored)) → entry_forms (xs ++ ys) ≡ entry_forms xs ++ entry_forms ys
+forms-append [] ys = refl
+forms-append (x ∷ xs) ys = ap (λ l. entry_form x.0 x.1 ∷ l) (forms-append xs ys)
+
+-- the entry of a name is what the table has under it
+pub entry_of-lookup : (n : List ℕ) (es : List (List ℕ × Stored)) → entry_of (entry_forms es) n ≡ option_map (entry_form n) (lookup (bytes_eq n) es)
+entry_of-lookup n [] = refl
+entry_of-lookup n (e ∷ es) =
+    ap (λ k. if bytes_eq n k then Some (entry_form e.0 e.1) else entry_of (entry_forms es) n) (named e.0 e.1) ∙ by (bytes_eq n e.0) refl (entry_of-lookup n es)
+  where
+    by : (b : Bool) → bytes_eq n e.0 ≡ b → entry_of (entry_forms es) n ≡ option_map (entry_form n) (lookup (bytes_eq n) es) → (if bytes_eq n e.0 then Some (entry_form e.0 e.1) else entry_of (entry_forms es) n) ≡ option_map (entry_form n) (cond (bytes_eq n e.0) (Some e.1) (lookup (bytes_eq n) es))
+    by true b next =
+        ap (λ c. if c then Some (entry_form e.0 e.1) else entry_of (entry_forms es) n) b
+        ∙ ap (λ k. Some (entry_form k e.1)) (sym (same_names n e.0 b))
+        ∙ sym (ap (λ c. option_map (entry_form n) (cond c (Some e.1) (lookup (bytes_eq n) es))) b)
+    by false b next =
+        ap (λ c. if c then Some (entry_form e.0 e.1) else entry_of (entry_forms es) n) b
+        ∙ next
+        ∙ sym (ap (λ c. option_map (entry_form n) (cond c (Some e.1) (lookup (bytes_eq n) es))) b)
+
+-- the entry at a place is that of the pair there
+pub at-forms : (es : List (List ℕ × Stored)) (i : ℕ) → option_map entry_name (slice_get (entry_forms es) i) ≡ option_map (λ e. e.0) (slice_get es i)
+at-forms [] i = refl
+at-forms (e ∷ es) zero = ap Some (named e.0 e.1)
+at-forms (e ∷ es) (suc i) = at-forms es i
+
+-- ---- what is known
+
+-- it is what is known of the entry
+pub entry_known-stored : (K : KnownNames) (n : List ℕ) (s : Stored) → IsRight K s → entry_known K (entry_form n s) ≡ stored_known s
+entry_known-stored K n (stored.Relation r) h = refl
+entry_known-stored K n (View v) h = λ i. record { is_view = true; columns = v.heading; level = sym h.0 i }
+
+-- with one entry more
+pub with_known-form : (K : KnownNames) (k : List ℕ) (s : Stored) (m : List ℕ) → with_known K (entry_form k s) m ≡ cond (bytes_eq m k) (Some (entry_known K (entry_form k s))) (K m)
+with_known-form K k s m = ap (λ x. cond (bytes_eq m x) (Some (entry_known K (entry_form k s))) (K m)) (named k s)
+
+-- of its own name
+pub with_known-own : (K : KnownNames) (k : List ℕ) (s : Stored) (m : List ℕ) → bytes_eq m k ≡ true → with_known K (entry_form k s) m ≡ Some (entry_known K (entry_form k s))
+with_known-own K k s m b = with_known-form K k s m ∙ ap (λ c. cond c (Some (entry_known K (entry_form k s))) (K m)) b
+
+-- of another name
+pub with_known-other : (K : KnownNames) (k : List ℕ) (s : Stored) (m : List ℕ) → bytes_eq m k ≡ false → with_known K (entry_form k s) m ≡ K m
+with_known-other K k s m b = with_known-form K k s m ∙ ap (λ c. cond c (Some (entry_known K (entry_form k s))) (K m)) b
+
+-- a name of which something is known isn't one of a later entry
+pub absent : (limit : ℕ) (K : KnownNames) (es : List (List ℕ × Stored)) (n : List ℕ) → AreKept limit K es → is_some (K n) ≡ true → lookup (bytes_eq n) es ≡ None
+absent limit K [] n h k = refl
+absent limit K (e ∷ es) n h k = by (bytes_eq n e.0) refl (absent limit (with_known K (entry_form e.0 e.1)) es n h.3)
+  where
+    by : (b : Bool) → bytes_eq n e.0 ≡ b → (is_some (with_known K (entry_form e.0 e.1) n) ≡ true → lookup (bytes_eq n) es ≡ None) → cond (bytes_eq n e.0) (Some e.1) (lookup (bytes_eq n) es) ≡ None
+    by true b next = absurd (true≢false (sym k ∙ ap is_some (ap K (same_names n e.0 b) ∙ h.0)))
+    by false b next =
+        ap (λ c. cond c (Some e.1) (lookup (bytes_eq n) es)) b
+        ∙ next (ap is_some (with_known-other K e.0 e.1 n b) ∙ k)
+
+-- what is known of a name is what is known of what the table has under it
+pub known_from-lookup : (limit : ℕ) (K : KnownNames) (es : List (List ℕ × Stored)) (n : List ℕ) → AreKept limit K es → known_from K (entry_forms es) n ≡ known_with (lookup (bytes_eq n) es) (K n)
+known_from-lookup limit K [] n h = refl
+known_from-lookup limit K (e ∷ es) n h = known_from-lookup limit J es n h.3 ∙ by (bytes_eq n e.0) refl
+  where
+    J : KnownNames
+    J = with_known K (entry_form e.0 e.1)
+
+    by : (b : Bool) → bytes_eq n e.0 ≡ b → known_with (lookup (bytes_eq n) es) (J n) ≡ known_with (cond (bytes_eq n e.0) (Some e.1) (lookup (bytes_eq n) es)) (K n)
+    by true b =
+        let here : J n ≡ Some (stored_known e.1) = with_known-own K e.0 e.1 n b ∙ ap Some (entry_known-stored K e.0 e.1 h.2) in
+        ap (λ o. known_with o (J n)) (absent limit J es n h.3 (ap is_some here))
+        ∙ here
+        ∙ sym (ap (λ c. known_with (cond c (Some e.1) (lookup (bytes_eq n) es)) (K n)) b)
+    by false b =
+        ap (known_with (lookup (bytes_eq n) es)) (with_known-other K e.0 e.1 n b)
+        ∙ sym (ap (λ c. known_with (cond c (Some e.1) (lookup (bytes_eq n) es)) (K n)) b)
+
+pub known_of-lookup : (limit : ℕ) (es : List (List ℕ × Stored)) (n : List ℕ) → IsKept limit es → known_of (entry_forms es) n ≡ known_with (lookup (bytes_eq n) es) None
+unfolding known_of
+known_of-lookup limit es n h = known_from-lookup limit (λ m. None) es n h.entries
+
+-- a name of which nothing is known isn't in the table
+pub absent_unknown : (o : Option Stored) → known_with o None ≡ None → o ≡ None
+absent_unknown None h = refl
+absent_unknown (Some s) h = absurd (none-some (stored_known s) (sym h))
+
+-- one of which something is known is
+pub present_known : (o : Option Stored) → is_some (known_with o None) ≡ true → is_some o ≡ true
+present_known None h = h
+present_known (Some s) h = refl
+
+-- ---- writing at a place
+
+one_more : (n : ℕ) → 1 + n ≡ suc n
+one_more n = omega arith
+
+-- at the place of the first name that passes
+pub set-first : (test : List ℕ → Bool) (es : List (List ℕ × Stored)) (w : Stored) → set_value_at es (position_or_len test (keys_of es)) w ≡ set_value test es w
+set-first test [] w = refl
+set-first test (e ∷ es) w = by (test e.0) refl (set-first test es w)
+  where
+    by : (b : Bool) → test e.0 ≡ b → set_value_at es (position_or_len test (keys_of es)) w ≡ set_value test es w
+        → set_value_at (e ∷ es) (position_or_len test (keys_of (e ∷ es))) w ≡ set_value test (e ∷ es) w
+    by true b next =
+        ap (λ c. set_value_at (e ∷ es) (cond (not c) (1 + position_or_len test (keys_of es)) 0) w) b
+        ∙ sym (ap (λ c. cond c ((e.0, w) ∷ es) (e ∷ set_value test es w)) b)
+    by false b next =
+        ap (λ c. set_value_at (e ∷ es) (cond (not c) (1 + position_or_len test (keys_of es)) 0) w) b
+        ∙ ap (λ k. set_value_at (e ∷ es) k w) (one_more (position_or_len test (keys_of es)))
+        ∙ ap (λ l. e ∷ l) next
+        ∙ sym (ap (λ c. cond c ((e.0, w) ∷ es) (e ∷ set_value test es w)) b)
+
+found_place : (p l : ℕ) (i : ℕ) → cond (nat_lt p l) (Some p) None ≡ Some i → p ≡ i
+found_place p l i h = by (nat_lt p l) refl
+  where
+    by : (b : Bool) → nat_lt p l ≡ b → p ≡ i
+    by true b = same_Some p i (sym (ap (λ c. cond c (Some p) None) b) ∙ h)
+    by false b = absurd (none-some i (sym (ap (λ c. cond c (Some p) None) b) ∙ h))
+
+-- at the place where it is found
+pub set-place : (test : List ℕ → Bool) (es : List (List ℕ × Stored)) (i : ℕ) (w : Stored) → Some i ≡ position test (keys_of es) → set_value_at es i w ≡ set_value test es w
+set-place test es i w h =
+    ap (λ k. set_value_at es k w) (sym (found_place (position_or_len test (keys_of es)) (length (keys_of es)) i (sym h))) ∙ set-first test es w
+
+-- the relation there is what stands under the name
+pub changes_relation : (es : List (List ℕ × Stored)) (n : List ℕ) (i : ℕ) (s w : Stored) (Fact : Relation → Relation → Type 0) → Some i ≡ position (bytes_eq n) (keys_of es)
+    → lookup (bytes_eq n) es ≡ Some s → AreRelations s w Fact → ChangesRelation es (set_value_at es i w) n Fact
+changes_relation es n i s w Fact at found h = record {
+  old = h.old;
+  new = h.new;
+  was = found ∙ ap Some h.was;
+  is = set-place (bytes_eq n) es i w at ∙ ap (set_value (bytes_eq n) es) h.is;
+  so = h.so;
+}
+
+-- and a relation
+pub are_relations : (es : List (List ℕ × Stored)) (n : List ℕ) (s : Stored) (Fact : Relation → Relation → Type 0) (F : Relation → Type 0) → ((r t : Relation) → Fact r t → F r)
+    → lookup (bytes_eq n) es ≡ Some s → ChangesRelation es es n Fact → AreRelations s s (λ r t. F r)
+are_relations es n s Fact F f found h =
+    let is : s ≡ stored.Relation h.old = same_Some _ _ (sym found ∙ h.was) in
+    record { old = h.old; new = h.old; was = is; is = is; so = f h.old h.new h.so }

@@ -1,0 +1,37 @@
+-- From what one call answers to what the next one does.
+use Rattle.std.proofs.Common.{◌≡◌, Result, Ok, Err, IfOk, IfErr, sym, subst}
+use Rattle.std.specs.Prelude.{OnErr, OnOk}
+
+-- a fact of an answer from two others
+pub if_ok : {A E : Type 0} (r : Result A E) (P Q R : A → Type 0) → ((x : A) → P x → Q x → R x) → IfOk r P → IfOk r Q → IfOk r R
+if_ok (Ok x) P Q R f p q = f x p q
+if_ok (Err e) P Q R f p q = tt
+
+-- a fact of an error from two others
+pub if_err : {A E : Type 0} (r : Result A E) (P Q R : E → Type 0) → ((x : E) → P x → Q x → R x) → IfErr r P → IfErr r Q → IfErr r R
+if_err (Ok x) P Q R f p q = tt
+if_err (Err e) P Q R f p q = f e p q
+
+-- from one fact of an answer
+pub if_ok_by : {A E : Type 0} (r : Result A E) (P R : A → Type 0) → ((x : A) → P x → R x) → IfOk r P → IfOk r R
+if_ok_by (Ok x) P R f p = f x p
+if_ok_by (Err e) P R f p = tt
+
+-- from one fact of an error
+pub if_err_by : {A E : Type 0} (r : Result A E) (P R : E → Type 0) → ((x : E) → P x → R x) → IfErr r P → IfErr r R
+if_err_by (Ok x) P R f p = tt
+if_err_by (Err e) P R f p = f e p
+
+-- a fact that holds after either
+pub after : {A E X : Type 0} (r : Result A E) (P : X → Type 0) (new a b : X) → OnOk r (new ≡ a) → OnErr r (new ≡ b) → P a → P b → P new
+after (Ok x) P new a b ok err p q = subst P (sym ok) p
+after (Err e) P new a b ok err p q = subst P (sym err) q
+
+pub either : {A E : Type 0} (r : Result A E) (P : A → Type 0) (Q : E → Type 0) (G : Type 0) → IfOk r P → IfErr r Q → ((x : A) → P x → G) → ((x : E) → Q x → G) → G
+either (Ok x) P Q G ok err f g = f x ok
+either (Err e) P Q G ok err f g = g e err
+
+-- a fact of an error that isn't one of its cause
+pub on_err : {A E : Type 0} (r : Result A E) (P : E → Type 0) (G : Type 0) → ((x : E) → P x → G) → IfErr r P → OnErr r G
+on_err (Ok x) P G f p = tt
+on_err (Err e) P G f p = f e p

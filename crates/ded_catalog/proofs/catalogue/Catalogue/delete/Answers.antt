@@ -1,0 +1,22 @@
+use Rattle.std.proofs.Common.{◌≡◌, ◌==◌, true, sym, subst}
+use Rattle.std.specs.List.{list_any}
+use Rattle.ded_sorts.specs.Changes.{Deletes}
+use Rattle.ded_sorts.specs.Entries.{tuples_in}
+use Rattle.ded_catalog.specs.State.{catalogue_of}
+use Rattle.ded_catalog.proofs.Calls.{tuple_there, kept-removed, deletes}
+use Rattle.ded_catalog.proofs.catalogue.Catalogue.delete.Goals as goal
+
+pub delete_from-requires : goal.delete_from-requires
+delete_from-requires c =
+    tuple_there c.self.inside.limit c.self.inside.names.entries c.args.name.now c.self.invariant c.args.number (subst (λ t. list_any (λ x. x.0 == c.args.number) (tuples_in (catalogue_of t) c.args.name.now) ≡ true) (sym c.self.view_is) c.requires)
+
+pub invariant_of-self : goal.invariant_of-self
+invariant_of-self c =
+    let h = c.delete_from.ensures in
+    kept-removed c.self.inside.limit c.self.inside.names.entries c.args.name.now c.self.invariant h.old h.was _ h.new h.is c.args.number h.so
+
+pub returns : goal.returns
+returns c =
+    let h = c.delete_from.ensures in
+    subst (λ t. Deletes (catalogue_of t) (catalogue_of (record { limit = c.self.inside.limit; names = c.delete_from.new.table.entries })) c.args.name.now c.args.number) c.self.view_is
+    (deletes c.self.inside.limit c.self.inside.names.entries c.args.name.now c.self.invariant h.old h.was _ h.new h.is c.args.number h.so)

@@ -1,0 +1,8 @@
+use Rattle.std.proofs.Common.{subst}
+use Rattle.ded_model.specs.Known.{IsWellFormed}
+use Rattle.ded_catalog.specs.State.{catalogue_of}
+use Rattle.ded_catalog.proofs.Keeping.{formed}
+use Rattle.ded_catalog.proofs.catalogue.Catalogue.formed.Goals as goal
+
+pub returns : goal.returns
+returns c = subst (λ t. IsWellFormed (catalogue_of t)) c.self.view_is (formed _ c.self.invariant)

@@ -1,0 +1,20 @@
+use Rattle.std.proofs.Common.{ap, ◌∙◌}
+use Rattle.std.specs.Option.{option_map}
+use Rattle.ded_model.specs.Goal.{goal_form}
+use Rattle.ded_model.specs.Slotted.{goal_of}
+use Rattle.ded_sorts.specs.Entries.{entry_of, view_in}
+use Rattle.ded_catalog.specs.State.{catalogue_of}
+use Rattle.ded_catalog.proofs.Reading.{goal_there}
+use Rattle.ded_catalog.proofs.catalogue.Catalogue.goal.Goals as goal
+
+pub returns-in-Some : goal.returns-in-Some
+returns-in-Some c =
+    ap (option_map (λ v. goal_form v.goal)) c.in-Some.ensures
+    ∙ goal_there c.self.inside.limit c.self.inside.names.entries c.args.name.now c.self.invariant
+    ∙ ap (λ t. option_map (λ v. goal_of v.0 v.1) (view_in (entry_of (catalogue_of t).entries c.args.name.now))) c.self.view_is
+
+pub returns-in-None : goal.returns-in-None
+returns-in-None c =
+    ap (option_map (λ v. goal_form v.goal)) c.in-None.ensures
+    ∙ goal_there c.self.inside.limit c.self.inside.names.entries c.args.name.now c.self.invariant
+    ∙ ap (λ t. option_map (λ v. goal_of v.0 v.1) (view_in (entry_of (catalogue_of t).entries c.args.name.now))) c.self.view_is

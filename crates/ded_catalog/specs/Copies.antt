@@ -1,0 +1,13 @@
+-- Copies of what stands under a name.
+use Rattle.std.specs.Prelude.{◌≡◌}
+use Rattle.ded_model.specs.Form.{form}
+use Rattle.ded_model.specs.Goal.{goal_form}
+use Rattle.ded_catalog.specs.declared.stored.Stored.{Stored}
+use Rattle.ded_catalog.specs.declared.stored.Stored.TheVariants.{Relation, View}
+
+-- relations with equal parts, or views whose formulas and goals stand for the same
+abbrev pub IsCopy : Stored → Stored → Type 0
+IsCopy (Relation r) (Relation s) = (s.heading ≡ r.heading) × (s.inserts ≡ r.inserts) × (s.tuples.items ≡ r.tuples.items)
+IsCopy (Relation r) (View w) = ⊥
+IsCopy (View v) (Relation s) = ⊥
+IsCopy (View v) (View w) = (w.heading ≡ v.heading) × (form w.formula ≡ form v.formula) × (goal_form w.goal ≡ goal_form v.goal) × (w.level ≡ v.level)

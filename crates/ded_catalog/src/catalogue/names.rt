@@ -1,0 +1,30 @@
+//! What a command asks of the names.
+ghost use Rattle.std.specs.Prelude.{IfOk, ◌≡◌};
+
+use super::Catalogue;
+use crate::relation::place_of;
+use crate::table::{known_of, relation_of, some_uses};
+use ded_model::memory::NoMemory;
+use ded_model::name::Name;
+use ded_sorts::{Known, Names};
+
+impl Names for Catalogue {
+    ghost use Rattle.ded_catalog.specs.State.{catalogue_of};
+
+    ghost catalogue = { catalogue_of };
+
+    fn known(&self, name: &Name) -> Result<Option<Known>, NoMemory> {
+        known_of(&self.names, name)
+    }
+
+    fn used(&self, name: &Name) -> bool {
+        some_uses(&self.names, name)
+    }
+
+    fn has_tuple(&self, name: &Name, number: u64) -> bool {
+        match relation_of(&self.names, name) {
+            Some(relation) => place_of(relation.tuples.as_slice(), number).is_some(),
+            None => false,
+        }
+    }
+}

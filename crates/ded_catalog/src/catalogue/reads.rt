@@ -1,0 +1,103 @@
+//! What a catalogue is asked. None of it but the copy takes memory.
+ghost use Rattle.std.specs.Prelude.{◌≡◌, true, IfOk, slice_get};
+ghost use Rattle.std.specs.Option.{option_map};
+
+use super::Catalogue;
+use crate::table::{heading_of, relation_of, view_of};
+use ded_model::command::Refusal;
+use ded_model::formula::Formula;
+use ded_model::goal::Goal;
+use ded_model::memory::NoMemory;
+use ded_model::name::{Heading, Name};
+use ded_model::tuple::Tuple;
+
+impl Catalogue {
+    ghost use Rattle.ded_model.specs.Catalogue.{entry_name};
+    ghost use Rattle.ded_model.specs.Form.{form};
+    ghost use Rattle.ded_model.specs.Goal.{goal_form};
+    ghost use Rattle.ded_model.specs.Known.{IsWellFormed};
+    ghost use Rattle.ded_model.specs.Slotted.{goal_of};
+    ghost use Rattle.ded_sorts.specs.Causes.{insert_refusal, is_relation_with};
+    ghost use Rattle.ded_sorts.specs.Entries.{known, entry_of, relation_in, view_in};
+    ghost use Rattle.ded_catalog.specs.State.{catalogue_of};
+
+    /// Every catalogue is well formed: each entry has a new name, the tuples of a relation are normal, over its columns
+    /// and numbered in ascending order, and each view is accepted over the entries before it. It does nothing.
+    pub fn formed(&self)
+        ensures { IsWellFormed (catalogue_of self.now) }
+    {
+        let _ = &self.names;
+    }
+
+    /// The heading of a relation or a view. None exactly where no entry has the name.
+    pub fn heading(&self, name: &Name) -> Option<&Heading>
+        ensures { option_map (λ h. h.now) result ≡ option_map (λ k. k.columns) (known (catalogue_of self.now) name.now) }
+    {
+        heading_of(&self.names, name)
+    }
+
+    /// The tuples of a relation with their numbers, which ascend. None exactly where the name is no relation.
+    pub fn stored(&self, name: &Name) -> Option<&[(u32, Tuple)]>
+        ensures { option_map (λ ts. ts.now) result ≡ relation_in (entry_of (catalogue_of self.now).entries name.now) }
+    {
+        match relation_of(&self.names, name) {
+            Some(relation) => Some(relation.tuples.as_slice()),
+            None => None,
+        }
+    }
+
+    /// The goal of a view's formula. None exactly where the name is no view.
+    pub fn goal(&self, name: &Name) -> Option<&Goal>
+        ensures { option_map (λ g. goal_form g.now) result ≡ option_map (λ v. goal_of v.0 v.1) (view_in (entry_of (catalogue_of self.now).entries name.now)) }
+    {
+        match view_of(&self.names, name) {
+            Some(view) => Some(&view.goal),
+            None => None,
+        }
+    }
+
+    /// The formula of a view as written. None exactly where the name is no view.
+    pub fn formula(&self, name: &Name) -> Option<&Formula>
+        ensures { option_map (λ f. form f.now) result ≡ option_map (λ v. v.1) (view_in (entry_of (catalogue_of self.now).entries name.now)) }
+    {
+        match view_of(&self.names, name) {
+            Some(view) => Some(&view.formula),
+            None => None,
+        }
+    }
+
+    /// The name of the entry at a place in order of definition, from 0. None exactly where no entry stands there.
+    pub fn name_at(&self, place: usize) -> Option<&Name>
+        ensures { option_map (λ n. n.now) result ≡ option_map entry_name (slice_get (catalogue_of self.now).entries place) }
+    {
+        match self.names.get_index(place) {
+            Some((name, _)) => Some(name),
+            None => None,
+        }
+    }
+
+    /// Why an insert into the relation would be refused, whatever the tuple: `Full` or `Spent`. None where it would be
+    /// refused for want of memory alone.
+    pub fn refuses(&self, name: &Name) -> Option<Refusal>
+        requires { is_relation_with (known (catalogue_of self.now) name.now) ≡ true }
+        ensures { result ≡ insert_refusal (catalogue_of self.now) name.now }
+    {
+        match relation_of(&self.names, name) {
+            Some(relation) => relation.refusal(self.limit),
+            None => unreachable!(),
+        }
+    }
+
+    /// A catalogue that stands for the same.
+    ///
+    /// # Errors
+    /// `NoMemory`.
+    pub fn copy(&self) -> Result<Catalogue, NoMemory>
+        ensures { IfOk result (λ c. catalogue_of c ≡ catalogue_of self.now) }
+    {
+        Ok(Catalogue {
+            limit: self.limit,
+            names: self.names.clone()?,
+        })
+    }
+}

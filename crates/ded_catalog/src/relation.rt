@@ -1,0 +1,70 @@
+//! Relations: their tuples, found by number.
+ghost use Rattle.std.specs.Prelude.{◌≡◌, ◌==◌, ◌<◌, true, false, IfOk, IfErr, OnErr, IfSome, IfNone};
+ghost use Rattle.std.specs.List.{list_any};
+ghost use Rattle.std.specs.Option.{unwrap_or};
+ghost use Rattle.ded_model.specs.declared.command.Refusal.TheVariants.{Memory};
+ghost use Rattle.ded_catalog.specs.Tuples.{IsAscending, IsPlaceOf, refusal_of, IsSame, Pushes, Removes};
+ghost use Rattle.std.specs.Prelude.{None};
+
+use crate::stored::Relation;
+use ded_model::command::Refusal;
+use ded_model::tuple::Tuple;
+
+impl Relation {
+    /// Why an insert is refused: the relation is full, or else it has accepted all inserts that have a number.
+    pub(crate) fn refusal(&self, limit: u32) -> Option<Refusal>
+        ensures { result ≡ refusal_of limit self.now }
+    {
+        if self.tuples.len() >= limit as usize {
+            Some(Refusal::Full)
+        } else if self.inserts == u32::MAX {
+            Some(Refusal::Spent)
+        } else {
+            None
+        }
+    }
+
+    /// Takes one tuple more, and gives its number. A refused one changes nothing.
+    pub(crate) fn push(&mut self, limit: u32, tuple: Tuple) -> Result<u32, Refusal>
+        ensures ok { IfOk result (λ k. Pushes self.old self.new tuple k) }
+        ensures room { IfOk result (λ k. refusal_of limit self.old ≡ None) }
+        ensures cause { IfErr result (λ r. r ≡ unwrap_or (refusal_of limit self.old) Memory) }
+        ensures err { OnErr result (IsSame self.old self.new) }
+    {
+        if let Some(refusal) = self.refusal(limit) {
+            return Err(refusal);
+        }
+        let number = self.inserts + 1;
+        if self.tuples.push((number, tuple)).is_err() {
+            return Err(Refusal::Memory);
+        }
+        self.inserts = number;
+        Ok(number)
+    }
+
+    /// Gives up the tuple of the number.
+    pub(crate) fn remove(&mut self, number: u32)
+        requires ascending { IsAscending self.old.tuples.items }
+        requires present { list_any (λ t. t.0 == number) self.old.tuples.items ≡ true }
+        ensures { Removes self.old self.new number }
+    {
+        match place_of(self.tuples.as_slice(), u64::from(number)) {
+            Some(place) => {
+                let _ = self.tuples.remove(place);
+            }
+            None => unreachable!(),
+        }
+    }
+}
+
+/// The place of the tuple with the number.
+pub(crate) fn place_of(tuples: &[(u32, Tuple)], number: u64) -> Option<usize>
+    requires { IsAscending tuples.now }
+    ensures found { IfSome result (IsPlaceOf tuples.now number) }
+    ensures absent { IfNone result (list_any (λ t. t.0 == number) tuples.now ≡ false) }
+{
+    match tuples.binary_search_by_key(&number, |pair| u64::from(pair.0)) {
+        Ok(place) => Some(place),
+        Err(_) => None,
+    }
+}

@@ -1,0 +1,74 @@
+//! What stands under a name.
+ghost use Rattle.std.specs.Prelude.{◌≡◌, ◌==◌, true, None, Some, is_some, IfOk, IfErr};
+ghost use Rattle.std.specs.List.{list_any};
+ghost use Rattle.std.specs.Option.{unwrap_or};
+ghost use Rattle.ded_model.specs.declared.command.Refusal.TheVariants.{Memory};
+
+use ded_model::command::Refusal;
+use ded_model::formula::Formula;
+use ded_model::goal::Goal;
+use ded_model::name::{Heading, Name};
+use ded_model::tuple::Tuple;
+
+/// A relation: its heading, how many inserts it has accepted, and its tuples with their numbers, which ascend.
+#[derive(Drop)]
+pub(crate) struct Relation {
+    pub(crate) heading: Heading,
+    pub(crate) inserts: u32,
+    pub(crate) tuples: Vec<(u32, Tuple)>,
+}
+
+/// A view: its heading, its formula as written, the goal of that, and its level.
+#[derive(Drop)]
+pub(crate) struct View {
+    pub(crate) heading: Heading,
+    pub(crate) formula: Formula,
+    pub(crate) goal: Goal,
+    pub(crate) level: u32,
+}
+
+/// What stands under a name.
+#[derive(Drop)]
+pub(crate) enum Stored {
+    Relation(Relation),
+    View(View),
+}
+
+impl Stored {
+    ghost use Rattle.ded_catalog.specs.Changed.{AreRelations};
+    ghost use Rattle.ded_catalog.specs.State.{relation_at, stored_uses};
+    ghost use Rattle.ded_catalog.specs.Tuples.{IsAscending, refusal_of, IsSame, Pushes, Removes};
+
+    /// Whether it is a view whose formula uses the name.
+    pub(crate) fn uses(&self, name: &Name) -> bool
+        ensures { result ≡ stored_uses name.now self.now }
+    {
+        match self {
+            Stored::Relation(_) => false,
+            Stored::View(view) => view.formula.uses(name),
+        }
+    }
+
+    /// Inserts into the relation, and gives the tuple's number. A refused insert changes nothing.
+    pub(crate) fn insert(&mut self, limit: u32, tuple: Tuple) -> Result<u32, Refusal>
+        requires { is_some (relation_at (Some self.old)) ≡ true }
+        ensures ok { IfOk result (λ k. AreRelations self.old self.new (λ old new. Pushes old new tuple k × (refusal_of limit old ≡ None))) }
+        ensures err { IfErr result (λ r. AreRelations self.old self.new (λ old new. IsSame old new × (r ≡ unwrap_or (refusal_of limit old) Memory))) }
+    {
+        match self {
+            Stored::Relation(relation) => relation.push(limit, tuple),
+            Stored::View(_) => unreachable!(),
+        }
+    }
+
+    /// Deletes the tuple of the number from the relation.
+    pub(crate) fn delete(&mut self, number: u32)
+        requires { AreRelations self.old self.old (λ old new. IsAscending old.tuples.items × (list_any (λ t. t.0 == number) old.tuples.items ≡ true)) }
+        ensures { AreRelations self.old self.new (λ old new. Removes old new number) }
+    {
+        match self {
+            Stored::Relation(relation) => relation.remove(number),
+            Stored::View(_) => unreachable!(),
+        }
+    }
+}

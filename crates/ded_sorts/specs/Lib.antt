@@ -1,0 +1,5 @@
+pub mod Causes
+pub mod Changes
+pub mod Checks
+pub mod Entries
+pub mod Scopes

@@ -1,0 +1,245 @@
+//! The causes of refusals, each over a command and the names that it may use.
+ghost use Rattle.std.specs.Prelude.{◌≡◌, IfOk, is_some, is_none};
+ghost use Rattle.ded_model.specs.Command.{command_form};
+ghost use Rattle.ded_model.specs.Form.{form, forms};
+ghost use Rattle.ded_model.specs.Known.{scope_of, uses_unknown};
+ghost use Rattle.ded_model.specs.Logic.{some_below, some_below_of};
+ghost use Rattle.ded_sorts.specs.Causes as cause;
+ghost use Rattle.ded_sorts.specs.Entries.{known, columns_in};
+
+use crate::atoms::{AtomTest, some_atom, some_atom_of};
+use crate::names::Names;
+use crate::scope::Scope;
+use crate::shape::{MOST_COLUMNS, has_twice, is_many};
+use crate::sorts::{Missorted, RationalInequality, Unbound};
+use crate::uses::{OtherArity, Undefined, greatest_level};
+use ded_model::command::Command;
+use ded_model::formula::Formula;
+use ded_model::memory::NoMemory;
+use ded_model::name::Name;
+
+/// The greatest level that a view may have.
+const HIGHEST_LEVEL: u32 = 16;
+
+/// Whether a heading with a formula, or a heading alone, has too many columns and quantifiers.
+pub(crate) fn has_many(command: &Command) -> bool
+    ensures { result ≡ cause.has_many (command_form command.now) }
+{
+    match command {
+        Command::Relation(_, heading) => heading.columns.len() > MOST_COLUMNS,
+        Command::View(_, heading, formula) => is_many(&heading.columns, formula),
+        Command::Query(heading, formula) => is_many(&heading.columns, formula),
+        Command::Explain(heading, formula) => is_many(&heading.columns, formula),
+        Command::Ask(formula) => is_many(&[], formula),
+        _ => false,
+    }
+}
+
+/// Whether a heading has one column name twice.
+pub(crate) fn names_twice(command: &Command) -> bool
+    ensures { result ≡ cause.names_twice (command_form command.now) }
+{
+    match command {
+        Command::Relation(_, heading) => has_twice(&heading.columns),
+        Command::View(_, heading, _) => has_twice(&heading.columns),
+        Command::Query(heading, _) => has_twice(&heading.columns),
+        Command::Explain(heading, _) => has_twice(&heading.columns),
+        _ => false,
+    }
+}
+
+/// Whether the command, or an atom in its formula, uses a name that isn't defined.
+pub(crate) fn names_unknown<N: Names>(command: &Command, names: &N) -> Result<bool, NoMemory>
+    ensures { IfOk result (λ b. b ≡ cause.names_unknown (N.catalogue names.now) (command_form command.now)) }
+{
+    match command {
+        Command::Relation(_, _) => Ok(false),
+        Command::Insert(name, _) => is_undefined(name, names),
+        Command::Delete(name, _) => is_undefined(name, names),
+        Command::Drop(name) => is_undefined(name, names),
+        Command::Keep(name) => is_undefined(name, names),
+        Command::Show(name) => is_undefined(name, names),
+        Command::BoxOf(name) => is_undefined(name, names),
+        Command::View(_, _, formula) => uses_undefined(formula, names),
+        Command::Ask(formula) => uses_undefined(formula, names),
+        Command::Query(_, formula) => uses_undefined(formula, names),
+        Command::Explain(_, formula) => uses_undefined(formula, names),
+    }
+}
+
+/// Whether a relation or a view is given a name that is defined.
+pub(crate) fn takes_name<N: Names>(command: &Command, names: &N) -> Result<bool, NoMemory>
+    ensures { IfOk result (λ b. b ≡ cause.takes_name (N.catalogue names.now) (command_form command.now)) }
+{
+    match command {
+        Command::Relation(name, _) => is_defined(name, names),
+        Command::View(name, _, _) => is_defined(name, names),
+        _ => Ok(false),
+    }
+}
+
+/// Whether a view is named where a relation has to be, or a relation where a view has to be.
+pub(crate) fn names_other_kind<N: Names>(command: &Command, names: &N) -> Result<bool, NoMemory>
+    ensures { IfOk result (λ b. b ≡ cause.names_other_kind (N.catalogue names.now) (command_form command.now)) }
+{
+    match command {
+        Command::Insert(name, _) => is_view(name, names),
+        Command::Delete(name, _) => is_view(name, names),
+        Command::Show(name) => is_view(name, names),
+        Command::BoxOf(name) => is_view(name, names),
+        Command::Keep(name) => is_relation(name, names),
+        _ => Ok(false),
+    }
+}
+
+/// Whether an atom has another number of arguments than its relation or view has columns.
+pub(crate) fn has_wrong_arity<N: Names>(command: &Command, names: &N) -> Result<bool, NoMemory>
+    ensures { IfOk result (λ b. b ≡ cause.has_wrong_arity (N.catalogue names.now) (command_form command.now)) }
+{
+    some_in_command(&OtherArity { names }, command, names)
+}
+
+/// Whether a variable is in no quantifier round it, not in the heading, and in an insert isn't a column.
+pub(crate) fn has_unbound<N: Names>(command: &Command, names: &N) -> Result<bool, NoMemory>
+    ensures { IfOk result (λ b. b ≡ cause.has_unbound_name (N.catalogue names.now) (command_form command.now)) }
+{
+    some_in_command(&Unbound, command, names)
+}
+
+/// Whether a text stands where a number has to, or a number where a text has to, or `!=` between numbers in an insert.
+pub(crate) fn has_wrong_sort<N: Names>(command: &Command, names: &N) -> Result<bool, NoMemory>
+    ensures { IfOk result (λ b. b ≡ cause.has_wrong_sort (N.catalogue names.now) (command_form command.now)) }
+{
+    Ok(some_in_command(&Missorted { names }, command, names)? || has_inequality(command, names)?)
+}
+
+/// Whether the name to be dropped is in the formula of a view.
+pub(crate) fn drops_used<N: Names>(command: &Command, names: &N) -> bool
+    ensures { result ≡ cause.drops_used (N.catalogue names.now) (command_form command.now) }
+{
+    match command {
+        Command::Drop(name) => names.used(name),
+        _ => false,
+    }
+}
+
+/// Whether no present tuple of the relation has the number to be deleted.
+pub(crate) fn deletes_none<N: Names>(command: &Command, names: &N) -> bool
+    ensures { result ≡ cause.deletes_none (N.catalogue names.now) (command_form command.now) }
+{
+    match command {
+        Command::Delete(name, number) => !names.has_tuple(name, *number),
+        _ => false,
+    }
+}
+
+/// Whether the view would have a level above 16.
+pub(crate) fn is_too_high<N: Names>(command: &Command, names: &N) -> Result<bool, NoMemory>
+    ensures { IfOk result (λ b. b ≡ cause.is_too_high (N.catalogue names.now) (command_form command.now)) }
+{
+    match command {
+        Command::View(_, _, formula) => Ok(greatest_level(formula, names)? >= HIGHEST_LEVEL),
+        _ => Ok(false),
+    }
+}
+
+// Whether no entry has the name.
+fn is_undefined<N: Names>(name: &Name, names: &N) -> Result<bool, NoMemory>
+    ensures { IfOk result (λ b. b ≡ is_none (known (N.catalogue names.now) name.now)) }
+{
+    Ok(names.known(name)?.is_none())
+}
+
+// Whether an entry has the name.
+fn is_defined<N: Names>(name: &Name, names: &N) -> Result<bool, NoMemory>
+    ensures { IfOk result (λ b. b ≡ is_some (known (N.catalogue names.now) name.now)) }
+{
+    Ok(names.known(name)?.is_some())
+}
+
+// Whether the name is a view's.
+fn is_view<N: Names>(name: &Name, names: &N) -> Result<bool, NoMemory>
+    ensures { IfOk result (λ b. b ≡ cause.is_view_with (known (N.catalogue names.now) name.now)) }
+{
+    match names.known(name)? {
+        None => Ok(false),
+        Some(entry) => Ok(entry.is_view()),
+    }
+}
+
+// Whether the name is a relation's.
+fn is_relation<N: Names>(name: &Name, names: &N) -> Result<bool, NoMemory>
+    ensures { IfOk result (λ b. b ≡ cause.is_relation_with (known (N.catalogue names.now) name.now)) }
+{
+    match names.known(name)? {
+        None => Ok(false),
+        Some(entry) => Ok(!entry.is_view()),
+    }
+}
+
+// Whether an atom of the formula uses a name that isn't defined.
+fn uses_undefined<N: Names>(formula: &Formula, names: &N) -> Result<bool, NoMemory>
+    ensures { IfOk result (λ b. b ≡ uses_unknown (known (N.catalogue names.now)) (form formula.now)) }
+{
+    some_atom(&Undefined { names }, &Scope::Heading(&[]), formula)
+}
+
+// Whether the command is an insert with `!=` between numbers.
+fn has_inequality<N: Names>(command: &Command, names: &N) -> Result<bool, NoMemory>
+    ensures { IfOk result (λ b. b ≡ cause.has_inequality (N.catalogue names.now) (command_form command.now)) }
+{
+    match command {
+        Command::Insert(name, formulas) => some_in_insert(
+            &RationalInequality,
+            name,
+            formulas,
+            names,
+        ),
+        _ => Ok(false),
+    }
+}
+
+// Whether some atom of the command's formula passes below its heading, for an insert below the relation's columns.
+fn some_in_command<T: AtomTest, N: Names>(
+    test: &T,
+    command: &Command,
+    names: &N,
+) -> Result<bool, NoMemory>
+    ensures { IfOk result (λ b. b ≡ cause.passes_with (cause.formula_in (command_form command.now)) (some_below (T.passes test.now) (scope_of (cause.heading_in (N.catalogue names.now) (command_form command.now))))) }
+{
+    match command {
+        Command::Insert(name, formulas) => some_in_insert(test, name, formulas, names),
+        Command::View(_, heading, formula) => some_atom(
+            test,
+            &Scope::Heading(&heading.columns),
+            formula,
+        ),
+        Command::Query(heading, formula) => some_atom(
+            test,
+            &Scope::Heading(&heading.columns),
+            formula,
+        ),
+        Command::Explain(heading, formula) => some_atom(
+            test,
+            &Scope::Heading(&heading.columns),
+            formula,
+        ),
+        Command::Ask(formula) => some_atom(test, &Scope::Heading(&[]), formula),
+        _ => Ok(false),
+    }
+}
+
+// Whether some atom of the comparisons of an insert passes below the columns of the name.
+fn some_in_insert<T: AtomTest, N: Names>(
+    test: &T,
+    name: &Name,
+    formulas: &Vec<Formula>,
+    names: &N,
+) -> Result<bool, NoMemory>
+    ensures { IfOk result (λ b. b ≡ some_below_of (T.passes test.now) (scope_of (columns_in (N.catalogue names.now) name.now)) (forms formulas.now.items)) }
+{
+    match names.known(name)? {
+        None => some_atom_of(test, &Scope::Heading(&[]), formulas),
+        Some(entry) => some_atom_of(test, &Scope::Heading(entry.columns()), formulas),
+    }
+}

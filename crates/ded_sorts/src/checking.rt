@@ -1,0 +1,70 @@
+//! The least refusal that a command and the names decide.
+ghost use Rattle.std.specs.Prelude.{◌≡◌, ◌≢◌, true, suc, IfOk, IfErr};
+ghost use Rattle.ded_model.specs.Command.{command_form};
+ghost use Rattle.ded_model.specs.Refusals.{refusal_number};
+ghost use Rattle.ded_sorts.specs.Causes.{has_cause};
+ghost use Rattle.ded_sorts.specs.Checks.{is_checked, IsLeastCause, HasNoneBelow, HasNoCause};
+
+use crate::causes::{
+    deletes_none, drops_used, has_many, has_unbound, has_wrong_arity, has_wrong_sort, is_too_high,
+    names_other_kind, names_twice, names_unknown, takes_name,
+};
+use crate::names::Names;
+use ded_model::command::{Command, Refusal};
+use ded_model::memory::NoMemory;
+
+/// Whether the command is accepted over the names, up to what the number of a relation's tuples and inserts decides.
+///
+/// Refused for the least of the reasons that apply: from `Many` to `NoTuple`, and `Level`; or for `Memory`, where an
+/// allocation failed.
+pub fn check<N: Names>(command: &Command, names: &N) -> Result<(), Refusal>
+    ensures ok { IfOk result (λ _. HasNoCause (N.catalogue names.now) (command_form command.now)) }
+    ensures refused { IfErr result (λ r. r ≢ Refusal.Memory → IsLeastCause r (N.catalogue names.now) (command_form command.now)) }
+{
+    refuse(Refusal::Many, command, names)?;
+    refuse(Refusal::Twice, command, names)?;
+    refuse(Refusal::Unknown, command, names)?;
+    refuse(Refusal::Taken, command, names)?;
+    refuse(Refusal::Kind, command, names)?;
+    refuse(Refusal::Arity, command, names)?;
+    refuse(Refusal::Unbound, command, names)?;
+    refuse(Refusal::WrongSort, command, names)?;
+    refuse(Refusal::Used, command, names)?;
+    refuse(Refusal::NoTuple, command, names)?;
+    refuse(Refusal::Level, command, names)
+}
+
+// Refuses the command where the refusal applies, and none of a lesser number does.
+fn refuse<N: Names>(refusal: Refusal, command: &Command, names: &N) -> Result<(), Refusal>
+    requires checked { is_checked refusal ≡ true }
+    requires past { HasNoneBelow (refusal_number refusal) (N.catalogue names.now) (command_form command.now) }
+    ensures ok { IfOk result (λ _. HasNoneBelow (suc (refusal_number refusal)) (N.catalogue names.now) (command_form command.now)) }
+    ensures refused { IfErr result (λ r. r ≢ Refusal.Memory → IsLeastCause r (N.catalogue names.now) (command_form command.now)) }
+{
+    match applies(refusal, command, names) {
+        Err(_) => Err(Refusal::Memory),
+        Ok(true) => Err(refusal),
+        Ok(false) => Ok(()),
+    }
+}
+
+// Whether the refusal applies to the command.
+fn applies<N: Names>(refusal: Refusal, command: &Command, names: &N) -> Result<bool, NoMemory>
+    requires { is_checked refusal ≡ true }
+    ensures { IfOk result (λ b. b ≡ has_cause refusal (N.catalogue names.now) (command_form command.now)) }
+{
+    match refusal {
+        Refusal::Many => Ok(has_many(command)),
+        Refusal::Twice => Ok(names_twice(command)),
+        Refusal::Unknown => names_unknown(command, names),
+        Refusal::Taken => takes_name(command, names),
+        Refusal::Kind => names_other_kind(command, names),
+        Refusal::Arity => has_wrong_arity(command, names),
+        Refusal::Unbound => has_unbound(command, names),
+        Refusal::WrongSort => has_wrong_sort(command, names),
+        Refusal::Used => Ok(drops_used(command, names)),
+        Refusal::NoTuple => Ok(deletes_none(command, names)),
+        Refusal::Level => is_too_high(command, names),
+        _ => Ok(false),
+    }
+}
