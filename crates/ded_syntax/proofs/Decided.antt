@@ -1,5 +1,5 @@
 -- Whether bytes spell a command is decided.
-use Rattle.std.proofs.Common.{◌≡◌, ◌⊎◌, ℕ, zero, suc, ◌+◌, ◌≤◌, ◌<◌, List, [], ◌∷◌, length, drop, refl, inl, inr, ⊎_elim, arith}
+use Rattle.std.proofs.Common.{◌≡◌, ◌⊎◌, ℕ, zero, suc, ◌+◌, ◌≤◌, ◌<◌, Bool, true, false, List, [], ◌∷◌, length, drop, refl, inl, inr, ⊎_elim, arith}
 use Rattle.std.specs.Prelude.{map, Option, Some, None}
 use Rattle.std.proofs.lemmas.List.{length-drop}
 use Rattle.ded_lex.specs.declared.front.Front.{Front}
@@ -13,12 +13,13 @@ use Rattle.ded_model.specs.declared.command.Language.{Language}
 use Rattle.ded_model.specs.declared.command.Refusal.{Refusal}
 use Rattle.ded_model.specs.declared.command.Refusal.TheVariants.{Syntax}
 use Rattle.ded_model.specs.Command.{CommandForm}
-use Rattle.ded_syntax.specs.declared.reading.Sides.{Sides}
-use Rattle.ded_syntax.specs.Spelling.{Spells, AppliesIn, IsRead}
-use Rattle.ded_syntax.specs.Items.{item}
-use Rattle.ded_syntax.specs.Reading.{asked_at}
+use Rattle.ded_syntax.specs.Symbols.{Symbol, symbol}
+use Rattle.ded_syntax.specs.CommandReading.{Draft, draft_at, scans}
+use Rattle.ded_syntax.specs.Drafts.{test_of, passes_draft}
+use Rattle.ded_syntax.specs.Items.{capped_of, AreSymbols}
+use Rattle.ded_syntax.specs.Spelling.{SpellsBy, AppliesBy, IsReadBy}
 use Rattle.ded_syntax.proofs.Seen.{no_lexemes}
-use Rattle.ded_syntax.proofs.Refused.{no_token, not_asked, some_spelled}
+use Rattle.ded_syntax.proofs.Refused.{no_token, not_drafted, not_scanned, not_passed, some_spelled}
 
 -- there are tokens, or none
 abbrev HasTokens : ℕ → List ℕ → Type 0
@@ -39,30 +40,42 @@ has_tokens k at [] le = inl ([], none_left at [] refl)
 has_tokens zero at (b ∷ bs) le = absurd (omega (arith, le))
 has_tokens (suc k) at (b ∷ bs) le = tokens_by at b bs (λ at2 cs less. has_tokens k at2 cs (omega (arith, le, less))) _ refl
 
-abbrev pub SomeCommand : Language → List ℕ → Type 0
-SomeCommand language bytes = (c : CommandForm) × (depth : ℕ) × Spells language bytes c depth
+module _ (all : Bool) (language : Language) (bytes : List ℕ) where
+  abbrev pub SomeCommand : Type 0
+  SomeCommand = (c : CommandForm) × (depth : ℕ) × SpellsBy (test_of all) language bytes c depth
 
-by_items : (language : Language) (bytes : List ℕ) (tokens : List Token) → AreTokens bytes tokens → (o : Option Sides) → asked_at (map item (map (lexeme bytes) tokens)) ≡ o → SomeCommand language bytes ⊎ AppliesIn Syntax language bytes
-by_items language bytes tokens are None e =
-    inr ((not_asked language bytes _ (record { lexemes = map (lexeme bytes) tokens; are = tokens_say bytes tokens are; seen = refl }) e).applies)
-by_items language bytes tokens are (Some x) e =
-    inl (some_spelled language bytes _ x (record { lexemes = map (lexeme bytes) tokens; are = tokens_say bytes tokens are; seen = refl }) e)
+  abbrev pub NoCommand : Type 0
+  NoCommand = AppliesBy (test_of all) Syntax language bytes
 
--- a command is spelled, or none
-pub spelling_decided : (language : Language) (bytes : List ℕ) → SomeCommand language bytes ⊎ AppliesIn Syntax language bytes
-spelling_decided language bytes = by_tokens (has_tokens (length bytes) 0 bytes (omega arith))
-  where
-    by_tokens : HasTokens 0 bytes → SomeCommand language bytes ⊎ AppliesIn Syntax language bytes
-    by_tokens (inl t) =
-        by_items language bytes t.0 (record { cells = t.1.cells; is = t.1.is; each = t.1.each; tokens_are = t.1.tokens_are }) _ refl
-    by_tokens (inr none) =
-        inr ((no_token language bytes (no_lexemes bytes (λ tokens are. none tokens (record { cells = are.cells; is = are.is; each = are.each; tokens_are = are.tokens_are })))).applies)
+  module _ (ts : List Symbol) (are : AreSymbols bytes ts) where
+    by_passing : (d : Draft) → draft_at capped_of ts ≡ Some d → scans d ≡ true → (b : Bool) → passes_draft all d ≡ b → SomeCommand ⊎ NoCommand
+    by_passing d e s true p = inl (some_spelled all language bytes ts are d e s p)
+    by_passing d e s false p = inr (not_passed all language bytes ts are d e p).applies
 
-pub some_command : (language : Language) (bytes : List ℕ) → (AppliesIn Syntax language bytes → ⊥) → SomeCommand language bytes
-some_command language bytes applies = ⊎_elim (λ (s : SomeCommand language bytes). s) (λ (a : AppliesIn Syntax language bytes). absurd (applies a)) (spelling_decided language bytes)
+    by_scanning : (d : Draft) → draft_at capped_of ts ≡ Some d → (b : Bool) → scans d ≡ b → SomeCommand ⊎ NoCommand
+    by_scanning d e true s = by_passing d e s (passes_draft all d) refl
+    by_scanning d e false s = inr (not_scanned all language bytes ts are d e s).applies
 
--- where no refusal applies, a command is read
-pub some_read : (language : Language) (bytes : List ℕ) → ((refusal : Refusal) → AppliesIn refusal language bytes → ⊥) → (c : CommandForm) × IsRead language bytes c
-some_read language bytes none =
-    let s = some_command language bytes (none Syntax) in
-    (s.0, record { depth = s.1; spells = s.2; accepted = none })
+    by_drafts : (o : Option Draft) → draft_at capped_of ts ≡ o → SomeCommand ⊎ NoCommand
+    by_drafts None e = inr (not_drafted all language bytes ts are e).applies
+    by_drafts (Some d) e = by_scanning d e (scans d) refl
+
+  by_tokens : HasTokens 0 bytes → SomeCommand ⊎ NoCommand
+  by_tokens (inl t) =
+      let are : AreTokens bytes t.0 = record { cells = t.1.cells; is = t.1.is; each = t.1.each; tokens_are = t.1.tokens_are } in
+      by_drafts (map symbol (map (lexeme bytes) t.0)) (record { lexemes = map (lexeme bytes) t.0; are = tokens_say bytes t.0 are; seen = refl }) _ refl
+  by_tokens (inr none) =
+      inr (no_token all language bytes (no_lexemes bytes (λ tokens are. none tokens (record { cells = are.cells; is = are.is; each = are.each; tokens_are = are.tokens_are })))).applies
+
+  -- a command is spelled, or none
+  pub spelling_decided : SomeCommand ⊎ NoCommand
+  spelling_decided = by_tokens (has_tokens (length bytes) 0 bytes (omega arith))
+
+  pub some_command : (NoCommand → ⊥) → SomeCommand
+  some_command applies = ⊎_elim (λ (s : SomeCommand). s) (λ (a : NoCommand). absurd (applies a)) spelling_decided
+
+  -- where no refusal applies, a command is read
+  pub some_read : ((refusal : Refusal) → AppliesBy (test_of all) refusal language bytes → ⊥) → (c : CommandForm) × IsReadBy (test_of all) language bytes c
+  some_read none =
+      let s = some_command (none Syntax) in
+      (s.0, record { depth = s.1; spells = s.2; accepted = none })

@@ -1,6 +1,6 @@
 -- The value of digits as a loop finds it.
 use Rattle.std.proofs.Common.{◌≡◌, ℕ, ◌+◌, ◌-◌, ◌*◌, ◌<◌, List, [], ◌∷◌, length, drop, get_or, sym, ap, ◌∙◌, arith, add-one, drop-cons}
-use Rattle.ded_syntax.specs.Grammar.{number_from}
+use Rattle.ded_syntax.specs.Symbols.{number_from}
 use Rattle.ded_syntax.specs.Items.{capped}
 
 -- a value at the cap or above stays there

@@ -1,131 +1,182 @@
 -- What is answered is the command that is spelled, or the least refusal.
-use Rattle.std.proofs.Common.{◌≡◌, ℕ, ◌<◌, Bool, true, false, List, ◌∷◌, refl, sym, ap, subst, ◌∙◌, arith}
-use Rattle.std.specs.Prelude.{map, Some, None, codes}
+use Rattle.std.proofs.Common.{◌≡◌, inl, inr, ℕ, ◌<◌, ◌≤◌, Bool, true, false, List, sym, ap, subst, ◌∙◌, arith, map}
+use Rattle.std.specs.Prelude.{Option, Some, None}
 use Rattle.std.specs.List.{list_any}
-use Rattle.ded_lex.specs.Lexemes.{Lexeme, Word}
+use Rattle.ded_lex.specs.Lexemes.{Lexeme}
 use Rattle.ded_lex.specs.Tokens.{AreLexemes}
 use Rattle.ded_model.specs.declared.command.Language.{Language}
 use Rattle.ded_model.specs.declared.command.Refusal.{Refusal}
 use Rattle.ded_model.specs.declared.command.Refusal.TheVariants.{Syntax, LongName, LongNumber, Deep}
-use Rattle.ded_model.specs.Command.{CommandForm, ask}
+use Rattle.ded_model.specs.Command.{CommandForm}
 use Rattle.ded_model.specs.Refusals.{refusal_number}
-use Rattle.ded_syntax.specs.declared.item.Item.{Item}
-use Rattle.ded_syntax.specs.declared.reading.Sides.{Sides}
-use Rattle.ded_syntax.specs.Grammar.{Comparison, spell_comparison, comparison_form, SpellsCommand}
-use Rattle.ded_syntax.specs.Spelling.{Spells, is_long_word, is_long_number, SomeLexeme, AppliesIn, IsLeastIn, IsRead}
-use Rattle.ded_syntax.specs.Items.{item, is_long, AreItems}
-use Rattle.ded_syntax.specs.Reading.{asked_at, asks}
-use Rattle.ded_syntax.proofs.Says.{some_long}
-use Rattle.ded_syntax.proofs.Complete.{capped_sides, asked_read}
-use Rattle.ded_syntax.proofs.Sound.{asked_sound}
-use Rattle.ded_syntax.proofs.Values.{asks_right, no_long_word}
-use Rattle.ded_syntax.proofs.One.{one_list}
+use Rattle.ded_syntax.specs.Symbols.{Symbol, symbol, number_of}
+use Rattle.ded_syntax.specs.Commands.{SpellsCommand}
+use Rattle.ded_syntax.specs.CommandReading.{Draft, draft_at, scans}
+use Rattle.ded_syntax.specs.Drafts.{test_of, passes_draft, long_draft}
+use Rattle.ded_syntax.specs.Items.{capped_of, is_long_name, is_long_literal, AreSymbols}
+use Rattle.ded_syntax.specs.Spelling.{SpellsBy, is_long_word, is_long_number, SomeLexeme, AppliesBy, IsLeastBy, IsReadBy}
+use Rattle.ded_syntax.specs.Meaning.{Means}
+use Rattle.ded_syntax.proofs.Binds.{some_same}
+use Rattle.ded_syntax.proofs.Seen.{one_list}
+use Rattle.ded_syntax.proofs.LongSymbols.{long_names, long_literals, all_alike, turned}
+use Rattle.ded_syntax.proofs.Agrees.{command_alike}
+use Rattle.ded_syntax.proofs.CommandsRead.{command_read}
+use Rattle.ded_syntax.proofs.CommandsSound.{command_sound}
+use Rattle.ded_syntax.proofs.DraftsAlike.{means_scans, scans_means, one_meaning, draft_rows, draft_passes, other_draft, passes_other}
 
-abbrev pub asking : Comparison → List Lexeme
-asking c = Word (codes "ask") ∷ spell_comparison c
+both_ways : (b : Bool) → b ≡ true → b ≡ false → ⊥
+both_ways true e f = cc
+both_ways false e f = cc
 
--- what is spelled is a question
-question : (language : Language) (ls : List Lexeme) (c : CommandForm) (depth : ℕ) → SpellsCommand language ls c depth → (d : Comparison) × (ls ≡ asking d) × (depth ≡ 0)
-question language ls (ask f) depth s = (s.comparison, s.spelled, s.flat)
-question language ls c depth s = absurd s
+some_none : {A : Type 0} (x : A) (o : Option A) → o ≡ Some x → o ≡ None → ⊥
+some_none x None e f = cc
+some_none x (Some y) e f = cc
 
--- nothing is too small for the first refusals
-none_below : (q : Refusal) (language : Language) (bytes : List ℕ) → refusal_number q < 3 → AppliesIn q language bytes → ⊥
-none_below Syntax language bytes lt a = absurd (omega (arith, lt))
-none_below LongName language bytes lt a = absurd (omega (arith, lt))
-none_below LongNumber language bytes lt a = absurd (omega (arith, lt))
-none_below Deep language bytes lt a = absurd (omega (arith, lt))
-none_below q language bytes lt a = a
+module _ (all : Bool) (language : Language) (bytes : List ℕ) where
+  -- ---- Syntax
 
-least_syntax : (language : Language) (bytes : List ℕ) → AppliesIn Syntax language bytes → IsLeastIn Syntax language bytes
-least_syntax language bytes a = record { applies = a; least = λ q lt b. none_below q language bytes lt b }
+  none_below : (q : Refusal) → refusal_number q < 3 → AppliesBy (test_of all) q language bytes → ⊥
+  none_below Syntax lt a = absurd (omega (arith, lt))
+  none_below LongName lt a = absurd (omega (arith, lt))
+  none_below LongNumber lt a = absurd (omega (arith, lt))
+  none_below Deep lt a = absurd (omega (arith, lt))
+  none_below q lt a = a
 
-pub no_token : (language : Language) (bytes : List ℕ) → ((ls : List Lexeme) → AreLexemes bytes ls → ⊥) → IsLeastIn Syntax language bytes
-no_token language bytes none = least_syntax language bytes (λ c depth s. none s.lexemes s.are)
+  least_syntax : AppliesBy (test_of all) Syntax language bytes → IsLeastBy (test_of all) Syntax language bytes
+  least_syntax a = record { applies = a; least = λ q lt b. none_below q lt b }
 
-pub not_asked : (language : Language) (bytes : List ℕ) (items : List Item) → AreItems bytes items → asked_at items ≡ None → IsLeastIn Syntax language bytes
-not_asked language bytes items are none = least_syntax language bytes (λ c depth s. nothing s)
-  where
-    nothing : {c : CommandForm} {depth : ℕ} → Spells language bytes c depth → ⊥
-    nothing {c} {depth} s =
-        let q = question language s.lexemes c depth s.command in
-        let same : are.lexemes ≡ asking q.0 = one_list bytes are.lexemes s.lexemes are.are s.are ∙ q.1 in
-        some_none (sym (asked_read q.0) ∙ ap (λ (ls : List Lexeme). asked_at (map item ls)) (sym same) ∙ ap asked_at (sym are.seen) ∙ none)
-      where
-        some_none : {x : Sides} → Some x ≡ None → ⊥
-        some_none e = cc
+  pub no_token : ((ls : List Lexeme) → AreLexemes bytes ls → ⊥) → IsLeastBy (test_of all) Syntax language bytes
+  no_token none = least_syntax (λ c depth s. none s.lexemes s.are)
 
--- the bytes say this question
-pub record Asked (bytes : List ℕ) (x : Sides) : Type 0 where
-  pub question : Comparison
-  pub are : AreLexemes bytes (asking question)
-  pub sides : x ≡ capped_sides question
+  module _ (ts : List Symbol) (are : AreSymbols bytes ts) where
+    same_symbols : (ls : List Lexeme) → AreLexemes bytes ls → map symbol ls ≡ ts
+    same_symbols ls h = ap (map symbol) (one_list bytes ls are.lexemes h are.are) ∙ sym are.seen
 
-asked : (bytes : List ℕ) (items : List Item) (x : Sides) → AreItems bytes items → asked_at items ≡ Some x → Asked bytes x
-asked bytes items x are e =
-    let s = asked_sound are.lexemes x (ap asked_at (sym are.seen) ∙ e) in
-    record { question = s.0; are = subst (AreLexemes bytes) s.1 are.are; sides = s.2 }
+    -- the symbols of the bytes spell the command
+    exactly : (c : CommandForm) (depth : ℕ) → SpellsBy (test_of all) language bytes c depth → SpellsCommand number_of ts c depth
+    exactly c depth s = subst (λ (l : List Symbol). SpellsCommand number_of l c depth) (same_symbols s.lexemes s.are) s.command
 
-spelled : (language : Language) (bytes : List ℕ) (q : Comparison) → AreLexemes bytes (asking q) → Spells language bytes (ask (comparison_form q)) 0
-spelled language bytes q are = record { lexemes = asking q; are = are; command = record { comparison = q; spelled = refl; means = refl; flat = refl } }
+    -- and are read as a draft, whatever their numbers say
+    drafted : (c : CommandForm) (depth : ℕ) → SpellsBy (test_of all) language bytes c depth → (d : Draft) × (draft_at capped_of ts ≡ Some d) × (scans d ≡ true) × (passes_draft all d ≡ true)
+    drafted c depth s =
+        let r = command_read number_of ts c depth (exactly c depth s) in
+        let o = other_draft number_of capped_of ts r.0 r.1 (means_scans r.0 c depth r.2) in
+        (o.0, o.1, o.2, passes_other all r.0 o.0 o.3 ∙ draft_passes all r.0 c depth r.2 ∙ s.passes)
 
-pub some_spelled : (language : Language) (bytes : List ℕ) (items : List Item) (x : Sides) → AreItems bytes items → asked_at items ≡ Some x → (c : CommandForm) × (depth : ℕ) × Spells language bytes c depth
-some_spelled language bytes items x are e =
-    let a = asked bytes items x are e in
-    (ask (comparison_form a.question), 0, spelled language bytes a.question a.are)
+    pub not_drafted : draft_at capped_of ts ≡ None → IsLeastBy (test_of all) Syntax language bytes
+    not_drafted e = least_syntax (λ c depth s. let d = drafted c depth s in some_none d.0 (draft_at capped_of ts) d.1 e)
 
--- what passes a test among the lexemes of a question
-passes : (test : Lexeme → Bool) (bytes : List ℕ) (q : Comparison) → AreLexemes bytes (asking q) → SomeLexeme test bytes → list_any test (asking q) ≡ true
-passes test bytes q are s = ap (list_any test) (one_list bytes (asking q) s.lexemes are s.are) ∙ s.passes
+    module _ (d : Draft) (read : draft_at capped_of ts ≡ Some d) where
+      same_draft : (e : Draft) → draft_at capped_of ts ≡ Some e → e ≡ d
+      same_draft e f = some_same e d (sym f ∙ read)
 
-both_ways : {b : Bool} → b ≡ true → b ≡ false → ⊥
-both_ways e f = cc
+      pub not_scanned : scans d ≡ false → IsLeastBy (test_of all) Syntax language bytes
+      not_scanned f = least_syntax (λ c depth s. let e = drafted c depth s in both_ways (scans d) (ap scans (sym (same_draft e.0 e.1)) ∙ e.2) f)
 
-no_long_name : (bytes : List ℕ) (q : Comparison) → AreLexemes bytes (asking q) → SomeLexeme is_long_word bytes → ⊥
-no_long_name bytes q are s = both_ways (passes is_long_word bytes q are s) (no_long_word q)
+      pub not_passed : passes_draft all d ≡ false → IsLeastBy (test_of all) Syntax language bytes
+      not_passed f = least_syntax (λ c depth s. let e = drafted c depth s in both_ways (passes_draft all d) (ap (passes_draft all) (sym (same_draft e.0 e.1)) ∙ e.3) f)
 
-flat : (language : Language) (bytes : List ℕ) (c : CommandForm) (depth : ℕ) → Spells language bytes c depth → 64 < depth → ⊥
-flat language bytes c depth s above =
-    let q = question language s.lexemes c depth s.command in
-    absurd (omega (arith, q.2, above))
+      module _ (scanned : scans d ≡ true) (passed : passes_draft all d ≡ true) where
+        spells_by : (c : CommandForm) (depth : ℕ) → SpellsCommand number_of ts c depth → test_of all c ≡ true → SpellsBy (test_of all) language bytes c depth
+        spells_by c depth s p = record { lexemes = are.lexemes; are = are.are; command = subst (λ (l : List Symbol). SpellsCommand number_of l c depth) are.seen s; passes = p }
 
--- the long numbers of items are those of the lexemes
-long_items : (bytes : List ℕ) (items : List Item) (q : Comparison) → AreItems bytes items → AreLexemes bytes (asking q) → list_any is_long items ≡ list_any is_long_number (asking q)
-long_items bytes items q are said =
-    ap (list_any is_long) are.seen
-    ∙ some_long are.lexemes
-    ∙ ap (list_any is_long_number) (one_list bytes are.lexemes (asking q) are.are said)
+        pub some_spelled : (c : CommandForm) × (depth : ℕ) × SpellsBy (test_of all) language bytes c depth
+        some_spelled =
+            let o = other_draft capped_of number_of ts d read scanned in
+            let m = scans_means o.0 o.2 in
+            (m.0, m.1, spells_by m.0 m.1 (command_sound number_of ts m.0 m.1 (o.0, o.1, m.2)) (sym (draft_passes all o.0 m.0 m.1 m.2) ∙ passes_other all d o.0 o.3 ∙ passed))
 
-below_number : (q : Refusal) (language : Language) (bytes : List ℕ) (c : Comparison) → AreLexemes bytes (asking c) → refusal_number q < 5 → AppliesIn q language bytes → ⊥
-below_number Syntax language bytes c are lt a = a (ask (comparison_form c)) 0 (spelled language bytes c are)
-below_number LongName language bytes c are lt a = no_long_name bytes c are a
-below_number LongNumber language bytes c are lt a = absurd (omega (arith, lt))
-below_number Deep language bytes c are lt a = absurd (omega (arith, lt))
-below_number q language bytes c are lt a = a
+        no_syntax : AppliesBy (test_of all) Syntax language bytes → ⊥
+        no_syntax a = let s = some_spelled in a s.0 s.1 s.2
 
-pub long_number : (language : Language) (bytes : List ℕ) (items : List Item) (x : Sides) → AreItems bytes items → asked_at items ≡ Some x → list_any is_long items ≡ true → IsLeastIn LongNumber language bytes
-long_number language bytes items x are e long =
-    let a = asked bytes items x are e in
-    record {
-      applies = record { lexemes = asking a.question; are = a.are; passes = sym (long_items bytes items a.question are a.are) ∙ long };
-      least = λ q lt b. below_number q language bytes a.question a.are lt b;
-    }
+        -- ---- LongName
 
-none_applies : (q : Refusal) (language : Language) (bytes : List ℕ) (c : Comparison) → AreLexemes bytes (asking c) → list_any is_long_number (asking c) ≡ false → AppliesIn q language bytes → ⊥
-none_applies Syntax language bytes c are short a = a (ask (comparison_form c)) 0 (spelled language bytes c are)
-none_applies LongName language bytes c are short a = no_long_name bytes c are a
-none_applies LongNumber language bytes c are short a = both_ways (passes is_long_number bytes c are a) short
-none_applies Deep language bytes c are short a = flat language bytes a.command a.depth a.spells a.above
-none_applies q language bytes c are short a = a
+        long_word : SomeLexeme is_long_word bytes → list_any is_long_name ts ≡ true
+        long_word s = ap (list_any is_long_name) (sym (same_symbols s.lexemes s.are)) ∙ long_names s.lexemes ∙ s.passes
 
-pub is_read : (language : Language) (bytes : List ℕ) (items : List Item) (x : Sides) (c : CommandForm) → AreItems bytes items → asked_at items ≡ Some x → list_any is_long items ≡ false → c ≡ asks x → IsRead language bytes c
-is_read language bytes items x c are e long made =
-    let a = asked bytes items x are e in
-    let short = sym (long_items bytes items a.question are a.are) ∙ long in
-    let means : c ≡ ask (comparison_form a.question) = made ∙ ap asks a.sides ∙ asks_right a.question short in
-    subst (IsRead language bytes) (sym means)
-    (record {
-      depth = 0;
-      spells = spelled language bytes a.question a.are;
-      accepted = λ q b. none_applies q language bytes a.question a.are short b;
-    })
+        below_name : (q : Refusal) → refusal_number q < 4 → AppliesBy (test_of all) q language bytes → ⊥
+        below_name Syntax lt a = no_syntax a
+        below_name LongName lt a = absurd (omega (arith, lt))
+        below_name LongNumber lt a = absurd (omega (arith, lt))
+        below_name Deep lt a = absurd (omega (arith, lt))
+        below_name q lt a = a
+
+        pub long_name : list_any is_long_name ts ≡ true → IsLeastBy (test_of all) LongName language bytes
+        long_name e = record {
+          applies = record { lexemes = are.lexemes; are = are.are; passes = sym (long_names are.lexemes) ∙ ap (list_any is_long_name) (sym are.seen) ∙ e };
+          least = λ q lt a. below_name q lt a;
+        }
+
+        module _ (short_names : list_any is_long_name ts ≡ false) where
+          -- ---- LongNumber
+
+          long_literal : SomeLexeme is_long_number bytes → list_any is_long_literal ts ≡ true
+          long_literal s = ap (list_any is_long_literal) (sym (same_symbols s.lexemes s.are)) ∙ long_literals s.lexemes ∙ s.passes
+
+          below_number : (q : Refusal) → refusal_number q < 5 → AppliesBy (test_of all) q language bytes → ⊥
+          below_number Syntax lt a = no_syntax a
+          below_number LongName lt a = both_ways (list_any is_long_name ts) (long_word a) short_names
+          below_number LongNumber lt a = absurd (omega (arith, lt))
+          below_number Deep lt a = absurd (omega (arith, lt))
+          below_number q lt a = a
+
+          pub has_literal : list_any is_long_literal ts ≡ true → IsLeastBy (test_of all) LongNumber language bytes
+          has_literal e = record {
+            applies = inl (record { lexemes = are.lexemes; are = are.are; passes = sym (long_literals are.lexemes) ∙ ap (list_any is_long_literal) (sym are.seen) ∙ e });
+            least = λ q lt a. below_number q lt a;
+          }
+
+          module _ (short_literals : list_any is_long_literal ts ≡ false) where
+            -- what the draft stands for is spelled
+            means_spelled : (c : CommandForm) (depth : ℕ) → Means d c depth → SpellsBy (test_of all) language bytes c depth
+            means_spelled c depth m =
+                spells_by c depth (command_alike capped_of number_of ts c depth (all_alike ts short_literals) (command_sound capped_of ts c depth (d, read, m))) (sym (draft_passes all d c depth m) ∙ passed)
+
+            -- and nothing else is
+            spelled_means : (c : CommandForm) (depth : ℕ) → SpellsBy (test_of all) language bytes c depth → Means d c depth
+            spelled_means c depth s =
+                let r = command_read capped_of ts c depth (command_alike number_of capped_of ts c depth (turned ts (all_alike ts short_literals)) (exactly c depth s)) in
+                subst (λ (e : Draft). Means e c depth) (same_draft r.0 r.1) r.2
+
+            pub has_row : long_draft d ≡ true → IsLeastBy (test_of all) LongNumber language bytes
+            has_row e =
+                let m = scans_means d scanned in
+                record {
+                  applies = inr (record { command = m.0; depth = m.1; spells = means_spelled m.0 m.1 m.2; long = sym (draft_rows d m.0 m.1 m.2) ∙ e });
+                  least = λ q lt a. below_number q lt a;
+                }
+
+            module _ (short_rows : long_draft d ≡ false) where
+              no_number : AppliesBy (test_of all) LongNumber language bytes → ⊥
+              no_number (inl s) = both_ways (list_any is_long_literal ts) (long_literal s) short_literals
+              no_number (inr s) = both_ways (long_draft d) (draft_rows d s.command s.depth (spelled_means s.command s.depth s.spells) ∙ s.long) short_rows
+
+              -- ---- Deep
+
+              below_deep : (q : Refusal) → refusal_number q < 6 → AppliesBy (test_of all) q language bytes → ⊥
+              below_deep Syntax lt a = no_syntax a
+              below_deep LongName lt a = both_ways (list_any is_long_name ts) (long_word a) short_names
+              below_deep LongNumber lt a = no_number a
+              below_deep Deep lt a = absurd (omega (arith, lt))
+              below_deep q lt a = a
+
+              pub is_deep : (c : CommandForm) (depth : ℕ) → Means d c depth → 64 < depth → IsLeastBy (test_of all) Deep language bytes
+              is_deep c depth m above = record {
+                applies = record { command = c; depth = depth; spells = means_spelled c depth m; above = above };
+                least = λ q lt a. below_deep q lt a;
+              }
+
+              -- ---- the command
+
+              module _ (c : CommandForm) (depth : ℕ) (m : Means d c depth) (low : depth ≤ 64) where
+                none_applies : (q : Refusal) → AppliesBy (test_of all) q language bytes → ⊥
+                none_applies Syntax a = no_syntax a
+                none_applies LongName a = both_ways (list_any is_long_name ts) (long_word a) short_names
+                none_applies LongNumber a = no_number a
+                none_applies Deep a =
+                    let same = one_meaning d a.command c a.depth depth (spelled_means a.command a.depth a.spells) m in
+                    absurd (omega (arith, same.1, low, a.above))
+                none_applies q a = a
+
+                pub is_read : IsReadBy (test_of all) language bytes c
+                is_read = record { depth = depth; spells = means_spelled c depth m; accepted = λ q a. none_applies q a }

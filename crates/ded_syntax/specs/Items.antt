@@ -1,45 +1,55 @@
--- What the reader sees of lexemes. Numbers of 2^63 and above are seen as 2^63.
-use Rattle.std.specs.Prelude.{◌≡◌, ◌^◌, ℕ, min, nat_le, Bool, false, List, map, if◌then◌else◌, codes}
-use Rattle.std.specs.Str.{bytes_eq}
+-- What the reader sees of symbols, and numbers as it reads them: those of 2^63 and above are read as 2^63.
+use Rattle.std.specs.Prelude.{◌≡◌, ◌^◌, ℕ, min, Bool, false, nat_le, nat_lt, List, map, length}
 use Rattle.ded_lex.specs.Lexemes.{Lexeme}
-use Rattle.ded_lex.specs.Lexemes as lexeme
-use Rattle.ded_lex.specs.Tokens.{AreLexemes}
-use Rattle.ded_model.specs.declared.formula.CompareOp.TheVariants.{Less, LessEq, Equal, NotEqual, GreaterEq, Greater}
+use Rattle.ded_lex.specs.Tokens.{AreLexemes, token_text, quoted_value}
+use Rattle.ded_syntax.specs.declared.item.Rest.{Rest}
 use Rattle.ded_syntax.specs.declared.item.Item.{Item}
-use Rattle.ded_syntax.specs.declared.item.Item.TheVariants.{Ask, Number, Plus, Minus, Relation, Other}
-use Rattle.ded_syntax.specs.Grammar.{number_of}
+use Rattle.ded_syntax.specs.declared.item.Item.TheVariants as item
+use Rattle.ded_syntax.specs.Symbols.{Symbol, Word, Name, Number, Quoted, Plus, Minus, Times, Open, Close, OpenBrace, CloseBrace, Comma, Colon, Define, Relation, symbol, number_of}
 
 abbrev pub capped : ℕ → ℕ
 capped n = min n (2 ^ 63)
 
-abbrev pub word_item : List ℕ → Item
-word_item w = if bytes_eq w (codes "ask") then Ask else Other
+abbrev pub capped_of : List ℕ → ℕ
+capped_of ds = capped (number_of ds)
 
-abbrev pub sign_item : List ℕ → Item
-sign_item s =
-    if bytes_eq s (codes "+") then Plus
-    else (if bytes_eq s (codes "-") then Minus
-    else (if bytes_eq s (codes "<") then Relation Less
-    else (if bytes_eq s (codes "<=") then Relation LessEq
-    else (if bytes_eq s (codes "=") then Relation Equal
-    else (if bytes_eq s (codes "!=") then Relation NotEqual
-    else (if bytes_eq s (codes ">=") then Relation GreaterEq
-    else (if bytes_eq s (codes ">") then Relation Greater
-    else Other)))))))
+-- the symbol of an item, whose text stands in the bytes
+abbrev pub seen : List ℕ → Item → Symbol
+seen bytes (item.Word w) = Word w
+seen bytes (item.Name n) = Name (token_text bytes n)
+seen bytes (item.Number d) = Number (token_text bytes d)
+seen bytes (item.Quoted t) = Quoted (quoted_value (token_text bytes t))
+seen bytes item.Plus = Plus
+seen bytes item.Minus = Minus
+seen bytes item.Times = Times
+seen bytes item.Open = Open
+seen bytes item.Close = Close
+seen bytes item.OpenBrace = OpenBrace
+seen bytes item.CloseBrace = CloseBrace
+seen bytes item.Comma = Comma
+seen bytes item.Colon = Colon
+seen bytes item.Define = Define
+seen bytes (item.Relation op) = Relation op
 
-abbrev pub item : Lexeme → Item
-item (lexeme.Word w) = word_item w
-item (lexeme.Number ds) = Number (capped (number_of ds))
-item (lexeme.Quoted t) = Other
-item (lexeme.Sign s) = sign_item s
+abbrev pub symbols : List ℕ → List Item → List Symbol
+symbols bytes items = map (seen bytes) items
 
--- the number stands for one that is too great
-abbrev pub is_long : Item → Bool
-is_long (Number n) = nat_le (2 ^ 63) n
-is_long t = false
+-- the symbols that are left to read
+abbrev pub left : Rest → List Symbol
+left rest = symbols rest.bytes.now rest.items.now
 
--- the items are those of the lexemes of the bytes
-pub record AreItems (bytes : List ℕ) (items : List Item) : Type 0 where
+-- the name is of more than 64 bytes
+abbrev pub is_long_name : Symbol → Bool
+is_long_name (Name n) = nat_lt 64 (length n)
+is_long_name t = false
+
+-- the number is above 2^63 - 1
+abbrev pub is_long_literal : Symbol → Bool
+is_long_literal (Number ds) = nat_le (2 ^ 63) (number_of ds)
+is_long_literal t = false
+
+-- the symbols are those of the lexemes of the bytes
+pub record AreSymbols (bytes : List ℕ) (ts : List Symbol) : Type 0 where
   pub lexemes : List Lexeme
   pub are : AreLexemes bytes lexemes
-  pub seen : items ≡ map item lexemes
+  pub seen : ts ≡ map symbol lexemes

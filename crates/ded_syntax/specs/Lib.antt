@@ -1,4 +1,15 @@
-pub mod Grammar
+pub mod Symbols
+pub mod Operands
+pub mod Atoms
+pub mod Commands
+pub mod LongRows
+pub mod Answered
 pub mod Spelling
 pub mod Items
-pub mod Reading
+pub mod OperandReading
+pub mod AtomReading
+pub mod CommandReading
+pub mod Drafts
+pub mod Views
+pub mod DraftViews
+pub mod Meaning

@@ -1,5 +1,5 @@
 -- Which bytes spell a command, and what is refused of bytes alone.
-use Rattle.std.specs.Prelude.{◌≡◌, ◌^◌, ◌<◌, ℕ, nat_lt, nat_le, Bool, true, false, List, length}
+use Rattle.std.specs.Prelude.{◌≡◌, ◌⊎◌, ◌^◌, ◌<◌, ℕ, nat_lt, nat_le, Bool, true, false, List, length, map}
 use Rattle.std.specs.List.{list_any}
 use Rattle.ded_lex.specs.Lexemes.{Lexeme, Word, Number, Quoted, Sign}
 use Rattle.ded_lex.specs.Tokens.{AreLexemes}
@@ -8,13 +8,22 @@ use Rattle.ded_model.specs.declared.command.Refusal.{Refusal}
 use Rattle.ded_model.specs.declared.command.Refusal.TheVariants.{Syntax, LongName, LongNumber, Deep}
 use Rattle.ded_model.specs.Command.{CommandForm}
 use Rattle.ded_model.specs.Refusals.{refusal_number}
-use Rattle.ded_syntax.specs.Grammar.{number_of, SpellsCommand}
+use Rattle.ded_syntax.specs.Symbols.{symbol, number_of}
+use Rattle.ded_syntax.specs.Commands.{SpellsCommand}
+use Rattle.ded_syntax.specs.LongRows.{has_long_row}
+use Rattle.ded_syntax.specs.Answered.{is_answered}
 
--- the bytes spell the command in the language, with this nesting
-pub record Spells (language : Language) (bytes : List ℕ) (c : CommandForm) (depth : ℕ) : Type 0 where
+-- ---- what is spelled
+
+-- The bytes spell the command in the language, with this nesting, and it passes the test. The test says which commands
+-- there are at all. As yet each language has the same grammar.
+pub record SpellsBy (test : CommandForm → Bool) (language : Language) (bytes : List ℕ) (c : CommandForm) (depth : ℕ) : Type 0 where
   pub lexemes : List Lexeme
   pub are : AreLexemes bytes lexemes
-  pub command : SpellsCommand language lexemes c depth
+  pub command : SpellsCommand number_of (map symbol lexemes) c depth
+  pub passes : test c ≡ true
+
+-- ---- what is refused
 
 -- a word of more than 64 bytes; no reserved word is that long
 abbrev pub is_long_word : Lexeme → Bool
@@ -36,29 +45,49 @@ pub record SomeLexeme (test : Lexeme → Bool) (bytes : List ℕ) : Type 0 where
   pub are : AreLexemes bytes lexemes
   pub passes : list_any test lexemes ≡ true
 
--- a command is spelled whose nesting is above 64
-pub record IsDeep (language : Language) (bytes : List ℕ) : Type 0 where
+-- a command is spelled in which a comparison or an argument has a long row
+pub record SpellsLongRow (test : CommandForm → Bool) (language : Language) (bytes : List ℕ) : Type 0 where
   pub command : CommandForm
   pub depth : ℕ
-  pub spells : Spells language bytes command depth
+  pub spells : SpellsBy test language bytes command depth
+  pub long : has_long_row command ≡ true
+
+-- a command is spelled whose nesting is above 64
+pub record IsDeepBy (test : CommandForm → Bool) (language : Language) (bytes : List ℕ) : Type 0 where
+  pub command : CommandForm
+  pub depth : ℕ
+  pub spells : SpellsBy test language bytes command depth
   pub above : 64 < depth
 
--- the causes of the refusals that bytes alone decide. Each is read only where no lesser one applies; where names are read
--- by no command, no row can have a coefficient, so a number is too long only where it is written so.
-abbrev pub AppliesIn : Refusal → Language → List ℕ → Type 0
-AppliesIn Syntax language bytes = (c : CommandForm) (depth : ℕ) → Spells language bytes c depth → ⊥
-AppliesIn LongName language bytes = SomeLexeme is_long_word bytes
-AppliesIn LongNumber language bytes = SomeLexeme is_long_number bytes
-AppliesIn Deep language bytes = IsDeep language bytes
-AppliesIn _ language bytes = ⊥
+-- the causes of the refusals that bytes alone decide; each is read only where no lesser one applies
+abbrev pub AppliesBy : (CommandForm → Bool) → Refusal → Language → List ℕ → Type 0
+AppliesBy test Syntax language bytes = (c : CommandForm) (depth : ℕ) → SpellsBy test language bytes c depth → ⊥
+AppliesBy test LongName language bytes = SomeLexeme is_long_word bytes
+AppliesBy test LongNumber language bytes = SomeLexeme is_long_number bytes ⊎ SpellsLongRow test language bytes
+AppliesBy test Deep language bytes = IsDeepBy test language bytes
+AppliesBy test _ language bytes = ⊥
 
 -- the refusal applies, and none of a lesser number does
-pub record IsLeastIn (r : Refusal) (language : Language) (bytes : List ℕ) : Type 0 where
-  pub applies : AppliesIn r language bytes
-  pub least : (q : Refusal) → refusal_number q < refusal_number r → AppliesIn q language bytes → ⊥
+pub record IsLeastBy (test : CommandForm → Bool) (r : Refusal) (language : Language) (bytes : List ℕ) : Type 0 where
+  pub applies : AppliesBy test r language bytes
+  pub least : (q : Refusal) → refusal_number q < refusal_number r → AppliesBy test q language bytes → ⊥
 
 -- the bytes spell the command, and no refusal applies to them
-pub record IsRead (language : Language) (bytes : List ℕ) (c : CommandForm) : Type 0 where
+pub record IsReadBy (test : CommandForm → Bool) (language : Language) (bytes : List ℕ) (c : CommandForm) : Type 0 where
   pub depth : ℕ
-  pub spells : Spells language bytes c depth
-  pub accepted : (q : Refusal) → AppliesIn q language bytes → ⊥
+  pub spells : SpellsBy test language bytes c depth
+  pub accepted : (q : Refusal) → AppliesBy test q language bytes → ⊥
+
+-- ---- the same of the commands that the program answers
+
+abbrev pub Spells : Language → List ℕ → CommandForm → ℕ → Type 0
+Spells language bytes c depth = SpellsBy is_answered language bytes c depth
+
+abbrev pub AppliesIn : Refusal → Language → List ℕ → Type 0
+AppliesIn r language bytes = AppliesBy is_answered r language bytes
+
+abbrev pub IsLeastIn : Refusal → Language → List ℕ → Type 0
+IsLeastIn r language bytes = IsLeastBy is_answered r language bytes
+
+abbrev pub IsRead : Language → List ℕ → CommandForm → Type 0
+IsRead language bytes c = IsReadBy is_answered language bytes c

@@ -1,54 +1,107 @@
 // Commands of bytes.
-ghost use Rattle.std.specs.Prelude.{◌≡◌, ◌≢◌, ◌≤◌, ◌<◌, ◌^◌, [], pos, unsigned_abs, length, IfOk, IfErr};
-ghost use Rattle.ded_model.specs.declared.formula.Operand.TheVariants as operand;
-ghost use Rattle.ded_model.specs.Command.{command_form};
+ghost use Rattle.std.specs.Prelude.{◌≡◌, ◌≢◌, ◌≤◌, ℕ, List, true, false, length, IfOk, IfErr};
+ghost use Rattle.ded_model.specs.declared.command.Language.{Language as LanguageForm};
 ghost use Rattle.ded_model.specs.declared.command.Refusal.TheVariants as refusal;
-ghost use Rattle.ded_syntax.specs.Reading.{asks};
-ghost use Rattle.ded_syntax.specs.Spelling.{IsRead, IsLeastIn};
+ghost use Rattle.ded_model.specs.Command.{command_form};
+ghost use Rattle.ded_model.specs.Form.{form};
+ghost use Rattle.ded_syntax.specs.Answered.{any_command};
+ghost use Rattle.ded_syntax.specs.CommandReading.{draft_at, scans, head_form};
+ghost use Rattle.ded_syntax.specs.Drafts.{test_of, passes_draft};
+ghost use Rattle.ded_syntax.specs.DraftViews.{seen_head, seen_draft};
+ghost use Rattle.ded_syntax.specs.Items.{capped_of, left, AreSymbols};
+ghost use Rattle.ded_syntax.specs.Meaning.{Means, MeansDeep};
+ghost use Rattle.ded_syntax.specs.Spelling.{IsReadBy, IsLeastBy, IsRead, IsLeastIn};
 
-use crate::item::items_of;
-use crate::reading::{Sides, asked, has_long_number};
+use crate::answered::answers;
+use crate::draft::{Draft, Head};
+use crate::item::{Rest, has_long_literal, has_long_name, items_of};
+use crate::long::has_long_row;
+use crate::statement::draft;
+use ded_grammar::{ReadFault, formula_of, is_formula};
 use ded_lex::{LexFault, tokens};
 use ded_model::command::{Command, Language, Refusal};
-use ded_model::formula::{Formula, Operand, Parts, Term};
+use ded_model::formula::Formula;
 use std::alloc::Global;
 
-// A sum of no names.
-fn constant(alloc: Global, value: i128) -> Operand
-    requires { unsigned_abs value < 2 ^ 100 }
-    ensures { result ≡ operand.Sum (record { parts = []; constant = value; over = pos 1 }) }
+// Whether the pieces of the draft spell a formula.
+fn is_spelled(draft: &Draft) -> bool
+    ensures { result ≡ scans (seen_draft draft.now) }
 {
-    Operand::Sum(Term {
-        parts: Parts {
-            list: Vec::new(alloc),
-        },
-        constant: value,
-        over: 1,
-    })
+    match draft {
+        Draft::Plain(_) => true,
+        Draft::Formed(_, pieces) => is_formula(pieces),
+    }
 }
 
-fn ask(alloc: Global, sides: Sides) -> Command
-    requires left { unsigned_abs sides.left < 2 ^ 100 }
-    requires right { unsigned_abs sides.right < 2 ^ 100 }
-    ensures { command_form result ≡ asks sides }
+// Whether the command of the draft is one that there is.
+fn passes(draft: &Draft, all: bool) -> bool
+    ensures { result ≡ passes_draft all (seen_draft draft.now) }
 {
-    Command::Ask(Formula::Compare(
-        constant(alloc, sides.left),
-        sides.op,
-        constant(alloc, sides.right),
-    ))
+    all || answers(draft)
 }
 
-/// The command that the bytes spell in the language.
-///
-/// # Errors
-/// The least refusal that applies to the bytes: `Syntax` where they spell no command, `LongNumber` where they spell one
-/// with a number above 2^63 - 1. `Memory` where no memory is had. What is spelled now has no name and no nesting, so
-/// `LongName` and `Deep` don't come.
-pub fn read_command(alloc: Global, bytes: &[u8], language: Language) -> Result<Command, Refusal>
+// The command of a head and its formula.
+fn headed(head: Head, formula: Formula) -> Command
+    ensures { command_form result ≡ head_form (seen_head head) (form formula) }
+{
+    match head {
+        Head::View(name, heading) => Command::View(name, heading, formula),
+        Head::Ask => Command::Ask(formula),
+        Head::Query(heading) => Command::Query(heading, formula),
+        Head::Explain(heading) => Command::Explain(heading, formula),
+    }
+}
+
+// The command for which a draft stands.
+fn command_of(alloc: Global, draft: Draft) -> Result<Command, Refusal>
+    requires { scans (seen_draft draft) ≡ true }
+    ensures made { IfOk result (λ c. (depth : ℕ) × Means (seen_draft draft) (command_form c) depth × (depth ≤ 64)) }
+    ensures refused { IfErr result (λ r. r ≢ refusal.Memory → (r ≡ refusal.Deep) × MeansDeep (seen_draft draft)) }
+{
+    match draft {
+        Draft::Plain(command) => Ok(command),
+        Draft::Formed(head, pieces) => {
+            match formula_of(alloc, &pieces) {
+                Ok(formula) => Ok(headed(head, formula)),
+                Err(refusal) => Err(refusal),
+            }
+        }
+    }
+}
+
+// The command that the items spell, of all commands or of those that the program answers.
+fn command_by(alloc: Global, items: Rest<'_>, all: bool) -> Result<Command, Refusal>
+    requires few { length (left items) ≤ 65536 }
+    ensures read { IfOk result (λ c. (language : LanguageForm) (bytes : List ℕ) → AreSymbols bytes (left items.entry) → IsReadBy (test_of all) language bytes (command_form c)) }
+    ensures refused { IfErr result (λ r. r ≢ refusal.Memory → (language : LanguageForm) (bytes : List ℕ) → AreSymbols bytes (left items.entry) → IsLeastBy (test_of all) r language bytes) }
+{
+    let draft = match draft(alloc, items) {
+        Ok(draft) => draft,
+        Err(ReadFault::NotRead) => return Err(Refusal::Syntax),
+        Err(ReadFault::Memory) => return Err(Refusal::Memory),
+    };
+    if !is_spelled(&draft) {
+        return Err(Refusal::Syntax);
+    }
+    if !passes(&draft, all) {
+        return Err(Refusal::Syntax);
+    }
+    if has_long_name(items.bytes, items.items) {
+        return Err(Refusal::LongName);
+    }
+    if has_long_literal(items.bytes, items.items) {
+        return Err(Refusal::LongNumber);
+    }
+    if has_long_row(&draft) {
+        return Err(Refusal::LongNumber);
+    }
+    command_of(alloc, draft)
+}
+
+fn read_by(alloc: Global, bytes: &[u8], language: Language, all: bool) -> Result<Command, Refusal>
     requires { length bytes.now ≤ 65536 }
-    ensures read { IfOk result (λ c. IsRead language bytes.now (command_form c)) }
-    ensures refused { IfErr result (λ r. r ≢ refusal.Memory → IsLeastIn r language bytes.now) }
+    ensures read { IfOk result (λ c. IsReadBy (test_of all) language bytes.now (command_form c)) }
+    ensures refused { IfErr result (λ r. r ≢ refusal.Memory → IsLeastBy (test_of all) r language bytes.now) }
 {
     let tokens = match tokens(alloc, bytes) {
         Ok(tokens) => tokens,
@@ -58,11 +111,39 @@ pub fn read_command(alloc: Global, bytes: &[u8], language: Language) -> Result<C
     let Ok(items) = items_of(alloc, bytes, tokens.list()) else {
         return Err(Refusal::Memory);
     };
-    let Some(sides) = asked(&items) else {
-        return Err(Refusal::Syntax);
-    };
-    if has_long_number(&items) {
-        return Err(Refusal::LongNumber);
-    }
-    Ok(ask(alloc, sides))
+    command_by(
+        alloc,
+        Rest {
+            bytes,
+            items: &items,
+        },
+        all,
+    )
+}
+
+/// The command that the bytes spell in the language, of the commands that the program can answer as yet
+/// (`specs/Answered.antt`). All others are not spelled.
+///
+/// # Errors
+/// The least refusal that applies to the bytes: `Syntax` where they spell no command, whatever its nesting; `LongName`
+/// where a name has more than 64 bytes; `LongNumber` where a number, or a number of the normal row of a comparison or
+/// an argument, is above 2^63 - 1 in magnitude; `Deep` where the nesting is above 64. `Memory` where no memory is had.
+pub fn read_command(alloc: Global, bytes: &[u8], language: Language) -> Result<Command, Refusal>
+    requires { length bytes.now ≤ 65536 }
+    ensures read { IfOk result (λ c. IsRead language bytes.now (command_form c)) }
+    ensures refused { IfErr result (λ r. r ≢ refusal.Memory → IsLeastIn r language bytes.now) }
+{
+    read_by(alloc, bytes, language, false)
+}
+
+/// The command that the bytes spell in the language, of all commands of the grammar.
+///
+/// # Errors
+/// As [`read_command`], where each command of the grammar is spelled.
+pub fn read_any_command(alloc: Global, bytes: &[u8], language: Language) -> Result<Command, Refusal>
+    requires { length bytes.now ≤ 65536 }
+    ensures read { IfOk result (λ c. IsReadBy any_command language bytes.now (command_form c)) }
+    ensures refused { IfErr result (λ r. r ≢ refusal.Memory → IsLeastBy any_command r language bytes.now) }
+{
+    read_by(alloc, bytes, language, true)
 }

@@ -1,33 +1,90 @@
 // What the reader sees of the tokens of bytes.
-ghost use Rattle.std.specs.Prelude.{◌≡◌, ◌≤◌, ◌<◌, length, map, All, IfOk};
-ghost use Rattle.ded_lex.specs.Tokens.{lexeme};
-ghost use Rattle.ded_syntax.specs.Grammar.{number_of};
-ghost use Rattle.ded_syntax.specs.Items.{capped, word_item, sign_item, item};
+ghost use Rattle.std.specs.Prelude.{◌≡◌, ℕ, List, map, IfOk};
+ghost use Rattle.std.specs.List.{list_any};
+ghost use Rattle.ded_lex.specs.Tokens.{lexeme, token_text};
+ghost use Rattle.ded_syntax.specs.Symbols.{symbol, formula_word, command_word, is_unused, unused_word, word_symbol, sum_sign, other_sign, sign_symbol};
+ghost use Rattle.ded_syntax.specs.Items.{capped_of, seen, symbols, is_long_name, is_long_literal};
 
-use ded_lex::{Token, TokenKind, text_of};
+use ded_lex::{Token, TokenKind};
 use ded_model::formula::CompareOp;
 use ded_model::memory::NoMemory;
 use std::alloc::Global;
 
-/// A token as the reader sees it.
+/// A reserved word.
 #[derive(Clone, Copy, Debug, PartialEq, Eq)]
-pub enum Item {
+pub enum Keyword {
+    Relation,
+    Text,
+    Insert,
+    Delete,
+    Drop,
+    View,
+    Keep,
     Ask,
-    /// A number up to 2^63; any greater one is 2^63.
-    Number(u64),
-    Plus,
-    Minus,
-    Relation(CompareOp),
-    /// A token that stands in no command.
-    Other,
+    Query,
+    Show,
+    BoxOf,
+    Explain,
+    And,
+    Or,
+    Not,
+    Implies,
+    Exists,
+    Forall,
+    True,
+    False,
+    /// One that stands in no command.
+    Unused,
 }
 
-/// The least number that is too great for a command.
-pub const TOO_GREAT: u64 = 1 << 63;
+/// A token as the reader sees it. What names, numbers and texts say stands in the bytes.
+#[derive(Clone, Copy, Debug, PartialEq, Eq)]
+pub enum Item {
+    Word(Keyword),
+    Name(Token),
+    Number(Token),
+    Quoted(Token),
+    Plus,
+    Minus,
+    Times,
+    Open,
+    Close,
+    OpenBrace,
+    CloseBrace,
+    Comma,
+    Colon,
+    Define,
+    Relation(CompareOp),
+}
 
-// What digits stand for, up to the least number that is too great.
-fn value_of(digits: &[u8]) -> u64
-    ensures { result ≡ capped (number_of digits.now) }
+/// What is left to read of a statement: its bytes, and the items that stand behind those that are read.
+#[derive(Clone, Copy, Debug)]
+pub struct Rest<'a> {
+    pub bytes: &'a [u8],
+    pub items: &'a [Item],
+}
+
+/// The bytes of a token, as far as there are any.
+pub fn text(bytes: &[u8], token: Token) -> &[u8]
+    ensures { result.now ≡ token_text bytes.now token }
+{
+    let rest = match bytes.get(token.start as usize..) {
+        Some(rest) => rest,
+        None => return &[],
+    };
+    let count = token.end.saturating_sub(token.start) as usize;
+    match rest.get(..count) {
+        Some(text) => text,
+        None => rest,
+    }
+}
+
+// The least number that is too great for a command.
+const TOO_GREAT: u64 = 1 << 63;
+
+/// What digits stand for, up to the least number that is too great.
+pub fn value_of(digits: &[u8]) -> u64
+    ensures { result ≡ capped_of digits.now }
 {
     let mut value = 0u64;
     for byte in digits {
@@ -39,54 +96,210 @@ fn value_of(digits: &[u8]) -> u64
     value
 }
 
-fn word_item(text: &[u8]) -> Item
-    ensures { result ≡ word_item text.now }
+fn formula_word(other: Item, text: &[u8]) -> Item
+    ensures { (bytes : List ℕ) → seen bytes result ≡ formula_word (seen bytes other) text.now }
 {
-    if text == b"ask".as_slice() {
-        Item::Ask
+    if text == b"and".as_slice() {
+        Item::Word(Keyword::And)
+    } else if text == b"or".as_slice() {
+        Item::Word(Keyword::Or)
+    } else if text == b"not".as_slice() {
+        Item::Word(Keyword::Not)
+    } else if text == b"implies".as_slice() {
+        Item::Word(Keyword::Implies)
+    } else if text == b"exists".as_slice() {
+        Item::Word(Keyword::Exists)
+    } else if text == b"forall".as_slice() {
+        Item::Word(Keyword::Forall)
+    } else if text == b"true".as_slice() {
+        Item::Word(Keyword::True)
+    } else if text == b"false".as_slice() {
+        Item::Word(Keyword::False)
+    } else if text == b"text".as_slice() {
+        Item::Word(Keyword::Text)
     } else {
-        Item::Other
+        other
+    }
+}
+
+fn command_word(other: Item, text: &[u8]) -> Item
+    ensures { (bytes : List ℕ) → seen bytes result ≡ command_word (seen bytes other) text.now }
+{
+    if text == b"relation".as_slice() {
+        Item::Word(Keyword::Relation)
+    } else if text == b"insert".as_slice() {
+        Item::Word(Keyword::Insert)
+    } else if text == b"delete".as_slice() {
+        Item::Word(Keyword::Delete)
+    } else if text == b"drop".as_slice() {
+        Item::Word(Keyword::Drop)
+    } else if text == b"view".as_slice() {
+        Item::Word(Keyword::View)
+    } else if text == b"keep".as_slice() {
+        Item::Word(Keyword::Keep)
+    } else if text == b"ask".as_slice() {
+        Item::Word(Keyword::Ask)
+    } else if text == b"query".as_slice() {
+        Item::Word(Keyword::Query)
+    } else if text == b"show".as_slice() {
+        Item::Word(Keyword::Show)
+    } else if text == b"box".as_slice() {
+        Item::Word(Keyword::BoxOf)
+    } else if text == b"explain".as_slice() {
+        Item::Word(Keyword::Explain)
+    } else {
+        other
+    }
+}
+
+// Whether the word is reserved and stands in no command.
+fn is_unused(text: &[u8]) -> bool
+    ensures { result ≡ is_unused text.now }
+{
+    text == b"closure".as_slice()
+        || text == b"interior".as_slice()
+        || text == b"disjoint".as_slice()
+        || text == b"verify".as_slice()
+        || text == b"begin".as_slice()
+        || text == b"commit".as_slice()
+        || text == b"abort".as_slice()
+        || text == b"dump".as_slice()
+        || text == b"dedale".as_slice()
+}
+
+fn unused_word(other: Item, text: &[u8]) -> Item
+    ensures { (bytes : List ℕ) → seen bytes result ≡ unused_word (seen bytes other) text.now }
+{
+    if is_unused(text) {
+        Item::Word(Keyword::Unused)
+    } else {
+        other
+    }
+}
+
+fn word_item(bytes: &[u8], token: Token) -> Item
+    ensures { seen bytes.now result ≡ word_symbol (token_text bytes.now token) }
+{
+    let text = text(bytes, token);
+    let other = command_word(unused_word(Item::Name(token), text), text);
+    formula_word(other, text)
+}
+
+fn sum_sign(other: Item, text: &[u8]) -> Item
+    ensures { (bytes : List ℕ) → seen bytes result ≡ sum_sign (seen bytes other) text.now }
+{
+    if text == b"+".as_slice() {
+        Item::Plus
+    } else if text == b"-".as_slice() {
+        Item::Minus
+    } else if text == b"*".as_slice() {
+        Item::Times
+    } else if text == b"<".as_slice() {
+        Item::Relation(CompareOp::Less)
+    } else if text == b"<=".as_slice() {
+        Item::Relation(CompareOp::LessEq)
+    } else if text == b"=".as_slice() {
+        Item::Relation(CompareOp::Equal)
+    } else if text == b"!=".as_slice() {
+        Item::Relation(CompareOp::NotEqual)
+    } else if text == b">=".as_slice() {
+        Item::Relation(CompareOp::GreaterEq)
+    } else if text == b">".as_slice() {
+        Item::Relation(CompareOp::Greater)
+    } else {
+        other
+    }
+}
+
+// Parentheses, braces and what stands between parts.
+fn other_sign(text: &[u8]) -> Item
+    ensures { (bytes : List ℕ) → seen bytes result ≡ other_sign text.now }
+{
+    if text == b"(".as_slice() {
+        Item::Open
+    } else if text == b")".as_slice() {
+        Item::Close
+    } else if text == b"{".as_slice() {
+        Item::OpenBrace
+    } else if text == b"}".as_slice() {
+        Item::CloseBrace
+    } else if text == b",".as_slice() {
+        Item::Comma
+    } else if text == b":".as_slice() {
+        Item::Colon
+    } else if text == b":=".as_slice() {
+        Item::Define
+    } else {
+        Item::Word(Keyword::Unused)
     }
 }
 
 fn sign_item(text: &[u8]) -> Item
-    ensures { result ≡ sign_item text.now }
+    ensures { (bytes : List ℕ) → seen bytes result ≡ sign_symbol text.now }
 {
-    match text {
-        b"+" => Item::Plus,
-        b"-" => Item::Minus,
-        b"<" => Item::Relation(CompareOp::Less),
-        b"<=" => Item::Relation(CompareOp::LessEq),
-        b"=" => Item::Relation(CompareOp::Equal),
-        b"!=" => Item::Relation(CompareOp::NotEqual),
-        b">=" => Item::Relation(CompareOp::GreaterEq),
-        b">" => Item::Relation(CompareOp::Greater),
-        _ => Item::Other,
-    }
+    sum_sign(other_sign(text), text)
 }
 
 fn item_of(bytes: &[u8], token: Token) -> Item
-    requires ordered { token.start ≤ token.end }
-    requires within { token.end ≤ length bytes.now }
-    ensures { result ≡ item (lexeme bytes.now token) }
+    ensures { seen bytes.now result ≡ symbol (lexeme bytes.now token) }
 {
-    let text = text_of(bytes, token);
     match token.kind {
-        TokenKind::Word => word_item(text),
-        TokenKind::Number => Item::Number(value_of(text)),
-        TokenKind::Sign => sign_item(text),
-        TokenKind::Quoted => Item::Other,
+        TokenKind::Word => word_item(bytes, token),
+        TokenKind::Number => Item::Number(token),
+        TokenKind::Sign => sign_item(text(bytes, token)),
+        TokenKind::Quoted => Item::Quoted(token),
     }
 }
 
 /// The items of the tokens, one for each.
 pub fn items_of(alloc: Global, bytes: &[u8], tokens: &[Token]) -> Result<Vec<Item>, NoMemory>
-    requires { All (λ token. (token.start < token.end) × (token.end ≤ length bytes.now)) tokens.now }
-    ensures { IfOk result (λ items. items.items ≡ map item (map (lexeme bytes.now) tokens.now)) }
+    ensures { IfOk result (λ items. symbols bytes.now items.items ≡ map symbol (map (lexeme bytes.now) tokens.now)) }
 {
     let mut items = Vec::with_capacity(alloc, tokens.len())?;
     for token in tokens {
         items.push(item_of(bytes, *token))?;
     }
     Ok(items)
+}
+
+fn is_long_name(bytes: &[u8], item: Item) -> bool
+    ensures { result ≡ is_long_name (seen bytes.now item) }
+{
+    match item {
+        Item::Name(token) => text(bytes, token).len() > 64,
+        _ => false,
+    }
+}
+
+/// Whether a name among the items has more than 64 bytes.
+pub fn has_long_name(bytes: &[u8], items: &[Item]) -> bool
+    ensures { result ≡ list_any is_long_name (symbols bytes.now items.now) }
+{
+    for item in items {
+        if is_long_name(bytes, *item) {
+            return true;
+        }
+    }
+    false
+}
+
+fn is_long_literal(bytes: &[u8], item: Item) -> bool
+    ensures { result ≡ is_long_literal (seen bytes.now item) }
+{
+    match item {
+        Item::Number(token) => value_of(text(bytes, token)) >= TOO_GREAT,
+        _ => false,
+    }
+}
+
+/// Whether a number among the items is too great.
+pub fn has_long_literal(bytes: &[u8], items: &[Item]) -> bool
+    ensures { result ≡ list_any is_long_literal (symbols bytes.now items.now) }
+{
+    for item in items {
+        if is_long_literal(bytes, *item) {
+            return true;
+        }
+    }
+    false
 }

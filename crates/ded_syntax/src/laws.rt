@@ -1,15 +1,18 @@
 // Laws of the grammar. Each is the contract of a function that does nothing.
-ghost use Rattle.std.specs.Prelude.{◌≡◌, ◌⊎◌, List, ℕ};
+ghost use Rattle.std.specs.Prelude.{◌≡◌, ◌⊎◌, List, ℕ, Bool};
 ghost use Rattle.ded_model.specs.declared.command.Language.{Language};
 ghost use Rattle.ded_model.specs.declared.command.Refusal.{Refusal};
 ghost use Rattle.ded_model.specs.declared.command.Refusal.TheVariants.{Syntax};
 ghost use Rattle.ded_model.specs.Command.{CommandForm};
-ghost use Rattle.ded_syntax.specs.Spelling.{Spells, AppliesIn, IsRead};
+ghost use Rattle.ded_syntax.specs.Answered.{any_command};
+ghost use Rattle.ded_syntax.specs.Spelling.{SpellsBy, AppliesBy, IsReadBy, Spells, AppliesIn, IsRead};
 
-/// Bytes spell one command at most, with one nesting.
+/// Bytes spell one command at most, with one nesting; of all commands, and of those that pass any test.
 pub fn one_command()
-    ensures { (language : Language) (bytes : List ℕ) (these those : CommandForm) (m n : ℕ) →
+    ensures answered { (language : Language) (bytes : List ℕ) (these those : CommandForm) (m n : ℕ) →
         Spells language bytes these m → Spells language bytes those n → (these ≡ those) × (m ≡ n) }
+    ensures tested { (test : CommandForm → Bool) (language : Language) (bytes : List ℕ) (these those : CommandForm) (m n : ℕ) →
+        SpellsBy test language bytes these m → SpellsBy test language bytes those n → (these ≡ those) × (m ≡ n) }
 {}
 
 /// Bytes spell a command, or `Syntax` applies to them; and where no refusal applies, they are read as a command.
@@ -21,4 +24,14 @@ pub fn some_command()
     ensures read { (language : Language) (bytes : List ℕ) →
         ((refusal : Refusal) → AppliesIn refusal language bytes → ⊥) →
         (command : CommandForm) × IsRead language bytes command }
+{}
+
+/// The same of all commands of the grammar.
+pub fn some_command_of_all()
+    ensures decided { (language : Language) (bytes : List ℕ) →
+        ((command : CommandForm) × (depth : ℕ) × SpellsBy any_command language bytes command depth)
+        ⊎ AppliesBy any_command Syntax language bytes }
+    ensures read { (language : Language) (bytes : List ℕ) →
+        ((refusal : Refusal) → AppliesBy any_command refusal language bytes → ⊥) →
+        (command : CommandForm) × IsReadBy any_command language bytes command }
 {}

@@ -1,4 +1,4 @@
-use crate::read_command;
+use crate::{read_any_command, read_command};
 use ded_model::command::{Command, Language, Refusal};
 use ded_model::formula::{CompareOp, Formula, Operand};
 use std::alloc::Global;
@@ -9,71 +9,209 @@ use std::test::Fail;
 #[derive(Clone, Copy, Debug, PartialEq, Eq)]
 enum Outcome {
     Asks(i128, CompareOp, i128),
+    Relation(usize),
+    Insert(usize),
+    Delete(u64),
+    Drop,
+    View(Shape),
+    Keep,
+    Ask(Shape),
+    Query(usize, Shape),
+    Show,
+    BoxOf,
+    Explain(usize, Shape),
     Refused(Refusal),
-    Else,
 }
 
-fn asked(command: &Command) -> Outcome {
-    match command {
-        Command::Ask(Formula::Compare(Operand::Sum(left), op, Operand::Sum(right))) => {
-            Outcome::Asks(left.constant, *op, right.constant)
-        }
-        _ => Outcome::Else,
+/// The outermost sign of a formula, with how many parts it has.
+#[derive(Clone, Copy, Debug, PartialEq, Eq)]
+enum Shape {
+    Truth(bool),
+    Compare,
+    Member(usize),
+    Not,
+    And(usize),
+    Or(usize),
+    Implies,
+    Exists,
+    Forall,
+}
+
+fn shape_of(formula: &Formula) -> Shape {
+    match formula {
+        Formula::True => Shape::Truth(true),
+        Formula::False => Shape::Truth(false),
+        Formula::Compare(_, _, _) => Shape::Compare,
+        Formula::Member(_, operands) => Shape::Member(operands.list.len()),
+        Formula::Not(_) => Shape::Not,
+        Formula::And(parts) => Shape::And(parts.len()),
+        Formula::Or(parts) => Shape::Or(parts.len()),
+        Formula::Implies(_, _) => Shape::Implies,
+        Formula::Exists(_, _) => Shape::Exists,
+        Formula::Forall(_, _) => Shape::Forall,
     }
 }
 
-fn outcome_of(rt: &impl Abort, alloc: Global, bytes: &[u8], language: Language) -> Outcome {
-    assert!(rt; bytes.len() < 100);
+fn asked(formula: &Formula) -> Outcome {
+    match formula {
+        Formula::Compare(Operand::Sum(left), op, Operand::Sum(right)) => {
+            Outcome::Asks(left.constant, *op, right.constant)
+        }
+        _ => Outcome::Ask(shape_of(formula)),
+    }
+}
+
+fn told(command: &Command) -> Outcome {
+    match command {
+        Command::Relation(_, heading) => Outcome::Relation(heading.columns.len()),
+        Command::Insert(_, formulas) => Outcome::Insert(formulas.len()),
+        Command::Delete(_, number) => Outcome::Delete(*number),
+        Command::Drop(_) => Outcome::Drop,
+        Command::View(_, _, formula) => Outcome::View(shape_of(formula)),
+        Command::Keep(_) => Outcome::Keep,
+        Command::Ask(formula) => asked(formula),
+        Command::Query(heading, formula) => {
+            Outcome::Query(heading.columns.len(), shape_of(formula))
+        }
+        Command::Show(_) => Outcome::Show,
+        Command::BoxOf(_) => Outcome::BoxOf,
+        Command::Explain(heading, formula) => {
+            Outcome::Explain(heading.columns.len(), shape_of(formula))
+        }
+    }
+}
+
+fn outcome_of(rt: &impl Abort, alloc: Global, bytes: &[u8]) -> Outcome {
+    assert!(rt; bytes.len() < 300);
+    match read_any_command(alloc, bytes, Language::One) {
+        Ok(command) => told(&command),
+        Err(refusal) => Outcome::Refused(refusal),
+    }
+}
+
+fn answered_of(rt: &impl Abort, alloc: Global, bytes: &[u8], language: Language) -> Outcome {
+    assert!(rt; bytes.len() < 300);
     match read_command(alloc, bytes, language) {
-        Ok(command) => asked(&command),
+        Ok(command) => told(&command),
         Err(refusal) => Outcome::Refused(refusal),
     }
 }
 
 #[test]
-fn bytes_are_read(rt: HostRuntime) -> Result<(), Fail> {
+fn answered_bytes_are_read(rt: HostRuntime) -> Result<(), Fail> {
     let syntax = Outcome::Refused(Refusal::Syntax);
     for (text, wanted) in [
         ("ask 3 <= 7", Outcome::Asks(3, CompareOp::LessEq, 7)),
         ("ask -1 + 2 - 3 < 0", Outcome::Asks(-2, CompareOp::Less, 0)),
-        ("ask 0=-1-2", Outcome::Asks(0, CompareOp::Equal, -3)),
-        ("ask 1!=0-1+10", Outcome::Asks(1, CompareOp::NotEqual, 9)),
         ("ask 007>=7", Outcome::Asks(7, CompareOp::GreaterEq, 7)),
         (
             " ask-- a'b;\n1 -- \n\t+ 1\r>--\n2--",
             Outcome::Asks(2, CompareOp::Greater, 2),
         ),
-        (
-            "ask 9223372036854775807 + 1 > 0",
-            Outcome::Asks(9_223_372_036_854_775_808, CompareOp::Greater, 0),
-        ),
+        ("ask (1 = 1)", Outcome::Asks(1, CompareOp::Equal, 1)),
         (
             "ask 9223372036854775808 > 0",
             Outcome::Refused(Refusal::LongNumber),
         ),
-        (
-            "ask 1 < 0 - 99999999999999999999",
-            Outcome::Refused(Refusal::LongNumber),
-        ),
-        ("ask 1 = 9223372036854775808 1", syntax),
-        ("ask 1", syntax),
         ("ask", syntax),
         ("", syntax),
-        (" \t-- ask 1 = 1", syntax),
         ("ask 1 = 1 = 1", syntax),
         ("ask - - 1 = 1", syntax),
-        ("ask 1 + = 1", syntax),
         ("ask x = 1", syntax),
         ("ask 'a' = 'a'", syntax),
-        ("ASK 1 = 1", syntax),
-        ("1 = 1", syntax),
-        ("ask 1 = 1x", syntax),
+        ("ask 1 = 1 and 1 = 1", syntax),
+        ("ask x = 9223372036854775808", syntax),
         ("show N", syntax),
     ] {
         for language in [Language::One, Language::Two, Language::Opening] {
-            let outcome = outcome_of(&rt, rt.alloc(), text.as_bytes(), language);
+            let outcome = answered_of(&rt, rt.alloc(), text.as_bytes(), language);
             assert_eq!(rt; outcome, wanted, "at {text}");
         }
+    }
+    Ok(())
+}
+
+#[test]
+fn commands_are_read(rt: HostRuntime) -> Result<(), Fail> {
+    for (text, wanted) in [
+        ("relation T(x, y, n text)", Outcome::Relation(3)),
+        ("insert T { }", Outcome::Insert(0)),
+        (
+            "insert T { x >= 0, n = 'it''s', 2*x - y < 4 }",
+            Outcome::Insert(3),
+        ),
+        ("delete T 12", Outcome::Delete(12)),
+        ("drop T", Outcome::Drop),
+        ("keep V", Outcome::Keep),
+        ("show T", Outcome::Show),
+        ("box T", Outcome::BoxOf),
+        ("view V(x) := T(x)", Outcome::View(Shape::Member(1))),
+        (
+            "query (x, n text) : T(x, n, 2*x)",
+            Outcome::Query(2, Shape::Member(3)),
+        ),
+        ("explain (x) : not x = 1", Outcome::Explain(1, Shape::Not)),
+    ] {
+        let outcome = outcome_of(&rt, rt.alloc(), text.as_bytes());
+        assert_eq!(rt; outcome, wanted, "at {text}");
+    }
+    Ok(())
+}
+
+#[test]
+fn formulas_are_read(rt: HostRuntime) -> Result<(), Fail> {
+    for (text, wanted) in [
+        ("ask true", Outcome::Ask(Shape::Truth(true))),
+        (
+            "ask x = 1 or y = 1 and x = 2 or false",
+            Outcome::Ask(Shape::Or(3)),
+        ),
+        (
+            "ask x = 1 and y = 1 and (x = 2 or false)",
+            Outcome::Ask(Shape::And(3)),
+        ),
+        (
+            "ask x = 1 implies y = 1 implies x = 2",
+            Outcome::Ask(Shape::Implies),
+        ),
+        (
+            "ask exists x forall n text (T(x, n))",
+            Outcome::Ask(Shape::Exists),
+        ),
+        ("ask forall x (x = x)", Outcome::Ask(Shape::Forall)),
+        ("ask not not T(x)", Outcome::Ask(Shape::Not)),
+        (
+            "ask -x + 2*y - x = 0",
+            Outcome::Asks(0, CompareOp::Equal, 0),
+        ),
+    ] {
+        let outcome = outcome_of(&rt, rt.alloc(), text.as_bytes());
+        assert_eq!(rt; outcome, wanted, "at {text}");
+    }
+    Ok(())
+}
+
+#[test]
+fn refusals_are_the_least(rt: HostRuntime) -> Result<(), Fail> {
+    for (text, wanted) in [
+        ("relation T()", Refusal::Syntax),
+        ("relation text(x)", Refusal::Syntax),
+        ("insert T { true }", Refusal::Syntax),
+        ("ask x = 1 y = 1", Refusal::Syntax),
+        ("ask exists x x = 1", Refusal::Syntax),
+        ("ask T()", Refusal::Syntax),
+        ("verify T", Refusal::Syntax),
+        ("drop T 99999999999999999999", Refusal::Syntax),
+        (
+            "drop aaaaaaaaaabbbbbbbbbbccccccccccddddddddddeeeeeeeeeeffffffffff12345",
+            Refusal::LongName,
+        ),
+        ("delete T 9223372036854775808", Refusal::LongNumber),
+        ("ask x = 9223372036854775807 + 1", Refusal::LongNumber),
+        ("ask T(9223372036854775807*x + x)", Refusal::LongNumber),
+    ] {
+        let outcome = outcome_of(&rt, rt.alloc(), text.as_bytes());
+        assert_eq!(rt; outcome, Outcome::Refused(wanted), "at {text}");
     }
     Ok(())
 }

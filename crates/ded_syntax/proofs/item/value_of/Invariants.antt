@@ -1,6 +1,6 @@
 use Rattle.std.proofs.Common.{◌≡◌, ◌≤◌, drop}
 use Rattle.std.specs.Prelude.{◌^◌}
-use Rattle.ded_syntax.specs.Grammar.{number_from, number_of}
+use Rattle.ded_syntax.specs.Symbols.{number_from, number_of}
 use Rattle.ded_syntax.specs.Items.{capped}
 use Rattle.ded_syntax.proofs.item.value_of.Given as goal
 

@@ -1,0 +1,139 @@
+-- The grammar of formulas over pieces: atoms, quantifiers with their columns, and the signs between them.
+use Rattle.std.specs.Prelude.{ℕ, ◌+◌, max, Bool, false, List, [], ◌∷◌, ◌++◌}
+use Rattle.ded_model.specs.declared.name.Column.{Column}
+use Rattle.ded_model.specs.Point.{name}
+use Rattle.ded_model.specs.Form.{Form, FormAtom}
+use Rattle.ded_model.specs.Logic.{always, negation, every_of, some_of, implies, exists, forall, logics, some_atom}
+use Rattle.ded_grammar.specs.declared.piece.Quantifier.{Quantifier}
+use Rattle.ded_grammar.specs.declared.piece.Quantifier.TheVariants.{Exists, Forall}
+
+-- a sign between formulas, a quantifier with its variable, or a formula that has no formula inside
+pub data PieceForm : Type 0 where
+  nay : PieceForm
+  conjunct : PieceForm
+  disjunct : PieceForm
+  arrow : PieceForm
+  opening : PieceForm
+  closing : PieceForm
+  binder : Quantifier → Column → PieceForm
+  leaf : Form → PieceForm
+
+-- formula = either [ "implies" formula ]
+-- either = both ( "or" both )*
+-- both = unit ( "and" unit )*
+-- unit = "not" unit | quantified | "(" formula ")" | "true" | "false" | compare | member
+-- quantified = ( "exists" | "forall" ) column body
+-- body = quantified | "(" formula ")"
+mutual
+  pub data Whole : Type 0 where
+    only : Either → Whole
+    follows : Either → Whole → Whole
+
+  pub data Either : Type 0 where
+    either_last : Both → Either
+    either_more : Both → Either → Either
+
+  pub data Both : Type 0 where
+    both_last : One → Both
+    both_more : One → Both → Both
+
+  pub data One : Type 0 where
+    negated : One → One
+    bound : Quantifier → Column → Body → One
+    grouped : Whole → One
+    plain : Form → One
+
+  pub data Body : Type 0 where
+    bound_again : Quantifier → Column → Body → Body
+    around : Whole → Body
+
+-- the pieces, in order
+abbrev mutual
+  pub spell : Whole → List PieceForm
+  spell (only e) = spell_either e
+  spell (follows e w) = spell_either e ++ arrow ∷ spell w
+
+  pub spell_either : Either → List PieceForm
+  spell_either (either_last b) = spell_both b
+  spell_either (either_more b e) = spell_both b ++ disjunct ∷ spell_either e
+
+  pub spell_both : Both → List PieceForm
+  spell_both (both_last u) = spell_one u
+  spell_both (both_more u b) = spell_one u ++ conjunct ∷ spell_both b
+
+  pub spell_one : One → List PieceForm
+  spell_one (negated u) = nay ∷ spell_one u
+  spell_one (bound q c b) = binder q c ∷ spell_body b
+  spell_one (grouped w) = opening ∷ spell w ++ closing ∷ []
+  spell_one (plain f) = leaf f ∷ []
+
+  pub spell_body : Body → List PieceForm
+  spell_body (bound_again q c b) = binder q c ∷ spell_body b
+  spell_body (around w) = opening ∷ spell w ++ closing ∷ []
+
+abbrev pub quantified : Quantifier → Column → Form → Form
+quantified Exists c f = exists c.sort (name c.name) f
+quantified Forall c f = forall c.sort (name c.name) f
+
+-- a chain of one is its member
+abbrev pub all_of : List Form → Form
+all_of [] = always
+all_of (f ∷ []) = f
+all_of (f ∷ g ∷ fs) = every_of (logics (f ∷ g ∷ fs))
+
+abbrev pub any_of : List Form → Form
+any_of [] = always
+any_of (f ∷ []) = f
+any_of (f ∷ g ∷ fs) = some_of (logics (f ∷ g ∷ fs))
+
+-- the formula that is spelled
+abbrev mutual
+  pub meaning : Whole → Form
+  meaning (only e) = any_of (members_either e)
+  meaning (follows e w) = implies (any_of (members_either e)) (meaning w)
+
+  pub members_either : Either → List Form
+  members_either (either_last b) = all_of (members_both b) ∷ []
+  members_either (either_more b e) = all_of (members_both b) ∷ members_either e
+
+  pub members_both : Both → List Form
+  members_both (both_last u) = meaning_one u ∷ []
+  members_both (both_more u b) = meaning_one u ∷ members_both b
+
+  pub meaning_one : One → Form
+  meaning_one (negated u) = negation (meaning_one u)
+  meaning_one (bound q c b) = quantified q c (meaning_body b)
+  meaning_one (grouped w) = meaning w
+  meaning_one (plain f) = f
+
+  pub meaning_body : Body → Form
+  meaning_body (bound_again q c b) = quantified q c (meaning_body b)
+  meaning_body (around w) = meaning w
+
+abbrev mutual
+  pub nesting : Whole → ℕ
+  nesting (only e) = nesting_either e
+  nesting (follows e w) = max (nesting_either e) (nesting w) + 1
+
+  pub nesting_either : Either → ℕ
+  nesting_either (either_last b) = nesting_both b
+  nesting_either (either_more b e) = max (nesting_both b) (nesting_either e)
+
+  pub nesting_both : Both → ℕ
+  nesting_both (both_last u) = nesting_one u
+  nesting_both (both_more u b) = max (nesting_one u) (nesting_both b)
+
+  pub nesting_one : One → ℕ
+  nesting_one (negated u) = nesting_one u + 1
+  nesting_one (bound q c b) = nesting_body b + 1
+  nesting_one (grouped w) = nesting w + 1
+  nesting_one (plain f) = 0
+
+  pub nesting_body : Body → ℕ
+  nesting_body (bound_again q c b) = nesting_body b + 1
+  nesting_body (around w) = nesting w
+
+-- whether the piece is an atom that passes the test
+abbrev pub piece_atom : (FormAtom → Bool) → PieceForm → Bool
+piece_atom test (leaf f) = some_atom test f
+piece_atom test p = false

@@ -1,0 +1,263 @@
+// The tree of a formula, where its nesting leaves room.
+ghost use Rattle.std.specs.Prelude.{◌≡◌, ◌<◌, ◌≤◌, length, IfOk, IfSome, IfNone, OnErr, Err, map, [], ◌∷◌};
+ghost use Rattle.ded_grammar.specs.declared.fault.ReadFault.TheVariants as faults;
+ghost use Rattle.ded_model.specs.Form.{form};
+ghost use Rattle.ded_model.specs.Logic.{negation, implies};
+ghost use Rattle.ded_grammar.specs.Forms.{piece_form, piece_forms};
+ghost use Rattle.ded_grammar.specs.Trees.{all_of, any_of, quantified};
+ghost use Rattle.ded_grammar.specs.Building.{after_closing, after_conjunct, after_disjunct, after_arrow, closed, both_by, either_by, read_one, read_body, read_whole};
+ghost use Rattle.ded_grammar.specs.Gives.{Gives, GivesAfter};
+
+use crate::fault::ReadFault;
+use crate::piece::{Piece, Quantifier};
+use ded_model::formula::Formula;
+use ded_model::name::Column;
+use std::alloc::Global;
+
+// The first piece, and those behind it.
+fn first(pieces: &[Piece]) -> Option<(&Piece, &[Piece])>
+    ensures some { IfSome result (λ x. piece_forms pieces.now ≡ piece_form x.0.now ∷ piece_forms x.1.now) }
+    ensures none { IfNone result (piece_forms pieces.now ≡ []) }
+{
+    pieces.split_first()
+}
+
+fn after_closing(pieces: &[Piece]) -> Option<&[Piece]>
+    ensures { GivesAfter (λ rest. rest.now) result (after_closing (piece_forms pieces.now)) }
+{
+    match pieces.split_first() {
+        Some((Piece::Close, rest)) => Some(rest),
+        _ => None,
+    }
+}
+
+fn after_conjunct(pieces: &[Piece]) -> Option<&[Piece]>
+    ensures { GivesAfter (λ rest. rest.now) result (after_conjunct (piece_forms pieces.now)) }
+{
+    match pieces.split_first() {
+        Some((Piece::And, rest)) => Some(rest),
+        _ => None,
+    }
+}
+
+fn after_disjunct(pieces: &[Piece]) -> Option<&[Piece]>
+    ensures { GivesAfter (λ rest. rest.now) result (after_disjunct (piece_forms pieces.now)) }
+{
+    match pieces.split_first() {
+        Some((Piece::Or, rest)) => Some(rest),
+        _ => None,
+    }
+}
+
+fn after_arrow(pieces: &[Piece]) -> Option<&[Piece]>
+    ensures { GivesAfter (λ rest. rest.now) result (after_arrow (piece_forms pieces.now)) }
+{
+    match pieces.split_first() {
+        Some((Piece::Implies, rest)) => Some(rest),
+        _ => None,
+    }
+}
+
+// Behind the closing parenthesis.
+fn closed(
+    part: Formula,
+    nesting: u32,
+    rest: &[Piece],
+) -> Result<(Formula, u32, &[Piece]), ReadFault>
+    ensures read { Gives (λ x. (form x.0, x.1, piece_forms x.2.now)) result (closed (form part, nesting, piece_forms rest.now)) }
+    ensures same { IfOk result (λ x. x.1 ≡ nesting) }
+{
+    match after_closing(rest) {
+        Some(rest) => Ok((part, nesting, rest)),
+        None => Err(ReadFault::NotRead),
+    }
+}
+
+// One member is itself.
+fn all_of(mut parts: Vec<Formula>) -> Formula
+    ensures { form result ≡ all_of (map form parts.items) }
+{
+    if parts.len() == 1 {
+        if let Some(part) = parts.pop() {
+            return part;
+        }
+    }
+    if parts.is_empty() {
+        return Formula::True;
+    }
+    Formula::And(parts)
+}
+
+fn any_of(mut parts: Vec<Formula>) -> Formula
+    ensures { form result ≡ any_of (map form parts.items) }
+{
+    if parts.len() == 1 {
+        if let Some(part) = parts.pop() {
+            return part;
+        }
+    }
+    if parts.is_empty() {
+        return Formula::True;
+    }
+    Formula::Or(parts)
+}
+
+fn negated(alloc: Global, part: Formula) -> Result<Formula, ReadFault>
+    ensures negated { IfOk result (λ f. form f ≡ negation (form part)) }
+    ensures memory { OnErr result (result ≡ Err faults.Memory) }
+{
+    Ok(Formula::Not(Box::new(alloc, part)?))
+}
+
+fn implied(alloc: Global, left: Formula, right: Formula) -> Result<Formula, ReadFault>
+    ensures implied { IfOk result (λ f. form f ≡ implies (form left) (form right)) }
+    ensures memory { OnErr result (result ≡ Err faults.Memory) }
+{
+    Ok(Formula::Implies(Box::new(alloc, left)?, Box::new(alloc, right)?))
+}
+
+fn quantified(
+    alloc: Global,
+    quantifier: Quantifier,
+    column: &Column,
+    body: Formula,
+) -> Result<Formula, ReadFault>
+    ensures quantified { IfOk result (λ f. form f ≡ quantified quantifier column.now (form body)) }
+    ensures memory { OnErr result (result ≡ Err faults.Memory) }
+{
+    let column = column.copy()?;
+    let body = Box::new(alloc, body)?;
+    match quantifier {
+        Quantifier::Exists => Ok(Formula::Exists(column, body)),
+        Quantifier::Forall => Ok(Formula::Forall(column, body)),
+    }
+}
+
+#[cycle(read)]
+fn one(alloc: Global, pieces: &[Piece], room: u32) -> Result<(Formula, u32, &[Piece]), ReadFault>
+    ensures read { Gives (λ x. (form x.0, x.1, piece_forms x.2.now)) result (read_one room (piece_forms pieces.now)) }
+    ensures low { IfOk result (λ x. x.1 < room) }
+{
+    if room == 0 {
+        return Err(ReadFault::NotRead);
+    }
+    let Some((piece, rest)) = first(pieces) else {
+        return Err(ReadFault::NotRead);
+    };
+    match piece {
+        Piece::Not => {
+            let (part, nesting, rest) = one(alloc, rest, room - 1)?;
+            Ok((negated(alloc, part)?, nesting + 1, rest))
+        }
+        Piece::Open => {
+            let (part, nesting, rest) = whole(alloc, rest, room - 1)?;
+            let (part, nesting, rest) = closed(part, nesting, rest)?;
+            Ok((part, nesting + 1, rest))
+        }
+        Piece::Bind(quantifier, column) => {
+            let (part, nesting, rest) = body(alloc, rest, room - 1)?;
+            Ok((
+                quantified(alloc, *quantifier, column, part)?,
+                nesting + 1,
+                rest,
+            ))
+        }
+        Piece::Atom(atom) => Ok((atom.copy()?, 0, rest)),
+        Piece::And | Piece::Or | Piece::Implies | Piece::Close => Err(ReadFault::NotRead),
+    }
+}
+
+#[cycle(read)]
+fn body(alloc: Global, pieces: &[Piece], room: u32) -> Result<(Formula, u32, &[Piece]), ReadFault>
+    ensures read { Gives (λ x. (form x.0, x.1, piece_forms x.2.now)) result (read_body room (piece_forms pieces.now)) }
+    ensures low { IfOk result (λ x. x.1 < room) }
+{
+    if room == 0 {
+        return Err(ReadFault::NotRead);
+    }
+    let Some((piece, rest)) = first(pieces) else {
+        return Err(ReadFault::NotRead);
+    };
+    match piece {
+        Piece::Open => {
+            let (part, nesting, rest) = whole(alloc, rest, room)?;
+            closed(part, nesting, rest)
+        }
+        Piece::Bind(quantifier, column) => {
+            let (part, nesting, rest) = body(alloc, rest, room - 1)?;
+            Ok((
+                quantified(alloc, *quantifier, column, part)?,
+                nesting + 1,
+                rest,
+            ))
+        }
+        Piece::Not | Piece::And | Piece::Or | Piece::Implies | Piece::Close | Piece::Atom(_) => {
+            Err(ReadFault::NotRead)
+        }
+    }
+}
+
+#[cycle(read)]
+fn both(alloc: Global, pieces: &[Piece], room: u32) -> Result<(Formula, u32, &[Piece]), ReadFault>
+    ensures read { Gives (λ x. (form x.0, x.1, piece_forms x.2.now)) result (both_by (read_one room) (piece_forms pieces.now)) }
+    ensures low { IfOk result (λ x. x.1 < room) }
+{
+    let mut parts = Vec::new(alloc);
+    let mut nesting = 0;
+    let mut rest = pieces;
+    // Each member has an piece at least.
+    for _ in 0..pieces.len() {
+        let (part, inner, after) = one(alloc, rest, room)?;
+        parts.push(part)?;
+        nesting = inner.max(nesting);
+        let Some(more) = after_conjunct(after) else {
+            return Ok((all_of(parts), nesting, after));
+        };
+        rest = more;
+    }
+    Err(ReadFault::NotRead)
+}
+
+#[cycle(read)]
+fn either(alloc: Global, pieces: &[Piece], room: u32) -> Result<(Formula, u32, &[Piece]), ReadFault>
+    ensures read { Gives (λ x. (form x.0, x.1, piece_forms x.2.now)) result (either_by (read_one room) (piece_forms pieces.now)) }
+    ensures low { IfOk result (λ x. x.1 < room) }
+{
+    let mut parts = Vec::new(alloc);
+    let mut nesting = 0;
+    let mut rest = pieces;
+    // Each member has an piece at least.
+    for _ in 0..pieces.len() {
+        let (part, inner, after) = both(alloc, rest, room)?;
+        parts.push(part)?;
+        nesting = inner.max(nesting);
+        let Some(more) = after_disjunct(after) else {
+            return Ok((any_of(parts), nesting, after));
+        };
+        rest = more;
+    }
+    Err(ReadFault::NotRead)
+}
+
+#[cycle(read)]
+pub fn whole(
+    alloc: Global,
+    pieces: &[Piece],
+    room: u32,
+) -> Result<(Formula, u32, &[Piece]), ReadFault>
+    ensures read { Gives (λ x. (form x.0, x.1, piece_forms x.2.now)) result (read_whole room (piece_forms pieces.now)) }
+    ensures low { IfOk result (λ x. x.1 < room) }
+{
+    if room == 0 {
+        return Err(ReadFault::NotRead);
+    }
+    let (left, outer, rest) = either(alloc, pieces, room)?;
+    let Some(more) = after_arrow(rest) else {
+        return Ok((left, outer, rest));
+    };
+    if outer + 1 >= room {
+        return Err(ReadFault::NotRead);
+    }
+    let (right, inner, rest) = whole(alloc, more, room - 1)?;
+    Ok((implied(alloc, left, right)?, outer.max(inner) + 1, rest))
+}

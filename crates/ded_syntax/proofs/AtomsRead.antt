@@ -1,0 +1,89 @@
+-- Comparisons, members and columns: what is spelled is read.
+use Rattle.std.proofs.Common.{◌≡◌, ℕ, true, false, List, [], ◌∷◌, ◌++◌, length, map, refl, ap, ◌∙◌, append_assoc}
+use Rattle.std.specs.Prelude.{Option, Some}
+use Rattle.ded_model.specs.declared.formula.CompareOp.{CompareOp}
+use Rattle.ded_model.specs.declared.formula.Operand.{Operand}
+use Rattle.ded_model.specs.declared.name.Column.{Column}
+use Rattle.ded_model.specs.declared.slot.Sort.{Sort}
+use Rattle.ded_model.specs.declared.slot.Sort.TheVariants as sorts
+use Rattle.ded_model.specs.Form.{compare, member}
+use Rattle.ded_model.specs.Logic.{atom}
+use Rattle.ded_grammar.specs.Trees.{leaf}
+use Rattle.ded_grammar.specs.Building.{◌>>=◌}
+use Rattle.ded_syntax.specs.Symbols.{Symbol, Name, Open, Close, CloseBrace, Comma, Relation}
+use Rattle.ded_syntax.specs.Operands.{Reader, scaled, constant, lone, Side, text, sum, spell_side, operand_of}
+use Rattle.ded_syntax.specs.Atoms.{spell_rest, Comparison, spell_comparison, comparison_form, Atom, truth, relates, belongs, spell_atom, atom_form, spell_column}
+use Rattle.ded_syntax.specs.OperandReading.{operand_at}
+use Rattle.ded_syntax.specs.AtomReading.{comma_at, brace_at, relation_at, compare_at, operands_at, atom_at, column_at, as_leaf, piece_at}
+use Rattle.ded_syntax.proofs.OperandsRead.{Stops, side_read}
+use Rattle.ded_syntax.proofs.ListsRead.{ReadsItems, list_read, few_items, list_tail}
+
+sides_read : (value : Reader) (l r : Side) (op : CompareOp) (rest : List Symbol) → Stops rest → compare_at value (spell_side l ++ (Relation op ∷ (spell_side r ++ rest))) ≡ Some (atom (compare (operand_of value l) op (operand_of value r)), rest)
+sides_read value l r op rest h =
+    ap (λ (o : Option (Operand × List Symbol)). o >>= λ l. relation_at l.1 >>= λ o. operand_at value o.1 >>= λ r. Some (atom (compare l.0 o.0 r.0), r.1)) (side_read value l (Relation op ∷ (spell_side r ++ rest)) tt)
+    ∙ ap (λ (o : Option (Operand × List Symbol)). o >>= λ r. Some (atom (compare (operand_of value l) op r.0), r.1)) (side_read value r rest h)
+
+spell_behind : (c : Comparison) (rest : List Symbol) → spell_comparison c ++ rest ≡ spell_side c.left ++ (Relation c.op ∷ (spell_side c.right ++ rest))
+spell_behind c rest = append_assoc (spell_side c.left) (Relation c.op ∷ spell_side c.right) rest
+
+pub comparison_read : (value : Reader) (c : Comparison) (rest : List Symbol) → Stops rest → compare_at value (spell_comparison c ++ rest) ≡ Some (comparison_form value c, rest)
+comparison_read value c rest h = ap (compare_at value) (spell_behind c rest) ∙ sides_read value c.left c.right c.op rest h
+
+-- ---- lists
+
+operands_listed : (value : Reader) → ReadsItems spell_side (operand_of value) (operand_at value) comma_at Close
+operands_listed value = record {
+  before_comma = λ s rest. side_read value s (Comma ∷ rest) tt;
+  before_close = λ s rest. side_read value s (Close ∷ rest) tt;
+  goes_on = λ rest. refl;
+  stops = λ rest. refl;
+}
+
+pub comparisons_listed : (value : Reader) → ReadsItems spell_comparison (comparison_form value) (compare_at value) brace_at CloseBrace
+comparisons_listed value = record {
+  before_comma = λ c rest. comparison_read value c (Comma ∷ rest) tt;
+  before_close = λ c rest. comparison_read value c (CloseBrace ∷ rest) tt;
+  goes_on = λ rest. refl;
+  stops = λ rest. refl;
+}
+
+column_before : (n : List ℕ) (s : Sort) (t : Symbol) (rest : List Symbol) → column_at (Name n ∷ t ∷ rest) ≡ Some (record { name = n; sort = sorts.Rat }, t ∷ rest) → column_at (spell_column (record { name = n; sort = s }) ++ (t ∷ rest)) ≡ Some (record { name = n; sort = s }, t ∷ rest)
+column_before n sorts.Rat t rest e = e
+column_before n sorts.Text t rest e = refl
+
+pub columns_listed : ReadsItems spell_column (λ (c : Column). c) column_at comma_at Close
+columns_listed = record {
+  before_comma = λ c rest. column_before c.name c.sort Comma rest refl;
+  before_close = λ c rest. column_before c.name c.sort Close rest refl;
+  goes_on = λ rest. refl;
+  stops = λ rest. refl;
+}
+
+pub operands_read : (value : Reader) (s : Side) (ss : List Side) (rest : List Symbol) → operands_at value (spell_side s ++ (spell_rest spell_side ss ++ (Close ∷ rest))) ≡ Some (operand_of value s ∷ map (operand_of value) ss, rest)
+operands_read value s ss rest =
+    list_read spell_side (operand_of value) (operand_at value) comma_at Close (operands_listed value) ss s rest
+    (length (spell_side s ++ (spell_rest spell_side ss ++ (Close ∷ rest))))
+    (few_items spell_side (operand_of value) (operand_at value) comma_at Close s ss rest)
+
+-- ---- atoms
+
+-- a comparison is read as a piece, whatever its first symbol
+begins : (value : Reader) (l : Side) (op : CompareOp) (ts : List Symbol) → piece_at value (spell_side l ++ (Relation op ∷ ts)) ≡ as_leaf (compare_at value (spell_side l ++ (Relation op ∷ ts)))
+begins value (text s) op ts = refl
+begins value (sum true p ps) op ts = refl
+begins value (sum false (scaled d n) ps) op ts = refl
+begins value (sum false (constant d) ps) op ts = refl
+begins value (sum false (lone n) []) op ts = refl
+begins value (sum false (lone n) ((true, p) ∷ ps)) op ts = refl
+begins value (sum false (lone n) ((false, p) ∷ ps)) op ts = refl
+
+pub atom_read : (value : Reader) (a : Atom) (rest : List Symbol) → Stops rest → piece_at value (spell_atom a ++ rest) ≡ Some (leaf (atom_form value a), rest)
+atom_read value (truth true) rest h = refl
+atom_read value (truth false) rest h = refl
+atom_read value (relates c) rest h =
+    ap (piece_at value) (spell_behind c rest)
+    ∙ begins value c.left c.op (spell_side c.right ++ rest)
+    ∙ ap as_leaf (sides_read value c.left c.right c.op rest h)
+atom_read value (belongs n s ss) rest h =
+    ap (λ (l : List Symbol). as_leaf (atom_at value (Name n ∷ Open ∷ l))) (list_tail spell_side s ss Close rest)
+    ∙ ap (λ (o : Option (List Operand × List Symbol)). as_leaf (o >>= λ x. Some (atom (member n x.0), x.1))) (operands_read value s ss rest)

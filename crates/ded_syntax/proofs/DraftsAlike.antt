@@ -1,0 +1,103 @@
+-- Drafts: the commands for which they stand, and drafts of the same symbols whose numbers are read otherwise.
+use Rattle.std.proofs.Common.{◌≡◌, ℕ, Bool, true, false, List, refl, sym, ap, ◌∙◌}
+use Rattle.std.specs.Prelude.{Some}
+use Rattle.std.specs.List.{list_any}
+use Rattle.ded_model.specs.Command.{CommandForm}
+use Rattle.ded_model.specs.Form.{Form}
+use Rattle.ded_grammar.specs.declared.scan.Spot.TheVariants.{Start}
+use Rattle.ded_grammar.specs.Trees.{PieceForm, piece_atom, meaning, nesting}
+use Rattle.ded_grammar.proofs.Sound.{spelled}
+use Rattle.ded_grammar.proofs.Told.{one_spelled}
+use Rattle.ded_grammar.proofs.Leaves.{spelled_atoms}
+use Rattle.ded_syntax.specs.Symbols.{Symbol}
+use Rattle.ded_syntax.specs.Operands.{Reader}
+use Rattle.ded_syntax.specs.Commands.{Plain, defines, inserts_none, inserts, deletes, drops, keeps, shows, boxes, plain_form}
+use Rattle.ded_syntax.specs.LongRows.{is_long_atom, has_long_row}
+use Rattle.ded_syntax.specs.Answered.{is_answered}
+use Rattle.ded_syntax.specs.CommandReading.{Head, view_head, ask_head, query_head, explain_head, head_form, Draft, plain, formed, draft_at, scans}
+use Rattle.ded_syntax.specs.Drafts.{answers_draft, answers_pieces, test_of, passes_draft, long_draft}
+use Rattle.ded_syntax.specs.Meaning.{Means}
+use Rattle.ded_syntax.proofs.PiecesRead.{pieces_read, spelled_scans}
+use Rattle.ded_syntax.proofs.CommandsRead.{plain_read, prefix_read, head_of}
+use Rattle.ded_syntax.proofs.CommandsSound.{IsDraft, draft_sound}
+use Rattle.ded_syntax.proofs.AnyValue.{reshapes}
+use Rattle.ded_syntax.proofs.AnsweredPieces.{draft_answers}
+
+-- ---- what a draft stands for
+
+pub means_scans : (d : Draft) (c : CommandForm) (depth : ℕ) → Means d c depth → scans d ≡ true
+means_scans (plain k) c depth m = refl
+means_scans (formed h ps) c depth (f, sp, e) = spelled_scans ps f depth sp
+
+abbrev pub StandsFor : Draft → Type 0
+StandsFor d = (c : CommandForm) × (depth : ℕ) × Means d c depth
+
+pub scans_means : (d : Draft) → scans d ≡ true → StandsFor d
+scans_means (plain k) h = (k, 0, (refl, refl))
+scans_means (formed h ps) s =
+    let w = spelled ps s in
+    (head_form h (meaning w.0), nesting w.0, (meaning w.0, record { tree = w.0; is = w.1; means = refl; nests = refl }, refl))
+
+pub one_meaning : (d : Draft) (c k : CommandForm) (m n : ℕ) → Means d c m → Means d k n → (c ≡ k) × (m ≡ n)
+one_meaning (plain p) c k m n (e, f) (g, h) = (e ∙ sym g, f ∙ sym h)
+one_meaning (formed h ps) c k m n (f, sp, e) (g, sq, i) =
+    let same = one_spelled ps f g m n sp sq in
+    (e ∙ ap (head_form h) same.0 ∙ sym i, same.1)
+
+head_rows : (h : Head) (f : Form) (b : Bool) → b ≡ has_long_row (head_form ask_head f) → b ≡ has_long_row (head_form h f)
+head_rows (view_head n h) f b e = e
+head_rows ask_head f b e = e
+head_rows (query_head h) f b e = e
+head_rows (explain_head h) f b e = e
+
+pub draft_rows : (d : Draft) (c : CommandForm) (depth : ℕ) → Means d c depth → long_draft d ≡ has_long_row c
+draft_rows (plain k) c depth (e, flat) = ap has_long_row (sym e)
+draft_rows (formed h ps) c depth (f, sp, e) = head_rows h f (list_any (piece_atom is_long_atom) ps) (spelled_atoms is_long_atom ps f depth sp) ∙ ap has_long_row (sym e)
+
+pub draft_passes : (all : Bool) (d : Draft) (c : CommandForm) (depth : ℕ) → Means d c depth → passes_draft all d ≡ test_of all c
+draft_passes true d c depth m = refl
+draft_passes false d c depth m = draft_answers d c depth m
+
+-- ---- other numbers
+
+plain_answers : (value other : Reader) (p : Plain) → is_answered (plain_form value p) ≡ is_answered (plain_form other p)
+plain_answers value other (defines n h) = refl
+plain_answers value other (inserts_none n) = refl
+plain_answers value other (inserts n c cs) = refl
+plain_answers value other (deletes n d) = refl
+plain_answers value other (drops n) = refl
+plain_answers value other (keeps n) = refl
+plain_answers value other (shows n) = refl
+plain_answers value other (boxes n) = refl
+
+head_answers : (h k : Head) (qs ps : List PieceForm) → h ≡ k → answers_pieces qs ≡ answers_pieces ps → answers_draft (formed h qs) ≡ answers_draft (formed k ps)
+head_answers h k qs ps e f = ap (λ (g : Head). answers_draft (formed g qs)) e ∙ by k f
+  where
+    by : (k : Head) → answers_pieces qs ≡ answers_pieces ps → answers_draft (formed k qs) ≡ answers_draft (formed k ps)
+    by (view_head n h) f = refl
+    by ask_head f = f
+    by (query_head h) f = refl
+    by (explain_head h) f = refl
+
+-- a draft of the same symbols, which scans and is answered alike
+abbrev pub OtherDraft : Reader → List Symbol → Draft → Type 0
+OtherDraft other ts d = (e : Draft) × (draft_at other ts ≡ Some e) × (scans e ≡ true) × (answers_draft e ≡ answers_draft d)
+
+other_of : (value other : Reader) (ts : List Symbol) (d : Draft) → IsDraft value ts d → scans d ≡ true → OtherDraft other ts d
+other_of value other ts (plain c) (p, e, m) s =
+    (plain (plain_form other p), ap (draft_at other) e ∙ plain_read other p, refl, plain_answers other value p ∙ ap is_answered (sym m))
+other_of value other ts (formed h ps) (p, rest, e, are, same) s =
+    let q = reshapes value other ps rest are in
+    let scanned = q.2.0 Start 0 ∙ s in (
+      formed (head_of p) q.0,
+      ap (draft_at other) e ∙ prefix_read other p rest q.0 (pieces_read other rest q.0 scanned q.1),
+      scanned,
+      head_answers (head_of p) h q.0 ps (sym same) q.2.1,
+    )
+
+pub other_draft : (value other : Reader) (ts : List Symbol) (d : Draft) → draft_at value ts ≡ Some d → scans d ≡ true → OtherDraft other ts d
+other_draft value other ts d e s = other_of value other ts d (draft_sound value ts d e) s
+
+pub passes_other : (all : Bool) (d e : Draft) → answers_draft e ≡ answers_draft d → passes_draft all e ≡ passes_draft all d
+passes_other true d e h = refl
+passes_other false d e h = h

@@ -1,0 +1,144 @@
+-- Comparisons, members, columns and pieces: what is read is spelled.
+use Rattle.std.proofs.Common.{◌≡◌, ℕ, zero, suc, Bool, true, false, List, [], ◌∷◌, ◌++◌, length, refl, sym, ap, subst, ◌∙◌, append_assoc}
+use Rattle.std.specs.Prelude.{Some}
+use Rattle.ded_model.specs.declared.formula.CompareOp.{CompareOp}
+use Rattle.ded_model.specs.declared.formula.Operand.{Operand}
+use Rattle.ded_model.specs.declared.name.Column.{Column}
+use Rattle.ded_model.specs.Form.{Form, compare, member}
+use Rattle.ded_model.specs.Logic.{atom}
+use Rattle.ded_grammar.specs.declared.piece.Quantifier.{Quantifier}
+use Rattle.ded_grammar.specs.declared.piece.Quantifier.TheVariants.{Exists, Forall}
+use Rattle.ded_grammar.specs.Trees.{PieceForm, binder, leaf}
+use Rattle.ded_grammar.specs.Building.{◌>>=◌}
+use Rattle.ded_syntax.specs.declared.item.Keyword.{Keyword}
+use Rattle.ded_syntax.specs.declared.item.Keyword.TheVariants as words
+use Rattle.ded_syntax.specs.Symbols.{Symbol, Word, Name, Open, Close, CloseBrace, Comma, Relation}
+use Rattle.ded_syntax.specs.Operands.{Reader, spell_side, operand_of}
+use Rattle.ded_syntax.specs.Atoms.{Comparison, spell_comparison, comparison_form, Atom, truth, relates, belongs, spell_atom, atom_form, spell_column, sort_symbols, quantifier_symbol, IsPiece, ArePieces}
+use Rattle.ded_syntax.specs.OperandReading.{operand_at}
+use Rattle.ded_syntax.specs.AtomReading.{comma_at, brace_at, relation_at, compare_at, operands_at, atom_at, sort_at, column_at, binder_at, word_at, as_leaf, piece_at, pieces_within, pieces_at}
+use Rattle.ded_syntax.proofs.Binds.{bind_some, some_same}
+use Rattle.ded_syntax.proofs.OperandsSound.{side_sound}
+use Rattle.ded_syntax.proofs.ListsRead.{SoundItems, sign_of, list_sound, list_tail}
+
+relation_sound : (ts : List Symbol) (x : CompareOp × List Symbol) → relation_at ts ≡ Some x → ts ≡ Relation x.0 ∷ x.1
+relation_sound (Relation op ∷ ts) x e = ap (λ (y : CompareOp × List Symbol). Relation y.0 ∷ y.1) (some_same _ x e)
+relation_sound ts x e = absurd cc
+
+abbrev IsCompare : Reader → List Symbol → Form × List Symbol → Type 0
+IsCompare value ts x = (c : Comparison) × (ts ≡ spell_comparison c ++ x.1) × (x.0 ≡ comparison_form value c)
+
+pub compare_sound : (value : Reader) (ts : List Symbol) (x : Form × List Symbol) → compare_at value ts ≡ Some x → IsCompare value ts x
+compare_sound value ts x e =
+    let b = bind_some (operand_at value ts) (λ l. relation_at l.1 >>= λ o. operand_at value o.1 >>= λ r. Some (atom (compare l.0 o.0 r.0), r.1)) x e in
+    let c = bind_some (relation_at b.0.1) (λ o. operand_at value o.1 >>= λ r. Some (atom (compare b.0.0 o.0 r.0), r.1)) x b.2 in
+    let d = bind_some (operand_at value c.0.1) (λ r. Some (atom (compare b.0.0 c.0.0 r.0), r.1)) x c.2 in
+    let l = side_sound value ts b.0 b.1 in
+    let o = relation_sound b.0.1 c.0 c.1 in
+    let r = side_sound value c.0.1 d.0 d.1 in
+    let same = some_same _ x d.2 in (
+      record { left = l.0; op = c.0.0; right = r.0 },
+      l.1
+          ∙ ap (λ (t : List Symbol). spell_side l.0 ++ t) (o ∙ ap (λ (t : List Symbol). Relation c.0.0 ∷ t) (r.1 ∙ ap (λ (y : Form × List Symbol). spell_side r.0 ++ y.1) same))
+          ∙ sym (append_assoc (spell_side l.0) (Relation c.0.0 ∷ spell_side r.0) x.1),
+      sym (ap (λ (y : Form × List Symbol). y.0) same) ∙ ap (λ (p : Operand). atom (compare p c.0.0 d.0.0)) l.2 ∙ ap (λ (p : Operand). atom (compare (operand_of value l.0) c.0.0 p)) r.2,
+    )
+
+-- ---- lists
+
+comma_end : (ts : List Symbol) (x : Bool × List Symbol) → comma_at ts ≡ Some x → ts ≡ sign_of Close x.0 ∷ x.1
+comma_end (Comma ∷ ts) x e = ap (λ (y : Bool × List Symbol). sign_of Close y.0 ∷ y.1) (some_same _ x e)
+comma_end (Close ∷ ts) x e = ap (λ (y : Bool × List Symbol). sign_of Close y.0 ∷ y.1) (some_same _ x e)
+comma_end ts x e = absurd cc
+
+brace_end : (ts : List Symbol) (x : Bool × List Symbol) → brace_at ts ≡ Some x → ts ≡ sign_of CloseBrace x.0 ∷ x.1
+brace_end (Comma ∷ ts) x e = ap (λ (y : Bool × List Symbol). sign_of CloseBrace y.0 ∷ y.1) (some_same _ x e)
+brace_end (CloseBrace ∷ ts) x e = ap (λ (y : Bool × List Symbol). sign_of CloseBrace y.0 ∷ y.1) (some_same _ x e)
+brace_end ts x e = absurd cc
+
+operands_sound : (value : Reader) → SoundItems spell_side (operand_of value) (operand_at value) comma_at Close
+operands_sound value = record { item = λ ts y e. side_sound value ts y e; end = comma_end }
+
+pub comparisons_sound : (value : Reader) → SoundItems spell_comparison (comparison_form value) (compare_at value) brace_at CloseBrace
+comparisons_sound value = record { item = λ ts y e. compare_sound value ts y e; end = brace_end }
+
+sort_sound : (ts : List Symbol) → ts ≡ sort_symbols (sort_at ts).0 ++ (sort_at ts).1
+sort_sound [] = refl
+sort_sound (Word words.Text ∷ ts) = refl
+sort_sound (t ∷ ts) = refl
+
+column_sound : (ts : List Symbol) (x : Column × List Symbol) → column_at ts ≡ Some x → (c : Column) × (ts ≡ spell_column c ++ x.1) × (x.0 ≡ c)
+column_sound (Name n ∷ ts) x e =
+    (x.0, ap (λ (l : List Symbol). Name n ∷ l) (sort_sound ts) ∙ ap (λ (y : Column × List Symbol). spell_column y.0 ++ y.1) (some_same _ x e), refl)
+column_sound ts x e = absurd cc
+
+pub columns_sound : SoundItems spell_column (λ (c : Column). c) column_at comma_at Close
+columns_sound = record { item = column_sound; end = comma_end }
+
+-- ---- pieces
+
+-- these symbols, read as this piece, and those after them
+abbrev Found : Reader → List Symbol → PieceForm × List Symbol → Type 0
+Found value ts x = (front : List Symbol) × (ts ≡ front ++ x.1) × IsPiece value front x.0
+
+leaf_found : (value : Reader) (ts : List Symbol) (x : PieceForm × List Symbol) (a : Atom) (y : Form × List Symbol) → ts ≡ spell_atom a ++ y.1 → y.0 ≡ atom_form value a → Some (leaf y.0, y.1) ≡ Some x → Found value ts x
+leaf_found value ts x a y e m f = subst (Found value ts) (some_same _ x f) (spell_atom a, e, (a, refl, sym m))
+
+compared : (value : Reader) (ts : List Symbol) (x : PieceForm × List Symbol) → as_leaf (compare_at value ts) ≡ Some x → Found value ts x
+compared value ts x e =
+    let b = bind_some (compare_at value ts) (λ y. Some (leaf y.0, y.1)) x e in
+    let c = compare_sound value ts b.0 b.1 in
+    leaf_found value ts x (relates c.0) b.0 c.1 c.2 b.2
+
+membered : (value : Reader) (n : List ℕ) (ts : List Symbol) (x : PieceForm × List Symbol) → as_leaf (atom_at value (Name n ∷ Open ∷ ts)) ≡ Some x → Found value (Name n ∷ Open ∷ ts) x
+membered value n ts x e =
+    let b = bind_some (atom_at value (Name n ∷ Open ∷ ts)) (λ y. Some (leaf y.0, y.1)) x e in
+    let c = bind_some (operands_at value ts) (λ y. Some (atom (member n y.0), y.1)) b.0 b.1 in
+    let s = list_sound spell_side (operand_of value) (operand_at value) comma_at Close (operands_sound value) (length ts) ts c.0 c.1 in
+    let same = some_same _ b.0 c.2 in
+    leaf_found value (Name n ∷ Open ∷ ts) x (belongs n s.0 s.1) b.0
+    (ap (λ (t : List Symbol). Name n ∷ Open ∷ t) (s.2 ∙ sym (list_tail spell_side s.0 s.1 Close c.0.1)) ∙ ap (λ (y : Form × List Symbol). spell_atom (belongs n s.0 s.1) ++ y.1) same)
+    (sym (ap (λ (y : Form × List Symbol). y.0) same) ∙ ap (λ (q : List Operand). atom (member n q)) s.3)
+    b.2
+
+named : (value : Reader) (n : List ℕ) (ts : List Symbol) (x : PieceForm × List Symbol) → as_leaf (atom_at value (Name n ∷ ts)) ≡ Some x → Found value (Name n ∷ ts) x
+named value n [] x e = compared value (Name n ∷ []) x e
+named value n (Open ∷ ts) x e = membered value n ts x e
+named value n (t ∷ ts) x e = compared value (Name n ∷ t ∷ ts) x e
+
+binder_sound : (value : Reader) (q : Quantifier) (ts : List Symbol) (x : PieceForm × List Symbol) → binder_at q ts ≡ Some x → Found value (quantifier_symbol q ∷ ts) x
+binder_sound value q ts x e =
+    let b = bind_some (column_at ts) (λ y. Some (binder q y.0, y.1)) x e in
+    let c = column_sound ts b.0 b.1 in
+    subst (Found value (quantifier_symbol q ∷ ts)) (some_same _ x b.2)
+    (quantifier_symbol q ∷ spell_column b.0.0, ap (λ (l : List Symbol). quantifier_symbol q ∷ l) (c.1 ∙ ap (λ (k : Column). spell_column k ++ b.0.1) (sym c.2)), refl)
+
+word_sound : (value : Reader) (w : Keyword) (ts : List Symbol) (x : PieceForm × List Symbol) → word_at w ts ≡ Some x → Found value (Word w ∷ ts) x
+word_sound value words.Not ts x e = subst (Found value (Word words.Not ∷ ts)) (some_same _ x e) (Word words.Not ∷ [], refl, refl)
+word_sound value words.And ts x e = subst (Found value (Word words.And ∷ ts)) (some_same _ x e) (Word words.And ∷ [], refl, refl)
+word_sound value words.Or ts x e = subst (Found value (Word words.Or ∷ ts)) (some_same _ x e) (Word words.Or ∷ [], refl, refl)
+word_sound value words.Implies ts x e = subst (Found value (Word words.Implies ∷ ts)) (some_same _ x e) (Word words.Implies ∷ [], refl, refl)
+word_sound value words.Exists ts x e = binder_sound value Exists ts x e
+word_sound value words.Forall ts x e = binder_sound value Forall ts x e
+word_sound value words.True ts x e = subst (Found value (Word words.True ∷ ts)) (some_same _ x e) (Word words.True ∷ [], refl, (truth true, refl, refl))
+word_sound value words.False ts x e = subst (Found value (Word words.False ∷ ts)) (some_same _ x e) (Word words.False ∷ [], refl, (truth false, refl, refl))
+word_sound value w ts x e = absurd cc
+
+piece_sound : (value : Reader) (ts : List Symbol) (x : PieceForm × List Symbol) → piece_at value ts ≡ Some x → Found value ts x
+piece_sound value (Word w ∷ ts) x e = word_sound value w ts x e
+piece_sound value (Open ∷ ts) x e = subst (Found value (Open ∷ ts)) (some_same _ x e) (Open ∷ [], refl, refl)
+piece_sound value (Close ∷ ts) x e = subst (Found value (Close ∷ ts)) (some_same _ x e) (Close ∷ [], refl, refl)
+piece_sound value (Name n ∷ ts) x e = named value n ts x e
+piece_sound value ts x e = compared value ts x e
+
+within_sound : (k : ℕ) (value : Reader) (ts : List Symbol) (ps : List PieceForm) → pieces_within value k ts ≡ Some ps → ArePieces value ts ps
+within_sound k value [] ps e = subst (ArePieces value []) (some_same _ ps e) refl
+within_sound zero value (t ∷ ts) ps e = absurd cc
+within_sound (suc k) value (t ∷ ts) ps e =
+    let b = bind_some (piece_at value (t ∷ ts)) (λ x. pieces_within value k x.1 >>= λ qs. Some (x.0 ∷ qs)) ps e in
+    let c = bind_some (pieces_within value k b.0.1) (λ qs. Some (b.0.0 ∷ qs)) ps b.2 in
+    let p = piece_sound value (t ∷ ts) b.0 b.1 in
+    subst (ArePieces value (t ∷ ts)) (some_same _ ps c.2) (p.0, b.0.1, p.1, p.2, within_sound k value b.0.1 c.0 c.1)
+
+pub pieces_sound : (value : Reader) (ts : List Symbol) (ps : List PieceForm) → pieces_at value ts ≡ Some ps → ArePieces value ts ps
+pieces_sound value ts ps e = within_sound (length ts) value ts ps e

@@ -1,0 +1,139 @@
+-- Reading comparisons, members, columns and pieces, as functions on symbols.
+use Rattle.std.specs.Prelude.{ℕ, suc, Bool, true, false, List, [], ◌∷◌, length, Option, Some, None}
+use Rattle.std.proofs.Common.{zero}
+use Rattle.ded_model.specs.declared.formula.Operand.{Operand}
+use Rattle.ded_model.specs.declared.formula.CompareOp.{CompareOp}
+use Rattle.ded_model.specs.declared.name.Column.{Column}
+use Rattle.ded_model.specs.declared.slot.Sort.{Sort}
+use Rattle.ded_model.specs.declared.slot.Sort.TheVariants.{Rat, Text}
+use Rattle.ded_model.specs.Form.{Form, compare, member}
+use Rattle.ded_model.specs.Logic.{atom, always, never}
+use Rattle.ded_grammar.specs.declared.piece.Quantifier.{Quantifier}
+use Rattle.ded_grammar.specs.declared.piece.Quantifier.TheVariants.{Exists, Forall}
+use Rattle.ded_grammar.specs.Trees.{PieceForm, nay, conjunct, disjunct, arrow, opening, closing, binder, leaf}
+use Rattle.ded_grammar.specs.Building.{◌>>=◌}
+use Rattle.ded_syntax.specs.declared.item.Keyword.{Keyword}
+use Rattle.ded_syntax.specs.declared.item.Keyword.TheVariants as words
+use Rattle.ded_syntax.specs.Symbols.{Symbol, Word, Name, Open, Close, CloseBrace, Comma, Relation}
+use Rattle.ded_syntax.specs.Operands.{Reader}
+use Rattle.ded_syntax.specs.OperandReading.{name_at, operand_at}
+
+-- ---- lists
+
+-- what stands behind an item of a list in parentheses: true where another one is to come
+abbrev pub comma_at : List Symbol → Option (Bool × List Symbol)
+comma_at (Comma ∷ ts) = Some (true, ts)
+comma_at (Close ∷ ts) = Some (false, ts)
+comma_at ts = None
+
+-- the same in braces
+abbrev pub brace_at : List Symbol → Option (Bool × List Symbol)
+brace_at (Comma ∷ ts) = Some (true, ts)
+brace_at (CloseBrace ∷ ts) = Some (false, ts)
+brace_at ts = None
+
+-- behind an item of a list
+abbrev pub behind_item : {A : Type 0} → (List Symbol → Option (List A × List Symbol)) → A → Bool × List Symbol → Option (List A × List Symbol)
+behind_item more x (false, ts) = Some (x ∷ [], ts)
+behind_item more x (true, ts) = more ts >>= λ y. Some (x ∷ y.0, y.1)
+
+-- up to so many items, and the closing sign
+abbrev pub list_at : {A : Type 0} → (List Symbol → Option (A × List Symbol)) → (List Symbol → Option (Bool × List Symbol)) → ℕ → List Symbol → Option (List A × List Symbol)
+list_at read ends zero ts = None
+list_at read ends (suc k) ts = read ts >>= λ x. ends x.1 >>= behind_item (list_at read ends k) x.0
+
+-- ---- comparisons and members
+
+abbrev pub relation_at : List Symbol → Option (CompareOp × List Symbol)
+relation_at (Relation op ∷ ts) = Some (op, ts)
+relation_at ts = None
+
+abbrev pub compare_at : Reader → List Symbol → Option (Form × List Symbol)
+compare_at value ts = operand_at value ts >>= λ l. relation_at l.1 >>= λ o. operand_at value o.1 >>= λ r. Some (atom (compare l.0 o.0 r.0), r.1)
+
+abbrev pub operands_at : Reader → List Symbol → Option (List Operand × List Symbol)
+operands_at value ts = list_at (operand_at value) comma_at (length ts) ts
+
+-- a name and a parenthesis
+abbrev pub called_at : List Symbol → Option (List ℕ × List Symbol)
+called_at (Name n ∷ Open ∷ ts) = Some (n, ts)
+called_at ts = None
+
+abbrev pub atom_by_call : Reader → List Symbol → Option (List ℕ × List Symbol) → Option (Form × List Symbol)
+atom_by_call value ts None = compare_at value ts
+atom_by_call value ts (Some n) = operands_at value n.1 >>= λ x. Some (atom (member n.0 x.0), x.1)
+
+abbrev pub atom_at : Reader → List Symbol → Option (Form × List Symbol)
+atom_at value ts = atom_by_call value ts (called_at ts)
+
+-- ---- columns
+
+abbrev pub sort_at : List Symbol → Sort × List Symbol
+sort_at (Word words.Text ∷ ts) = (Text, ts)
+sort_at ts = (Rat, ts)
+
+abbrev pub column_at : List Symbol → Option (Column × List Symbol)
+column_at ts = name_at ts >>= λ n. Some (record { name = n.0; sort = (sort_at n.1).0 }, (sort_at n.1).1)
+
+-- ---- pieces
+
+abbrev pub binder_at : Quantifier → List Symbol → Option (PieceForm × List Symbol)
+binder_at q ts = column_at ts >>= λ x. Some (binder q x.0, x.1)
+
+-- the words that are pieces by themselves
+abbrev pub word_piece : Keyword → Option PieceForm
+word_piece words.Not = Some nay
+word_piece words.And = Some conjunct
+word_piece words.Or = Some disjunct
+word_piece words.Implies = Some arrow
+word_piece words.True = Some (leaf always)
+word_piece words.False = Some (leaf never)
+word_piece w = None
+
+abbrev pub quantifier_of : Keyword → Option Quantifier
+quantifier_of words.Exists = Some Exists
+quantifier_of words.Forall = Some Forall
+quantifier_of w = None
+
+abbrev pub piece_by_quantifier : List Symbol → Option Quantifier → Option (PieceForm × List Symbol)
+piece_by_quantifier ts None = None
+piece_by_quantifier ts (Some q) = binder_at q ts
+
+abbrev pub piece_by_word : Keyword → List Symbol → Option PieceForm → Option (PieceForm × List Symbol)
+piece_by_word w ts None = piece_by_quantifier ts (quantifier_of w)
+piece_by_word w ts (Some p) = Some (p, ts)
+
+abbrev pub word_at : Keyword → List Symbol → Option (PieceForm × List Symbol)
+word_at w ts = piece_by_word w ts (word_piece w)
+
+abbrev pub as_leaf : Option (Form × List Symbol) → Option (PieceForm × List Symbol)
+as_leaf o = o >>= λ x. Some (leaf x.0, x.1)
+
+abbrev pub keyword_at : List Symbol → Option (Keyword × List Symbol)
+keyword_at (Word w ∷ ts) = Some (w, ts)
+keyword_at ts = None
+
+abbrev pub parenthesis_at : List Symbol → Option (PieceForm × List Symbol)
+parenthesis_at (Open ∷ ts) = Some (opening, ts)
+parenthesis_at (Close ∷ ts) = Some (closing, ts)
+parenthesis_at ts = None
+
+abbrev pub piece_by_parenthesis : Reader → List Symbol → Option (PieceForm × List Symbol) → Option (PieceForm × List Symbol)
+piece_by_parenthesis value ts None = as_leaf (atom_at value ts)
+piece_by_parenthesis value ts (Some x) = Some x
+
+abbrev pub piece_by_keyword : Reader → List Symbol → Option (Keyword × List Symbol) → Option (PieceForm × List Symbol)
+piece_by_keyword value ts None = piece_by_parenthesis value ts (parenthesis_at ts)
+piece_by_keyword value ts (Some w) = word_at w.0 w.1
+
+abbrev pub piece_at : Reader → List Symbol → Option (PieceForm × List Symbol)
+piece_at value ts = piece_by_keyword value ts (keyword_at ts)
+
+-- up to so many pieces, which are all there is
+abbrev pub pieces_within : Reader → ℕ → List Symbol → Option (List PieceForm)
+pieces_within value k [] = Some []
+pieces_within value zero (t ∷ ts) = None
+pieces_within value (suc k) (t ∷ ts) = piece_at value (t ∷ ts) >>= λ x. pieces_within value k x.1 >>= λ ps. Some (x.0 ∷ ps)
+
+abbrev pub pieces_at : Reader → List Symbol → Option (List PieceForm)
+pieces_at value ts = pieces_within value (length ts) ts

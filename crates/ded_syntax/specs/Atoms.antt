@@ -1,0 +1,93 @@
+-- The grammar of comparisons, members, headings and formulas.
+use Rattle.std.specs.Prelude.{◌≡◌, ℕ, Bool, true, false, List, [], ◌∷◌, ◌++◌, map}
+use Rattle.ded_model.specs.declared.formula.CompareOp.{CompareOp}
+use Rattle.ded_model.specs.declared.name.Column.{Column}
+use Rattle.ded_model.specs.declared.slot.Sort.{Sort}
+use Rattle.ded_model.specs.declared.slot.Sort.TheVariants.{Rat, Text}
+use Rattle.ded_model.specs.Form.{Form, compare, member}
+use Rattle.ded_model.specs.Logic.{atom, always, never}
+use Rattle.ded_grammar.specs.declared.piece.Quantifier.{Quantifier}
+use Rattle.ded_grammar.specs.declared.piece.Quantifier.TheVariants.{Exists, Forall}
+use Rattle.ded_grammar.specs.Trees.{PieceForm, nay, conjunct, disjunct, arrow, opening, closing, binder, leaf}
+use Rattle.ded_grammar.specs.Spelling.{Spells}
+use Rattle.ded_syntax.specs.declared.item.Keyword.TheVariants as words
+use Rattle.ded_syntax.specs.Symbols.{Symbol, Word, Name, Open, Close, Comma, Relation}
+use Rattle.ded_syntax.specs.Operands.{Reader, Side, spell_side, operand_of}
+
+-- ---- lists
+
+-- ( "," item )*
+abbrev pub spell_rest : {T : Type 0} → (T → List Symbol) → List T → List Symbol
+spell_rest spell [] = []
+spell_rest spell (x ∷ xs) = Comma ∷ spell x ++ spell_rest spell xs
+
+-- ---- comparisons and members
+
+-- compare = operand relop operand
+pub record Comparison : Type 0 where
+  pub left : Side
+  pub op : CompareOp
+  pub right : Side
+
+abbrev pub spell_comparison : Comparison → List Symbol
+spell_comparison c = spell_side c.left ++ Relation c.op ∷ spell_side c.right
+
+abbrev pub comparison_form : Reader → Comparison → Form
+comparison_form value c = atom (compare (operand_of value c.left) c.op (operand_of value c.right))
+
+-- unit = .. "true" | "false" | compare | member
+-- member = name "(" operand ( "," operand )* ")"
+pub data Atom : Type 0 where
+  truth : Bool → Atom
+  relates : Comparison → Atom
+  belongs : List ℕ → Side → List Side → Atom
+
+abbrev pub spell_atom : Atom → List Symbol
+spell_atom (truth true) = Word words.True ∷ []
+spell_atom (truth false) = Word words.False ∷ []
+spell_atom (relates c) = spell_comparison c
+spell_atom (belongs n s ss) = Name n ∷ Open ∷ spell_side s ++ (spell_rest spell_side ss ++ Close ∷ [])
+
+abbrev pub atom_form : Reader → Atom → Form
+atom_form value (truth true) = always
+atom_form value (truth false) = never
+atom_form value (relates c) = comparison_form value c
+atom_form value (belongs n s ss) = atom (member n (operand_of value s ∷ map (operand_of value) ss))
+
+-- ---- columns
+
+abbrev pub sort_symbols : Sort → List Symbol
+sort_symbols Rat = []
+sort_symbols Text = Word words.Text ∷ []
+
+-- column = name [ "text" ]
+abbrev pub spell_column : Column → List Symbol
+spell_column c = Name c.name ∷ sort_symbols c.sort
+
+-- ---- formulas, by their pieces
+
+abbrev pub quantifier_symbol : Quantifier → Symbol
+quantifier_symbol Exists = Word words.Exists
+quantifier_symbol Forall = Word words.Forall
+
+-- these symbols spell the piece
+abbrev pub IsPiece : Reader → List Symbol → PieceForm → Type 0
+IsPiece value ts nay = ts ≡ Word words.Not ∷ []
+IsPiece value ts conjunct = ts ≡ Word words.And ∷ []
+IsPiece value ts disjunct = ts ≡ Word words.Or ∷ []
+IsPiece value ts arrow = ts ≡ Word words.Implies ∷ []
+IsPiece value ts opening = ts ≡ Open ∷ []
+IsPiece value ts closing = ts ≡ Close ∷ []
+IsPiece value ts (binder q c) = ts ≡ quantifier_symbol q ∷ spell_column c
+IsPiece value ts (leaf f) = (a : Atom) × (ts ≡ spell_atom a) × (atom_form value a ≡ f)
+
+-- the pieces, one after the other
+abbrev pub ArePieces : Reader → List Symbol → List PieceForm → Type 0
+ArePieces value ts [] = ts ≡ []
+ArePieces value ts (p ∷ ps) = (front : List Symbol) × (rest : List Symbol) × (ts ≡ front ++ rest) × IsPiece value front p × ArePieces value rest ps
+
+-- the symbols spell the formula, with this nesting
+pub record SpellsFormula (value : Reader) (ts : List Symbol) (f : Form) (depth : ℕ) : Type 0 where
+  pub pieces : List PieceForm
+  pub are : ArePieces value ts pieces
+  pub spells : Spells pieces f depth

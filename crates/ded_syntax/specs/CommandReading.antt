@@ -1,0 +1,128 @@
+-- Reading commands up to the tree of their formula, as functions on symbols.
+use Rattle.std.specs.Prelude.{ℕ, Bool, true, List, [], ◌∷◌, length, Option, Some, None}
+use Rattle.ded_model.specs.declared.name.Column.{Column}
+use Rattle.ded_model.specs.Command.{CommandForm, relation, insert, delete, drop, view, keep, ask, query, show, box_of, explain}
+use Rattle.ded_model.specs.Form.{Form}
+use Rattle.ded_model.specs.Logic.{logics}
+use Rattle.ded_grammar.specs.declared.scan.Spot.TheVariants.{Start}
+use Rattle.ded_grammar.specs.Trees.{PieceForm}
+use Rattle.ded_grammar.specs.Scanning.{scan}
+use Rattle.ded_grammar.specs.Building.{◌>>=◌}
+use Rattle.ded_syntax.specs.declared.item.Keyword.{Keyword}
+use Rattle.ded_syntax.specs.declared.item.Keyword.TheVariants as words
+use Rattle.ded_syntax.specs.Symbols.{Symbol, Open, CloseBrace, OpenBrace, Colon, Define}
+use Rattle.ded_syntax.specs.Operands.{Reader}
+use Rattle.ded_syntax.specs.OperandReading.{name_at, number_at}
+use Rattle.ded_syntax.specs.AtomReading.{comma_at, brace_at, list_at, compare_at, column_at, keyword_at, pieces_at}
+
+-- what stands before a formula
+pub data Head : Type 0 where
+  view_head : List ℕ → List Column → Head
+  ask_head : Head
+  query_head : List Column → Head
+  explain_head : List Column → Head
+
+-- the command of a head and its formula
+abbrev pub head_form : Head → Form → CommandForm
+head_form (view_head n h) f = view n h f
+head_form ask_head f = ask f
+head_form (query_head h) f = query h f
+head_form (explain_head h) f = explain h f
+
+-- a command without a formula, or with the pieces of one
+pub data Draft : Type 0 where
+  plain : CommandForm → Draft
+  formed : Head → List PieceForm → Draft
+
+abbrev pub open_at : List Symbol → Option (List Symbol)
+open_at (Open ∷ ts) = Some ts
+open_at ts = None
+
+abbrev pub columns_at : List Symbol → Option (List Column × List Symbol)
+columns_at ts = list_at column_at comma_at (length ts) ts
+
+abbrev pub heading_at : List Symbol → Option (List Column × List Symbol)
+heading_at ts = open_at ts >>= columns_at
+
+-- two braces with nothing in them
+abbrev pub empty_at : List Symbol → Option (List Symbol)
+empty_at (OpenBrace ∷ CloseBrace ∷ ts) = Some ts
+empty_at ts = None
+
+abbrev pub open_brace_at : List Symbol → Option (List Symbol)
+open_brace_at (OpenBrace ∷ ts) = Some ts
+open_brace_at ts = None
+
+abbrev pub forms_at : Reader → List Symbol → Option (List Form × List Symbol)
+forms_at value ts = list_at (compare_at value) brace_at (length ts) ts
+
+abbrev pub braces_by_empty : Reader → List Symbol → Option (List Symbol) → Option (List Form × List Symbol)
+braces_by_empty value ts None = open_brace_at ts >>= forms_at value
+braces_by_empty value ts (Some us) = Some ([], us)
+
+-- what stands in braces
+abbrev pub braces_at : Reader → List Symbol → Option (List Form × List Symbol)
+braces_at value ts = braces_by_empty value ts (empty_at ts)
+
+-- where nothing stands behind it
+abbrev pub ended : {A : Type 0} → A → List Symbol → Option A
+ended x [] = Some x
+ended x (t ∷ ts) = None
+
+abbrev pub colon_at : List Symbol → Option (List Symbol)
+colon_at (Colon ∷ ts) = Some ts
+colon_at ts = None
+
+abbrev pub define_at : List Symbol → Option (List Symbol)
+define_at (Define ∷ ts) = Some ts
+define_at ts = None
+
+-- the pieces of a formula behind a head
+abbrev pub formed_at : Reader → Head → List Symbol → Option Draft
+formed_at value h ts = pieces_at value ts >>= λ ps. Some (formed h ps)
+
+-- a name with nothing behind it
+abbrev pub last_name : List Symbol → Option (List ℕ)
+last_name ts = name_at ts >>= λ n. ended n.0 n.1
+
+-- a command that is a name
+abbrev pub named_draft : (List ℕ → CommandForm) → List Symbol → Option Draft
+named_draft make ts = last_name ts >>= λ n. Some (plain (make n))
+
+abbrev pub relation_draft : List Symbol → Option Draft
+relation_draft ts = name_at ts >>= λ n. heading_at n.1 >>= λ h. ended (plain (relation n.0 h.0)) h.1
+
+abbrev pub insert_draft : Reader → List Symbol → Option Draft
+insert_draft value ts = name_at ts >>= λ n. braces_at value n.1 >>= λ fs. ended (plain (insert n.0 (logics fs.0))) fs.1
+
+abbrev pub delete_draft : Reader → List Symbol → Option Draft
+delete_draft value ts = name_at ts >>= λ n. number_at n.1 >>= λ d. ended (plain (delete n.0 (value d.0))) d.1
+
+abbrev pub view_draft : Reader → List Symbol → Option Draft
+view_draft value ts = name_at ts >>= λ n. heading_at n.1 >>= λ h. define_at h.1 >>= formed_at value (view_head n.0 h.0)
+
+-- a heading, a colon and a formula
+abbrev pub over_draft : Reader → (List Column → Head) → List Symbol → Option Draft
+over_draft value make ts = heading_at ts >>= λ h. colon_at h.1 >>= formed_at value (make h.0)
+
+abbrev pub draft_behind : Reader → Keyword → List Symbol → Option Draft
+draft_behind value words.Relation ts = relation_draft ts
+draft_behind value words.Insert ts = insert_draft value ts
+draft_behind value words.Delete ts = delete_draft value ts
+draft_behind value words.Drop ts = named_draft drop ts
+draft_behind value words.Keep ts = named_draft keep ts
+draft_behind value words.Show ts = named_draft show ts
+draft_behind value words.BoxOf ts = named_draft box_of ts
+draft_behind value words.View ts = view_draft value ts
+draft_behind value words.Ask ts = formed_at value ask_head ts
+draft_behind value words.Query ts = over_draft value query_head ts
+draft_behind value words.Explain ts = over_draft value explain_head ts
+draft_behind value w ts = None
+
+abbrev pub draft_at : Reader → List Symbol → Option Draft
+draft_at value ts = keyword_at ts >>= λ w. draft_behind value w.0 w.1
+
+-- whether the pieces of a draft spell a formula
+abbrev pub scans : Draft → Bool
+scans (plain c) = true
+scans (formed h ps) = scan Start 0 ps

@@ -1,0 +1,97 @@
+-- The grammar of commands.
+use Rattle.std.specs.Prelude.{◌≡◌, ◌⊎◌, ℕ, List, [], ◌∷◌, ◌++◌, map}
+use Rattle.ded_model.specs.declared.name.Column.{Column}
+use Rattle.ded_model.specs.Command.{CommandForm, relation, insert, delete, drop, view, keep, ask, query, show, box_of, explain}
+use Rattle.ded_model.specs.Form.{Form}
+use Rattle.ded_model.specs.Logic.{logics}
+use Rattle.ded_syntax.specs.declared.item.Keyword.TheVariants as words
+use Rattle.ded_syntax.specs.Symbols.{Symbol, Word, Name, Number, Open, Close, OpenBrace, CloseBrace, Colon, Define}
+use Rattle.ded_syntax.specs.Operands.{Reader}
+use Rattle.ded_syntax.specs.Atoms.{spell_rest, Comparison, spell_comparison, comparison_form, spell_column, SpellsFormula}
+
+-- heading = "(" column ( "," column )* ")"
+pub record Columns : Type 0 where
+  pub first : Column
+  pub rest : List Column
+
+abbrev pub spell_heading : Columns → List Symbol
+spell_heading h = Open ∷ spell_column h.first ++ (spell_rest spell_column h.rest ++ Close ∷ [])
+
+abbrev pub heading : Columns → List Column
+heading h = h.first ∷ h.rest
+
+-- a command without a formula
+-- command = "relation" name heading
+--   | "insert" name "{" [ compare ( "," compare )* ] "}"
+--   | "delete" name number
+--   | "drop" name | "keep" name | "show" name | "box" name
+pub data Plain : Type 0 where
+  defines : List ℕ → Columns → Plain
+  inserts_none : List ℕ → Plain
+  inserts : List ℕ → Comparison → List Comparison → Plain
+  deletes : List ℕ → List ℕ → Plain
+  drops : List ℕ → Plain
+  keeps : List ℕ → Plain
+  shows : List ℕ → Plain
+  boxes : List ℕ → Plain
+
+abbrev pub spell_plain : Plain → List Symbol
+spell_plain (defines n h) = Word words.Relation ∷ Name n ∷ spell_heading h
+spell_plain (inserts_none n) = Word words.Insert ∷ Name n ∷ OpenBrace ∷ CloseBrace ∷ []
+spell_plain (inserts n c cs) = Word words.Insert ∷ Name n ∷ OpenBrace ∷ spell_comparison c ++ (spell_rest spell_comparison cs ++ CloseBrace ∷ [])
+spell_plain (deletes n d) = Word words.Delete ∷ Name n ∷ Number d ∷ []
+spell_plain (drops n) = Word words.Drop ∷ Name n ∷ []
+spell_plain (keeps n) = Word words.Keep ∷ Name n ∷ []
+spell_plain (shows n) = Word words.Show ∷ Name n ∷ []
+spell_plain (boxes n) = Word words.BoxOf ∷ Name n ∷ []
+
+abbrev pub plain_form : Reader → Plain → CommandForm
+plain_form value (defines n h) = relation n (heading h)
+plain_form value (inserts_none n) = insert n (logics [])
+plain_form value (inserts n c cs) = insert n (logics (comparison_form value c ∷ map (comparison_form value) cs))
+plain_form value (deletes n d) = delete n (value d)
+plain_form value (drops n) = drop n
+plain_form value (keeps n) = keep n
+plain_form value (shows n) = show n
+plain_form value (boxes n) = box_of n
+
+-- what stands before the formula of a command that has one
+-- command = .. | "view" name heading ":=" formula
+--   | "ask" formula
+--   | "query" heading ":" formula
+--   | "explain" heading ":" formula
+pub data Prefix : Type 0 where
+  views : List ℕ → Columns → Prefix
+  asks : Prefix
+  queries : Columns → Prefix
+  explains : Columns → Prefix
+
+abbrev pub spell_prefix : Prefix → List Symbol
+spell_prefix (views n h) = Word words.View ∷ Name n ∷ spell_heading h ++ Define ∷ []
+spell_prefix asks = Word words.Ask ∷ []
+spell_prefix (queries h) = Word words.Query ∷ spell_heading h ++ Colon ∷ []
+spell_prefix (explains h) = Word words.Explain ∷ spell_heading h ++ Colon ∷ []
+
+abbrev pub prefix_form : Prefix → Form → CommandForm
+prefix_form (views n h) f = view n (heading h) f
+prefix_form asks f = ask f
+prefix_form (queries h) f = query (heading h) f
+prefix_form (explains h) f = explain (heading h) f
+
+pub record SpellsPlain (value : Reader) (ts : List Symbol) (c : CommandForm) (depth : ℕ) : Type 0 where
+  pub plain : Plain
+  pub spelled : ts ≡ spell_plain plain
+  pub means : c ≡ plain_form value plain
+  pub flat : depth ≡ 0
+
+pub record SpellsWithFormula (value : Reader) (ts : List Symbol) (c : CommandForm) (depth : ℕ) : Type 0 where
+  pub before : Prefix
+  pub rest : List Symbol
+  pub spelled : ts ≡ spell_prefix before ++ rest
+  pub formula : Form
+  pub spells : SpellsFormula value rest formula depth
+  pub means : c ≡ prefix_form before formula
+
+-- the symbols spell the command, with this nesting, where numbers have these values
+abbrev pub SpellsCommand : Reader → List Symbol → CommandForm → ℕ → Type 0
+SpellsCommand value ts c depth = SpellsPlain value ts c depth ⊎ SpellsWithFormula value ts c depth

@@ -1,0 +1,122 @@
+-- Symbols: lexemes with reserved words and signs told apart. The grammar is over symbols.
+use Rattle.std.specs.Prelude.{◌+◌, ◌-◌, ◌*◌, ℕ, Bool, ◌||◌, List, [], ◌∷◌, if◌then◌else◌, codes}
+use Rattle.std.specs.Str.{bytes_eq}
+use Rattle.ded_lex.specs.Lexemes.{Lexeme}
+use Rattle.ded_lex.specs.Lexemes as lexeme
+use Rattle.ded_model.specs.declared.formula.CompareOp.{CompareOp}
+use Rattle.ded_model.specs.declared.formula.CompareOp.TheVariants as op
+use Rattle.ded_syntax.specs.declared.item.Keyword.{Keyword}
+use Rattle.ded_syntax.specs.declared.item.Keyword.TheVariants as keyword
+
+-- a reserved word, a name, a number by its digits, a quoted text by its value, or a sign
+pub data Symbol : Type 0 where
+  Word : Keyword → Symbol
+  Name : List ℕ → Symbol
+  Number : List ℕ → Symbol
+  Quoted : List ℕ → Symbol
+  Plus : Symbol
+  Minus : Symbol
+  Times : Symbol
+  Open : Symbol
+  Close : Symbol
+  OpenBrace : Symbol
+  CloseBrace : Symbol
+  Comma : Symbol
+  Colon : Symbol
+  Define : Symbol
+  Relation : CompareOp → Symbol
+
+-- the words of formulas and headings; any other is a command's, or goes on with `other`
+abbrev pub formula_word : Symbol → List ℕ → Symbol
+formula_word other w =
+    if bytes_eq w (codes "and") then Word keyword.And
+    else (if bytes_eq w (codes "or") then Word keyword.Or
+    else (if bytes_eq w (codes "not") then Word keyword.Not
+    else (if bytes_eq w (codes "implies") then Word keyword.Implies
+    else (if bytes_eq w (codes "exists") then Word keyword.Exists
+    else (if bytes_eq w (codes "forall") then Word keyword.Forall
+    else (if bytes_eq w (codes "true") then Word keyword.True
+    else (if bytes_eq w (codes "false") then Word keyword.False
+    else (if bytes_eq w (codes "text") then Word keyword.Text
+    else other))))))))
+
+-- the words that commands begin with
+abbrev pub command_word : Symbol → List ℕ → Symbol
+command_word other w =
+    if bytes_eq w (codes "relation") then Word keyword.Relation
+    else (if bytes_eq w (codes "insert") then Word keyword.Insert
+    else (if bytes_eq w (codes "delete") then Word keyword.Delete
+    else (if bytes_eq w (codes "drop") then Word keyword.Drop
+    else (if bytes_eq w (codes "view") then Word keyword.View
+    else (if bytes_eq w (codes "keep") then Word keyword.Keep
+    else (if bytes_eq w (codes "ask") then Word keyword.Ask
+    else (if bytes_eq w (codes "query") then Word keyword.Query
+    else (if bytes_eq w (codes "show") then Word keyword.Show
+    else (if bytes_eq w (codes "box") then Word keyword.BoxOf
+    else (if bytes_eq w (codes "explain") then Word keyword.Explain
+    else other))))))))))
+
+-- the word is reserved and stands in no command
+abbrev pub is_unused : List ℕ → Bool
+is_unused w =
+    bytes_eq w (codes "closure")
+    || (bytes_eq w (codes "interior")
+    || (bytes_eq w (codes "disjoint")
+    || (bytes_eq w (codes "verify")
+    || (bytes_eq w (codes "begin")
+    || (bytes_eq w (codes "commit")
+    || (bytes_eq w (codes "abort")
+    || (bytes_eq w (codes "dump")
+    || (bytes_eq w (codes "dedale")))))))))
+
+abbrev pub unused_word : Symbol → List ℕ → Symbol
+unused_word other w = if is_unused w then Word keyword.Unused else other
+
+-- a word that isn't reserved is a name
+abbrev pub word_symbol : List ℕ → Symbol
+word_symbol w = formula_word (command_word (unused_word (Name w) w) w) w
+
+-- the signs of sums and comparisons
+abbrev pub sum_sign : Symbol → List ℕ → Symbol
+sum_sign other s =
+    if bytes_eq s (codes "+") then Plus
+    else (if bytes_eq s (codes "-") then Minus
+    else (if bytes_eq s (codes "*") then Times
+    else (if bytes_eq s (codes "<") then Relation op.Less
+    else (if bytes_eq s (codes "<=") then Relation op.LessEq
+    else (if bytes_eq s (codes "=") then Relation op.Equal
+    else (if bytes_eq s (codes "!=") then Relation op.NotEqual
+    else (if bytes_eq s (codes ">=") then Relation op.GreaterEq
+    else (if bytes_eq s (codes ">") then Relation op.Greater
+    else other))))))))
+
+-- parentheses, braces and what stands between parts; there are no other signs
+abbrev pub other_sign : List ℕ → Symbol
+other_sign s =
+    if bytes_eq s (codes "(") then Open
+    else (if bytes_eq s (codes ")") then Close
+    else (if bytes_eq s (codes "{") then OpenBrace
+    else (if bytes_eq s (codes "}") then CloseBrace
+    else (if bytes_eq s (codes ",") then Comma
+    else (if bytes_eq s (codes ":") then Colon
+    else (if bytes_eq s (codes ":=") then Define
+    else Word keyword.Unused))))))
+
+abbrev pub sign_symbol : List ℕ → Symbol
+sign_symbol s = sum_sign (other_sign s) s
+
+abbrev pub symbol : Lexeme → Symbol
+symbol (lexeme.Word w) = word_symbol w
+symbol (lexeme.Number digits) = Number digits
+symbol (lexeme.Quoted value) = Quoted value
+symbol (lexeme.Sign s) = sign_symbol s
+
+-- ---- numbers
+
+-- the number that digits stand for, behind digits that stand for n
+abbrev pub number_from : ℕ → List ℕ → ℕ
+number_from n [] = n
+number_from n (d ∷ ds) = number_from (n * 10 + (d - 48)) ds
+
+abbrev pub number_of : List ℕ → ℕ
+number_of ds = number_from 0 ds

@@ -1,0 +1,134 @@
+// Comparisons, members and columns.
+ghost use Rattle.std.specs.Prelude.{◌≡◌, ◌≤◌, ◌<◌, length, Some, None, IfSome, IfNone, IfOk, IfErr};
+ghost use Rattle.ded_grammar.specs.declared.fault.ReadFault.TheVariants.{NotRead};
+ghost use Rattle.ded_model.specs.Form.{form};
+ghost use Rattle.ded_syntax.specs.Items.{capped_of, left};
+ghost use Rattle.ded_syntax.specs.AtomReading.{relation_at, compare_at, comma_at, operands_at, called_at, atom_at, sort_at, column_at};
+
+use crate::item::{Item, Keyword, Rest, text};
+use crate::operand::{name, name_of, operand};
+use ded_grammar::ReadFault;
+use ded_model::formula::{CompareOp, Formula, Operand, Operands};
+use ded_model::name::Column;
+use ded_model::slot::Sort;
+use std::alloc::Global;
+
+// The sign of a comparison, and what stands behind it.
+fn relation(rest: Rest<'_>) -> Option<(CompareOp, Rest<'_>)>
+    ensures some { IfSome result (λ x. relation_at (left rest.entry) ≡ Some (x.0, left x.1)) }
+    ensures none { IfNone result (relation_at (left rest.entry) ≡ None) }
+    ensures low { IfSome result (λ x. length (left x.1) < length (left rest.entry)) }
+{
+    match rest.items {
+        [Item::Relation(op), items @ ..] => Some((*op, Rest { items, ..rest })),
+        _ => None,
+    }
+}
+
+/// A comparison, and what stands behind it.
+pub fn comparison(alloc: Global, rest: Rest<'_>) -> Result<(Formula, Rest<'_>), ReadFault>
+    requires few { length (left rest) ≤ 65536 }
+    ensures read { IfOk result (λ x. compare_at capped_of (left rest.entry) ≡ Some (form x.0, left x.1)) }
+    ensures unread { IfErr result (λ e. e ≡ NotRead → compare_at capped_of (left rest.entry) ≡ None) }
+    ensures low { IfOk result (λ x. length (left x.1) < length (left rest.entry)) }
+{
+    let (first, rest) = operand(alloc, rest)?;
+    let Some((op, rest)) = relation(rest) else {
+        return Err(ReadFault::NotRead);
+    };
+    let (second, rest) = operand(alloc, rest)?;
+    Ok((Formula::Compare(first, op, second), rest))
+}
+
+/// What stands behind an item of a list in parentheses: true where another one is to come.
+pub fn comma(rest: Rest<'_>) -> Option<(bool, Rest<'_>)>
+    ensures some { IfSome result (λ x. comma_at (left rest.entry) ≡ Some (x.0, left x.1)) }
+    ensures none { IfNone result (comma_at (left rest.entry) ≡ None) }
+    ensures low { IfSome result (λ x. length (left x.1) < length (left rest.entry)) }
+{
+    match rest.items {
+        [Item::Comma, items @ ..] => Some((true, Rest { items, ..rest })),
+        [Item::Close, items @ ..] => Some((false, Rest { items, ..rest })),
+        _ => None,
+    }
+}
+
+// The operands of a member, and what stands behind the closing parenthesis.
+fn operands(alloc: Global, items: Rest<'_>) -> Result<(Vec<Operand>, Rest<'_>), ReadFault>
+    requires few { length (left items) ≤ 65536 }
+    ensures read { IfOk result (λ x. operands_at capped_of (left items.entry) ≡ Some (x.0.items, left x.1)) }
+    ensures unread { IfErr result (λ e. e ≡ NotRead → operands_at capped_of (left items.entry) ≡ None) }
+    ensures low { IfOk result (λ x. length (left x.1) < length (left items.entry)) }
+{
+    let mut list = Vec::new(alloc);
+    let mut rest = items;
+    // Each operand has an item at least.
+    for _ in 0..items.items.len() {
+        let (next, after) = operand(alloc, rest)?;
+        list.push(next)?;
+        let Some((goes_on, behind)) = comma(after) else {
+            return Err(ReadFault::NotRead);
+        };
+        if !goes_on {
+            return Ok((list, behind));
+        }
+        rest = behind;
+    }
+    Err(ReadFault::NotRead)
+}
+
+// A name and a parenthesis, and what stands behind them.
+fn called(rest: Rest<'_>) -> Option<(&[u8], Rest<'_>)>
+    ensures some { IfSome result (λ x. called_at (left rest.entry) ≡ Some (x.0.now, left x.1)) }
+    ensures none { IfNone result (called_at (left rest.entry) ≡ None) }
+    ensures low { IfSome result (λ x. length (left x.1) < length (left rest.entry)) }
+{
+    match rest.items {
+        [Item::Name(name), Item::Open, items @ ..] => {
+            Some((text(rest.bytes, *name), Rest { items, ..rest }))
+        }
+        _ => None,
+    }
+}
+
+/// A comparison or a member, and what stands behind it.
+pub fn atom(alloc: Global, rest: Rest<'_>) -> Result<(Formula, Rest<'_>), ReadFault>
+    requires few { length (left rest) ≤ 65536 }
+    ensures read { IfOk result (λ x. atom_at capped_of (left rest.entry) ≡ Some (form x.0, left x.1)) }
+    ensures unread { IfErr result (λ e. e ≡ NotRead → atom_at capped_of (left rest.entry) ≡ None) }
+    ensures low { IfOk result (λ x. length (left x.1) < length (left rest.entry)) }
+{
+    let Some((name, behind)) = called(rest) else {
+        return comparison(alloc, rest);
+    };
+    let (list, behind) = operands(alloc, behind)?;
+    Ok((
+        Formula::Member(name_of(alloc, name)?, Operands { list }),
+        behind,
+    ))
+}
+
+// What a column ranges over, and what stands behind that.
+fn sort(rest: Rest<'_>) -> (Sort, Rest<'_>)
+    ensures read { sort_at (left rest.entry) ≡ (result.0, left result.1) }
+    ensures low { length (left result.1) ≤ length (left rest.entry) }
+{
+    match rest.items {
+        [Item::Word(Keyword::Text), items @ ..] => (Sort::Text, Rest { items, ..rest }),
+        _ => (Sort::Rat, rest),
+    }
+}
+
+/// A column, and what stands behind it.
+pub fn column(alloc: Global, rest: Rest<'_>) -> Result<(Column, Rest<'_>), ReadFault>
+    ensures read { IfOk result (λ x. column_at (left rest.entry) ≡ Some (x.0, left x.1)) }
+    ensures unread { IfErr result (λ e. e ≡ NotRead → column_at (left rest.entry) ≡ None) }
+    ensures low { IfOk result (λ x. length (left x.1) < length (left rest.entry)) }
+{
+    let Some((name, behind)) = name(rest) else {
+        return Err(ReadFault::NotRead);
+    };
+    let (sort, behind) = sort(behind);
+    let name = name_of(alloc, name)?;
+    Ok((Column { name, sort }, behind))
+}

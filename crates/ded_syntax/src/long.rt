@@ -1,0 +1,315 @@
+// Comparisons and arguments whose normal rows have a number above 2^63 - 1 in magnitude.
+ghost use Rattle.std.specs.Prelude.{◌≡◌, ◌-ℤ◌, ◌∷◌, unsigned_abs};
+ghost use Rattle.std.specs.List.{list_any};
+ghost use Rattle.ded_grammar.specs.Forms.{piece_form, piece_forms};
+ghost use Rattle.ded_grammar.specs.Trees.{piece_atom};
+ghost use Rattle.ded_model.specs.Command.{command_form};
+ghost use Rattle.ded_model.specs.Form.{form, forms};
+ghost use Rattle.ded_model.specs.Logic.{some_atom, some_atom_of};
+ghost use Rattle.ded_num.specs.Gcd.{gcd_from, gcd_all};
+ghost use Rattle.ded_num.specs.Length.{IsWithin, IsShort};
+ghost use Rattle.ded_syntax.specs.LongRows.{coefficient, parts_of, constant_of, difference, differences, row_coefs, row_constant, is_nonzero, is_long, is_long_over, is_long_row, is_quoted, is_long_comparison, is_long_argument, is_long_atom, has_long_row};
+ghost use Rattle.ded_syntax.specs.Drafts.{long_draft};
+ghost use Rattle.ded_syntax.specs.DraftViews.{seen_draft};
+
+use crate::draft::Draft;
+use ded_grammar::Piece;
+use ded_model::command::Command;
+use ded_model::formula::{Formula, Operand, Parts};
+use ded_model::name::Name;
+use ded_num::gcd;
+
+// The least number that is too great for a row.
+const TOO_GREAT: u128 = 1 << 63;
+
+// ---- rows by names
+
+fn coefficient(parts: &Parts, name: &Name) -> i128
+    ensures { result ≡ coefficient parts.now name.now }
+{
+    for part in &parts.list {
+        if part.0.is_same(name) {
+            return part.1;
+        }
+    }
+    0
+}
+
+fn coefficient_of(operand: &Operand, name: &Name) -> i128
+    ensures value { result ≡ coefficient (parts_of operand.now) name.now }
+    ensures short { IsWithin 112 result }
+{
+    match operand {
+        Operand::Single(other) => { if other.is_same(name) { 1 } else { 0 } }
+        Operand::Sum(term) => coefficient(&term.parts, name),
+        Operand::Quoted(_) => 0,
+    }
+}
+
+fn constant_of(operand: &Operand) -> i128
+    ensures value { result ≡ constant_of operand.now }
+    ensures short { IsWithin 112 result }
+{
+    match operand {
+        Operand::Sum(term) => term.constant,
+        Operand::Single(_) | Operand::Quoted(_) => 0,
+    }
+}
+
+fn minus(a: i128, b: i128) -> i128
+    requires short_a { IsWithin 112 a }
+    requires short_b { IsWithin 112 b }
+    ensures value { result ≡ a -ℤ b }
+    ensures short { IsShort result }
+{
+    a - b
+}
+
+// The coefficient of the name in the difference of the sides.
+fn difference(left: &Operand, right: &Operand, name: &Name) -> i128
+    ensures value { result ≡ difference left.now right.now name.now }
+    ensures short { IsShort result }
+{
+    minus(coefficient_of(left, name), coefficient_of(right, name))
+}
+
+// ---- the greatest common divisor
+
+fn divisor_of_parts(first: i128, parts: &[(Name, i128)], left: &Operand, right: &Operand) -> i128
+    requires short { IsShort first }
+    ensures value { unsigned_abs result ≡ gcd_from (unsigned_abs first) (differences left.now right.now parts.now) }
+    ensures short { IsShort result }
+{
+    let mut by = first;
+    for part in parts {
+        by = gcd(by, difference(left, right, &part.0));
+    }
+    by
+}
+
+// The greatest common divisor of a number and of the coefficients of the operand's names.
+fn divisor(first: i128, operand: &Operand, left: &Operand, right: &Operand) -> i128
+    requires short { IsShort first }
+    ensures value { unsigned_abs result ≡ gcd_from (unsigned_abs first) (differences left.now right.now (parts_of operand.now)) }
+    ensures short { IsShort result }
+{
+    match operand {
+        Operand::Single(name) => gcd(first, difference(left, right, name)),
+        Operand::Sum(term) => divisor_of_parts(first, &term.parts.list, left, right),
+        Operand::Quoted(_) => first,
+    }
+}
+
+// ---- tests
+
+fn some_part(parts: &[(Name, i128)], left: &Operand, right: &Operand) -> bool
+    ensures { result ≡ list_any is_nonzero (differences left.now right.now parts.now) }
+{
+    for part in parts {
+        if difference(left, right, &part.0) != 0 {
+            return true;
+        }
+    }
+    false
+}
+
+// Whether a name of the operand has a coefficient.
+fn some_coefficient(operand: &Operand, left: &Operand, right: &Operand) -> bool
+    ensures { result ≡ list_any is_nonzero (differences left.now right.now (parts_of operand.now)) }
+{
+    match operand {
+        Operand::Single(name) => difference(left, right, name) != 0,
+        Operand::Sum(term) => some_part(&term.parts.list, left, right),
+        Operand::Quoted(_) => false,
+    }
+}
+
+fn is_long_over(by: u128, number: i128) -> bool
+    ensures { result ≡ is_long_over by number }
+{
+    by != 0 && number.unsigned_abs() / by >= TOO_GREAT
+}
+
+fn long_part(by: u128, parts: &[(Name, i128)], left: &Operand, right: &Operand) -> bool
+    ensures { result ≡ list_any (is_long_over by) (differences left.now right.now parts.now) }
+{
+    for part in parts {
+        if is_long_over(by, difference(left, right, &part.0)) {
+            return true;
+        }
+    }
+    false
+}
+
+// Whether a coefficient of the operand's names is long.
+fn long_coefficient(by: u128, operand: &Operand, left: &Operand, right: &Operand) -> bool
+    ensures { result ≡ list_any (is_long_over by) (differences left.now right.now (parts_of operand.now)) }
+{
+    match operand {
+        Operand::Single(name) => is_long_over(by, difference(left, right, name)),
+        Operand::Sum(term) => long_part(by, &term.parts.list, left, right),
+        Operand::Quoted(_) => false,
+    }
+}
+
+// ---- rows
+
+#[tactic(auto, using(crate::proofs::LongLists::any_split))]
+fn has_coefficient(left: &Operand, right: &Operand) -> bool
+    ensures { result ≡ list_any is_nonzero (row_coefs left.now right.now) }
+{
+    some_coefficient(left, left, right) || some_coefficient(right, left, right)
+}
+
+// The greatest common divisor of the constant and of all coefficients.
+#[tactic(auto, using(crate::proofs::LongLists::gcd_split))]
+fn row_divisor(constant: i128, left: &Operand, right: &Operand) -> u128
+    requires short { IsShort constant }
+    ensures { result ≡ gcd_all (constant ∷ row_coefs left.now right.now) }
+{
+    let by = divisor(gcd(0, constant), left, left, right);
+    divisor(by, right, left, right).unsigned_abs()
+}
+
+#[tactic(auto, using(crate::proofs::LongLists::any_split))]
+fn has_long_coefficient(by: u128, left: &Operand, right: &Operand) -> bool
+    ensures { result ≡ list_any (is_long_over by) (row_coefs left.now right.now) }
+{
+    long_coefficient(by, left, left, right) || long_coefficient(by, right, left, right)
+}
+
+fn is_long_row(left: &Operand, right: &Operand) -> bool
+    ensures { result ≡ is_long_row (row_coefs left.now right.now) (row_constant left.now right.now) }
+{
+    if !has_coefficient(left, right) {
+        return false;
+    }
+    let constant = minus(constant_of(left), constant_of(right));
+    let by = row_divisor(constant, left, right);
+    is_long_over(by, constant) || has_long_coefficient(by, left, right)
+}
+
+fn is_quoted(operand: &Operand) -> bool
+    ensures { result ≡ is_quoted operand.now }
+{
+    match operand {
+        Operand::Quoted(_) => true,
+        Operand::Single(_) | Operand::Sum(_) => false,
+    }
+}
+
+fn is_long_comparison(left: &Operand, right: &Operand) -> bool
+    ensures { result ≡ is_long_comparison left.now right.now }
+{
+    !is_quoted(left) && !is_quoted(right) && is_long_row(left, right)
+}
+
+fn is_long(number: i128) -> bool
+    ensures { result ≡ is_long number }
+{
+    number.unsigned_abs() >= TOO_GREAT
+}
+
+fn some_long_part(parts: &[(Name, i128)]) -> bool
+    ensures { result ≡ list_any (λ p. is_long p.1) parts.now }
+{
+    for part in parts {
+        if is_long(part.1) {
+            return true;
+        }
+    }
+    false
+}
+
+fn is_long_argument(operand: &Operand) -> bool
+    ensures { result ≡ is_long_argument operand.now }
+{
+    match operand {
+        Operand::Sum(term) => some_long_part(&term.parts.list) || is_long(term.constant),
+        Operand::Single(_) | Operand::Quoted(_) => false,
+    }
+}
+
+fn some_long_argument(operands: &[Operand]) -> bool
+    ensures { result ≡ list_any is_long_argument operands.now }
+{
+    for operand in operands {
+        if is_long_argument(operand) {
+            return true;
+        }
+    }
+    false
+}
+
+// ---- formulas
+
+#[cycle(long)]
+fn has_long_atom(formula: &Formula) -> bool
+    ensures { result ≡ some_atom is_long_atom (form formula.now) }
+{
+    match formula {
+        Formula::True | Formula::False => false,
+        Formula::Compare(left, _, right) => is_long_comparison(left, right),
+        Formula::Member(_, operands) => some_long_argument(&operands.list),
+        Formula::Not(part) | Formula::Exists(_, part) | Formula::Forall(_, part) => {
+            has_long_atom(part)
+        }
+        Formula::And(parts) | Formula::Or(parts) => some_long_atom(parts),
+        Formula::Implies(left, right) => has_long_atom(left) || has_long_atom(right),
+    }
+}
+
+#[cycle(long)]
+fn some_long_atom(formulas: &Vec<Formula>) -> bool
+    ensures { result ≡ some_atom_of is_long_atom (forms formulas.now.items) }
+{
+    for formula in formulas {
+        if has_long_atom(formula) {
+            return true;
+        }
+    }
+    false
+}
+
+fn is_long_piece(piece: &Piece) -> bool
+    ensures { result ≡ piece_atom is_long_atom (piece_form piece.now) }
+{
+    match piece {
+        Piece::Atom(formula) => has_long_atom(formula),
+        _ => false,
+    }
+}
+
+fn some_long_piece(pieces: &[Piece]) -> bool
+    ensures { result ≡ list_any (piece_atom is_long_atom) (piece_forms pieces.now) }
+{
+    for piece in pieces {
+        if is_long_piece(piece) {
+            return true;
+        }
+    }
+    false
+}
+
+fn is_long_command(command: &Command) -> bool
+    ensures { result ≡ has_long_row (command_form command.now) }
+{
+    match command {
+        Command::Insert(_, formulas) => some_long_atom(formulas),
+        Command::View(_, _, formula)
+        | Command::Ask(formula)
+        | Command::Query(_, formula)
+        | Command::Explain(_, formula) => has_long_atom(formula),
+        _ => false,
+    }
+}
+
+/// Whether a comparison or an argument of the draft has a long row.
+pub fn has_long_row(draft: &Draft) -> bool
+    ensures { result ≡ long_draft (seen_draft draft.now) }
+{
+    match draft {
+        Draft::Plain(command) => is_long_command(command),
+        Draft::Formed(_, pieces) => some_long_piece(pieces),
+    }
+}

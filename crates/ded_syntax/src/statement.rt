@@ -1,0 +1,139 @@
+// What a statement is, up to the tree of its formula.
+ghost use Rattle.std.specs.Prelude.{◌≡◌, ◌≤◌, length, Some, None, IfOk, IfErr};
+ghost use Rattle.ded_grammar.specs.declared.fault.ReadFault.TheVariants.{NotRead};
+ghost use Rattle.ded_syntax.specs.Items.{capped_of, left};
+ghost use Rattle.ded_syntax.specs.CommandReading.{query_head, explain_head, last_name, relation_draft, insert_draft, delete_draft, view_draft, over_draft, draft_behind, draft_at};
+ghost use Rattle.ded_syntax.specs.DraftViews.{seen_draft};
+
+use crate::draft::{Draft, Head, braces, colon, define, ended, formed, heading};
+use crate::item::{Keyword, Rest, value_of};
+use crate::operand::{name, name_of, number};
+use crate::pieces::keyword;
+use ded_grammar::ReadFault;
+use ded_model::command::Command;
+use ded_model::name::Name;
+use std::alloc::Global;
+
+// A name with nothing behind it.
+fn last_name(alloc: Global, rest: Rest<'_>) -> Result<Name, ReadFault>
+    ensures read { IfOk result (λ n. last_name (left rest.entry) ≡ Some n) }
+    ensures unread { IfErr result (λ e. e ≡ NotRead → last_name (left rest.entry) ≡ None) }
+{
+    match name(rest) {
+        Some((name, rest)) if rest.items.is_empty() => Ok(name_of(alloc, name)?),
+        _ => Err(ReadFault::NotRead),
+    }
+}
+
+fn relation(alloc: Global, rest: Rest<'_>) -> Result<Draft, ReadFault>
+    ensures read { IfOk result (λ d. relation_draft (left rest.entry) ≡ Some (seen_draft d)) }
+    ensures unread { IfErr result (λ e. e ≡ NotRead → relation_draft (left rest.entry) ≡ None) }
+{
+    let Some((name, rest)) = name(rest) else {
+        return Err(ReadFault::NotRead);
+    };
+    let (heading, rest) = heading(alloc, rest)?;
+    let name = name_of(alloc, name)?;
+    ended(Command::Relation(name, heading), rest)
+}
+
+fn insert(alloc: Global, rest: Rest<'_>) -> Result<Draft, ReadFault>
+    requires few { length (left rest) ≤ 65536 }
+    ensures read { IfOk result (λ d. insert_draft capped_of (left rest.entry) ≡ Some (seen_draft d)) }
+    ensures unread { IfErr result (λ e. e ≡ NotRead → insert_draft capped_of (left rest.entry) ≡ None) }
+{
+    let Some((name, rest)) = name(rest) else {
+        return Err(ReadFault::NotRead);
+    };
+    let (formulas, rest) = braces(alloc, rest)?;
+    let name = name_of(alloc, name)?;
+    ended(Command::Insert(name, formulas), rest)
+}
+
+fn delete(alloc: Global, rest: Rest<'_>) -> Result<Draft, ReadFault>
+    ensures read { IfOk result (λ d. delete_draft capped_of (left rest.entry) ≡ Some (seen_draft d)) }
+    ensures unread { IfErr result (λ e. e ≡ NotRead → delete_draft capped_of (left rest.entry) ≡ None) }
+{
+    let Some((name, rest)) = name(rest) else {
+        return Err(ReadFault::NotRead);
+    };
+    let Some((digits, rest)) = number(rest) else {
+        return Err(ReadFault::NotRead);
+    };
+    let name = name_of(alloc, name)?;
+    ended(Command::Delete(name, value_of(digits)), rest)
+}
+
+fn view(alloc: Global, rest: Rest<'_>) -> Result<Draft, ReadFault>
+    requires few { length (left rest) ≤ 65536 }
+    ensures read { IfOk result (λ d. view_draft capped_of (left rest.entry) ≡ Some (seen_draft d)) }
+    ensures unread { IfErr result (λ e. e ≡ NotRead → view_draft capped_of (left rest.entry) ≡ None) }
+{
+    let Some((name, rest)) = name(rest) else {
+        return Err(ReadFault::NotRead);
+    };
+    let (heading, rest) = heading(alloc, rest)?;
+    let Some(rest) = define(rest) else {
+        return Err(ReadFault::NotRead);
+    };
+    let name = name_of(alloc, name)?;
+    formed(alloc, Head::View(name, heading), rest)
+}
+
+fn query(alloc: Global, rest: Rest<'_>) -> Result<Draft, ReadFault>
+    requires few { length (left rest) ≤ 65536 }
+    ensures read { IfOk result (λ d. over_draft capped_of query_head (left rest.entry) ≡ Some (seen_draft d)) }
+    ensures unread { IfErr result (λ e. e ≡ NotRead → over_draft capped_of query_head (left rest.entry) ≡ None) }
+{
+    let (heading, rest) = heading(alloc, rest)?;
+    let Some(rest) = colon(rest) else {
+        return Err(ReadFault::NotRead);
+    };
+    formed(alloc, Head::Query(heading), rest)
+}
+
+fn explain(alloc: Global, rest: Rest<'_>) -> Result<Draft, ReadFault>
+    requires few { length (left rest) ≤ 65536 }
+    ensures read { IfOk result (λ d. over_draft capped_of explain_head (left rest.entry) ≡ Some (seen_draft d)) }
+    ensures unread { IfErr result (λ e. e ≡ NotRead → over_draft capped_of explain_head (left rest.entry) ≡ None) }
+{
+    let (heading, rest) = heading(alloc, rest)?;
+    let Some(rest) = colon(rest) else {
+        return Err(ReadFault::NotRead);
+    };
+    formed(alloc, Head::Explain(heading), rest)
+}
+
+// The draft of a command that begins with the word and goes on with the rest.
+fn behind(alloc: Global, word: Keyword, rest: Rest<'_>) -> Result<Draft, ReadFault>
+    requires few { length (left rest) ≤ 65536 }
+    ensures read { IfOk result (λ d. draft_behind capped_of word (left rest.entry) ≡ Some (seen_draft d)) }
+    ensures unread { IfErr result (λ e. e ≡ NotRead → draft_behind capped_of word (left rest.entry) ≡ None) }
+{
+    match word {
+        Keyword::Relation => relation(alloc, rest),
+        Keyword::Insert => insert(alloc, rest),
+        Keyword::Delete => delete(alloc, rest),
+        Keyword::Drop => Ok(Draft::Plain(Command::Drop(last_name(alloc, rest)?))),
+        Keyword::Keep => Ok(Draft::Plain(Command::Keep(last_name(alloc, rest)?))),
+        Keyword::Show => Ok(Draft::Plain(Command::Show(last_name(alloc, rest)?))),
+        Keyword::BoxOf => Ok(Draft::Plain(Command::BoxOf(last_name(alloc, rest)?))),
+        Keyword::View => view(alloc, rest),
+        Keyword::Ask => formed(alloc, Head::Ask, rest),
+        Keyword::Query => query(alloc, rest),
+        Keyword::Explain => explain(alloc, rest),
+        _ => Err(ReadFault::NotRead),
+    }
+}
+
+/// The draft of the command that all items spell.
+pub fn draft(alloc: Global, items: Rest<'_>) -> Result<Draft, ReadFault>
+    requires few { length (left items) ≤ 65536 }
+    ensures read { IfOk result (λ d. draft_at capped_of (left items.entry) ≡ Some (seen_draft d)) }
+    ensures unread { IfErr result (λ e. e ≡ NotRead → draft_at capped_of (left items.entry) ≡ None) }
+{
+    match keyword(items) {
+        Some((word, rest)) => behind(alloc, word, rest),
+        None => Err(ReadFault::NotRead),
+    }
+}

@@ -1,0 +1,99 @@
+// Sums of products, each coefficient added up.
+ghost use Rattle.std.specs.Prelude.{◌≡◌, ◌≤◌, ◌<◌, ◌^◌, ◌+ℤ◌, unsigned_abs, IfOk};
+ghost use Rattle.std.specs.List.{AllByRecursion};
+ghost use Rattle.std.specs.Str.{bytes_eq};
+ghost use Rattle.ded_syntax.specs.Operands.{put, signed, add_factor, as_sum};
+ghost use Rattle.ded_syntax.specs.Views.{seen_factor, seen_totals, IsBounded};
+
+use crate::operand::Factor;
+use ded_model::formula::{Operand, Parts, Term};
+use ded_model::memory::NoMemory;
+use ded_model::name::Name;
+use std::alloc::Global;
+
+/// Names with their coefficients so far, in order of first occurrence, and the constant so far.
+#[derive(Drop)]
+pub struct Totals {
+    pub parts: Vec<(Name, i128)>,
+    pub constant: i128,
+}
+
+fn sum(a: i128, b: i128) -> i128
+    requires small_a { unsigned_abs a ≤ 2 ^ 100 }
+    requires small_b { unsigned_abs b ≤ 2 ^ 100 }
+    ensures { result ≡ a +ℤ b }
+{
+    a + b
+}
+
+fn signed(minus: bool, number: u64) -> i128
+    ensures { result ≡ signed minus number }
+{
+    let number = i128::from(number);
+    if minus { -number } else { number }
+}
+
+fn is_name(name: &Name, bytes: &[u8]) -> bool
+    ensures { result ≡ bytes_eq name.now bytes.now }
+{
+    name.bytes.as_slice() == bytes
+}
+
+// The amount more at the name.
+fn put(
+    alloc: Global,
+    parts: &mut Vec<(Name, i128)>,
+    name: &[u8],
+    amount: i128,
+) -> Result<(), NoMemory>
+    requires small { AllByRecursion (λ c. unsigned_abs c.1 ≤ 2 ^ 100) parts.now.items }
+    requires amount { unsigned_abs amount ≤ 2 ^ 100 }
+    ensures { IfOk result (λ _. parts.new.items ≡ put parts.old.items name.now amount) }
+{
+    for i in 0..parts.len() {
+        if is_name(&parts[i].0, name) {
+            parts[i].1 = sum(parts[i].1, amount);
+            return Ok(());
+        }
+    }
+    parts.push((
+        Name {
+            bytes: name.to_vec(alloc)?,
+        },
+        amount,
+    ))?;
+    Ok(())
+}
+
+/// Adds the factor, or takes it away.
+pub fn add(
+    alloc: Global,
+    totals: &mut Totals,
+    minus: bool,
+    factor: Factor<'_>,
+) -> Result<(), NoMemory>
+    requires small { IsBounded (2 ^ 100) (seen_totals totals.now) }
+    requires number { factor.number ≤ 2 ^ 63 }
+    ensures { IfOk result (λ _. seen_totals totals.new ≡ add_factor (seen_totals totals.old) minus (seen_factor factor.entry)) }
+{
+    let amount = signed(minus, factor.number);
+    match factor.name {
+        Some(name) => put(alloc, &mut totals.parts, name, amount),
+        None => {
+            totals.constant = sum(totals.constant, amount);
+            Ok(())
+        }
+    }
+}
+
+/// The sum of these totals.
+pub fn as_sum(totals: Totals) -> Operand
+    requires { IsBounded (2 ^ 100) (seen_totals totals) }
+    ensures { result ≡ as_sum (seen_totals totals) }
+{
+    Operand::Sum(Term {
+        parts: Parts { list: totals.parts },
+        constant: totals.constant,
+        over: 1,
+    })
+}
