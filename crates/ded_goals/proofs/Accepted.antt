@@ -6,7 +6,7 @@ use Rattle.ded_model.specs.declared.name.Column.{Column}
 use Rattle.ded_model.specs.Logic.{atom, always, never, negation, every_of, some_of, implies, minus, exists, forall, Logics, none, also, Scope, some_below, some_below_of, quantifiers}
 use Rattle.ded_model.specs.Form.{Form, FormAtom, compare, member}
 use Rattle.ded_model.specs.Known.{KnownNames, is_many, is_missorted_atom, has_missorted, is_text_sum, scope_of}
-use Rattle.ded_goals.specs.Plain.{has_text_sum}
+use Rattle.ded_goals.specs.TextSums.{has_text_sum}
 use Rattle.ded_goals.specs.Tuples.{is_missorted_comparison}
 use Rattle.ded_goals.proofs.Summing.{fails_left, fails_right}
 

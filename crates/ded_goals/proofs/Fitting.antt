@@ -17,7 +17,7 @@ use Rattle.ded_model.specs.Logic.{every_of, Logics, some_below, some_below_of}
 use Rattle.ded_model.specs.Form.{Form, FormAtom, form, forms}
 use Rattle.ded_model.specs.Slotted.{SlotScope, slot_of, is_text_operand, text_side, goal_below, goal_atoms, comparison_atoms, heading_scope, tuple_of}
 use Rattle.ded_model.specs.Known.{has_unbound, is_unbound_atom, scope_of, sorts_differ, operand_sort}
-use Rattle.ded_goals.specs.Plain.{IsPlain}
+use Rattle.ded_model.specs.Plain.{IsPlain}
 use Rattle.ded_goals.specs.Scope.{sorts_of}
 use Rattle.ded_goals.specs.Tuples.{is_missorted_comparison, IsTextSide, placed, IsFitting, AreFitting}
 use Rattle.ded_goals.proofs.Summing.{sort_in-slot, fails_left, fails_right}

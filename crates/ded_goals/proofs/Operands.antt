@@ -5,7 +5,7 @@ use Rattle.ded_model.specs.declared.formula.Operand.{Operand}
 use Rattle.ded_model.specs.declared.formula.Operand.TheVariants.{Single, Sum, Quoted}
 use Rattle.ded_model.specs.Slotted.{SlotScope, slot_of, is_text_operand}
 use Rattle.ded_model.specs.Known.{is_unbound_operand, is_text_sum}
-use Rattle.ded_goals.specs.Plain.{IsPlainOperand, ArePlainOperands}
+use Rattle.ded_model.specs.Plain.{IsPlainOperand, ArePlainOperands}
 use Rattle.ded_goals.specs.Scope.{sorts_of, AreApart, IsSummable, IsPlaceable, ArePlaceable}
 use Rattle.ded_goals.proofs.Summing.{rational, fails_left, fails_right}
 

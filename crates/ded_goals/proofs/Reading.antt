@@ -12,7 +12,8 @@ use Rattle.ded_model.specs.Form.{Form, FormAtom, member, form, forms}
 use Rattle.ded_model.specs.Goal.{GoalForm, GoalAtom, goal_form}
 use Rattle.ded_model.specs.Slotted.{SlotScope, heading_scope, goal_below, goals_below, goal_of}
 use Rattle.ded_model.specs.Known.{has_unbound, is_unbound_atom, scope_of}
-use Rattle.ded_goals.specs.Plain.{IsPlain, has_text_sum}
+use Rattle.ded_model.specs.Plain.{IsPlain}
+use Rattle.ded_goals.specs.TextSums.{has_text_sum}
 use Rattle.ded_goals.specs.Scope.{sorts_of, AllOther, AreApart, AllUnder, IsNumbered, ArePlaceable}
 use Rattle.ded_goals.specs.Readable.{IsReadable, AreReadable}
 use Rattle.ded_goals.proofs.Summing.{fails_left, fails_right}

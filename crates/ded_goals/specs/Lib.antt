@@ -1,4 +1,4 @@
-pub mod Plain
+pub mod TextSums
 pub mod Readable
 pub mod Scope
 pub mod Sides

@@ -4,7 +4,8 @@ use Rattle.ded_model.specs.Logic.{Logics, AllAtomsOf, some_below, some_below_of,
 use Rattle.ded_model.specs.Form.{Form, FormAtom}
 use Rattle.ded_model.specs.Slotted.{SlotScope}
 use Rattle.ded_model.specs.Known.{is_unbound_atom}
-use Rattle.ded_goals.specs.Plain.{IsPlain, IsPlainAtom, has_text_sum}
+use Rattle.ded_model.specs.Plain.{IsPlain, IsPlainAtom}
+use Rattle.ded_goals.specs.TextSums.{has_text_sum}
 use Rattle.ded_goals.specs.Scope.{sorts_of, IsNumbered}
 
 -- in the scope each variable is bound, each sum is over 1, has each name once and no text variable, and the quantifiers have

@@ -12,7 +12,7 @@ use Rattle.ded_model.specs.Sum.{SlotSum}
 use Rattle.ded_model.specs.Coefs.{coef_at}
 use Rattle.ded_model.specs.Slotted.{SlotScope, slot_of}
 use Rattle.ded_model.specs.Known.{is_unbound_name, sort_in}
-use Rattle.ded_goals.specs.Plain.{AreOnce}
+use Rattle.ded_model.specs.Plain.{AreOnce}
 
 -- the scope round a quantifier
 abbrev pub without_nearest : SlotScope → SlotScope

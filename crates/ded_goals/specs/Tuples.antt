@@ -10,7 +10,7 @@ use Rattle.ded_model.specs.Form.{Form, FormAtom, compare, member}
 use Rattle.ded_model.specs.Goal.{linear, theme, GoalForm}
 use Rattle.ded_model.specs.Known.{is_unbound_atom, is_text_sum, sorts_differ, operand_sort}
 use Rattle.ded_model.specs.Slotted.{SlotScope, TextSide, at, word}
-use Rattle.ded_goals.specs.Plain.{IsPlain, IsPlainAtom}
+use Rattle.ded_model.specs.Plain.{IsPlain, IsPlainAtom}
 use Rattle.ded_goals.specs.Scope.{sorts_of, AreApart}
 
 -- a text stands in a comparison where a number has to, or a number where a text has to

@@ -5,7 +5,8 @@ ghost use Rattle.ded_model.specs.Form.{compare};
 ghost use Rattle.ded_model.specs.Goal.{goal_form};
 ghost use Rattle.ded_model.specs.Known.{is_unbound_atom};
 ghost use Rattle.ded_model.specs.Slotted.{compare_goal, comparison_row, sums_goal, is_text_operand, place_of};
-ghost use Rattle.ded_goals.specs.Plain.{IsPlainAtom, has_text_sum};
+ghost use Rattle.ded_model.specs.Plain.{IsPlainAtom};
+ghost use Rattle.ded_goals.specs.TextSums.{has_text_sum};
 ghost use Rattle.ded_goals.specs.Scope.{sorts_of, AreApart, IsSmall, IsPlaceable, ArePlaceable};
 ghost use Rattle.ded_goals.specs.Tuples.{is_missorted_comparison, IsNormalGoal};
 

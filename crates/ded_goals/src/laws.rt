@@ -4,7 +4,7 @@ ghost use Rattle.ded_model.specs.declared.name.Column.{Column};
 ghost use Rattle.ded_model.specs.Logic.{quantifiers, some_below};
 ghost use Rattle.ded_model.specs.Form.{Form};
 ghost use Rattle.ded_model.specs.Known.{KnownNames, is_many, has_missorted, scope_of};
-ghost use Rattle.ded_goals.specs.Plain.{has_text_sum};
+ghost use Rattle.ded_goals.specs.TextSums.{has_text_sum};
 ghost use Rattle.ded_goals.specs.Tuples.{is_missorted_comparison};
 
 /// A formula in which no text stands where a number has to, and no number where a text has to, whatever is known of names,

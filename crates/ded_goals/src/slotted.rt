@@ -6,7 +6,8 @@ ghost use Rattle.ded_model.specs.Form.{form, forms};
 ghost use Rattle.ded_model.specs.Goal.{goal_form, goal_forms};
 ghost use Rattle.ded_model.specs.Known.{has_unbound, scope_of};
 ghost use Rattle.ded_model.specs.Slotted.{goal_of, goal_below, goals_below};
-ghost use Rattle.ded_goals.specs.Plain.{IsPlain, has_text_sum};
+ghost use Rattle.ded_model.specs.Plain.{IsPlain};
+ghost use Rattle.ded_goals.specs.TextSums.{has_text_sum};
 ghost use Rattle.ded_goals.specs.Readable.{IsReadable, AreReadable};
 
 use crate::comparisons::{comparison, places};

@@ -7,7 +7,7 @@ ghost use Rattle.ded_model.specs.Coefs.{AreCoefs};
 ghost use Rattle.ded_model.specs.Normal.{IsNormalTuple, is_true_row, constant_row, ordered_atoms};
 ghost use Rattle.ded_model.specs.Known.{has_unbound, scope_of, IsTupleOver};
 ghost use Rattle.ded_model.specs.Slotted.{goal_atoms, goal_below, comparison_atoms, tuple_of};
-ghost use Rattle.ded_goals.specs.Plain.{IsPlain};
+ghost use Rattle.ded_model.specs.Plain.{IsPlain};
 ghost use Rattle.ded_goals.specs.Tuples.{is_missorted_comparison, IsNormalGoal, found, AreNormalAtoms, placed, IsFitting, AreFitting};
 
 use crate::comparisons::comparison;

@@ -11,9 +11,11 @@ pub mod Interval
 pub mod Known
 pub mod Lines
 pub mod Logic
+pub mod LongRows
 pub mod Measure
 pub mod Negation
 pub mod Normal
+pub mod Plain
 pub mod PlanForm
 pub mod Point
 pub mod Pushed

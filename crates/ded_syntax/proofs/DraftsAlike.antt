@@ -12,7 +12,7 @@ use Rattle.ded_grammar.proofs.Leaves.{spelled_atoms}
 use Rattle.ded_syntax.specs.Symbols.{Symbol}
 use Rattle.ded_syntax.specs.Operands.{Reader}
 use Rattle.ded_syntax.specs.Commands.{Plain, defines, inserts_none, inserts, deletes, drops, keeps, shows, boxes, plain_form}
-use Rattle.ded_syntax.specs.LongRows.{is_long_atom, has_long_row}
+use Rattle.ded_model.specs.LongRows.{is_long_atom, has_long_row}
 use Rattle.ded_syntax.specs.Answered.{is_answered}
 use Rattle.ded_syntax.specs.CommandReading.{Head, view_head, ask_head, query_head, explain_head, head_form, Draft, plain, formed, draft_at, scans}
 use Rattle.ded_syntax.specs.Drafts.{answers_draft, answers_pieces, test_of, passes_draft, long_draft}

@@ -5,7 +5,7 @@ use Rattle.std.specs.List.{list_any}
 use Rattle.std.specs.Str.{bytes_eq}
 use Rattle.ded_num.specs.Gcd.{nat_gcd, gcd_from}
 use Rattle.ded_model.specs.Sum.{ArePartsWithin}
-use Rattle.ded_syntax.specs.LongRows.{coefficient}
+use Rattle.ded_model.specs.LongRows.{coefficient}
 
 or_assoc : (a b c : Bool) → (a || (b || c)) ≡ ((a || b) || c)
 or_assoc true b c = refl

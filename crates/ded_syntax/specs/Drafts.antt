@@ -5,7 +5,7 @@ use Rattle.std.specs.List.{list_any}
 use Rattle.ded_model.specs.Command.{CommandForm}
 use Rattle.ded_grammar.specs.Trees.{PieceForm, opening, closing, leaf, piece_atom}
 use Rattle.ded_syntax.specs.Answered.{compares_wholes, is_answered, any_command}
-use Rattle.ded_syntax.specs.LongRows.{is_long_atom, has_long_row}
+use Rattle.ded_model.specs.LongRows.{is_long_atom, has_long_row}
 use Rattle.ded_syntax.specs.CommandReading.{ask_head, Draft, plain, formed}
 
 -- a parenthesis, or a comparison of whole numbers

@@ -10,7 +10,7 @@ use Rattle.ded_model.specs.Command.{CommandForm}
 use Rattle.ded_model.specs.Refusals.{refusal_number}
 use Rattle.ded_syntax.specs.Symbols.{symbol, number_of}
 use Rattle.ded_syntax.specs.Commands.{SpellsCommand}
-use Rattle.ded_syntax.specs.LongRows.{has_long_row}
+use Rattle.ded_model.specs.LongRows.{has_long_row}
 use Rattle.ded_syntax.specs.Answered.{is_answered}
 
 -- ---- what is spelled

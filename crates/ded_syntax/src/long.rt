@@ -8,7 +8,7 @@ ghost use Rattle.ded_model.specs.Form.{form, forms};
 ghost use Rattle.ded_model.specs.Logic.{some_atom, some_atom_of};
 ghost use Rattle.ded_num.specs.Gcd.{gcd_from, gcd_all};
 ghost use Rattle.ded_num.specs.Length.{IsWithin, IsShort};
-ghost use Rattle.ded_syntax.specs.LongRows.{coefficient, parts_of, constant_of, difference, differences, row_coefs, row_constant, is_nonzero, is_long, is_long_over, is_long_row, is_quoted, is_long_comparison, is_long_argument, is_long_atom, has_long_row};
+ghost use Rattle.ded_model.specs.LongRows.{coefficient, parts_of, constant_of, difference, differences, row_coefs, row_constant, is_nonzero, is_long, is_long_over, is_long_row, is_quoted, is_long_comparison, is_long_argument, is_long_atom, has_long_row};
 ghost use Rattle.ded_syntax.specs.Drafts.{long_draft};
 ghost use Rattle.ded_syntax.specs.DraftViews.{seen_draft};
 

@@ -1,7 +1,7 @@
 use Rattle.std.proofs.Common.{◌≡◌, drop}
 use Rattle.ded_model.specs.Form.{forms}
 use Rattle.ded_model.specs.Logic.{some_atom_of}
-use Rattle.ded_syntax.specs.LongRows.{is_long_atom}
+use Rattle.ded_model.specs.LongRows.{is_long_atom}
 use Rattle.ded_syntax.proofs.long.+long.Given as goal
 
 abbrev pub invariant-some_long_atom-loop-formula : goal.invariant-some_long_atom-loop-formula

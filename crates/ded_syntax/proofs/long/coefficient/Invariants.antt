@@ -1,5 +1,5 @@
 use Rattle.std.proofs.Common.{◌≡◌, drop}
-use Rattle.ded_syntax.specs.LongRows.{coefficient}
+use Rattle.ded_model.specs.LongRows.{coefficient}
 use Rattle.ded_syntax.proofs.long.coefficient.Given as goal
 
 abbrev pub invariant-loop-part : goal.invariant-loop-part

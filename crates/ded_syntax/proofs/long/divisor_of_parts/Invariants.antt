@@ -2,7 +2,7 @@ use Rattle.std.proofs.Common.{◌≡◌, drop}
 use Rattle.std.specs.Prelude.{unsigned_abs}
 use Rattle.ded_num.specs.Gcd.{gcd_from}
 use Rattle.ded_num.specs.Length.{IsShort}
-use Rattle.ded_syntax.specs.LongRows.{differences}
+use Rattle.ded_model.specs.LongRows.{differences}
 use Rattle.ded_syntax.proofs.long.divisor_of_parts.Given as goal
 
 abbrev pub invariant-loop-part : goal.invariant-loop-part

@@ -4,7 +4,7 @@ use Rattle.std.specs.Int.{w128}
 use Rattle.std.proofs.lemmas.Int.{to_z-of_z, fits_signed_from_abs}
 use mir.Val.{to_z, of_z}
 use Rattle.ded_num.specs.Gcd.{nat_gcd, gcd_from}
-use Rattle.ded_syntax.specs.LongRows.{parts_of, differences}
+use Rattle.ded_model.specs.LongRows.{parts_of, differences}
 use Rattle.ded_syntax.proofs.LongLists.{gcd_split}
 use Rattle.ded_syntax.proofs.long.row_divisor.Goals as goal
 

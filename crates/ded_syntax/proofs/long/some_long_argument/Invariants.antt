@@ -1,6 +1,6 @@
 use Rattle.std.proofs.Common.{◌≡◌, drop}
 use Rattle.std.specs.List.{list_any}
-use Rattle.ded_syntax.specs.LongRows.{is_long_argument}
+use Rattle.ded_model.specs.LongRows.{is_long_argument}
 use Rattle.ded_syntax.proofs.long.some_long_argument.Given as goal
 
 abbrev pub invariant-loop-operand : goal.invariant-loop-operand

@@ -2,7 +2,7 @@ use Rattle.std.proofs.Common.{◌≡◌, drop}
 use Rattle.std.specs.List.{list_any}
 use Rattle.ded_grammar.specs.Forms.{piece_forms}
 use Rattle.ded_grammar.specs.Trees.{piece_atom}
-use Rattle.ded_syntax.specs.LongRows.{is_long_atom}
+use Rattle.ded_model.specs.LongRows.{is_long_atom}
 use Rattle.ded_syntax.proofs.long.some_long_piece.Given as goal
 
 abbrev pub invariant-loop-piece : goal.invariant-loop-piece

@@ -1,6 +1,6 @@
 use Rattle.std.proofs.Common.{◌≡◌, drop}
 use Rattle.std.specs.List.{list_any}
-use Rattle.ded_syntax.specs.LongRows.{is_nonzero, differences}
+use Rattle.ded_model.specs.LongRows.{is_nonzero, differences}
 use Rattle.ded_syntax.proofs.long.some_part.Given as goal
 
 abbrev pub invariant-loop-part : goal.invariant-loop-part

@@ -1,4 +1,4 @@
--- Comparisons and arguments whose normal rows have a number above 2^63 - 1 in magnitude.
+-- Comparisons and arguments of formulas whose normal rows have a number above 2^63 - 1 in magnitude.
 use Rattle.std.specs.Prelude.{ℕ, ◌^◌, ◌/◌, nat_le, ℤ, pos, ◌-ℤ◌, unsigned_abs, Bool, true, false, ◌&&◌, ◌||◌, not, List, [], ◌∷◌, ◌++◌, if◌then◌else◌}
 use Rattle.std.specs.List.{list_any}
 use Rattle.std.specs.Ordering.{int_eq}

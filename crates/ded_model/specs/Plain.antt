@@ -1,12 +1,12 @@
--- Which formulas have goals with short numbers.
-use Rattle.std.specs.Prelude.{◌≡◌, ℕ, ℤ, pos, Bool, false, ◌||◌, List, [], ◌∷◌}
+-- Sums over 1 that have each name once, as the formulas of the first language have.
+use Rattle.std.specs.Prelude.{◌≡◌, ℤ, pos, false, List, [], ◌∷◌}
 use Rattle.std.specs.Str.{bytes_eq}
 use Rattle.std.specs.List.{list_any}
 use Rattle.ded_model.specs.declared.formula.Operand.{Operand}
 use Rattle.ded_model.specs.declared.formula.Operand.TheVariants.{Single, Sum, Quoted}
-use Rattle.ded_model.specs.Logic.{Scope, AllAtoms}
+use Rattle.ded_model.specs.Logic.{AllAtoms, AllAtomsOf}
 use Rattle.ded_model.specs.Form.{Form, FormAtom, compare, member}
-use Rattle.ded_model.specs.Known.{is_text_sum}
+use Rattle.ded_model.specs.Command.{CommandForm, relation, insert, delete, drop, view, keep, ask, query, show, box_of, explain}
 
 -- no name stands twice
 abbrev pub AreOnce : List (List ℕ × ℤ) → Type 0
@@ -31,7 +31,16 @@ IsPlainAtom (member n ts) = ArePlainOperands ts
 abbrev pub IsPlain : Form → Type 0
 IsPlain f = AllAtoms IsPlainAtom f
 
--- a sum with a text variable
-abbrev pub has_text_sum : Scope → FormAtom → Bool
-has_text_sum scope (compare l op r) = is_text_sum scope l || is_text_sum scope r
-has_text_sum scope (member n ts) = list_any (is_text_sum scope) ts
+-- each sum of the command's formulas is so
+abbrev pub IsPlainCommand : CommandForm → Type 0
+IsPlainCommand (relation n h) = Unit {0}
+IsPlainCommand (insert n fs) = AllAtomsOf IsPlainAtom fs
+IsPlainCommand (delete n k) = Unit {0}
+IsPlainCommand (drop n) = Unit {0}
+IsPlainCommand (view n h f) = IsPlain f
+IsPlainCommand (keep n) = Unit {0}
+IsPlainCommand (ask f) = IsPlain f
+IsPlainCommand (query h f) = IsPlain f
+IsPlainCommand (show n) = Unit {0}
+IsPlainCommand (box_of n) = Unit {0}
+IsPlainCommand (explain h f) = IsPlain f
