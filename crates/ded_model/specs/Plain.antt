@@ -1,5 +1,5 @@
 -- Sums over 1 that have each name once, as the formulas of the first language have.
-use Rattle.std.specs.Prelude.{◌≡◌, ℤ, pos, false, List, [], ◌∷◌}
+use Rattle.std.specs.Prelude.{◌≡◌, ℕ, ℤ, pos, false, List, [], ◌∷◌}
 use Rattle.std.specs.Str.{bytes_eq}
 use Rattle.std.specs.List.{list_any}
 use Rattle.ded_model.specs.declared.formula.Operand.{Operand}
