@@ -65,7 +65,7 @@ fn texts(alloc: Global) -> Result<Heading, NoMemory> {
     Ok(Heading { columns })
 }
 
-fn table(alloc: Global) -> Result<Table, NoMemory> {
+fn one_relation(alloc: Global) -> Result<Table, NoMemory> {
     Ok(Table {
         relation: name_of(alloc, b"T")?,
         columns: texts(alloc)?,
@@ -138,7 +138,7 @@ fn outcome_of(alloc: Global, command: Command, names: &Table) -> Outcome
 
 #[test]
 fn commands_without_formulas(rt: HostRuntime) -> Result<(), Fail> {
-    let names = table(rt.alloc())?;
+    let names = one_relation(rt.alloc())?;
     let unknown = Command::Drop(name_of(rt.alloc(), b"U")?);
     assert_eq!(rt;
         outcome_of(rt.alloc(), unknown, &names),
@@ -151,7 +151,7 @@ fn commands_without_formulas(rt: HostRuntime) -> Result<(), Fail> {
 
 #[test]
 fn formulas_are_read_by_slots(rt: HostRuntime) -> Result<(), Fail> {
-    let names = table(rt.alloc())?;
+    let names = one_relation(rt.alloc())?;
     let insert = insert_of(rt.alloc())?;
     assert_eq!(rt;
         outcome_of(rt.alloc(), insert, &names),
