@@ -3,7 +3,7 @@
 -- Let g be the greatest common divisor of the numbers by names. Each of them is a multiple of g and below 2^63 times g, so
 -- each number by slots is (`SlotNumbers`). Thus g divides the greatest common divisor of the numbers by slots, which is then
 -- at least g, and each of them divided by it is below 2^63.
-use Rattle.std.proofs.Common.{◌≡◌, ◌≢◌, ℕ, zero, suc, ◌+◌, ◌*◌, ◌/◌, ◌%◌, ◌^◌, ◌<◌, ◌≤◌, nat_le, Bool, true, false, not, ◌||◌, ◌&&◌, List, [], ◌∷◌, map, ◌⊎◌, inl, inr, arith, refl, sym, ap, ◌∙◌, subst, true≢false}
+use Rattle.std.proofs.Common.{◌≡◌, ◌≢◌, ℕ, ◌+◌, ◌*◌, ◌/◌, ◌^◌, ◌<◌, ◌≤◌, nat_le, Bool, true, false, not, ◌||◌, ◌&&◌, List, [], ◌∷◌, map, ◌⊎◌, inl, inr, arith, refl, sym, ap, ◌∙◌, subst, true≢false}
 use Rattle.std.specs.Prelude.{ℤ, pos, ◌*ℤ◌, int_div, unsigned_abs}
 use Rattle.std.specs.List.{list_any}
 use Rattle.std.specs.Ordering.{int_eq}
@@ -22,10 +22,9 @@ use Rattle.ded_model.specs.declared.row.RowOp.TheVariants.{Zero, AtMost, Below}
 use Rattle.ded_model.specs.declared.formula.CompareOp.{CompareOp}
 use Rattle.ded_model.specs.declared.formula.CompareOp.TheVariants.{Less, LessEq, Equal, NotEqual, GreaterEq, Greater}
 use Rattle.ded_model.specs.declared.formula.Operand.{Operand}
-use Rattle.ded_model.specs.Constraint.{LinearConstraint}
 use Rattle.ded_model.specs.Coefs.{mixed}
 use Rattle.ded_model.specs.Sum.{SlotSum, denominator}
-use Rattle.ded_model.specs.Normal.{numbers, coefs_over, DivideWhole, divisor_for, divisor_of, normal_row}
+use Rattle.ded_model.specs.Normal.{numbers, coefs_over, DivideWhole, divisor_of, normal_row}
 use Rattle.ded_model.specs.LongRows.{row_coefs, row_constant, is_nonzero, is_long_over, is_long_row}
 use Rattle.ded_model.specs.Slotted.{SlotScope, slot_sum, difference_row, comparison_row}
 use Rattle.ded_model.proofs.Divisors.{abs_divisor, positive_divisor, divisor-whole, divisor-whole_constant}

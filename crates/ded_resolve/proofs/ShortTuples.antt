@@ -1,11 +1,10 @@
 -- The tuple of comparisons without long rows has numbers of at most 63 digits.
-use Rattle.std.proofs.Common.{Ok, Err, ◌≡◌, ℕ, ◌≤◌, max, nat_lt, Bool, true, false, not, ◌||◌, ◌&&◌, cond, List, [], ◌∷◌, ◌++◌, map, arith, refl, sym, ap, ◌∙◌, subst, true≢false, bytes_eq}
-use Rattle.std.specs.Prelude.{ℤ, pos, Result}
+use Rattle.std.proofs.Common.{Ok, Err, ◌≡◌, ℕ, ◌≤◌, max, nat_lt, Bool, true, false, not, ◌||◌, ◌&&◌, cond, List, [], ◌∷◌, ◌++◌, arith, refl, sym, ap, ◌∙◌, subst, bytes_eq}
+use Rattle.std.specs.Prelude.{ℤ, Result}
 use Rattle.std.specs.Result.{IfOk}
-use Rattle.std.specs.List.{list_any}
 use Rattle.std.specs.declared.cmp.Ordering.{Ordering}
 use Rattle.std.specs.declared.cmp.Ordering.TheVariants.{Less, Equal, Greater}
-use Rattle.ded_num.specs.Length.{length_of, IsWithin}
+use Rattle.ded_num.specs.Length.{length_of}
 use Rattle.ded_num.proofs.Lengths.{length_of-le}
 use Rattle.ded_model.specs.declared.name.Column.{Column}
 use Rattle.ded_model.specs.declared.formula.CompareOp.{CompareOp}
@@ -19,11 +18,11 @@ use Rattle.ded_model.specs.Point.{same_slot}
 use Rattle.ded_model.specs.Row.{Atom}
 use Rattle.ded_model.specs.Normal.{numbers, normal_row, is_true_row, atom_order, place_atom, ordered_atoms}
 use Rattle.ded_model.specs.Width.{greatest_length, row_length, tuple_length}
-use Rattle.ded_model.specs.Logic.{atom, always, never, negation, every_of, some_of, implies, minus, exists, forall, Logics, none, also, logics, some_atom, some_below, some_below_of, some_atom_of, AllAtomsOf}
-use Rattle.ded_model.specs.Form.{Form, FormAtom, compare, member}
+use Rattle.ded_model.specs.Logic.{atom, always, never, negation, every_of, some_of, implies, minus, exists, forall, logics, some_atom, some_below, some_below_of, some_atom_of, AllAtomsOf}
+use Rattle.ded_model.specs.Form.{Form, compare, member}
 use Rattle.ded_model.specs.Goal.{GoalForm, linear, theme}
-use Rattle.ded_model.specs.Known.{is_unbound_operand, is_unbound_atom, is_text_sum, sorts_differ, operand_sort}
-use Rattle.ded_model.specs.LongRows.{row_coefs, row_constant, is_long_row, is_quoted, is_long_comparison, is_long_atom}
+use Rattle.ded_model.specs.Known.{is_unbound_operand, is_unbound_atom, is_text_sum}
+use Rattle.ded_model.specs.LongRows.{row_coefs, row_constant, is_long_row, is_quoted, is_long_atom}
 use Rattle.ded_model.specs.Plain.{IsPlain, IsPlainAtom}
 use Rattle.ded_model.specs.Slotted.{SlotScope, heading_scope, slot_sum, comparison_row, sums_goal, TextSide, at, word, text_side, same_text_goal, other_text_goal, texts_goal, is_text_operand, goal_below, goal_atoms, comparison_atoms, tuple_of}
 use Rattle.ded_goals.specs.Scope.{sorts_of, AreApart}

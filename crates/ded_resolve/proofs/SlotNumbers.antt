@@ -3,19 +3,18 @@
 -- Names that differ have slots that differ. So the coefficient of `l - r` at a slot is the difference of the coefficients of
 -- the one name that has the slot, or 0 where no name of `l` or `r` has it. What 0 has, and with a number its negative, and
 -- all differences at names, each coefficient by slots has too.
-use Rattle.std.proofs.Common.{◌≡◌, ◌≢◌, ℕ, Bool, true, false, cond, ◌||◌, List, [], ◌∷◌, ◌++◌, map, ◌⊎◌, inl, inr, arith, refl, sym, ap, ap₂, ◌∙◌, subst, true≢false, bytes_eq}
+use Rattle.std.proofs.Common.{◌≡◌, ℕ, Bool, true, false, cond, ◌||◌, List, [], ◌∷◌, ◌++◌, map, ◌⊎◌, inl, inr, arith, refl, sym, ap, ap₂, ◌∙◌, subst, true≢false, bytes_eq}
 use Rattle.std.specs.Prelude.{ℤ, pos, negsuc, ◌+ℤ◌, ◌-ℤ◌, ◌*ℤ◌}
 use lib.IntN.{neg_ℤ}
 use Rattle.std.proofs.lemmas.Int.{ints}
 use Rattle.std.proofs.lemmas.Slice.Eq.{bytes_eq-Decides}
 use Rattle.ded_model.specs.declared.slot.Slot.{Slot}
-use Rattle.ded_model.specs.declared.slot.Sort.TheVariants.{Rat, Text}
+use Rattle.ded_model.specs.declared.slot.Sort.TheVariants.{Text}
 use Rattle.ded_model.specs.declared.row.RowOp.{RowOp}
 use Rattle.ded_model.specs.declared.formula.Operand.{Operand}
 use Rattle.ded_model.specs.declared.formula.Operand.TheVariants.{Single, Sum, Quoted}
-use Rattle.ded_model.specs.Constraint.{LinearConstraint}
 use Rattle.ded_model.specs.Point.{same_slot, same_sort}
-use Rattle.ded_model.specs.Sum.{SlotSum, denominator}
+use Rattle.ded_model.specs.Sum.{denominator}
 use Rattle.ded_model.specs.Coefs.{AllAbove, coef_at, mixed, nonzero}
 use Rattle.ded_model.specs.Known.{is_unbound_name, is_unbound_operand, is_text_sum, sort_in}
 use Rattle.ded_model.specs.LongRows.{parts_of, constant_of, coefficient, difference, differences, row_coefs, row_constant}
@@ -26,7 +25,7 @@ use Rattle.ded_model.proofs.CoefLemmas.{coef_at-above, coef_at-here, coef_at-pas
 use Rattle.ded_model.proofs.LineCoefs.{coef_at-mixed, coef_at-nonzero}
 use Rattle.ded_goals.specs.Scope.{sorts_of, AreApart, AreSummable}
 use Rattle.ded_goals.proofs.Ascending.{Ascend, AllRational, ascend-mixed, ascend-nonzero}
-use Rattle.ded_goals.proofs.Summing.{fails_left, fails_right, slots_apart, sort_in-slot, rest_summable, ascend-parts, one_part}
+use Rattle.ded_goals.proofs.Summing.{fails_left, slots_apart, sort_in-slot, rest_summable, ascend-parts, one_part}
 
 -- ---- operands that are numbers
 

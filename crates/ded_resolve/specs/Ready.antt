@@ -1,8 +1,8 @@
 -- What the goal of a formula, and the tuple of comparisons, are made of.
-use Rattle.std.specs.Prelude.{◌≡◌, ℕ, ◌+◌, ◌^◌, ◌<◌, false, List, length}
+use Rattle.std.specs.Prelude.{◌≡◌, ◌+◌, ◌^◌, ◌<◌, false, List, length}
 use Rattle.ded_model.specs.declared.name.Column.{Column}
 use Rattle.ded_model.specs.Form.{Form, FormAtom}
-use Rattle.ded_model.specs.Known.{KnownNames, has_unbound, has_missorted, scope_of}
+use Rattle.ded_model.specs.Known.{has_unbound, scope_of}
 use Rattle.ded_model.specs.Logic.{Logics, every_of, some_below, some_atom_of, quantifiers}
 use Rattle.ded_model.specs.LongRows.{is_long_atom}
 use Rattle.ded_model.specs.Plain.{IsPlain}
