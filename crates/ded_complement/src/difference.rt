@@ -1,0 +1,77 @@
+//! Complement and difference.
+ghost use Rattle.std.specs.Prelude.{◌≡◌, not, ◌&&◌, ◌||◌, List, ◌++◌, length, IfOk};
+ghost use Rattle.std.specs.List.{AllByRecursion};
+ghost use Rattle.ded_model.specs.Cell.{conj_holds, HoldsSomewhere, HasCells};
+ghost use Rattle.ded_theory.specs.Conjunctions.{IsWide};
+ghost use Rattle.ded_genrel.specs.Lists.{conjs_hold, conjs_mention, conjs_lines};
+ghost use Rattle.ded_genrel.specs.Operations.{IsOperation};
+ghost use Rattle.ded_complement.specs.Pieces.{all_atoms, AreDisjoint, IsListForEach, AreAmong, IsMadeOf, ArePieces};
+
+use crate::pieces::{push_piece, without};
+use ded_genrel::{GenRel, copy_conj};
+use ded_model::memory::NoMemory;
+use ded_theory::Theory;
+use std::alloc::Global;
+
+/// A list that holds at a point exactly where the other doesn't. No point satisfies two of its conjunctions. Where the list's
+/// atoms aren't wide, each of them holds somewhere, and they are at most as many as the cells that those atoms realise.
+///
+/// # Errors
+/// Want of memory.
+pub fn complement<T: Theory>(alloc: Global, rel: &GenRel<T>) -> Result<GenRel<T>, NoMemory>
+    ensures is { IfOk result (λ out. IsOperation T.holds T.mentions T.lines (λ p. not (conjs_hold T.holds rel.now p)) (conjs_mention T.mentions rel.now) (conjs_lines T.lines rel.now) out) }
+    ensures disjoint { IfOk result (λ out. AreDisjoint T.holds out) }
+    ensures cells { IfOk result (λ out. (IsWide T.mentions T.lines (all_atoms rel.now) → ⊥) → HasCells T.cell (all_atoms rel.now) (length out)) }
+    ensures inhabited { IfOk result (λ out. (IsWide T.mentions T.lines (all_atoms rel.now) → ⊥) → AllByRecursion (λ c. HoldsSomewhere (conj_holds T.holds c)) out) }
+{
+    outside(alloc, Vec::new(alloc), rel)
+}
+
+/// A list that holds at a point exactly where the first one does and the second doesn't. Where the atoms of both together aren't
+/// wide, it has for each conjunction of the first list at most as many as the cells that the atoms realise, and each of them holds
+/// somewhere.
+///
+/// # Errors
+/// Want of memory.
+pub fn minus<T: Theory>(
+    alloc: Global,
+    from: &GenRel<T>,
+    taken: &GenRel<T>,
+) -> Result<GenRel<T>, NoMemory>
+    ensures is { IfOk result (λ out. IsOperation T.holds T.mentions T.lines (λ p. conjs_hold T.holds from.now p && not (conjs_hold T.holds taken.now p)) (λ s. conjs_mention T.mentions from.now s || conjs_mention T.mentions taken.now s) (conjs_lines T.lines from.now ++ conjs_lines T.lines taken.now) out) }
+    ensures cells { IfOk result (λ out. (IsWide T.mentions T.lines (all_atoms from.now ++ all_atoms taken.now) → ⊥) → IsListForEach (λ pieces. HasCells T.cell (all_atoms from.now ++ all_atoms taken.now) (length pieces) × AllByRecursion (λ c. HoldsSomewhere (conj_holds T.holds c)) pieces) from.now out) }
+{
+    let mut out = GenRel::new(alloc);
+    for conj in from.list() {
+        let pieces = outside(alloc, copy_conj::<T>(alloc, conj)?, taken)?;
+        push_all(&mut out, pieces)?;
+    }
+    Ok(out)
+}
+
+/// What of the piece is outside of the list.
+fn outside<T: Theory>(
+    alloc: Global,
+    piece: Vec<T::Atom>,
+    taken: &GenRel<T>,
+) -> Result<GenRel<T>, NoMemory>
+    requires normal { AllByRecursion T.normal piece.items }
+    ensures { IfOk result (λ out. (atoms : List T.Atom) → IsMadeOf T.holds T.mentions T.lines T.cell atoms piece.items → AreAmong atoms (all_atoms taken.now) → ArePieces T.holds T.mentions T.lines T.cell atoms (λ p. conj_holds T.holds piece.items p && not (conjs_hold T.holds taken.now p)) out) }
+{
+    let mut pieces = GenRel::new(alloc);
+    push_piece(&mut pieces, piece)?;
+    for conj in taken.list() {
+        pieces = without(alloc, pieces, conj)?;
+    }
+    Ok(pieces)
+}
+
+/// Sets the conjunctions of the second list at the end of the first.
+fn push_all<T: Theory>(out: &mut GenRel<T>, more: GenRel<T>) -> Result<(), NoMemory>
+    ensures { IfOk result (λ _. out.new ≡ out.old ++ more) }
+{
+    for conj in more.conjs {
+        out.push(conj)?;
+    }
+    Ok(())
+}

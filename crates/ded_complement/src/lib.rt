@@ -1,0 +1,14 @@
+//! Complement and difference of generalized relations over any theory, by disjoint pieces.
+//!
+//! [`minus`] takes the conjunctions of one list away from those of another, and [`complement`] takes them away from the whole
+//! space. A conjunction is taken away from a piece atom by atom: what satisfies the atoms so far and not the next one is a piece
+//! of its own. A piece that shares no point with the conjunction stays as it is, and pieces that hold nowhere are dropped at once.
+//!
+//! It stands on `ded_genrel` for lists of conjunctions. Each result holds exactly where the operation on sets says. The pieces of
+//! a complement are disjoint, and where the operands' atoms aren't wide they are no more than the cells that those atoms realise.
+#![tactic(auto)]
+
+mod difference;
+mod pieces;
+
+pub use difference::{complement, minus};

@@ -1,0 +1,132 @@
+//! Pieces of a difference.
+ghost use Rattle.std.specs.Prelude.{◌≡◌, false, not, ◌&&◌, List, [], ◌∷◌, IfOk};
+ghost use Rattle.std.specs.List.{AllByRecursion};
+ghost use Rattle.ded_model.specs.Cell.{conj_holds, HoldsSomewhere};
+ghost use Rattle.ded_theory.specs.Conjunctions.{IsWide};
+ghost use Rattle.ded_theory.specs.Verdicts.{HoldsNowhere};
+ghost use Rattle.ded_genrel.specs.Lists.{conjs_hold};
+ghost use Rattle.ded_complement.specs.Pieces.{IsAmong, AreAmong, IsMadeOf, ArePieces, IsMore};
+
+use ded_genrel::{GenRel, both_conjs, copy_conj};
+use ded_model::memory::NoMemory;
+use ded_model::tuple::Negated;
+use ded_theory::{Theory, Verdict};
+use std::alloc::Global;
+
+/// The pieces without the points of the conjunction.
+pub(crate) fn without<T: Theory>(
+    alloc: Global,
+    pieces: GenRel<T>,
+    conj: &[T::Atom],
+) -> Result<GenRel<T>, NoMemory>
+    requires normal { AllByRecursion T.normal conj.now }
+    ensures { IfOk result (λ out. (atoms : List T.Atom) → ArePieces T.holds T.mentions T.lines T.cell atoms (conjs_hold T.holds pieces) pieces → AreAmong atoms conj.now → ArePieces T.holds T.mentions T.lines T.cell atoms (λ p. conjs_hold T.holds pieces p && not (conj_holds T.holds conj.now p)) out) }
+{
+    let mut out = GenRel::new(alloc);
+    for piece in pieces.conjs {
+        push_without(&mut out, piece, conj)?;
+    }
+    Ok(out)
+}
+
+/// Sets the piece without the points of the conjunction at the end: the piece itself where they share none.
+fn push_without<T: Theory>(
+    out: &mut GenRel<T>,
+    piece: Vec<T::Atom>,
+    conj: &[T::Atom],
+) -> Result<(), NoMemory>
+    requires normal { AllByRecursion T.normal piece.items }
+    requires normal_conj { AllByRecursion T.normal conj.now }
+    ensures { IfOk result (λ _. IsMore T.holds T.mentions T.lines T.cell (λ atoms. IsMadeOf T.holds T.mentions T.lines T.cell atoms piece.items × AreAmong atoms conj.now × ((IsWide T.mentions T.lines atoms → ⊥) → HoldsSomewhere (conj_holds T.holds piece.items))) (λ p. conj_holds T.holds piece.items p && not (conj_holds T.holds conj.now p)) out.old out.new) }
+{
+    let alloc = *piece.allocator();
+    let shared = both_conjs::<T>(alloc, &piece, conj)?;
+    match T::refute(alloc, &shared)? {
+        Verdict::Empty => {
+            out.push(piece)?;
+            Ok(())
+        }
+        _ => push_outside(out, piece, conj),
+    }
+}
+
+/// Sets pieces of what satisfies the piece and not the conjunction at the end: for each atom what satisfies those before it and
+/// not the atom. An atom that the piece implies gives none, and isn't added to it.
+fn push_outside<T: Theory>(
+    out: &mut GenRel<T>,
+    piece: Vec<T::Atom>,
+    conj: &[T::Atom],
+) -> Result<(), NoMemory>
+    requires normal { AllByRecursion T.normal piece.items }
+    requires normal_conj { AllByRecursion T.normal conj.now }
+    ensures { IfOk result (λ _. IsMore T.holds T.mentions T.lines T.cell (λ atoms. IsMadeOf T.holds T.mentions T.lines T.cell atoms piece.items × AreAmong atoms conj.now) (λ p. conj_holds T.holds piece.items p && not (conj_holds T.holds conj.now p)) out.old out.new) }
+{
+    let Some((last, others)) = conj.split_last() else {
+        return Ok(());
+    };
+    let alloc = *piece.allocator();
+    let mut rest = piece;
+    for atom in others {
+        if push_negated(out, copy_conj::<T>(alloc, &rest)?, atom)? {
+            rest.push(T::copy(atom)?)?;
+        }
+    }
+    push_negated(out, rest, last)?;
+    Ok(())
+}
+
+/// Sets pieces of what satisfies the rest and not the atom at the end, and answers whether there are any.
+fn push_negated<T: Theory>(
+    out: &mut GenRel<T>,
+    rest: Vec<T::Atom>,
+    atom: &T::Atom,
+) -> Result<bool, NoMemory>
+    requires normal { AllByRecursion T.normal rest.items }
+    requires normal_atom { T.normal atom.now }
+    ensures more { IfOk result (λ _. IsMore T.holds T.mentions T.lines T.cell (λ atoms. IsMadeOf T.holds T.mentions T.lines T.cell atoms rest.items × IsAmong atoms atom.now) (λ p. conj_holds T.holds rest.items p && not (T.holds atom.now p)) out.old out.new) }
+    ensures dropped { IfOk result (λ kept. kept ≡ false → HoldsNowhere (λ p. conj_holds T.holds rest.items p && not (T.holds atom.now p))) }
+{
+    match T::negate(atom)? {
+        Negated::One(only) => push_with(out, rest, only),
+        Negated::Two(first, second) => {
+            let alloc = *rest.allocator();
+            let kept_first = push_with(out, copy_conj::<T>(alloc, &rest)?, first)?;
+            let kept_second = push_with(out, rest, second)?;
+            Ok(kept_first || kept_second)
+        }
+    }
+}
+
+/// Sets the rest with one more atom at the end where it may hold somewhere, and answers whether it did.
+fn push_with<T: Theory>(
+    out: &mut GenRel<T>,
+    mut rest: Vec<T::Atom>,
+    last: T::Atom,
+) -> Result<bool, NoMemory>
+    requires normal { AllByRecursion T.normal rest.items }
+    requires normal_last { T.normal last }
+    ensures more { IfOk result (λ _. IsMore T.holds T.mentions T.lines T.cell (λ atoms. IsMadeOf T.holds T.mentions T.lines T.cell atoms rest.items × IsMadeOf T.holds T.mentions T.lines T.cell atoms (last ∷ [])) (λ p. conj_holds T.holds rest.items p && T.holds last p) out.old out.new) }
+    ensures dropped { IfOk result (λ kept. kept ≡ false → HoldsNowhere (λ p. conj_holds T.holds rest.items p && T.holds last p)) }
+{
+    rest.push(last)?;
+    push_piece(out, rest)
+}
+
+/// Sets the piece at the end where it may hold somewhere, and answers whether it did.
+pub(crate) fn push_piece<T: Theory>(
+    out: &mut GenRel<T>,
+    piece: Vec<T::Atom>,
+) -> Result<bool, NoMemory>
+    requires normal { AllByRecursion T.normal piece.items }
+    ensures more { IfOk result (λ _. IsMore T.holds T.mentions T.lines T.cell (λ atoms. IsMadeOf T.holds T.mentions T.lines T.cell atoms piece.items) (conj_holds T.holds piece.items) out.old out.new) }
+    ensures dropped { IfOk result (λ kept. kept ≡ false → HoldsNowhere (conj_holds T.holds piece.items)) }
+{
+    let alloc = *piece.allocator();
+    match T::refute(alloc, &piece)? {
+        Verdict::Empty => Ok(false),
+        _ => {
+            out.push(piece)?;
+            Ok(true)
+        }
+    }
+}

@@ -1,0 +1,45 @@
+-- What reducing a conjunction keeps.
+use Rattle.std.specs.Prelude.{◌≡◌, ◌⊎◌, ℕ, suc, ◌<◌, Bool, true, false, not, ◌&&◌, IsTrue, List, [], ◌∷◌, ◌++◌, length, take, drop, get_or}
+use Rattle.std.specs.List.{AllByRecursion}
+use Rattle.ded_model.specs.declared.slot.Slot.{Slot}
+use Rattle.ded_model.specs.Point.{Point, IsPoint}
+use Rattle.ded_model.specs.Cell.{conj_holds}
+use Rattle.ded_model.specs.Lines.{Line}
+use Rattle.ded_theory.specs.Conjunctions.{IsWide}
+use Rattle.ded_theory.specs.Verdicts.{HoldsNowhere}
+use Rattle.ded_reduce.specs.declared.reduction.Reduced.{Reduced}
+use Rattle.ded_reduce.specs.declared.reduction.Reduced.TheVariants.{Gone, Kept}
+
+-- the first list is the second without some of its elements, in the same order
+abbrev pub IsSublist : {A : Type 0} → List A → List A → Type 0
+IsSublist {A = A} xs [] = xs ≡ []
+IsSublist {A = A} xs (y ∷ ys) = IsSublist xs ys ⊎ ((zs : List A) × (xs ≡ y ∷ zs) × IsSublist zs ys)
+
+-- it is so where nothing was kept
+abbrev pub IfGone : {A : Type 0} → Type 0 → Reduced A → Type 0
+IfGone P Gone = P
+IfGone P (Kept atoms) = Unit {0}
+
+-- it is so of the atoms that were kept
+abbrev pub IfKept : {A : Type 0} → (List A → Type 0) → Reduced A → Type 0
+IfKept P Gone = Unit {0}
+IfKept P (Kept atoms) = P atoms.items
+
+-- the others hold at some point at which the atom at the index doesn't
+abbrev pub IsNeeded : {A : Type 0} → (A → Point → Bool) → List A → ℕ → Type 0
+IsNeeded {A = A} h atoms k =
+    (a : A) → a ≡ get_or atoms k a → (p : Point) × IsPoint p × IsTrue (conj_holds h (take k atoms ++ drop (suc k) atoms) p) × (h a p ≡ false)
+
+-- the others imply the atom at the index
+abbrev pub IsImplied : {A : Type 0} → (A → Point → Bool) → List A → ℕ → Type 0
+IsImplied {A = A} h atoms k =
+    (a : A) → a ≡ get_or atoms k a → HoldsNowhere (λ p. conj_holds h (take k atoms ++ drop (suc k) atoms) p && not (h a p))
+
+-- atoms were removed from the old list that the others imply; where none was, and the atoms aren't wide, each of them is needed
+pub record IsSifted {A : Type 0} (h : A → Point → Bool) (m : A → Slot → Bool) (l : A → List Line) (normal : A → Type 0) (old new : List A) (removed : Bool) : Type 0 where
+  pub kept : IsSublist new old
+  pub holds : (p : Point) → IsPoint p → conj_holds h new p ≡ conj_holds h old p
+  pub all_normal : AllByRecursion normal new
+  pub shorter : removed ≡ true → length new < length old
+  pub same : removed ≡ false → new ≡ old
+  pub needed : removed ≡ false → (IsWide m l new → ⊥) → (k : ℕ) → k < length new → IsNeeded h new k
