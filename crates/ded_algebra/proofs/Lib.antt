@@ -7,3 +7,6 @@ pub mod PlanMeanings
 pub mod PlanLines
 pub mod PlanShapes
 pub mod Compiled
+pub mod ArgumentRows
+pub mod Apart
+pub mod Gathered

@@ -81,7 +81,7 @@ scanned-from done n (At s ∷ ts) =
 scanned-from done n (Value t ∷ ts) = (omega arith, scanned-from (done ++ record { number = n; sort = Rat } ∷ []) (suc n) ts)
 scanned-from done n (Quoted x ∷ ts) = (omega arith, scanned-from (done ++ record { number = n; sort = Text } ∷ []) (suc n) ts)
 
-other_number : (s t : Slot) → s.number < t.number → same_slot t s ≡ false
+pub other_number : (s t : Slot) → s.number < t.number → same_slot t s ≡ false
 other_number s t h = by (same_slot t s) refl
   where
     by : (b : Bool) → same_slot t s ≡ b → same_slot t s ≡ false
