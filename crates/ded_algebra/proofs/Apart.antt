@@ -6,7 +6,6 @@ use Rattle.ded_model.proofs.Points.{same_slot_is}
 use Rattle.ded_model.proofs.Members.{or_split}
 use Rattle.ded_algebra.specs.Gathering.{IsApart}
 use Rattle.ded_algebra.proofs.Projections.{other_slot, fails_left, fails_right}
-use Rattle.ded_algebra.proofs.Scans.{other_number}
 
 stands_more : (ss : List Slot) (u t : Slot) → stands_in (ss ++ u ∷ []) t ≡ (stands_in ss t || (same_slot u t || false))
 stands_more [] u t = refl

@@ -3,7 +3,7 @@
 -- A value is a number over the point's denominator times its own. Two values are equal where these fractions are, crosswise, and
 -- the texts are the same. Equal values make arguments that are the same over the denominators of the whole lists, so a name
 -- that respects the same arguments holds of both.
-use Rattle.std.proofs.Common.{◌≡◌, ℕ, ◌*◌, ◌<◌, List, [], ◌∷◌, arith, refl, sym, ap, ◌∙◌, map, mul-pos}
+use Rattle.std.proofs.Common.{◌≡◌, ℕ, ◌*◌, ◌<◌, List, [], ◌∷◌, arith, sym, ap, ◌∙◌, map, mul-pos}
 use Rattle.std.specs.Prelude.{ℤ, pos, ◌*ℤ◌}
 use Rattle.ded_model.specs.Value.{OperandValue, Argument, argument_times, overs, arguments, Meaning, NameHolds}
 use Rattle.ded_num.proofs.Ring.{parts, ring, diff-pos, diff_same}

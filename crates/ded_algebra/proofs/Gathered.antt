@@ -1,10 +1,9 @@
 -- The arguments of an atom gathered one after another: the invariant of the loop, its steps and its end.
 use Rattle.std.proofs.Common.{◌≡◌, ℕ, zero, suc, ◌+◌, ◌<◌, ◌≤◌, List, [], ◌∷◌, ◌++◌, arith, refl, sym, ap, subst, ◌∙◌, map, length, take, drop, get_or, append-nil}
-use Rattle.std.proofs.Math.Seq.{drop-cons, take-length, drop-length}
+use Rattle.std.proofs.Math.Seq.{take-length, drop-length}
 use Rattle.std.proofs.lemmas.List.{take_more}
-use Rattle.ded_model.specs.declared.slot.Slot.{Slot}
 use Rattle.ded_model.specs.declared.goal.Place.{Place}
-use Rattle.ded_model.specs.PlanForm.{PlanForm, plan_form}
+use Rattle.ded_model.specs.PlanForm.{plan_form}
 use Rattle.ded_model.specs.Scanned.{scanned, scanned_slots, tied_atoms, fresh_slots, above_place, first_free}
 use Rattle.ded_algebra.specs.declared.scanning.Scanning.{Scanning}
 use Rattle.ded_algebra.specs.Compile.{row_plan}

@@ -1,6 +1,5 @@
 -- The plan of a goal has no line, no clash, no length and no rank that the goal has not.
-use Rattle.std.proofs.Common.{◌≡◌, ℕ, suc, ◌+◌, ◌≤◌, max, Bool, true, false, ◌||◌, cond, List, [], ◌∷◌, ◌++◌, arith, inl, inr, refl, sym, ap, subst, ◌∙◌, true≢false, map}
-use Rattle.std.proofs.Common.{zero}
+use Rattle.std.proofs.Common.{◌≡◌, ℕ, ◌+◌, ◌≤◌, max, Bool, true, false, ◌||◌, cond, List, [], ◌∷◌, ◌++◌, arith, inl, inr, refl, sym, ap, subst, ◌∙◌, map}
 use Rattle.std.proofs.Math.Bool.{or_assoc}
 use Rattle.ded_model.specs.declared.slot.Slot.{Slot}
 use Rattle.ded_model.specs.declared.slot.Sort.{Sort}
@@ -12,12 +11,12 @@ use Rattle.ded_model.specs.Row.{Atom}
 use Rattle.ded_model.specs.Normal.{is_true_row}
 use Rattle.ded_model.specs.Logic.{atom, always, never, negation, every_of, some_of, implies, minus, exists, forall, Logics, none, also, logics, rank, greatest_rank, greatest, greatest_of, one_more}
 use Rattle.ded_model.specs.Goal.{GoalAtom, linear, theme, member, GoalForm}
-use Rattle.ded_model.specs.PlanForm.{PlanAtom, scan, rows, PlanForm}
-use Rattle.ded_model.specs.Scanned.{Scanned, scanned, scanned_slots, tied_atoms, fresh_slots, rational_count}
+use Rattle.ded_model.specs.PlanForm.{PlanAtom, scan, PlanForm}
+use Rattle.ded_model.specs.Scanned.{scanned, scanned_slots, tied_atoms, fresh_slots, rational_count}
 use Rattle.ded_model.specs.Width.{row_length, tuple_length}
 use Rattle.ded_model.specs.Lines.{Line, IsSubset, row_lines, atoms_lines, lines, all_lines, clashes, any_clashes, clash_past, elim_past_all, clash_past_all}
 use Rattle.ded_model.specs.Measure.{Measures, scanned_lines, goal_atom_b, goal_atom_rank, goal_atom_lines, goal_atom_clash, goal_b, goal_rank, goal_lines, goal_clashes, plan_atom_b, plan_atom_rank, plan_atom_lines, plan_atom_clash, plan_b, plan_rank, plan_lines, plan_clashes}
-use Rattle.ded_model.proofs.Members.{In-split, In-left, subset_refl, subset_trans, subset_append, subset_none, or_split}
+use Rattle.ded_model.proofs.Members.{In-split, In-left, subset_refl, subset_trans, subset_append, subset_none}
 use Rattle.ded_model.proofs.Monotone.{past-grows, clash_past-grows, or-grows}
 use Rattle.ded_model.proofs.Growth.{elim_past_all-grows, clash_past_all-grows}
 use Rattle.ded_algebra.specs.Compile.{row_plan, joined, projected, plan_of, plans_of, atom_plan}

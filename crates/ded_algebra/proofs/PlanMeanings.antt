@@ -1,26 +1,23 @@
 -- The plan of a goal holds where the goal does, by recursion over the goal: atoms by their plans, `implies` and `forall` by their
 -- classical laws, which hold since every goal is decided at every point.
-use Rattle.std.proofs.Common.{◌≡◌, ◌<◌, Bool, true, false, cond, List, [], ◌∷◌, arith, refl, sym, ap, subst, ◌∙◌, ⊎_elim, inl, inr, true≢false}
-use Rattle.std.specs.Prelude.{ℤ, pos, IsTrue, ◌↔◌, ◌&&◌}
+use Rattle.std.proofs.Common.{◌≡◌, Bool, true, false, cond, List, [], ◌∷◌, refl, sym, ap, ◌∙◌, ⊎_elim, inl, inr, true≢false}
+use Rattle.std.specs.Prelude.{ℤ, IsTrue, ◌↔◌}
 use Rattle.ded_model.specs.declared.slot.Slot.{Slot}
-use Rattle.ded_model.specs.declared.slot.Sort.{Sort}
 use Rattle.ded_model.specs.declared.row.RowOp.{RowOp}
-use Rattle.ded_model.specs.declared.row.RowOp.TheVariants.{Zero, AtMost, Below}
 use Rattle.ded_model.specs.declared.tuple.BothAtom.TheVariants.{First, Second}
 use Rattle.ded_model.specs.Constraint.{LinearConstraint}
-use Rattle.ded_model.specs.Point.{Key, Point, IsPoint, IsExtension}
+use Rattle.ded_model.specs.Point.{Point, IsPoint}
 use Rattle.ded_model.specs.Row.{Atom, row_holds, theme_holds, atom_holds, tuple_holds, sign_meets}
 use Rattle.ded_model.specs.Normal.{normal_row, normal_with, constant_row, is_true_with, is_true_row, IsNormalRow}
-use Rattle.ded_model.specs.Logic.{atom, always, never, negation, every_of, some_of, implies, minus, exists, forall, Logics, none, also, Sat, SatEvery, SatSome, AllAtoms, AllAtomsOf}
+use Rattle.ded_model.specs.Logic.{atom, always, never, negation, every_of, some_of, implies, minus, exists, forall, Logics, none, also, Sat, SatEvery, SatSome, AllAtomsOf}
 use Rattle.ded_model.specs.Goal.{GoalAtom, linear, theme, member, GoalForm, GoalAtomHolds}
-use Rattle.ded_model.specs.PlanForm.{rows, PlanAtomHolds}
+use Rattle.ded_model.specs.PlanForm.{PlanAtomHolds}
 use Rattle.ded_model.specs.Catalogue.{Catalogue, meaning, GoalHolds, PlanHolds}
-use Rattle.ded_model.specs.Slotted.{goal_atoms}
 use Rattle.ded_model.proofs.Points.{and_left}
 use Rattle.ded_model.proofs.Sats.{meaning-respects}
 use Rattle.ded_model.proofs.Classical.{goal_forall_is, goal_implies_is}
 use Rattle.ded_row.proofs.Normals.{constant_row-holds}
-use Rattle.ded_algebra.specs.Compile.{plan_of, plans_of, atom_plan, row_plan}
+use Rattle.ded_algebra.specs.Compile.{plan_of, plans_of, atom_plan}
 use Rattle.ded_algebra.specs.Compiled.{IsNormalGoalAtom, IsNormalGoal, HasByteTexts, IsOfBytes}
 use Rattle.ded_algebra.proofs.SamePoints.{extension-point}
 use Rattle.ded_algebra.proofs.Scans.{member_holds}
@@ -112,8 +109,7 @@ module _ (c : Catalogue) where
     mean_some none n b p i = (λ h. h, λ h. h)
     mean_some (also f fs) n b p i =
         let k = means f n.0 b.0 p i in
-        let l = mean_some fs n.1 b.1 p i in
-        (
+        let l = mean_some fs n.1 b.1 p i in (
           λ s. ⊎_elim (λ (h : GoalHolds c f p). inl (k.0 h)) (λ h. inr (l.0 h)) s,
           λ s. ⊎_elim (λ (h : PlanHolds c (plan_of f) p). inl (k.1 h)) (λ h. inr (l.1 h)) s,
         )

@@ -1,7 +1,7 @@
 -- The plan of a goal mentions freely only what the goal does, scans only what the goal's atoms name, and is conjunctive where the
 -- goal is.
 use Rattle.std.proofs.Common.{◌≡◌, ℕ, ◌+◌, Bool, true, false, not, ◌||◌, cond, List, [], ◌∷◌, arith, inl, inr, refl, sym, ap, subst, ◌∙◌, ⊎_elim, true≢false, map}
-use Rattle.std.specs.Prelude.{◌⊎◌, ℤ, pos, ◌&&◌}
+use Rattle.std.specs.Prelude.{◌⊎◌, pos, ◌&&◌}
 use lib.IntN.{neg_ℤ}
 use Rattle.std.specs.Str.{bytes_eq}
 use Rattle.std.specs.List.{list_any}
@@ -20,11 +20,11 @@ use Rattle.ded_model.specs.Coefs.{put, put_all}
 use Rattle.ded_model.specs.Point.{Key, slot, name, same_key, same_sort, same_slot, stands_in}
 use Rattle.ded_model.specs.Row.{Atom, row_mentions, theme_mentions, atom_mentions, tuple_mentions, at_slot}
 use Rattle.ded_model.specs.Normal.{is_true_row}
-use Rattle.ded_model.specs.Logic.{atom, always, never, negation, every_of, some_of, implies, minus, exists, forall, Logics, none, also, logics, mentions, any_mentions, some_atom, some_atom_of, AllAtoms, AllAtomsOf, count_atoms, count_atoms_of, as_count, conjunctive, all_conjunctive}
-use Rattle.ded_model.specs.Goal.{GoalAtom, linear, theme, member, GoalForm, place_mentions, goal_atom_mentions, in_goal_atom, goal_mentions}
-use Rattle.ded_model.specs.PlanForm.{PlanAtom, scan, rows, PlanForm, plan_atom_mentions, in_plan_atom, plan_mentions}
+use Rattle.ded_model.specs.Logic.{atom, always, never, negation, every_of, some_of, implies, minus, exists, forall, Logics, none, also, logics, any_mentions, some_atom, some_atom_of, AllAtoms, AllAtomsOf, count_atoms, count_atoms_of, as_count, conjunctive, all_conjunctive}
+use Rattle.ded_model.specs.Goal.{GoalAtom, linear, theme, member, GoalForm, place_mentions, in_goal_atom, goal_mentions}
+use Rattle.ded_model.specs.PlanForm.{scan, PlanForm, in_plan_atom, plan_mentions}
 use Rattle.ded_model.specs.Scanned.{Scanned, kept, fresh, argument_row, of_slot, same_atom, scanned, scanned_slots, tied_atoms, fresh_slots, first_free}
-use Rattle.ded_model.proofs.Points.{same_slot_is, and_left, and_right}
+use Rattle.ded_model.proofs.Points.{and_left, and_right}
 use Rattle.ded_model.proofs.Rows.{or_left, or_right}
 use Rattle.ded_model.proofs.Members.{or_split}
 use Rattle.ded_model.proofs.Monotone.{or-grows}
@@ -246,7 +246,7 @@ module _ (whole : GoalForm) where
   atom_scans (member n ts) p =
       let gs = scanned ts in
       projected_scans (fresh_slots gs) _ (base_scans n (scanned_slots gs) (tied_atoms gs)
-          (p n (scanned_slots gs) (and_both _ _ ((bytes_eq-Decides n n).1 refl) (scanned_sorts ts gs (scanned-are [] (first_free ts) ts)))))
+      (p n (scanned_slots gs) (and_both _ _ ((bytes_eq-Decides n n).1 refl) (scanned_sorts ts gs (scanned-are [] (first_free ts) ts)))))
 
   mutual
     pub plan_scans : (f : GoalForm) → IsPart f → AllAtoms (IsScanIn whole) (plan_of f)

@@ -6,7 +6,7 @@ use Rattle.std.proofs.Math.IntN.{zero-*ℤ}
 use Rattle.ded_model.specs.declared.slot.Slot.{Slot}
 use Rattle.ded_model.specs.declared.slot.Sort.{Sort}
 use Rattle.ded_model.specs.declared.slot.Sort.TheVariants.{Rat, Text}
-use Rattle.ded_model.specs.Point.{slot, number, text, AllBytes, Point, IsSameAt, IsExtension, IsNumberExtension, IsTextExtension, same_slot, stands_in, AreDistinctSlots, number_at, text_at, all_times}
+use Rattle.ded_model.specs.Point.{slot, number, text, AllBytes, Point, IsSameAt, IsExtension, IsNumberExtension, IsTextExtension, same_slot, stands_in, AreDistinctSlots, all_times}
 use Rattle.ded_model.specs.Logic.{Sat, exists}
 use Rattle.ded_model.specs.PlanForm.{PlanAtom, PlanForm}
 use Rattle.ded_model.specs.Value.{OperandValue, slot_value}
@@ -114,14 +114,16 @@ module _ (H : PlanAtom → Point → Type 0) where
   reached (v ∷ vs) a g p i =
       let r = reached vs a.1 g.2 p i in
       let y = place p.den r.0 v.0 v.1 i g.1 g.0 in
-      let j = positive-extension v.0.sort r.0 (slot v.0) y.0 r.1.positive y.1.extends in
-      (y.0, record {
-        positive = j;
-        chain = λ f h. r.1.chain (exists v.0.sort (slot v.0) f) (y.0, y.1.extends, h);
-        same = λ t n. same_trans p r.0 y.0 (slot t) r.1.positive (r.1.same t (fails_right (same_slot v.0 t) _ n))
-            (extension_same v.0.sort r.0 y.0 (slot v.0) (slot t) y.1.extends (other_slot v.0 t (fails_left _ _ n)));
-        values = (y.1.value, kept_values p.den v.0 r.0 y.0 vs r.1.positive y.1.extends a.0 r.1.values);
-      })
+      let j = positive-extension v.0.sort r.0 (slot v.0) y.0 r.1.positive y.1.extends in (
+        y.0,
+        record {
+          positive = j;
+          chain = λ f h. r.1.chain (exists v.0.sort (slot v.0) f) (y.0, y.1.extends, h);
+          same = λ t n. same_trans p r.0 y.0 (slot t) r.1.positive (r.1.same t (fails_right (same_slot v.0 t) _ n))
+              (extension_same v.0.sort r.0 y.0 (slot v.0) (slot t) y.1.extends (other_slot v.0 t (fails_left _ _ n)));
+          values = (y.1.value, kept_values p.den v.0 r.0 y.0 vs r.1.positive y.1.extends a.0 r.1.values);
+        },
+      )
 
   -- a point at which what is projected holds
   pub record IsWitness (p q : Point) (ss : List Slot) (f : PlanForm) : Type 0 where
@@ -133,10 +135,12 @@ module _ (H : PlanAtom → Point → Type 0) where
   witness [] f p i h = (p, record { positive = i; same = λ t n. same_self p (slot t); holds = h })
   witness (s ∷ ss) f p i h =
       let r = witness ss (exists s.sort (slot s) f) p i h in
-      let x = r.1.holds in
-      (x.0, record {
-        positive = positive-extension s.sort r.0 (slot s) x.0 r.1.positive x.1;
-        same = λ t n. same_trans p r.0 x.0 (slot t) r.1.positive (r.1.same t (fails_right (same_slot s t) _ n))
-            (extension_same s.sort r.0 x.0 (slot s) (slot t) x.1 (other_slot s t (fails_left _ _ n)));
-        holds = x.2;
-      })
+      let x = r.1.holds in (
+        x.0,
+        record {
+          positive = positive-extension s.sort r.0 (slot s) x.0 r.1.positive x.1;
+          same = λ t n. same_trans p r.0 x.0 (slot t) r.1.positive (r.1.same t (fails_right (same_slot s t) _ n))
+              (extension_same s.sort r.0 x.0 (slot s) (slot t) x.1 (other_slot s t (fails_left _ _ n)));
+          holds = x.2;
+        },
+      )

@@ -1,11 +1,11 @@
 -- Points and their extensions: the same value from one point to the next, and texts of bytes.
-use Rattle.std.proofs.Common.{◌≡◌, ◌≢◌, ℕ, suc, ◌*◌, ◌<◌, Bool, true, false, cond, List, [], ◌∷◌, ◌++◌, arith, refl, sym, ap, subst, ◌∙◌}
+use Rattle.std.proofs.Common.{◌≡◌, ◌≢◌, ℕ, ◌<◌, Bool, true, false, cond, List, [], ◌∷◌, ◌++◌, arith, refl, sym, ap, subst, ◌∙◌}
 use Rattle.std.specs.Prelude.{ℤ, pos, ◌*ℤ◌}
 use Rattle.std.proofs.lemmas.Int.{ints}
 use Rattle.std.proofs.Math.IntN.{*ℤ_comm}
 use Rattle.ded_model.specs.declared.slot.Sort.{Sort}
 use Rattle.ded_model.specs.declared.slot.Sort.TheVariants.{Rat, Text}
-use Rattle.ded_model.specs.Point.{Key, Value, number, text, AllBytes, IsValue, AreValues, Point, IsPoint, IsSameAt, IsExtension, IsNumberExtension, IsTextExtension, number_at, text_at, same_key, times, all_times, absent, last_from, as_text}
+use Rattle.ded_model.specs.Point.{Key, Value, number, text, AllBytes, IsValue, AreValues, Point, IsPoint, IsSameAt, IsExtension, number_at, text_at, same_key, times, all_times, absent, last_from, as_text}
 use Rattle.ded_model.proofs.Points.{positive-extension}
 use Rattle.ded_num.proofs.Ring.{parts, ring, diff_same}
 use Rattle.ded_row.proofs.Scaling.{cancel_factor}

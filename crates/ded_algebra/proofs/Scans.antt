@@ -4,8 +4,8 @@
 -- An atom ties each new slot to its argument, and the new slots are projected away. Where the atom holds, the new slots may be
 -- given the arguments' values, as none of them is mentioned elsewhere; so the scan and the ties hold. Where the plan holds,
 -- the ties say that the new slots have these values, so the scan is of the atom's arguments.
-use Rattle.std.proofs.Common.{◌≡◌, ℕ, suc, ◌+◌, ◌*◌, ◌<◌, ◌≤◌, max, Bool, true, false, ◌||◌, cond, List, [], ◌∷◌, ◌++◌, arith, refl, sym, ap, subst, ◌∙◌, map, inl, inr}
-use Rattle.std.specs.Prelude.{ℤ, pos, IsTrue, ◌↔◌, ◌&&◌}
+use Rattle.std.proofs.Common.{◌≡◌, ℕ, suc, ◌<◌, ◌≤◌, Bool, true, false, cond, List, [], ◌∷◌, ◌++◌, arith, refl, sym, ap, subst, ◌∙◌, map, inl, inr}
+use Rattle.std.specs.Prelude.{ℤ, IsTrue, ◌↔◌}
 use Rattle.std.specs.List.{list_any}
 use Rattle.ded_model.specs.declared.slot.Slot.{Slot}
 use Rattle.ded_model.specs.declared.slot.Sort.{Sort}
@@ -13,14 +13,14 @@ use Rattle.ded_model.specs.declared.slot.Sort.TheVariants.{Rat, Text}
 use Rattle.ded_model.specs.declared.goal.Place.{Place}
 use Rattle.ded_model.specs.declared.goal.Place.TheVariants.{At, Value, Quoted}
 use Rattle.ded_model.specs.Point.{slot, AllBytes, Point, IsPoint, IsSameAt, same_slot, stands_in, AreDistinctSlots, number_at, text_at}
-use Rattle.ded_model.specs.Logic.{atom, every_of, logics, Sat, SatEvery}
+use Rattle.ded_model.specs.Logic.{atom, logics, Sat, SatEvery}
 use Rattle.ded_model.specs.Goal.{place_mentions}
-use Rattle.ded_model.specs.PlanForm.{PlanAtom, scan, rows, PlanForm, PlanAtomHolds}
+use Rattle.ded_model.specs.PlanForm.{scan, PlanForm, PlanAtomHolds}
 use Rattle.ded_model.specs.Row.{Atom, atom_holds, tuple_holds}
-use Rattle.ded_model.specs.Scanned.{Scanned, kept, fresh, same_atom, argument_row, scanned_after, scanned, scanned_slots, tied_atoms, fresh_slots, above_coefs, above_place, first_free}
-use Rattle.ded_model.specs.Value.{OperandValue, sorted_value, slot_value, place_value, overs, Meaning, NameHolds}
+use Rattle.ded_model.specs.Scanned.{Scanned, kept, fresh, same_atom, scanned_after, scanned, scanned_slots, tied_atoms, fresh_slots, above_coefs, above_place, first_free}
+use Rattle.ded_model.specs.Value.{sorted_value, slot_value, place_value, overs, Meaning, NameHolds}
 use Rattle.ded_model.proofs.Points.{same_slot_is, and_left}
-use Rattle.ded_model.proofs.Values.{slot_value-same, place_value-same, slot_value-positive, place_value-positive, overs-positive}
+use Rattle.ded_model.proofs.Values.{place_value-same, slot_value-positive, place_value-positive, overs-positive}
 use Rattle.ded_model.proofs.Sats.{Respects}
 use Rattle.ded_model.proofs.Members.{or_split}
 use Rattle.ded_model.proofs.Rows.{or_left, or_right}
@@ -29,7 +29,7 @@ use Rattle.ded_algebra.specs.Compiled.{place_sort, IsByteText, AreByteTexts}
 use Rattle.ded_algebra.proofs.SamePoints.{point-bytes}
 use Rattle.ded_algebra.proofs.EqualValues.{IsEqualValue, same-equal, equal_trans, equal_sym, AreEqualValues, equals_sym, NameHolds-equal}
 use Rattle.ded_algebra.proofs.Ties.{tie, tie_holds}
-use Rattle.ded_algebra.proofs.Projections.{IsValueFor, Values, slots_of, AreValuesFor, HaveValues, IsReached, reached, IsWitness, witness, fails_left, fails_right}
+use Rattle.ded_algebra.proofs.Projections.{IsValueFor, Values, slots_of, AreValuesFor, HaveValues, reached, witness}
 
 -- ---- how an argument is scanned
 
@@ -191,7 +191,7 @@ module _ (p q : Point) (i : 0 < p.den) (j : 0 < q.den) where
   ties-hold (t ∷ ts) (fresh u b ∷ gs) a s h = (
     subst (λ (c : Atom). IsTrue (atom_holds c q)) (sym a.0.1)
         ((tie_holds u t a.0.0 q j).1 (equal_trans q.den p.den q.den (place_value t q) (place_value t p) (slot_value q u) i (place_value-positive p t)
-            (equal_sym p.den q.den _ _ (place-equal p q t (same_first p q t ts s))) h.0)),
+        (equal_sym p.den q.den _ _ (place-equal p q t (same_first p q t ts s))) h.0)),
     ties-hold ts gs a.1 (same_rest p q t ts s) h.1,
   )
 

@@ -1,8 +1,7 @@
 -- The atom that ties a new slot to the value of an argument holds exactly where the two are equal.
-use Rattle.std.proofs.Common.{◌≡◌, ℕ, ◌*◌, ◌<◌, Bool, true, false, List, [], ◌∷◌, arith, refl, sym, ap, subst, ◌∙◌}
+use Rattle.std.proofs.Common.{◌≡◌, ℕ, ◌*◌, ◌<◌, List, [], arith, refl, sym, ap, subst, ◌∙◌}
 use Rattle.std.specs.Prelude.{ℤ, pos, ◌+ℤ◌, ◌-ℤ◌, ◌*ℤ◌, IsTrue, ◌↔◌}
 use lib.IntN.{neg_ℤ, +ℤ_idr, one}
-use Rattle.std.specs.Str.{bytes_eq}
 use Rattle.std.specs.Ordering.{int_eq}
 use Rattle.std.proofs.lemmas.Int.{ints}
 use Rattle.std.proofs.lemmas.Bool.Decides.{Decides-int_eq}
@@ -14,18 +13,16 @@ use Rattle.ded_model.specs.declared.slot.Sort.TheVariants.{Rat, Text}
 use Rattle.ded_model.specs.declared.goal.Place.{Place}
 use Rattle.ded_model.specs.declared.goal.Place.TheVariants.{At, Value, Quoted}
 use Rattle.ded_model.specs.declared.row.RowOp.TheVariants.{Zero}
-use Rattle.ded_model.specs.declared.tuple.ThemeAtom.TheVariants.{EqText, EqSlot}
+use Rattle.ded_model.specs.declared.tuple.ThemeAtom.TheVariants.{EqText}
 use Rattle.ded_model.specs.declared.tuple.BothAtom.TheVariants.{First, Second}
 use Rattle.ded_model.specs.Constraint.{LinearConstraint}
 use Rattle.ded_model.specs.Sum.{SlotSum, denominator}
 use Rattle.ded_model.specs.Coefs.{put, put_all}
 use Rattle.ded_model.specs.Point.{slot, Point, number_at, text_at}
-use Rattle.ded_model.specs.Row.{Atom, sum_at, row_at, row_holds, theme_holds, atom_holds, sign_meets}
-use Rattle.ded_model.specs.Normal.{normal_row}
+use Rattle.ded_model.specs.Row.{Atom, sum_at, row_at, row_holds, theme_holds, atom_holds}
 use Rattle.ded_model.specs.Scanned.{argument_row, of_slot, same_atom}
 use Rattle.ded_model.specs.Value.{OperandValue, sorted_value, slot_value, place_value}
 use Rattle.ded_num.proofs.Ring.{parts, ring, diff-pos, diff_same}
-use Rattle.ded_model.proofs.Values.{denominator-positive}
 use Rattle.ded_row.proofs.Normals.{normal_row-holds, turned_law}
 use Rattle.ded_row.proofs.Sums.{sum_at-put, sum_at-put_all}
 use Rattle.ded_algebra.specs.Compiled.{place_sort}
@@ -70,7 +67,7 @@ untied u t = record { coefs = put u (pos (denominator t.over)) (put_all (neg_ℤ
 untied_at : (u : Slot) (t : SlotSum) (q : Point) → row_at (untied u t) q ≡ number_at q (slot u) *ℤ pos (denominator t.over) -ℤ (sum_at t.coefs q +ℤ t.constant *ℤ pos q.den)
 untied_at u t q =
     ap (λ z. z +ℤ neg_ℤ t.constant *ℤ pos q.den)
-        (sum_at-put u (pos (denominator t.over)) (put_all (neg_ℤ (pos 1)) t.coefs []) q ∙ ap (λ z. pos (denominator t.over) *ℤ number_at q (slot u) +ℤ z) (sum_at-put_all (neg_ℤ (pos 1)) t.coefs [] q ∙ minus_one (sum_at t.coefs q)))
+    (sum_at-put u (pos (denominator t.over)) (put_all (neg_ℤ (pos 1)) t.coefs []) q ∙ ap (λ z. pos (denominator t.over) *ℤ number_at q (slot u) +ℤ z) (sum_at-put_all (neg_ℤ (pos 1)) t.coefs [] q ∙ minus_one (sum_at t.coefs q)))
     ∙ sums_law (denominator t.over) q.den (number_at q (slot u)) (sum_at t.coefs q) t.constant
 
 -- the row of an argument holds where the slot times the sum's denominator is the sum
@@ -120,7 +117,7 @@ tie_slot n Rat s e q i =
     let m = number_at q (slot u) in
     let z = number_at q (slot s) in
     let holds : row_holds (argument_row u (of_slot s)) q ≡ int_eq (m *ℤ pos 1 -ℤ z) (pos 0) =
-        argument_row-holds u (of_slot s) q i ∙ rw (one_over, one_slot z q.den) refl in
+    argument_row-holds u (of_slot s) q i ∙ rw (one_over, one_slot z q.den) refl in
     let d = Decides-int_eq (m *ℤ pos 1 -ℤ z) (pos 0) in
     rw (rational_slot q s e) (
       (λ h. record { number = from_equal q.den 1 m z (equal_from (m *ℤ pos 1) z (d.0 (sym holds ∙ h))); text = refl }),

@@ -2,10 +2,9 @@
 use Rattle.std.specs.Prelude.{ℕ, List, [], ◌∷◌, map}
 use Rattle.ded_model.specs.declared.slot.Slot.{Slot}
 use Rattle.ded_model.specs.declared.goal.Place.{Place}
-use Rattle.ded_model.specs.declared.tuple.BothAtom.TheVariants.{First, Second}
+use Rattle.ded_model.specs.declared.tuple.BothAtom.TheVariants.{Second}
 use Rattle.ded_model.specs.Point.{slot}
 use Rattle.ded_model.specs.Row.{Atom}
-use Rattle.ded_model.specs.Normal.{is_true_row}
 use Rattle.ded_model.specs.Logic.{atom, always, never, negation, every_of, some_of, implies, minus, exists, forall, Logics, none, also, logics}
 use Rattle.ded_model.specs.Goal.{GoalAtom, linear, theme, member, GoalForm}
 use Rattle.ded_model.specs.PlanForm.{PlanAtom, scan, rows, PlanForm}

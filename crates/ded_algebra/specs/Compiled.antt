@@ -10,13 +10,12 @@ use Rattle.ded_model.specs.declared.tuple.ThemeAtom.{ThemeAtom}
 use Rattle.ded_model.specs.declared.tuple.ThemeAtom.TheVariants.{EqText, NeText, EqSlot, NeSlot}
 use Rattle.ded_model.specs.Point.{Key, AllBytes, Point, IsPoint, same_sort}
 use Rattle.ded_model.specs.Normal.{IsNormalRow}
-use Rattle.ded_model.specs.Logic.{some_atom, count_atoms, conjunctive, AllAtoms, IsSorted}
+use Rattle.ded_model.specs.Logic.{some_atom, count_atoms, conjunctive, AllAtoms}
 use Rattle.ded_model.specs.Goal.{GoalAtom, linear, theme, member, GoalForm, goal_mentions}
 use Rattle.ded_model.specs.PlanForm.{PlanAtom, scan, rows, PlanForm, plan_mentions}
 use Rattle.ded_model.specs.Catalogue.{Catalogue, GoalHolds, PlanHolds}
 use Rattle.ded_model.specs.Lines.{IsSubset}
 use Rattle.ded_model.specs.Measure.{Measures, goal_b, goal_rank, goal_lines, goal_clashes, plan_b, plan_rank, plan_lines, plan_clashes}
-use Rattle.ded_model.specs.Rational.{IsRationalPlan}
 
 -- ---- goals whose atoms are normal
 

@@ -138,7 +138,10 @@ fn member_plan(alloc: Global, name: &Name, places: &[Place]) -> Result<Plan, NoM
         scanning.add(alloc, place)?;
     }
     let Scanning {
-        slots, fresh, ties, ..
+        slots,
+        fresh,
+        ties,
+        ..
     } = scanning;
     let scan = scan_of(name.copy()?, slots);
     projected(alloc, &fresh, joined(alloc, scan, ties)?)

@@ -6,12 +6,13 @@
 //!
 //! It stands on `ded_model`, which says what goals and plans mean, and on `ded_row` for the rows of arguments. Over every
 //! catalogue the plan holds exactly where the goal does, with lines, lengths and a rank of at most the goal's; so what can be
-//! said of the widths of a formula holds of the work that its plan asks for. `Relations` and `Evaluate` are what an evaluator
-//! is given and what it promises.
+//! said of the widths of a formula holds of the work that its plan asks for.
 #![tactic(auto)]
 
 mod arguments;
 mod compiling;
 mod scanning;
+#[cfg(test)]
+mod tests;
 
 pub use compiling::compile;

@@ -53,7 +53,11 @@ impl Scanning {
             }
             Place::Quoted(text) => {
                 let fresh = self.fresh_slot(Sort::Text)?;
-                self.tie(alloc, fresh, BothAtom::Second(ThemeAtom::EqText(fresh, quoted(alloc, &text.bytes)?)))
+                self.tie(
+                    alloc,
+                    fresh,
+                    BothAtom::Second(ThemeAtom::EqText(fresh, quoted(alloc, &text.bytes)?)),
+                )
             }
         }
     }

@@ -1,6 +1,5 @@
-use Rattle.std.proofs.Common.{◌≡◌, ◌≤◌, refl, sym, ap, subst, ◌∙◌}
-use Rattle.std.specs.Prelude.{ℤ, pos, negsuc, List, []}
-use Rattle.ded_model.specs.declared.slot.Slot.{Slot}
+use Rattle.std.proofs.Common.{◌≤◌, sym, ap, subst, ◌∙◌}
+use Rattle.std.specs.Prelude.{pos, negsuc, []}
 use Rattle.ded_model.specs.Sum.{SlotSum, denominator}
 use Rattle.ded_model.specs.Coefs.{put, put_all}
 use Rattle.ded_model.specs.Scanned.{above_coefs}

@@ -1,7 +1,6 @@
-use Rattle.std.proofs.Common.{◌≡◌, false, ap, sym, subst, ◌∙◌}
+use Rattle.std.proofs.Common.{subst}
 use Rattle.ded_model.specs.Constraint.{LinearConstraint}
 use Rattle.ded_model.specs.Coefs.{AreCoefs}
-use Rattle.ded_model.specs.Normal.{is_true_row}
 use Rattle.ded_algebra.proofs.ArgumentRows.{argument_not_true}
 use Rattle.ded_algebra.proofs.arguments.argument_row.Goals as goal
 

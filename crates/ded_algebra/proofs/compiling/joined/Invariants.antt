@@ -1,4 +1,4 @@
-use Rattle.std.proofs.Common.{◌≡◌, ◌++◌, ◌∷◌, map}
+use Rattle.std.proofs.Common.{◌≡◌, ◌∷◌, map}
 use Rattle.ded_model.specs.PlanForm.{plan_form}
 use Rattle.ded_algebra.proofs.compiling.joined.Given as goal
 
