@@ -1,0 +1,12 @@
+pub mod SamePoints
+pub mod EqualValues
+pub mod Ties
+pub mod Projections
+pub mod Scans
+pub mod PlanMeanings
+pub mod PlanLines
+pub mod PlanShapes
+pub mod Compiled
+pub mod ArgumentRows
+pub mod Apart
+pub mod Gathered

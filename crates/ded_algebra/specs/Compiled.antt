@@ -1,0 +1,109 @@
+-- What is promised of the plan of a goal.
+use Rattle.std.specs.Prelude.{◌≡◌, ◌↔◌, ◌<◌, ◌≤◌, ℕ, Bool, true, false, ◌&&◌, List, [], ◌∷◌, map}
+use Rattle.std.specs.Str.{bytes_eq}
+use Rattle.ded_model.specs.declared.slot.Slot.{Slot}
+use Rattle.ded_model.specs.declared.slot.Sort.{Sort}
+use Rattle.ded_model.specs.declared.slot.Sort.TheVariants.{Rat, Text}
+use Rattle.ded_model.specs.declared.goal.Place.{Place}
+use Rattle.ded_model.specs.declared.goal.Place.TheVariants.{At, Value, Quoted}
+use Rattle.ded_model.specs.declared.tuple.ThemeAtom.{ThemeAtom}
+use Rattle.ded_model.specs.declared.tuple.ThemeAtom.TheVariants.{EqText, NeText, EqSlot, NeSlot}
+use Rattle.ded_model.specs.Point.{Key, AllBytes, Point, IsPoint, same_sort}
+use Rattle.ded_model.specs.Normal.{IsNormalRow}
+use Rattle.ded_model.specs.Logic.{some_atom, count_atoms, conjunctive, AllAtoms}
+use Rattle.ded_model.specs.Goal.{GoalAtom, linear, theme, member, GoalForm, goal_mentions}
+use Rattle.ded_model.specs.PlanForm.{PlanAtom, scan, rows, PlanForm, plan_mentions}
+use Rattle.ded_model.specs.Catalogue.{Catalogue, GoalHolds, PlanHolds}
+use Rattle.ded_model.specs.Lines.{IsSubset}
+use Rattle.ded_model.specs.Measure.{Measures, goal_b, goal_rank, goal_lines, goal_clashes, plan_b, plan_rank, plan_lines, plan_clashes}
+
+-- ---- goals whose atoms are normal
+
+-- over text slots, of two the one of lesser number first
+abbrev pub IsOrderedTheme : ThemeAtom → Type 0
+IsOrderedTheme (EqText s t) = s.sort ≡ Text
+IsOrderedTheme (NeText s t) = s.sort ≡ Text
+IsOrderedTheme (EqSlot s t) = (s.sort ≡ Text) × (t.sort ≡ Text) × (s.number < t.number)
+IsOrderedTheme (NeSlot s t) = (s.sort ≡ Text) × (t.sort ≡ Text) × (s.number < t.number)
+
+abbrev pub IsNormalGoalAtom : GoalAtom → Type 0
+IsNormalGoalAtom (linear r) = IsNormalRow r
+IsNormalGoalAtom (theme a) = IsOrderedTheme a
+IsNormalGoalAtom (member n ts) = Unit {0}
+
+-- the rows and text atoms of a goal are normal, as those of the goal of a formula are
+abbrev pub IsNormalGoal : GoalForm → Type 0
+IsNormalGoal g = AllAtoms IsNormalGoalAtom g
+
+-- ---- goals of byte texts
+
+abbrev pub IsByteText : Place → Type 0
+IsByteText (At s) = Unit {0}
+IsByteText (Value t) = Unit {0}
+IsByteText (Quoted x) = AllBytes x
+
+abbrev pub AreByteTexts : List Place → Type 0
+AreByteTexts [] = Unit {0}
+AreByteTexts (t ∷ ts) = IsByteText t × AreByteTexts ts
+
+abbrev pub HasByteTexts : GoalAtom → Type 0
+HasByteTexts (linear r) = Unit {0}
+HasByteTexts (theme a) = Unit {0}
+HasByteTexts (member n ts) = AreByteTexts ts
+
+-- the quoted arguments of a goal's atoms are byte strings, as those of every value of the program are
+abbrev pub IsOfBytes : GoalForm → Type 0
+IsOfBytes g = AllAtoms HasByteTexts g
+
+-- ---- scans
+
+abbrev pub place_sort : Place → Sort
+place_sort (At s) = s.sort
+place_sort (Value t) = Rat
+place_sort (Quoted t) = Text
+
+-- one after another
+abbrev pub same_sorts : List Sort → List Sort → Bool
+same_sorts [] [] = true
+same_sorts [] (b ∷ bs) = false
+same_sorts (a ∷ xs) [] = false
+same_sorts (a ∷ xs) (b ∷ bs) = same_sort a b && same_sorts xs bs
+
+-- the goal's atom has the name, and arguments of the slots' sorts
+abbrev pub is_scanned_by : List ℕ → List Slot → GoalAtom → Bool
+is_scanned_by n ss (linear r) = false
+is_scanned_by n ss (theme a) = false
+is_scanned_by n ss (member m ts) = bytes_eq n m && same_sorts (map place_sort ts) (map (λ s. s.sort) ss)
+
+-- each scan is of an atom of the goal
+abbrev pub IsScanIn : GoalForm → PlanAtom → Type 0
+IsScanIn g (scan n ss) = some_atom (is_scanned_by n ss) g ≡ true
+IsScanIn g (rows t) = Unit {0}
+
+abbrev pub is_member_of : List ℕ → GoalAtom → Bool
+is_member_of n (linear r) = false
+is_member_of n (theme a) = false
+is_member_of n (member m ts) = bytes_eq n m
+
+abbrev pub is_scan_of : List ℕ → PlanAtom → Bool
+is_scan_of n (scan m ss) = bytes_eq n m
+is_scan_of n (rows t) = false
+
+-- made of scans, rows, joins and projections alone, and each name scanned as often as the goal has it
+pub record IsConjunctivePlan (g : GoalForm) (f : PlanForm) : Type 0 where
+  pub conjunctive : conjunctive f ≡ true
+  pub scans : (n : List ℕ) → count_atoms (is_scan_of n) f ≡ count_atoms (is_member_of n) g
+
+-- ---- the plan of a goal
+
+-- it holds where the goal does over every catalogue, mentions freely only what the goal does, has lengths and a rank of at most
+-- the goal's, lines among the goal's, and clashes only where the goal does
+pub record IsCompiled (g : GoalForm) (f : PlanForm) : Type 0 where
+  pub holds : (c : Catalogue) (p : Point) → IsPoint p → GoalHolds c g p ↔ PlanHolds c f p
+  pub slots : (k : Key) → plan_mentions f k ≡ true → goal_mentions g k ≡ true
+  pub length : (M : Measures) → plan_b M f ≤ goal_b M g
+  pub rank : (M : Measures) → plan_rank M f ≤ goal_rank M g
+  pub lines : (M : Measures) → IsSubset (plan_lines M f) (goal_lines M g)
+  pub clashes : (M : Measures) → plan_clashes M f ≡ true → goal_clashes M g ≡ true
+  pub scans : AllAtoms (IsScanIn g) f
+  pub conjunctive : conjunctive g ≡ true → IsConjunctivePlan g f

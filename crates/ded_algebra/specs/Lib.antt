@@ -1,0 +1,3 @@
+pub mod Compile
+pub mod Compiled
+pub mod Gathering
