@@ -31,9 +31,10 @@ use Rattle.ded_model.proofs.Rows.{or_left, or_right}
 use Rattle.ded_theory.specs.Conjunctions.{conj_mentions}
 use Rattle.ded_theory.specs.Verdicts.{HoldsNowhere}
 use Rattle.ded_elimination.specs.LinearAtoms.{IsLinearAtom}
-use Rattle.ded_linear.specs.Intervals.{is_inside, narrower, may_meet, row_bound, narrowed, is_single, coefs_fit, row_fits, same_places, same_place}
-use Rattle.ded_linear.proofs.Gaps.{gap, gap_at, gap_self, IsPositive, chain_at}
-use Rattle.ded_linear.proofs.Insides.{Inside, OnFraction, HasPositive, narrower-fraction, narrower-is, inside_decides, may_meet_decides, may_meet_turned, inside_meet}
+use Rattle.ded_box.specs.Intervals.{HasPositive, IsPositive, OnFraction, is_inside, may_meet, narrower}
+use Rattle.ded_linear.specs.Intervals.{row_bound, narrowed, is_single, coefs_fit, row_fits, same_places, same_place}
+use Rattle.ded_box.proofs.Gaps.{gap, gap_at, gap_self, chain_at}
+use Rattle.ded_box.proofs.Insides.{Inside, narrower-fraction, narrower-is, inside_decides, may_meet_decides, may_meet_turned, inside_meet}
 use Rattle.ded_linear.proofs.Exacts.{IsBetween, value-positive, exact_end}
 use Rattle.ded_linear.proofs.Told.{exact_somewhere}
 use Rattle.ded_linear.proofs.Shadows.{IsShadow, HaveValue, extension_point, kept_value, exact_before}

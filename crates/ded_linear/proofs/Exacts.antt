@@ -17,8 +17,9 @@ use Rattle.ded_model.specs.Interval.{IsExactBound}
 use Rattle.ded_model.proofs.Core.{Meets}
 use Rattle.ded_model.proofs.Points.{same_key_refl, cond_true}
 use Rattle.ded_model.proofs.Numbers.{positive_is}
-use Rattle.ded_linear.proofs.Gaps.{gap_at, other, IsPositive, outside_decides, chain_at, gap_turned, gap_self, gap_other, middle, middle-positive, middle-after, middle-before, beyond, beyond-positive, beyond-outside}
-use Rattle.ded_linear.proofs.Insides.{Inside, OnFraction, HasPositive, MayMeet}
+use Rattle.ded_box.specs.Intervals.{HasPositive, IsPositive, OnFraction}
+use Rattle.ded_box.proofs.Gaps.{gap_at, other, outside_decides, chain_at, gap_turned, gap_self, gap_other, middle, middle-positive, middle-after, middle-before, beyond, beyond-positive, beyond-outside}
+use Rattle.ded_box.proofs.Insides.{Inside, MayMeet}
 
 -- ---- a point with a value
 

@@ -1,7 +1,5 @@
 pub mod Boxes
 pub mod Exacts
-pub mod Gaps
-pub mod Insides
 pub mod Pieces
 pub mod Roots
 pub mod Shadows

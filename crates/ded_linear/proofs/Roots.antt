@@ -33,9 +33,10 @@ use Rattle.ded_model.proofs.Points.{same_slot_is, same_slot_refl}
 use Rattle.ded_model.proofs.Rows.{or_left, or_right}
 use Rattle.ded_row.proofs.Pieces.{normal_gcd}
 use Rattle.ded_elimination.specs.LinearAtoms.{IsLinearAtom}
+use Rattle.ded_box.specs.Intervals.{HasPositive, IsPositive, OnFraction}
 use Rattle.ded_linear.specs.Intervals.{root_of, faces, bound_by, row_bound}
-use Rattle.ded_linear.proofs.Gaps.{gap, IsPositive}
-use Rattle.ded_linear.proofs.Insides.{Inside, OnFraction, HasPositive}
+use Rattle.ded_box.proofs.Gaps.{gap}
+use Rattle.ded_box.proofs.Insides.{Inside}
 
 -- one coefficient or none
 abbrev pub IsSingle : List (Slot × ℤ) → Type 0

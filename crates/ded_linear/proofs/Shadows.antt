@@ -22,7 +22,8 @@ use Rattle.ded_model.proofs.Points.{same_key_is, number_at-extended, number_at-k
 use Rattle.ded_model.proofs.Numbers.{extended, extended_is}
 use Rattle.ded_theory.specs.Eliminations.{SomeExtension}
 use Rattle.ded_theory.specs.Verdicts.{HoldsNowhere, IsBound}
-use Rattle.ded_linear.proofs.Gaps.{gap, gap_at, IsPositive, outside_decides, chain_at}
+use Rattle.ded_box.specs.Intervals.{IsPositive}
+use Rattle.ded_box.proofs.Gaps.{gap, gap_at, outside_decides, chain_at}
 use Rattle.ded_linear.proofs.Exacts.{value-positive}
 
 -- ---- a point as an extension of itself

@@ -9,8 +9,8 @@ use Rattle.ded_model.specs.Point.{Point}
 use Rattle.ded_model.specs.Cell.{HoldsSomewhere}
 use Rattle.ded_model.specs.Bound.{lower, upper}
 use Rattle.ded_model.specs.Interval.{IsExactBound}
-use Rattle.ded_linear.proofs.Gaps.{outside_decides, beyond, beyond-outside}
-use Rattle.ded_linear.proofs.Insides.{HasPositive}
+use Rattle.ded_box.specs.Intervals.{HasPositive}
+use Rattle.ded_box.proofs.Gaps.{outside_decides, beyond, beyond-outside}
 
 pub exact_somewhere : (test : Point → Bool) (s : Slot) (b : Bound) → HasPositive b → IsExactBound test s lower b → HoldsSomewhere test
 exact_somewhere test s Infinite p x = let o = x (record { num = pos 0; den = pos 1 }) (omega (arith, ints)) in (o.0, o.1, o.2)

@@ -1,5 +1,5 @@
--- Intervals of the values of one slot: what is inside a bound, the narrower of two, and the bounds that rows give.
-use Rattle.std.specs.Prelude.{ℤ, pos, int_lt, nat_lt, Bool, true, false, not, ◌||◌, List, [], ◌∷◌, length, if◌then◌else◌}
+-- Intervals of the values of one slot: the bounds that rows give.
+use Rattle.std.specs.Prelude.{ℤ, pos, int_lt, nat_lt, Bool, false, ◌||◌, List, [], ◌∷◌, length, if◌then◌else◌}
 use lib.IntN.{neg_ℤ}
 use Rattle.std.specs.Ordering.{int_eq}
 use Rattle.ded_model.specs.declared.slot.Slot.{Slot}
@@ -11,40 +11,8 @@ use Rattle.ded_model.specs.Constraint.{LinearConstraint}
 use Rattle.ded_model.specs.Coefs.{coef_at}
 use Rattle.ded_model.specs.Point.{same_slot}
 use Rattle.ded_model.specs.Row.{sign_meets}
-use Rattle.ded_model.specs.Bound.{Fraction, End, lower, upper, is_less, is_outside}
-use Rattle.ded_linear.specs.declared.interval.Side.{Side}
-use Rattle.ded_linear.specs.declared.interval.Side.TheVariants.{Lower, Upper}
-
--- the end of an interval that a side is
-abbrev pub end_of : Side → End
-end_of Lower = lower
-end_of Upper = upper
-
--- the value is within the bound, at that end
-abbrev pub is_inside : End → Bound → Fraction → Bool
-is_inside e Infinite v = true
-is_inside e (Excluded f) v = is_outside e f v
-is_inside e (Included f) v = not (is_outside e v f)
-
--- the bound that lets through what both let through
-abbrev pub narrower : End → Bound → Bound → Bound
-narrower e Infinite b = b
-narrower e (Excluded f) Infinite = Excluded f
-narrower e (Excluded f) (Excluded g) = if is_outside e f g then Excluded g else Excluded f
-narrower e (Excluded f) (Included g) = if is_outside e f g then Included g else Excluded f
-narrower e (Included f) Infinite = Included f
-narrower e (Included f) (Excluded g) = if is_outside e g f then Included f else Excluded g
-narrower e (Included f) (Included g) = if is_outside e g f then Included f else Included g
-
--- some value is within both, the first a lower and the second an upper bound
-abbrev pub may_meet : Bound → Bound → Bool
-may_meet Infinite b = true
-may_meet (Excluded f) Infinite = true
-may_meet (Excluded f) (Excluded g) = is_less f g
-may_meet (Excluded f) (Included g) = is_less f g
-may_meet (Included f) Infinite = true
-may_meet (Included f) (Excluded g) = is_less f g
-may_meet (Included f) (Included g) = not (is_less g f)
+use Rattle.ded_model.specs.Bound.{Fraction, End, lower, upper}
+use Rattle.ded_box.specs.Intervals.{narrower, may_meet}
 
 -- ---- the bounds of a row over one slot
 

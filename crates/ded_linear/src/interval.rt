@@ -2,28 +2,21 @@
 ghost use Rattle.std.specs.Prelude.{◌≡◌, ◌≢◌, pos, true};
 ghost use Rattle.std.specs.List.{AllByRecursion, list_all, list_any};
 ghost use Rattle.ded_num.specs.Length.{IsShort};
-ghost use Rattle.ded_model.specs.declared.bound.Bound.TheVariants.{Infinite, Excluded, Included};
+ghost use Rattle.ded_model.specs.declared.bound.Bound.TheVariants.{Infinite};
 ghost use Rattle.ded_model.specs.Row.{row_holds, row_mentions, sign_meets};
-ghost use Rattle.ded_model.specs.Bound.{lower, upper, is_outside};
+ghost use Rattle.ded_model.specs.Bound.{lower, upper};
 ghost use Rattle.ded_model.specs.Lines.{row_lines};
 ghost use Rattle.ded_theory.specs.Verdicts.{IsSpan, IsVerdict};
 ghost use Rattle.ded_elimination.specs.LinearAtoms.{IsLinearAtom};
-ghost use Rattle.ded_linear.specs.Intervals.{end_of, narrower, may_meet, root_of, faces, row_bound, narrowed, is_single, row_fits, same_place};
+ghost use Rattle.ded_box.specs.Intervals.{end_of, may_meet};
+ghost use Rattle.ded_linear.specs.Intervals.{root_of, faces, row_bound, narrowed, is_single, row_fits, same_place};
 ghost use Rattle.ded_linear.specs.Told.{verdict_of};
 
+use ded_box::{Side, may_meet, narrower};
 use ded_model::bound::{Bound, Frac};
 use ded_model::row::{Row, RowOp};
 use ded_model::slot::Slot;
-use ded_num::cmp_frac;
 use ded_theory::Span;
-use std::cmp::Ordering;
-
-/// A side of an interval.
-#[derive(Clone, Copy)]
-enum Side {
-    Lower,
-    Upper,
-}
 
 /// Whether each row mentions at most one slot.
 pub fn are_single(rows: &[Row]) -> bool
@@ -121,69 +114,6 @@ fn bound_of(side: Side, rows: &[Row], slot: Slot) -> Bound
         bound = narrower(side, bound, row_bound(side, row, slot));
     }
     bound
-}
-
-/// The bound that lets through what both let through.
-fn narrower(side: Side, a: Bound, b: Bound) -> Bound
-    ensures { result ≡ narrower (end_of side) a b }
-{
-    match a {
-        Bound::Infinite => b,
-        Bound::Excluded(f) => narrower_than_excluded(side, f, b),
-        Bound::Included(f) => narrower_than_included(side, f, b),
-    }
-}
-
-/// The same, of a bound that isn't attained.
-fn narrower_than_excluded(side: Side, f: Frac, b: Bound) -> Bound
-    ensures { result ≡ narrower (end_of side) (Excluded f) b }
-{
-    match b {
-        Bound::Excluded(g) if is_outside(side, f, g) => Bound::Excluded(g),
-        Bound::Included(g) if is_outside(side, f, g) => Bound::Included(g),
-        _ => Bound::Excluded(f),
-    }
-}
-
-/// The same, of one that is.
-fn narrower_than_included(side: Side, f: Frac, b: Bound) -> Bound
-    ensures { result ≡ narrower (end_of side) (Included f) b }
-{
-    match b {
-        Bound::Excluded(g) if !is_outside(side, g, f) => Bound::Excluded(g),
-        Bound::Included(g) if !is_outside(side, g, f) => Bound::Included(g),
-        _ => Bound::Included(f),
-    }
-}
-
-/// Whether some value is within both bounds.
-fn may_meet(lower: &Bound, upper: &Bound) -> bool
-    ensures { result ≡ may_meet lower.now upper.now }
-{
-    match lower {
-        Bound::Infinite => true,
-        Bound::Excluded(f) => match upper {
-            Bound::Infinite => true,
-            Bound::Excluded(g) => is_outside(Side::Lower, *f, *g),
-            Bound::Included(g) => is_outside(Side::Lower, *f, *g),
-        },
-        Bound::Included(f) => match upper {
-            Bound::Infinite => true,
-            Bound::Excluded(g) => is_outside(Side::Lower, *f, *g),
-            Bound::Included(g) => !is_outside(Side::Lower, *g, *f),
-        },
-    }
-}
-
-/// Whether `f` lies outside of `g`.
-fn is_outside(side: Side, f: Frac, g: Frac) -> bool
-    ensures { result ≡ is_outside (end_of side) f g }
-{
-    let order = cmp_frac(f.num, f.den, g.num, g.den);
-    match side {
-        Side::Lower => order == Ordering::Less,
-        Side::Upper => order == Ordering::Greater,
-    }
 }
 
 /// The bound that a row gives a slot, none where it doesn't mention the slot.

@@ -5,7 +5,7 @@
 //! has an interval of values, and their ends are compared exactly. Each answer is exact, and it is left open only where a
 //! number on the way would have more than 127 digits, which only wide rows come to.
 //!
-//! It stands on `ded_row` for rows, on `ded_elimination` for one elimination, and on `ded_num` for the order of fractions.
+//! It stands on `ded_row` for rows, on `ded_elimination` for one elimination, and on `ded_box` for the comparison of bounds.
 //! What a theory promises is `ded_theory`'s to say.
 #![tactic(auto)]
 

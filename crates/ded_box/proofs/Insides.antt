@@ -1,7 +1,7 @@
 -- What is inside of bounds: the narrower of two bounds lets through what both do, and two bounds that may meet are those
 -- between which some value stands.
 use Rattle.std.proofs.Common.{◌≡◌, Bool, true, false, not, cond, arith, refl, ap}
-use Rattle.std.specs.Prelude.{ℤ}
+use Rattle.std.specs.Prelude.{ℤ, pos}
 use Rattle.std.specs.Bool.{Decides}
 use Rattle.std.proofs.lemmas.Int.{ints}
 use Rattle.ded_model.specs.declared.row.RowOp.TheVariants.{AtMost, Below}
@@ -9,8 +9,8 @@ use Rattle.ded_model.specs.declared.bound.Bound.{Bound}
 use Rattle.ded_model.specs.declared.bound.Bound.TheVariants.{Infinite, Excluded, Included}
 use Rattle.ded_model.specs.Bound.{Fraction, End, lower, upper, is_outside}
 use Rattle.ded_model.proofs.Core.{Meets}
-use Rattle.ded_linear.specs.Intervals.{is_inside, narrower, may_meet}
-use Rattle.ded_linear.proofs.Gaps.{gap_at, IsPositive, outside_decides, not_outside_decides, chain_at}
+use Rattle.ded_box.specs.Intervals.{IsPositive, OnFraction, HasPositive, is_inside, narrower, wider, may_meet}
+use Rattle.ded_box.proofs.Gaps.{gap_at, gap_self, outside_decides, not_outside_decides, chain_at, middle, middle-positive, middle-after, middle-before, beyond, beyond-positive, beyond-outside}
 
 -- ---- bounds as facts
 
@@ -24,25 +24,20 @@ inside_decides e Infinite v = (λ h. tt, λ h. refl)
 inside_decides e (Excluded f) v = outside_decides e f v
 inside_decides e (Included f) v = not_outside_decides e v f
 
--- the fraction of the bound, if it has one, has the property
-abbrev pub OnFraction : (Fraction → Type 0) → Bound → Type 0
-OnFraction P Infinite = Unit {0}
-OnFraction P (Excluded f) = P f
-OnFraction P (Included f) = P f
-
-abbrev pub HasPositive : Bound → Type 0
-HasPositive b = OnFraction IsPositive b
-
 -- ---- the narrower of two bounds
 
+-- it is one of the two
+pub narrower-one : (P : Bound → Type 0) (e : End) (a b : Bound) → P a → P b → P (narrower e a b)
+narrower-one P e Infinite b h k = k
+narrower-one P e (Excluded f) Infinite h k = h
+narrower-one P e (Excluded f) (Excluded g) h k = elim (is_outside e f g) as (λ t. P (cond t (Excluded g) (Excluded f))) [ true ↦ k | false ↦ h ]
+narrower-one P e (Excluded f) (Included g) h k = elim (is_outside e f g) as (λ t. P (cond t (Included g) (Excluded f))) [ true ↦ k | false ↦ h ]
+narrower-one P e (Included f) Infinite h k = h
+narrower-one P e (Included f) (Excluded g) h k = elim (is_outside e g f) as (λ t. P (cond t (Included f) (Excluded g))) [ true ↦ h | false ↦ k ]
+narrower-one P e (Included f) (Included g) h k = elim (is_outside e g f) as (λ t. P (cond t (Included f) (Included g))) [ true ↦ h | false ↦ k ]
+
 pub narrower-fraction : (P : Fraction → Type 0) (e : End) (a b : Bound) → OnFraction P a → OnFraction P b → OnFraction P (narrower e a b)
-narrower-fraction P e Infinite b h k = k
-narrower-fraction P e (Excluded f) Infinite h k = h
-narrower-fraction P e (Excluded f) (Excluded g) h k = elim (is_outside e f g) as (λ t. OnFraction P (cond t (Excluded g) (Excluded f))) [ true ↦ k | false ↦ h ]
-narrower-fraction P e (Excluded f) (Included g) h k = elim (is_outside e f g) as (λ t. OnFraction P (cond t (Included g) (Excluded f))) [ true ↦ k | false ↦ h ]
-narrower-fraction P e (Included f) Infinite h k = h
-narrower-fraction P e (Included f) (Excluded g) h k = elim (is_outside e g f) as (λ t. OnFraction P (cond t (Included f) (Excluded g))) [ true ↦ h | false ↦ k ]
-narrower-fraction P e (Included f) (Included g) h k = elim (is_outside e g f) as (λ t. OnFraction P (cond t (Included f) (Included g))) [ true ↦ h | false ↦ k ]
+narrower-fraction P e a b h k = narrower-one (OnFraction P) e a b h k
 
 -- what is not outside of f, or f itself, lies at f or within
 not_outside : (e : End) (f g : Fraction) → is_outside e f g ≡ false → Meets AtMost (gap_at e g f)
@@ -96,6 +91,45 @@ narrower-is e (Included f) (Included g) v pa pb pv =
         → (Inside e (cond t a b) v → Both e a b v) × (Both e a b v → Inside e (cond t a b) v)
     swapped e t a b v h = (λ i. let r = h.0 i in (r.1, r.0), λ i. h.1 (i.1, i.0))
 
+-- ---- the wider of two bounds
+
+-- it is one of the two
+pub wider-one : (P : Bound → Type 0) (e : End) (a b : Bound) → P a → P b → P (wider e a b)
+wider-one P e Infinite b h k = h
+wider-one P e (Excluded f) Infinite h k = k
+wider-one P e (Excluded f) (Excluded g) h k = elim (is_outside e g f) as (λ t. P (cond t (Excluded g) (Excluded f))) [ true ↦ k | false ↦ h ]
+wider-one P e (Excluded f) (Included g) h k = elim (is_outside e f g) as (λ t. P (cond t (Excluded f) (Included g))) [ true ↦ h | false ↦ k ]
+wider-one P e (Included f) Infinite h k = k
+wider-one P e (Included f) (Excluded g) h k = elim (is_outside e g f) as (λ t. P (cond t (Excluded g) (Included f))) [ true ↦ k | false ↦ h ]
+wider-one P e (Included f) (Included g) h k = elim (is_outside e g f) as (λ t. P (cond t (Included g) (Included f))) [ true ↦ k | false ↦ h ]
+
+-- what either lets through
+abbrev Either : End → Bound → Bound → Fraction → Bound → Type 0
+Either e a b v c = (Inside e a v → Inside e c v) × (Inside e b v → Inside e c v)
+
+-- a test chooses between two bounds of which the chosen one follows from the other
+followed : (e : End) (t : Bool) (a b : Bound) (v : Fraction) → (t ≡ true → Inside e a v → Inside e b v) → (t ≡ false → Inside e b v → Inside e a v) → Either e a b v (cond t b a)
+followed e true a b v h k = (λ i. h refl i, λ i. i)
+followed e false a b v h k = (λ i. i, λ i. k refl i)
+
+followed_turned : (e : End) (t : Bool) (a b : Bound) (v : Fraction) → (t ≡ true → Inside e b v → Inside e a v) → (t ≡ false → Inside e a v → Inside e b v) → Either e a b v (cond t a b)
+followed_turned e true a b v h k = (λ i. i, λ i. h refl i)
+followed_turned e false a b v h k = (λ i. k refl i, λ i. i)
+
+-- the wider bound lets through what either does
+pub wider-is : (e : End) (a b : Bound) (v : Fraction) → HasPositive a → HasPositive b → IsPositive v → Either e a b v (wider e a b)
+wider-is e Infinite b v pa pb pv = (λ i. tt, λ i. tt)
+wider-is e (Excluded f) Infinite v pa pb pv = (λ i. tt, λ i. tt)
+wider-is e (Excluded f) (Excluded g) v pa pb pv =
+    followed e (is_outside e g f) (Excluded f) (Excluded g) v (λ t i. far_below e g f v pb pa pv t (below_at_most _ i)) (near_below e g f v pb pa pv)
+wider-is e (Excluded f) (Included g) v pa pb pv =
+    followed_turned e (is_outside e f g) (Excluded f) (Included g) v (far_below e f g v pa pb pv) (λ t i. below_at_most _ (near_below e f g v pa pb pv t i))
+wider-is e (Included f) Infinite v pa pb pv = (λ i. tt, λ i. tt)
+wider-is e (Included f) (Excluded g) v pa pb pv =
+    followed e (is_outside e g f) (Included f) (Excluded g) v (far_below e g f v pb pa pv) (λ t i. below_at_most _ (near_below e g f v pb pa pv t i))
+wider-is e (Included f) (Included g) v pa pb pv =
+    followed e (is_outside e g f) (Included f) (Included g) v (λ t i. below_at_most _ (far_below e g f v pb pa pv t i)) (near_at_most e g f v pb pa pv)
+
 -- ---- bounds of the two ends
 
 -- a bound at the one end and a bound at the other may meet
@@ -138,3 +172,32 @@ inside_meet (Excluded f) (Included g) v pa pb pv h k = chain_at lower Below AtMo
 inside_meet (Included f) Infinite v pa pb pv h k = tt
 inside_meet (Included f) (Excluded g) v pa pb pv h k = chain_at lower AtMost Below f v g pa pv pb h k
 inside_meet (Included f) (Included g) v pa pb pv h k = chain_at lower AtMost AtMost f v g pa pv pb h k
+
+-- ---- a value between two bounds
+
+-- where they may meet, some value is inside of both
+pub record Between (a b : Bound) : Type 0 where
+  pub value : Fraction
+  pub positive : IsPositive value
+  pub low : Inside lower a value
+  pub high : Inside upper b value
+
+at_itself : (f : Fraction) → Meets AtMost (gap_at lower f f)
+at_itself f = let z = gap_self lower f in omega (arith, ints)
+
+pub between : (a b : Bound) → HasPositive a → HasPositive b → MayMeet lower a b → Between a b
+between Infinite Infinite pa pb m = record { value = record { num = pos 0; den = pos 1 }; positive = omega (arith, ints); low = tt; high = tt }
+between Infinite (Excluded g) pa pb m = record { value = beyond lower g; positive = beyond-positive lower g pb; low = tt; high = beyond-outside lower g pb }
+between Infinite (Included g) pa pb m = record { value = g; positive = pb; low = tt; high = at_itself g }
+between (Excluded f) Infinite pa pb m = record { value = beyond upper f; positive = beyond-positive upper f pa; low = beyond-outside upper f pa; high = tt }
+between (Excluded f) (Excluded g) pa pb m = record { value = middle f g; positive = middle-positive f g pa pb; low = middle-after lower f g pa m; high = middle-before lower f g pb m }
+between (Excluded f) (Included g) pa pb m = record { value = middle f g; positive = middle-positive f g pa pb; low = middle-after lower f g pa m; high = below_at_most _ (middle-before lower f g pb m) }
+between (Included f) Infinite pa pb m = record { value = f; positive = pa; low = at_itself f; high = tt }
+between (Included f) (Excluded g) pa pb m = record { value = middle f g; positive = middle-positive f g pa pb; low = below_at_most _ (middle-after lower f g pa m); high = middle-before lower f g pb m }
+between (Included f) (Included g) pa pb m = record { value = f; positive = pa; low = at_itself f; high = m }
+
+-- what is inside of a bound is so further in
+pub further : (e : End) (b : Bound) (v w : Fraction) → HasPositive b → IsPositive v → IsPositive w → Inside e b w → Meets AtMost (gap_at e w v) → Inside e b v
+further e Infinite v w pb pv pw i h = tt
+further e (Excluded f) v w pb pv pw i h = chain_at e Below AtMost f w v pb pw pv i h
+further e (Included f) v w pb pv pw i h = chain_at e AtMost AtMost f w v pb pw pv i h

@@ -12,6 +12,7 @@ use Rattle.ded_num.proofs.Ring.{parts, ring_pos, diff_same}
 use Rattle.ded_model.specs.declared.row.RowOp.{RowOp}
 use Rattle.ded_model.specs.declared.row.RowOp.TheVariants.{Zero, AtMost, Below}
 use Rattle.ded_model.specs.Bound.{Fraction, End, lower, upper, is_outside}
+use Rattle.ded_box.specs.Intervals.{IsPositive}
 use Rattle.ded_model.proofs.Core.{Meets, join, meets_scale, meets_unscale, meets_add}
 
 -- f less g, times both denominators
@@ -26,9 +27,6 @@ gap_at upper f g = gap g f
 abbrev pub other : End → End
 other lower = upper
 other upper = lower
-
-abbrev pub IsPositive : Fraction → Type 0
-IsPositive f = pos 0 <ℤ f.den
 
 -- ---- tests
 lt_decides : (x y : ℤ) → Decides (int_lt x y) (Meets Below (x -ℤ y))

@@ -1,0 +1,10 @@
+pub mod Added
+pub mod Costs
+pub mod Filled
+pub mod Finding
+pub mod Greatest
+pub mod Kept
+pub mod LookUps
+pub mod Members
+pub mod Orders
+pub mod Pruning

@@ -1,0 +1,4 @@
+pub mod Costs
+pub mod Entries
+pub mod Orders
+pub mod Trees

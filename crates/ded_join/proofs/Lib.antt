@@ -1,0 +1,4 @@
+pub mod Indexed
+pub mod Joined
+pub mod Rounding
+mod Truths

@@ -1,0 +1,68 @@
+//! Boxes round conjunctions, and an index over them.
+ghost use Rattle.std.specs.Prelude.{◌≡◌, ◌<◌, ◌^◌, true, length, IfOk, ◌∷◌, []};
+ghost use Rattle.std.specs.List.{AllByRecursion};
+ghost use Rattle.ded_model.specs.declared.slot.Sort.TheVariants.{Rat};
+ghost use Rattle.ded_join.specs.Rounds.{AreRational, IsRound, IsIndexOf, interval_of};
+
+use ded_box::BoundBox;
+use ded_genrel::GenRel;
+use ded_index::BoxIndex;
+use ded_model::bound::{Bound, Frac};
+use ded_model::memory::NoMemory;
+use ded_model::slot::Slot;
+use ded_theory::{Span, Theory};
+use std::alloc::Global;
+
+/// The box of the bounds that the atoms give the slots. Its interval is empty where they hold nowhere.
+///
+/// # Errors
+/// Want of memory.
+pub(crate) fn box_round<T: Theory>(
+    alloc: Global,
+    atoms: &[T::Atom],
+    slots: &[Slot],
+) -> Result<BoundBox, NoMemory>
+    requires normal { AllByRecursion T.normal atoms.now }
+    requires rational { AreRational slots.now }
+    ensures { IfOk result (λ x. IsRound T.holds slots.now atoms.now x) }
+{
+    let mut spans = Vec::with_capacity(alloc, slots.len())?;
+    for slot in slots {
+        spans.push(interval(T::bounds(alloc, atoms, *slot)?))?;
+    }
+    BoundBox::new(alloc, &spans)
+}
+
+/// The interval between bounds, an empty one where nothing is between them.
+fn interval(span: Span) -> (Bound, Bound)
+    ensures { result ≡ interval_of span }
+{
+    match span {
+        Span::Nothing => {
+            let zero = Frac { num: 0, den: 1 };
+            (Bound::Excluded(zero), Bound::Excluded(zero))
+        }
+        Span::Exact(low, high) => (low, high),
+        Span::Around(low, high) => (low, high),
+    }
+}
+
+/// The index over the boxes round the conjunctions, under their places.
+///
+/// # Errors
+/// Want of memory.
+pub(crate) fn index_of<T: Theory>(
+    alloc: Global,
+    list: &GenRel<T>,
+    slots: &[Slot],
+) -> Result<BoxIndex, NoMemory>
+    requires few { length list.now < 2 ^ 32 }
+    requires rational { AreRational slots.now }
+    ensures { IfOk result (λ x. IsIndexOf T.holds slots.now list.now x) }
+{
+    let mut boxes = Vec::new(alloc);
+    for conj in list.list() {
+        boxes.push(box_round::<T>(alloc, conj, slots)?)?;
+    }
+    BoxIndex::build(alloc, &boxes)
+}

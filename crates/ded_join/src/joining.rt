@@ -1,0 +1,95 @@
+//! Joins.
+ghost use Rattle.std.specs.Prelude.{◌≡◌, ◌+◌, ◌-◌, ◌<◌, ◌≤◌, ◌^◌, ◌++◌, min, length, IfOk};
+ghost use Rattle.std.specs.List.{AllByRecursion};
+ghost use Rattle.ded_genrel.specs.Operations.{IsMeet};
+ghost use Rattle.ded_join.specs.Rounds.{AreRational, picked};
+
+use crate::boxes::{box_round, index_of};
+use ded_genrel::{GenRel, both_conjs};
+use ded_model::memory::NoMemory;
+use ded_model::slot::Slot;
+use ded_theory::Theory;
+use std::alloc::Global;
+
+/// More conjunctions than an index has numbers for.
+const TOO_MANY: usize = 1 << 32;
+
+/// A list that holds where both do. It pairs conjunctions whose bounds on the slots share values, in the order of
+/// `GenRel::meet`; where no slots are given, or the second list has 2^32 conjunctions or more, it is `meet`.
+///
+/// # Errors
+/// Want of memory.
+pub fn join<T: Theory>(
+    alloc: Global,
+    a: &GenRel<T>,
+    b: &GenRel<T>,
+    slots: &[Slot],
+) -> Result<GenRel<T>, NoMemory>
+    requires { AreRational slots.now }
+    ensures { IfOk result (λ r. IsMeet T.holds T.mentions T.lines a.now b.now r) }
+{
+    if slots.is_empty() || b.list().len() >= TOO_MANY {
+        a.meet(b)
+    } else {
+        join_by_index(alloc, a, b, slots)
+    }
+}
+
+/// The same, and `met` grows by the count of pairs that are met, up to the greatest `u64`.
+///
+/// # Errors
+/// Want of memory.
+pub fn join_counted<T: Theory>(
+    alloc: Global,
+    a: &GenRel<T>,
+    b: &GenRel<T>,
+    slots: &[Slot],
+    met: &mut u64,
+) -> Result<GenRel<T>, NoMemory>
+    requires { AreRational slots.now }
+    ensures is { IfOk result (λ r. IsMeet T.holds T.mentions T.lines a.now b.now r) }
+    ensures met { IfOk result (λ r. met.new ≡ min (met.old + length r) (2 ^ 64 - 1)) }
+{
+    let joined = join(alloc, a, b, slots)?;
+    *met = met.saturating_add(joined.list().len() as u64);
+    Ok(joined)
+}
+
+/// The join through an index over the second list.
+fn join_by_index<T: Theory>(
+    alloc: Global,
+    a: &GenRel<T>,
+    b: &GenRel<T>,
+    slots: &[Slot],
+) -> Result<GenRel<T>, NoMemory>
+    requires few { length b.now < 2 ^ 32 }
+    requires rational { AreRational slots.now }
+    ensures { IfOk result (λ r. IsMeet T.holds T.mentions T.lines a.now b.now r) }
+{
+    let index = index_of(alloc, b, slots)?;
+    let mut out = GenRel::new(alloc);
+    for conj in a.list() {
+        let near = index.find(alloc, &box_round::<T>(alloc, conj, slots)?)?;
+        push_picked(alloc, &mut out, conj, b, &near)?;
+    }
+    Ok(out)
+}
+
+/// Sets the conjunction together with those at the places at the end.
+fn push_picked<T: Theory>(
+    alloc: Global,
+    out: &mut GenRel<T>,
+    conj: &[T::Atom],
+    list: &GenRel<T>,
+    places: &[u32],
+) -> Result<(), NoMemory>
+    requires normal { AllByRecursion T.normal conj.now }
+    requires places { AllByRecursion (λ j. j < length list.now) places.now }
+    ensures { IfOk result (λ _. out.new ≡ out.old ++ picked conj.now list.now places.now) }
+{
+    let conjs = list.list();
+    for place in places {
+        out.push(both_conjs::<T>(alloc, conj, &conjs[*place as usize])?)?;
+    }
+    Ok(())
+}

@@ -1,0 +1,15 @@
+//! The meet of two lists of conjunctions through an index over boxes.
+//!
+//! [`join`] holds where both lists do, as `GenRel::meet` does. But it doesn't pair each conjunction of the one with each of the
+//! other: on given rational slots it puts a box of exact bounds round each conjunction, indexes those of the second list, and
+//! pairs each conjunction of the first list with those only whose boxes share values with its own.
+//!
+//! It stands on `ded_genrel` for lists of conjunctions over any theory, and on `ded_index` for the look-ups.
+#![tactic(auto)]
+
+mod boxes;
+mod joining;
+#[cfg(test)]
+mod tests;
+
+pub use joining::{join, join_counted};
