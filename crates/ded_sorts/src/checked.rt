@@ -11,7 +11,7 @@ pub enum Checked {
     Relation(Name, Heading),
     /// The tuple is the normal one of the comparisons.
     Insert(Name, Tuple),
-    Delete(Name, u32),
+    Delete(Name, u64),
     Drop(Name),
     /// The formula as written, and its goal.
     View(Name, Heading, Formula, Goal),
