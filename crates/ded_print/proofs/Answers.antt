@@ -34,3 +34,7 @@ pub counted : (a b : Output) (kind : List ℕ) (count : ℕ) (lines : List (List
 counted a b kind count lines h =
     let rest = lines_text lines ++ line_text (codes "end") in
     subst (λ z. Puts a b z) (sym (append_assoc (kind ++ (32 ∷ number_text count)) (10 ∷ []) rest ∙ append_assoc kind (32 ∷ number_text count) ((10 ∷ []) ++ rest))) h
+
+-- the parts of a numbered line
+pub numbered : (a b : Output) (number text : List ℕ) → Puts a b (number ++ ((32 ∷ []) ++ (text ++ (10 ∷ [])))) → Puts a b (line_text (number ++ (32 ∷ text)))
+numbered a b number text h = subst (λ z. Puts a b z) (sym (append_assoc number (32 ∷ text) (10 ∷ []))) h
