@@ -5,3 +5,4 @@ pub mod Sound
 pub mod Told
 pub mod Tells
 pub mod Leaves
+pub mod Carried

@@ -22,3 +22,4 @@ pub mod LongLists
 pub mod Drafted
 pub mod One
 pub mod Decided
+pub mod PlainSums

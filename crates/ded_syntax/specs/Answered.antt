@@ -3,7 +3,7 @@ use Rattle.std.specs.Prelude.{ℕ, ℤ, pos, Bool, true, false, ◌&&◌, List, 
 use Rattle.std.specs.Ordering.{int_eq}
 use Rattle.ded_model.specs.declared.formula.Operand.{Operand}
 use Rattle.ded_model.specs.declared.formula.Operand.TheVariants.{Single, Sum, Quoted}
-use Rattle.ded_model.specs.Command.{CommandForm, ask}
+use Rattle.ded_model.specs.Command.{CommandForm, relation, insert, delete, drop, view, ask, show}
 use Rattle.ded_model.specs.Form.{Form, compare}
 use Rattle.ded_model.specs.Logic.{atom}
 
@@ -24,6 +24,12 @@ compares_wholes f = false
 
 -- whether the program can answer the command; all others are not spelled as yet
 abbrev pub is_answered : CommandForm → Bool
+is_answered (relation n h) = true
+is_answered (insert n fs) = true
+is_answered (delete n k) = true
+is_answered (drop n) = true
+is_answered (view n h f) = true
+is_answered (show n) = true
 is_answered (ask f) = compares_wholes f
 is_answered c = false
 

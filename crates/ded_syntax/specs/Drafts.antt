@@ -6,7 +6,7 @@ use Rattle.ded_model.specs.Command.{CommandForm}
 use Rattle.ded_grammar.specs.Trees.{PieceForm, opening, closing, leaf, piece_atom}
 use Rattle.ded_syntax.specs.Answered.{compares_wholes, is_answered, any_command}
 use Rattle.ded_model.specs.LongRows.{is_long_atom, has_long_row}
-use Rattle.ded_syntax.specs.CommandReading.{ask_head, Draft, plain, formed}
+use Rattle.ded_syntax.specs.CommandReading.{view_head, ask_head, Draft, plain, formed}
 
 -- a parenthesis, or a comparison of whole numbers
 abbrev pub answers_piece : PieceForm → Bool
@@ -21,6 +21,7 @@ answers_pieces (p ∷ ps) = answers_piece p && answers_pieces ps
 
 abbrev pub answers_draft : Draft → Bool
 answers_draft (plain c) = is_answered c
+answers_draft (formed (view_head n h) ps) = true
 answers_draft (formed ask_head ps) = answers_pieces ps
 answers_draft (formed h ps) = false
 

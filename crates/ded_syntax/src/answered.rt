@@ -34,8 +34,15 @@ fn is_answered(command: &Command) -> bool
     ensures { result ≡ is_answered (command_form command.now) }
 {
     match command {
+        Command::Relation(_, _)
+        | Command::Insert(_, _)
+        | Command::Delete(_, _)
+        | Command::Drop(_)
+        | Command::View(_, _, _)
+        | Command::Show(_) => true,
         Command::Ask(formula) => compares_wholes(formula),
-        _ => false,
+        Command::Keep(_) | Command::Query(_, _) | Command::BoxOf(_) | Command::Explain(_, _) =>
+            false,
     }
 }
 
@@ -66,7 +73,8 @@ pub fn answers(draft: &Draft) -> bool
 {
     match draft {
         Draft::Plain(command) => is_answered(command),
+        Draft::Formed(Head::View(_, _), _) => true,
         Draft::Formed(Head::Ask, pieces) => answers_pieces(pieces),
-        Draft::Formed(_, _) => false,
+        Draft::Formed(Head::Query(_) | Head::Explain(_), _) => false,
     }
 }

@@ -4,6 +4,7 @@ ghost use Rattle.ded_model.specs.declared.command.Language.{Language};
 ghost use Rattle.ded_model.specs.declared.command.Refusal.{Refusal};
 ghost use Rattle.ded_model.specs.declared.command.Refusal.TheVariants.{Syntax};
 ghost use Rattle.ded_model.specs.Command.{CommandForm};
+ghost use Rattle.ded_model.specs.Plain.{IsPlainCommand};
 ghost use Rattle.ded_syntax.specs.Answered.{any_command};
 ghost use Rattle.ded_syntax.specs.Spelling.{SpellsBy, AppliesBy, IsReadBy, Spells, AppliesIn, IsRead};
 
@@ -34,4 +35,10 @@ pub fn some_command_of_all()
     ensures read { (language : Language) (bytes : List ℕ) →
         ((refusal : Refusal) → AppliesBy any_command refusal language bytes → ⊥) →
         (command : CommandForm) × IsReadBy any_command language bytes command }
+{}
+
+/// In a command that is spelled each sum is over 1 and has each name once.
+pub fn spelled_sums()
+    ensures { (test : CommandForm → Bool) (language : Language) (bytes : List ℕ) (command : CommandForm) (depth : ℕ) →
+        SpellsBy test language bytes command depth → IsPlainCommand command }
 {}

@@ -25,4 +25,4 @@ mod sum;
 mod tests;
 
 pub use command::{read_any_command, read_command};
-pub use laws::{one_command, some_command, some_command_of_all};
+pub use laws::{one_command, some_command, some_command_of_all, spelled_sums};

@@ -121,7 +121,16 @@ fn answered_bytes_are_read(rt: HostRuntime) -> Result<(), Fail> {
         ("ask 'a' = 'a'", syntax),
         ("ask 1 = 1 and 1 = 1", syntax),
         ("ask x = 9223372036854775808", syntax),
-        ("show N", syntax),
+        ("show N", Outcome::Show),
+        ("drop N", Outcome::Drop),
+        ("delete N 1", Outcome::Delete(1)),
+        ("relation N(x)", Outcome::Relation(1)),
+        ("insert N { x = 1 }", Outcome::Insert(1)),
+        ("view V(x) := N(x)", Outcome::View(Shape::Member(1))),
+        ("keep N", syntax),
+        ("box N", syntax),
+        ("query (x) : N(x)", syntax),
+        ("explain (x) : N(x)", syntax),
     ] {
         for language in [Language::One, Language::Two, Language::Opening] {
             let outcome = answered_of(&rt, rt.alloc(), text.as_bytes(), language);
