@@ -1,12 +1,12 @@
 pub mod Accepted
-mod Ascending
+pub mod Ascending
 mod AtomOrders
 mod Chains
 mod Differences
 mod Fitting
 mod Halving
-mod Operands
+pub mod Operands
 mod Overs
 mod Places
-mod Reading
-mod Summing
+pub mod Reading
+pub mod Summing

@@ -62,7 +62,7 @@ one_name (slot s) x y e f = absurd (true≢false (sym e))
 one_name (name z) x y e f = (bytes_eq-Decides x y).1 (sym ((bytes_eq-Decides z x).0 e) ∙ (bytes_eq-Decides z y).0 f)
 
 -- names that differ have different slots
-slots_apart : (scope : SlotScope) (x y : List ℕ) → AreApart scope → is_unbound_name (sorts_of scope) x ≡ false → is_unbound_name (sorts_of scope) y ≡ false → bytes_eq x y ≡ false
+pub slots_apart : (scope : SlotScope) (x y : List ℕ) → AreApart scope → is_unbound_name (sorts_of scope) x ≡ false → is_unbound_name (sorts_of scope) y ≡ false → bytes_eq x y ≡ false
     → same_slot (slot_of scope x) (slot_of scope y) ≡ false
 slots_apart [] x y h e f n = absurd (true≢false e)
 slots_apart (v ∷ scope) x y h e f n = go (same_key v.0 (name x)) refl (same_key v.0 (name y)) refl e f (slots_apart scope x y h.1)
@@ -109,7 +109,7 @@ rest_summable scope c cs h = record {
   rational = fails_right _ _ h.rational;
 }
 
-ascend-parts : (scope : SlotScope) (cs : List (List ℕ × ℤ)) → AreSummable scope cs → Ascend (add_parts scope cs)
+pub ascend-parts : (scope : SlotScope) (cs : List (List ℕ × ℤ)) → AreSummable scope cs → Ascend (add_parts scope cs)
 ascend-parts scope [] h = tt
 ascend-parts scope (c ∷ cs) h = ascend-put (slot_of scope c.0) c.1 (add_parts scope cs) (first_rational scope c cs h) (ascend-parts scope cs (rest_summable scope c cs h))
 

@@ -9,5 +9,7 @@
 #![tactic(auto)]
 
 mod resolving;
+#[cfg(test)]
+mod tests;
 
 pub use resolving::resolve;

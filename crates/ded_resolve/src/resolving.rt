@@ -1,14 +1,28 @@
 //! Commands by slots.
-ghost use Rattle.std.specs.Prelude.{◌≡◌, ◌≢◌, false, IfOk, IfErr};
-ghost use Rattle.ded_model.specs.Command.{command_form};
+ghost use Rattle.std.specs.Prelude.{◌≡◌, ◌≢◌, ◌≤◌, ◌<◌, ◌^◌, false, map, List, [], IfOk, IfErr};
+ghost use Rattle.ded_model.specs.Catalogue.{Catalogue};
+ghost use Rattle.ded_model.specs.Command.{command_form, insert, view, ask, query, explain};
+ghost use Rattle.ded_model.specs.Form.{form, forms};
+ghost use Rattle.ded_model.specs.Known.{IsTupleOver};
 ghost use Rattle.ded_model.specs.LongRows.{has_long_row};
 ghost use Rattle.ded_model.specs.Plain.{IsPlainCommand};
-ghost use Rattle.ded_sorts.specs.Checks.{IsResolved, HasNoCause, IsLeastCause};
+ghost use Rattle.ded_model.specs.Slotted.{goal_of, tuple_of};
+ghost use Rattle.ded_model.specs.Width.{tuple_length};
+ghost use Rattle.ded_model.specs.Goal.{goal_form};
+ghost use Rattle.ded_sorts.specs.Checks.{known_form, IsResolved, HasNoCause, IsLeastCause};
+ghost use Rattle.ded_sorts.specs.Entries.{columns_in};
+ghost use Rattle.ded_resolve.specs.Ready.{IsReady, AreReady};
 ghost use Rattle.ded_resolve.specs.Storing.{IsStorable};
 
+use ded_goals::{goal, tuple};
 use ded_model::command::{Command, Refusal};
-use ded_sorts::{Checked, Names};
-use std::alloc::Global;
+use ded_model::formula::Formula;
+use ded_model::goal::Goal;
+use ded_model::memory::NoMemory;
+use ded_model::name::{Heading, Name};
+use ded_model::tuple::Tuple;
+use ded_sorts::{Checked, Known, Names, check};
+use std::alloc::{AllocError, Global};
 
 /// The command by slots, over the names. Each sum of the command is over 1 and has each name once, and no row of its formula
 /// has a number above 2^63 - 1 in magnitude.
@@ -22,5 +36,124 @@ pub fn resolve<N: Names>(alloc: Global, command: Command, names: &N) -> Result<C
     ensures stored { IfOk result (λ k. IsStorable (N.catalogue names.now) k) }
     ensures refused { IfErr result (λ r. r ≢ Refusal.Memory → IsLeastCause r (N.catalogue names.now) (command_form command)) }
 {
-    Err(Refusal::Memory)
+    check(&command, names)?;
+    match by_slots(alloc, command, names) {
+        Ok(checked) => Ok(checked),
+        Err(_) => Err(Refusal::Memory),
+    }
+}
+
+/// The same of a command that is accepted.
+fn by_slots<N: Names>(alloc: Global, command: Command, names: &N) -> Result<Checked, NoMemory>
+    requires plain { IsPlainCommand (command_form command) }
+    requires short { has_long_row (command_form command) ≡ false }
+    requires accepted { HasNoCause (N.catalogue names.now) (command_form command) }
+    ensures resolved { IfOk result (λ k. IsResolved (N.catalogue names.now) (command_form command) k) }
+    ensures stored { IfOk result (λ k. IsStorable (N.catalogue names.now) k) }
+{
+    match command {
+        Command::Relation(name, heading) => Ok(Checked::Relation(name, heading)),
+        Command::Insert(name, comparisons) => insertion(alloc, name, comparisons, names),
+        Command::Delete(name, number) => Ok(Checked::Delete(name, number)),
+        Command::Drop(name) => Ok(Checked::Drop(name)),
+        Command::View(name, heading, formula) => view(alloc, name, heading, formula),
+        Command::Keep(name) => Ok(Checked::Keep(name)),
+        Command::Ask(formula) => question(alloc, formula),
+        Command::Query(heading, formula) => query(alloc, heading, formula),
+        Command::Show(name) => Ok(Checked::Show(name)),
+        Command::BoxOf(name) => Ok(Checked::BoxOf(name)),
+        Command::Explain(heading, formula) => explanation(alloc, heading, formula),
+    }
+}
+
+/// An insert: its tuple, over the columns of the relation.
+fn insertion<N: Names>(
+    alloc: Global,
+    name: Name,
+    comparisons: Vec<Formula>,
+    names: &N,
+) -> Result<Checked, NoMemory>
+    requires { AreReady (columns_in (N.catalogue names.now) name) (forms comparisons.items) }
+    ensures resolved { IfOk result (λ k. IsResolved (N.catalogue names.now) (insert name (forms comparisons.items)) k) }
+    ensures stored { IfOk result (λ k. IsStorable (N.catalogue names.now) k) }
+{
+    let heading = heading_of(alloc, &name, names)?;
+    let tuple = short_tuple(alloc, &heading, &comparisons)?;
+    Ok(Checked::Insert(name, tuple))
+}
+
+/// The columns of a relation or a view, none where the name isn't defined.
+fn heading_of<N: Names>(alloc: Global, name: &Name, names: &N) -> Result<Heading, NoMemory>
+    ensures { IfOk result (λ h. h ≡ columns_in (N.catalogue names.now) name.now) }
+{
+    match names.known(name)? {
+        Some(Known::Relation(heading) | Known::View(heading, _)) => Ok(heading),
+        None => Ok(Heading {
+            columns: Vec::new(alloc),
+        }),
+    }
+}
+
+/// The normal tuple of comparisons over a heading, which has numbers of at most 63 digits. No memory is had for a tuple over
+/// more columns than slots have numbers.
+fn short_tuple(alloc: Global, heading: &Heading, comparisons: &[Formula]) -> Result<Tuple, NoMemory>
+    requires { AreReady heading.now (forms comparisons.now) }
+    ensures value { IfOk result (λ t. t ≡ tuple_of heading.now (map form comparisons.now)) }
+    ensures over { IfOk result (λ t. IsTupleOver heading.now t) }
+    ensures short { IfOk result (λ t. tuple_length t ≤ 63) }
+{
+    if heading.columns.len() > u32::MAX as usize {
+        return Err(AllocError);
+    }
+    tuple(alloc, heading, comparisons)
+}
+
+/// A view: its formula as written, and its goal.
+fn view(alloc: Global, name: Name, heading: Heading, formula: Formula) -> Result<Checked, NoMemory>
+    requires { IsReady heading (form formula) }
+    ensures resolved { (c : Catalogue) → IfOk result (λ k. IsResolved c (view name heading (form formula)) k) }
+    ensures stored { (c : Catalogue) → IfOk result (λ k. IsStorable c k) }
+{
+    let goal = ready_goal(alloc, &heading, &formula)?;
+    Ok(Checked::View(name, heading, formula, goal))
+}
+
+/// A question: the goal of a closed formula.
+fn question(alloc: Global, formula: Formula) -> Result<Checked, NoMemory>
+    requires { IsReady [] (form formula) }
+    ensures resolved { (c : Catalogue) → IfOk result (λ k. IsResolved c (ask (form formula)) k) }
+    ensures stored { (c : Catalogue) → IfOk result (λ k. IsStorable c k) }
+{
+    let heading = Heading {
+        columns: Vec::new(alloc),
+    };
+    Ok(Checked::Ask(ready_goal(alloc, &heading, &formula)?))
+}
+
+/// A query: the goal of its formula.
+fn query(alloc: Global, heading: Heading, formula: Formula) -> Result<Checked, NoMemory>
+    requires { IsReady heading (form formula) }
+    ensures resolved { (c : Catalogue) → IfOk result (λ k. IsResolved c (query heading (form formula)) k) }
+    ensures stored { (c : Catalogue) → IfOk result (λ k. IsStorable c k) }
+{
+    let goal = ready_goal(alloc, &heading, &formula)?;
+    Ok(Checked::Query(heading, goal))
+}
+
+/// An explanation of a query: the same.
+fn explanation(alloc: Global, heading: Heading, formula: Formula) -> Result<Checked, NoMemory>
+    requires { IsReady heading (form formula) }
+    ensures resolved { (c : Catalogue) → IfOk result (λ k. IsResolved c (explain heading (form formula)) k) }
+    ensures stored { (c : Catalogue) → IfOk result (λ k. IsStorable c k) }
+{
+    let goal = ready_goal(alloc, &heading, &formula)?;
+    Ok(Checked::Explain(heading, goal))
+}
+
+/// The goal of a formula over a heading.
+fn ready_goal(alloc: Global, heading: &Heading, formula: &Formula) -> Result<Goal, NoMemory>
+    requires { IsReady heading.now (form formula.now) }
+    ensures { IfOk result (λ g. goal_form g ≡ goal_of heading.now (form formula.now)) }
+{
+    goal(alloc, heading, formula)
 }

@@ -1,0 +1,4 @@
+pub mod Readiness
+pub mod ShortRows
+pub mod ShortTuples
+pub mod SlotNumbers

@@ -1,0 +1,8 @@
+-- The tuple is that of the command's comparisons, over the relation's columns.
+use Rattle.std.proofs.Common.{refl}
+use Rattle.ded_sorts.specs.Entries.{columns_in}
+use Rattle.ded_resolve.proofs.Readiness.{tuple_is}
+use Rattle.ded_resolve.proofs.resolving.insertion.Goals as goal
+
+pub returns-clause-resolved : goal.returns-clause-resolved
+returns-clause-resolved g c = (refl, tuple_is c.in_ok-tuple.tuple c.in_ok-heading.heading (columns_in (g.N.Names.catalogue c.args.names.now) c.args.name) c.deref.result.now c.args.comparisons.items c.in_ok-tuple.ensures.value c.in_ok-heading.ensures c.deref.ensures.value)
