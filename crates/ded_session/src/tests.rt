@@ -15,7 +15,7 @@ enum Kind {
     Refused(Refusal),
 }
 
-fn kind(reply: &Reply) -> Kind {
+fn kind_of(reply: &Reply) -> Kind {
     match reply {
         Reply::Done => Kind::Done,
         Reply::Number(number) => Kind::Number(*number),
@@ -28,7 +28,7 @@ fn kind(reply: &Reply) -> Kind {
 fn check(rt: &impl Abort, session: &mut Session, statements: &[(&str, Kind)]) {
     for (statement, wanted) in statements {
         let reply = session.step(Piece::Whole(statement.as_bytes()));
-        assert_eq!(rt; kind(&reply), *wanted, "at {statement}");
+        assert_eq!(rt; kind_of(&reply), *wanted, "at {statement}");
     }
 }
 
@@ -81,8 +81,8 @@ fn relations_and_views_are_defined_and_dropped(rt: HostRuntime) -> Result<(), Fa
 fn pieces_may_be_long_or_cut(rt: HostRuntime) -> Result<(), Fail> {
     let mut session = Session::new(rt.alloc(), 2)?;
     let long = session.step(Piece::Long);
-    assert_eq!(rt; kind(&long), Kind::Refused(Refusal::LongStatement));
+    assert_eq!(rt; kind_of(&long), Kind::Refused(Refusal::LongStatement));
     let cut = session.step(Piece::Cut);
-    assert_eq!(rt; kind(&cut), Kind::Refused(Refusal::Unfinished));
+    assert_eq!(rt; kind_of(&cut), Kind::Refused(Refusal::Unfinished));
     Ok(())
 }
