@@ -27,7 +27,9 @@ fn kind_of(reply: &Reply) -> Kind {
 
 fn check(rt: &impl Abort, session: &mut Session, statements: &[(&str, Kind)]) {
     for (statement, wanted) in statements {
-        let reply = session.step(Piece::Whole(statement.as_bytes()));
+        let bytes = statement.as_bytes();
+        assert!(rt; bytes.len() <= 65_536);
+        let reply = session.step(Piece::Whole(bytes));
         assert_eq!(rt; kind_of(&reply), *wanted, "at {statement}");
     }
 }
