@@ -5,7 +5,6 @@ use Rattle.ded_model.specs.declared.formula.CompareOp.{CompareOp}
 use Rattle.ded_model.specs.declared.formula.CompareOp.TheVariants.{Less, LessEq, Equal, NotEqual, GreaterEq, Greater}
 use Rattle.ded_model.specs.declared.formula.Operand.{Operand}
 use Rattle.ded_model.specs.declared.formula.Operand.TheVariants.{Sum}
-use Rattle.ded_model.specs.Command.{CommandForm, ask}
 use Rattle.ded_model.specs.Form.{Form, compare}
 use Rattle.ded_model.specs.Logic.{atom}
 
@@ -24,12 +23,6 @@ pub record IsGround (f : Form) : Type 0 where
   pub op : CompareOp
   pub right : ℤ
   pub is : f ≡ atom (compare (whole left) op (whole right))
-
--- the command asks for such a comparison
-pub record AsksGround (c : CommandForm) : Type 0 where
-  pub question : Form
-  pub ground : IsGround question
-  pub is : c ≡ ask question
 
 -- how the numbers compare
 abbrev pub numbers_compare : ℤ → CompareOp → ℤ → Bool
