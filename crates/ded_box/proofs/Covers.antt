@@ -4,18 +4,18 @@
 -- interval that contains both: between the wider of the two lower bounds and the wider of the two upper ones. Any interval
 -- that contains both contains this: a value within the wider lower bound is within that of one of the two; either it lies in
 -- that interval, or it lies beyond a value of it, and so within whatever lower bound lets this value through.
-use Rattle.std.proofs.Common.{◌≡◌, ℕ, suc, ◌+◌, Bool, true, false, ◌&&◌, List, [], ◌∷◌, length, arith, refl, sym, subst, ap, ◌∙◌, true≢false}
-use Rattle.std.specs.Prelude.{IsTrue, pos}
+use Rattle.std.proofs.Common.{◌≡◌, suc, true, false, List, [], ◌∷◌, length, arith, refl, sym, subst, ap, ◌∙◌, true≢false}
+use Rattle.std.specs.Prelude.{pos}
 use Rattle.std.proofs.lemmas.Int.{ints, by_lt_z}
 use Rattle.ded_model.specs.declared.row.RowOp.TheVariants.{AtMost, Below}
 use Rattle.ded_model.specs.declared.bound.Bound.{Bound}
 use Rattle.ded_model.specs.Bound.{Fraction, End, lower, upper}
 use Rattle.ded_model.proofs.Core.{Meets}
 use Rattle.ded_model.proofs.Points.{and_left, and_right}
-use Rattle.ded_box.specs.Intervals.{IsPositive, HasPositive, IsInterval, is_within, has_value, may_meet, wider}
+use Rattle.ded_box.specs.Intervals.{IsPositive, HasPositive, IsInterval, is_within, has_value}
 use Rattle.ded_box.specs.Boxes.{AreValues, AreIntervals, in_box, Contains, IsCover, hull, hulls, has_values}
 use Rattle.ded_box.proofs.Gaps.{gap_at, other, gap_turned, gap_other}
-use Rattle.ded_box.proofs.Insides.{Inside, wider-one, wider-is, MayMeet, may_meet_decides, Between, between, further}
+use Rattle.ded_box.proofs.Insides.{Inside, wider-one, wider-is, may_meet_decides, between, further}
 use Rattle.ded_box.proofs.Shares.{Interval, Box, both, Within, within_to, within_from, meet_at}
 
 -- ---- an end of the least interval

@@ -1,9 +1,7 @@
 -- Loops over two boxes, place by place.
-use Rattle.std.proofs.Common.{◌≡◌, ℕ, suc, ◌+◌, min, ◌<◌, ◌≤◌, Bool, true, false, ◌&&◌, List, [], ◌∷◌, ◌++◌, length, take, drop, get_or, arith, refl, sym, ap, ap₂, ◌∙◌, subst, true≢false, add-one}
-use Rattle.std.proofs.Math.Seq.{drop-cons, take-suc}
+use Rattle.std.proofs.Common.{◌≡◌, ℕ, suc, ◌+◌, min, ◌<◌, ◌≤◌, Bool, true, false, ◌&&◌, [], ◌∷◌, ◌++◌, length, take, get_or, arith, refl, sym, ap, ap₂, ◌∙◌, add-one}
+use Rattle.std.proofs.Math.Seq.{take-suc}
 use Rattle.std.proofs.lemmas.List.{take_all, length-take}
-use Rattle.ded_model.specs.declared.bound.Bound.{Bound}
-use Rattle.ded_model.proofs.Points.{and_left, and_right}
 use Rattle.ded_box.specs.Intervals.{IsInterval, intervals_meet}
 use Rattle.ded_box.specs.Boxes.{AreIntervals, boxes_meet, hull, hulls}
 use Rattle.ded_box.proofs.Shares.{Interval, Box}

@@ -5,14 +5,12 @@
 -- inside of all four. Two boxes share values where each two intervals at one place do.
 use Rattle.std.proofs.Common.{◌≡◌, Bool, true, false, ◌&&◌, List, [], ◌∷◌, refl, sym, true≢false}
 use Rattle.std.specs.Prelude.{IsTrue, ◌↔◌}
-use Rattle.std.specs.Bool.{Decides}
-use Rattle.std.proofs.lemmas.Bool.Decides.{Decides-and}
 use Rattle.ded_model.specs.declared.bound.Bound.{Bound}
 use Rattle.ded_model.specs.Bound.{Fraction, lower, upper}
 use Rattle.ded_model.proofs.Points.{and_left, and_right}
 use Rattle.ded_box.specs.Intervals.{IsPositive, HasPositive, IsInterval, is_inside, is_within, has_value, intervals_meet, narrower, may_meet}
 use Rattle.ded_box.specs.Boxes.{AreValues, AreIntervals, in_box, Shared, boxes_meet}
-use Rattle.ded_box.proofs.Insides.{Inside, inside_decides, narrower-one, narrower-is, MayMeet, may_meet_decides, inside_meet, Between, between}
+use Rattle.ded_box.proofs.Insides.{Inside, inside_decides, narrower-one, narrower-is, MayMeet, may_meet_decides, inside_meet, between}
 
 abbrev pub Interval : Type 0
 Interval = Bound × Bound

@@ -1,5 +1,5 @@
 -- Intervals: what is inside of a bound, the narrower and the wider of two, and which bounds leave a value between them.
-use Rattle.std.specs.Prelude.{ℤ, pos, ◌<ℤ◌, Bool, true, not, ◌&&◌, if◌then◌else◌}
+use Rattle.std.specs.Prelude.{pos, ◌<ℤ◌, Bool, true, not, ◌&&◌, if◌then◌else◌}
 use Rattle.ded_model.specs.declared.bound.Bound.{Bound}
 use Rattle.ded_model.specs.declared.bound.Bound.TheVariants.{Infinite, Excluded, Included}
 use Rattle.ded_model.specs.Bound.{Fraction, End, lower, upper, is_less, is_outside}

@@ -4,15 +4,14 @@
 -- 2 k h + 1 steps: with k = 0 the greatest end is before the window, and the visit stops at its first node; else the two halves
 -- take 2 k' (h - 1) + 1 and 2 k'' (h - 1) + 1 steps, and k is at least 1. In general it takes at most 2 k h + 2 h: where the node
 -- begins before the window ends, all of the left half does, else only the left half is visited.
-use Rattle.std.proofs.Common.{◌≡◌, ℕ, zero, suc, ◌+◌, ◌*◌, ◌^◌, ◌<◌, ◌≤◌, ◌/◌, ◌-◌, min, Bool, true, false, cond, List, [], ◌∷◌, ◌++◌, length, take, drop, ◌⊎◌, inl, inr, arith, refl, sym, ap, ◌∙◌, subst, length-append, true≢false}
+use Rattle.std.proofs.Common.{◌≡◌, ℕ, zero, suc, ◌+◌, ◌*◌, ◌^◌, ◌<◌, ◌≤◌, ◌/◌, ◌-◌, min, true, cond, List, ◌∷◌, length, take, drop, arith, sym, ap, ◌∙◌, subst}
 use Rattle.std.proofs.lemmas.List.{length-take, length-drop}
 use Rattle.std.specs.List.{AllByRecursion}
 use Rattle.ded_box.specs.Intervals.{may_meet, has_value, intervals_meet}
 use Rattle.ded_box.specs.Boxes.{AreIntervals}
-use Rattle.ded_index.specs.declared.entry.Entry.{Entry}
 use Rattle.ded_index.specs.declared.tree.Node.{Node}
-use Rattle.ded_index.specs.Entries.{Box, first_of, low, near_first}
-use Rattle.ded_index.specs.Trees.{entries_of, AreFull, IsTree}
+use Rattle.ded_index.specs.Entries.{Box, first_of, near_first}
+use Rattle.ded_index.specs.Trees.{entries_of, AreFull}
 use Rattle.ded_index.specs.Costs.{Begins, IsCost}
 use Rattle.ded_index.proofs.Members.{all-left, all-right, near_first-append, entries_of-length}
 use Rattle.ded_index.proofs.Pruning.{IsRound, some_near, left_begins}

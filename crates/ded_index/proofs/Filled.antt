@@ -3,7 +3,7 @@ use Rattle.std.proofs.Common.{◌≡◌, ℕ, zero, suc, ◌+◌, ◌-◌, min, 
 use Rattle.std.specs.Prelude.{slice_set}
 use Rattle.std.specs.Option.{MatchOption}
 use Rattle.std.proofs.Math.Seq.{drop-cons, set-append_seam}
-use Rattle.std.proofs.lemmas.List.{take_at, drop_at, drop_all, length-take, length-drop}
+use Rattle.std.proofs.lemmas.List.{take_at, drop_at, drop_all, length-take}
 use borrow.Rule.Slice.PartMut.{put_mid, post_of}
 use Rattle.ded_model.specs.declared.bound.Bound.{Bound}
 use Rattle.ded_model.specs.Bound.{upper}

@@ -1,8 +1,8 @@
 -- The numbers that a visit gathers.
-use Rattle.std.proofs.Common.{◌≡◌, ℕ, Bool, true, false, cond, List, [], ◌∷◌, ◌++◌, ◌⊎◌, inl, inr, refl, sym, ap, ◌∙◌, subst, append_assoc, append-nil}
+use Rattle.std.proofs.Common.{◌≡◌, ℕ, false, List, [], ◌∷◌, ◌++◌, sym, ap, ◌∙◌, append_assoc, append-nil}
 use Rattle.std.specs.List.{AllByRecursion}
 use Rattle.ded_box.specs.Intervals.{may_meet, has_value}
-use Rattle.ded_box.specs.Boxes.{AreIntervals, boxes_meet}
+use Rattle.ded_box.specs.Boxes.{AreIntervals}
 use Rattle.ded_index.specs.declared.entry.Entry.{Entry}
 use Rattle.ded_index.specs.declared.tree.Node.{Node}
 use Rattle.ded_index.specs.Entries.{Box, first_of, low, ids_in}

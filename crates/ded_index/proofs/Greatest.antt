@@ -1,17 +1,17 @@
 -- The greatest high end of entries: the wider of the greatest ends of two lists is that of both.
-use Rattle.std.proofs.Common.{◌≡◌, ℕ, ◌<◌, true, List, [], ◌∷◌, ◌++◌, length, Option, Some, None, ◌⊎◌, inl, inr, arith, refl, sym, ap, ◌∙◌, subst}
+use Rattle.std.proofs.Common.{◌≡◌, true, List, [], ◌∷◌, ◌++◌, length, Option, Some, None, ◌⊎◌, inl, inr, arith, sym, subst}
 use Rattle.std.specs.Option.{MatchOption}
 use Rattle.std.specs.List.{AllByRecursion}
 use Rattle.ded_model.specs.declared.bound.Bound.{Bound}
-use Rattle.ded_model.specs.Bound.{lower, upper}
+use Rattle.ded_model.specs.Bound.{upper}
 use Rattle.ded_box.specs.Intervals.{HasPositive, may_meet, wider}
 use Rattle.ded_box.specs.Boxes.{AreIntervals}
 use Rattle.ded_box.proofs.Insides.{wider-one, wider-is, may_meet_decides, between}
 use Rattle.ded_box.proofs.Shares.{meet_at}
 use Rattle.ded_index.specs.declared.entry.Entry.{Entry}
-use Rattle.ded_index.specs.Entries.{Box, first_of, low, high, SomeEntry}
+use Rattle.ded_index.specs.Entries.{Box, first_of, high, SomeEntry}
 use Rattle.ded_index.specs.Trees.{IsGreatest, AreSound}
-use Rattle.ded_index.proofs.Members.{all-append, all-weaker, some-left, some-right, some-all}
+use Rattle.ded_index.proofs.Members.{all-append, all-weaker, some-left, some-right}
 
 -- ends of sound boxes have values
 pub low-positive : (b : Box) → AreIntervals b → HasPositive (first_of b).0

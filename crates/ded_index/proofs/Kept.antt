@@ -1,9 +1,9 @@
 -- What an index keeps when its entries are sorted, added to, or taken out.
-use Rattle.std.proofs.Common.{◌≡◌, ℕ, zero, suc, ◌+◌, ◌<◌, ◌≤◌, Bool, true, false, not, nat_eq, cond, List, [], ◌∷◌, ◌++◌, map, length, take, drop, get_or, ◌||◌, ◌⊎◌, inl, inr, arith, refl, sym, ap, ap₂, ◌∙◌, subst, append_assoc, add-one}
+use Rattle.std.proofs.Common.{◌≡◌, ℕ, zero, suc, ◌+◌, ◌<◌, ◌≤◌, Bool, true, false, not, nat_eq, cond, List, [], ◌∷◌, ◌++◌, length, take, drop, get_or, ◌||◌, arith, refl, sym, ap, ap₂, ◌∙◌, subst, add-one}
 use Rattle.std.proofs.Math.Seq.{take-suc}
 use Rattle.std.proofs.lemmas.List.{take_at, length-take-le}
 use Rattle.std.proofs.lemmas.List.Elements.{All-from_recursion, recursion_from_All, filter-append}
-use Rattle.std.proofs.lemmas.List.Sorted.{IsPermutation-map, All-permutation, sorted_far, IsPermutation-push_more, IsPermutation-trans, IsPermutation-append_left}
+use Rattle.std.proofs.lemmas.List.Sorted.{IsPermutation-map, All-permutation, sorted_far}
 use Rattle.std.specs.List.{AllByRecursion, filter, list_any}
 use Rattle.std.specs.List.Sorted.{IsPermutation, IsSortedBy}
 use Rattle.std.specs.Cmp.{IsStrictWeakOrder}
@@ -14,9 +14,8 @@ use Rattle.ded_index.specs.declared.entry.Entry.{Entry}
 use Rattle.ded_index.specs.declared.tree.Node.{Node}
 use Rattle.ded_index.specs.Entries.{Box, first_of, numbered, has_id, without}
 use Rattle.ded_index.specs.Orders.{entry_order}
-use Rattle.ded_index.specs.Trees.{entries_of, NotAfter, InOrder, AreEnds, AreFull, AreSound, AreApart, IsTree, IsIndex}
+use Rattle.ded_index.specs.Trees.{entries_of, NotAfter, InOrder, AreEnds, AreFull, AreSound, IsIndex}
 use Rattle.ded_index.proofs.Orders.{entries_ranked}
-use Rattle.ded_index.proofs.Members.{entries_of-append}
 
 -- ---- sorting
 

@@ -1,6 +1,6 @@
 -- The answer to a look-up, from the numbers that a visit gathers.
-use Rattle.std.proofs.Common.{◌≡◌, ℕ, zero, suc, ◌+◌, ◌*◌, ◌^◌, ◌<◌, ◌≤◌, Bool, true, false, cond, List, [], ◌∷◌, ◌++◌, length, get_or, ◌⊎◌, inl, inr, arith, refl, sym, ap, ◌∙◌, subst, true≢false, length-append}
-use Rattle.std.specs.Prelude.{pos, unsigned_abs, ◌↔◌}
+use Rattle.std.proofs.Common.{◌≡◌, ℕ, zero, suc, ◌+◌, ◌*◌, ◌^◌, ◌<◌, ◌≤◌, Bool, true, false, cond, List, [], ◌∷◌, ◌++◌, length, get_or, ◌⊎◌, inl, inr, arith, refl, sym, subst, length-append}
+use Rattle.std.specs.Prelude.{pos}
 use lib.Dec.{eqb}
 use Rattle.std.specs.List.{AllByRecursion, Contains, dedup}
 use Rattle.std.specs.List.Sorted.{IsPermutation, IsSorted, IsStrictlyIncreasing}
@@ -16,9 +16,9 @@ use Rattle.ded_index.specs.declared.entry.Entry.{Entry}
 use Rattle.ded_index.specs.declared.tree.Node.{Node}
 use Rattle.ded_box.specs.Intervals.{has_value}
 use Rattle.ded_index.specs.Entries.{Box, first_of, SomeEntry, ids_in, near_first, most_steps, AreFound}
-use Rattle.ded_index.specs.Trees.{entries_of, AreSound, AreApart, IsTree, IsIndex}
+use Rattle.ded_index.specs.Trees.{entries_of, AreSound, IsIndex}
 use Rattle.ded_index.specs.Costs.{IsCost}
-use Rattle.ded_index.proofs.Members.{all-weaker, all-append, some-left, some-right, some-all, near_first-append}
+use Rattle.ded_index.proofs.Members.{all-weaker, some-left, some-all, near_first-append}
 use Rattle.ded_index.proofs.Pruning.{IsFar, far_empty, far_found}
 
 -- ---- steps

@@ -1,9 +1,9 @@
 -- Lists of entries: what is so of all of them or of some, and edits.
-use Rattle.std.proofs.Common.{◌≡◌, ℕ, zero, suc, ◌+◌, ◌<◌, Bool, true, false, nat_eq, cond, List, [], ◌∷◌, ◌++◌, map, length, ◌⊎◌, inl, inr, arith, refl, sym, ap, ap₂, ◌∙◌, subst, append_assoc}
-use Rattle.std.specs.List.{AllByRecursion, list_any}
+use Rattle.std.proofs.Common.{◌≡◌, ℕ, suc, ◌+◌, Bool, true, false, cond, List, [], ◌∷◌, ◌++◌, length, inl, inr, arith, refl, ap, ◌∙◌}
+use Rattle.std.specs.List.{AllByRecursion}
 use Rattle.ded_index.specs.declared.entry.Entry.{Entry}
 use Rattle.ded_index.specs.declared.tree.Node.{Node}
-use Rattle.ded_index.specs.Entries.{Box, SomeEntry, has_id, without, ids_in, near_first, first_of}
+use Rattle.ded_index.specs.Entries.{Box, SomeEntry, ids_in, near_first, first_of}
 use Rattle.ded_box.specs.Boxes.{boxes_meet}
 use Rattle.ded_box.specs.Intervals.{intervals_meet}
 use Rattle.ded_index.specs.Trees.{entries_of}

@@ -8,7 +8,7 @@ use Rattle.std.proofs.lemmas.Int.{ints, by_lt_z}
 use Rattle.std.proofs.lemmas.Cmp.{int_ranked}
 use Rattle.std.specs.declared.cmp.Ordering.{Ordering}
 use Rattle.std.specs.declared.cmp.Ordering.TheVariants.{Less, Equal, Greater}
-use Rattle.std.specs.Ordering.{int_cmp, ordering_then, is_lt, MatchOrdering}
+use Rattle.std.specs.Ordering.{ordering_then, is_lt, MatchOrdering}
 use Rattle.std.specs.Cmp.{IsStrictWeakOrder}
 use Rattle.ded_model.specs.declared.row.RowOp.TheVariants.{AtMost, Below}
 use Rattle.ded_model.specs.declared.bound.Bound.{Bound}
@@ -53,7 +53,6 @@ not_upto_of : (o : Ordering) (x y : ℤ) → MatchOrdering o (x <ℤ y) (x ≡ y
 not_upto_of Less x y m h = absurd (omega (arith, ints))
 not_upto_of Equal x y m h = absurd (omega (arith, ints))
 not_upto_of Greater x y m h = refl
-
 
 ranked : (f g : Fraction) → MatchOrdering (fraction_order f g) ((f.num *ℤ g.den) <ℤ (g.num *ℤ f.den)) (f.num *ℤ g.den ≡ g.num *ℤ f.den) ((g.num *ℤ f.den) <ℤ (f.num *ℤ g.den))
 ranked f g = int_ranked (f.num *ℤ g.den) (g.num *ℤ f.den) (fraction_order f g) refl

@@ -2,20 +2,18 @@
 --
 -- A range in which all intervals end before the window begins holds no near entry, and neither do entries that begin after it
 -- ends. What stands before an entry that begins before the window ends does so too.
-use Rattle.std.proofs.Common.{◌≡◌, ℕ, zero, suc, ◌+◌, ◌<◌, ◌≤◌, ◌-◌, ◌/◌, Bool, true, false, cond, List, [], ◌∷◌, ◌++◌, length, take, drop, get_or, ◌⊎◌, inl, inr, arith, refl, sym, ap, ap₂, ◌∙◌, subst, true≢false, append_assoc, add-one}
+use Rattle.std.proofs.Common.{◌≡◌, ℕ, zero, suc, ◌+◌, ◌<◌, ◌≤◌, ◌-◌, ◌/◌, Bool, true, false, cond, List, [], ◌∷◌, ◌++◌, length, take, drop, get_or, inl, inr, arith, refl, sym, ap, ◌∙◌, subst, true≢false, add-one}
 use Rattle.std.specs.List.{AllByRecursion}
 use Rattle.std.proofs.lemmas.List.{take_all, length-drop}
-use Rattle.std.specs.Ordering.{is_lt}
 use Rattle.ded_model.specs.declared.bound.Bound.{Bound}
-use Rattle.ded_model.proofs.Points.{and_left, and_right}
-use Rattle.ded_box.specs.Intervals.{HasPositive, may_meet, has_value, intervals_meet}
+use Rattle.ded_model.proofs.Points.{and_left}
+use Rattle.ded_box.specs.Intervals.{may_meet, has_value, intervals_meet}
 use Rattle.ded_box.specs.Boxes.{AreIntervals, boxes_meet}
 use Rattle.ded_box.proofs.Insides.{may_meet_decides}
 use Rattle.ded_box.proofs.Shares.{parts_of, from_parts}
 use Rattle.ded_index.specs.declared.entry.Entry.{Entry}
 use Rattle.ded_index.specs.declared.tree.Node.{Node}
 use Rattle.ded_index.specs.Entries.{Box, first_of, low, high, SomeEntry, ids_in, near_first}
-use Rattle.ded_index.specs.Orders.{entry_order}
 use Rattle.ded_index.specs.Trees.{entries_of, NotAfter, InOrder, IsGreatest, AreFull, AreSound, IsTree}
 use Rattle.ded_index.specs.Costs.{Begins}
 use Rattle.ded_index.proofs.Greatest.{low-positive, high-positive, EndsBy}

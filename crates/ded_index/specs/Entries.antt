@@ -1,11 +1,11 @@
 -- Entries of an index: boxes under numbers, and which of them meet a window.
-use Rattle.std.specs.Prelude.{◌≡◌, ◌+◌, ◌*◌, ◌≤◌, ◌↔◌, ◌⊎◌, ℕ, pos, Bool, true, nat_eq, not, List, [], ◌∷◌, length, if◌then◌else◌}
+use Rattle.std.specs.Prelude.{◌≡◌, ◌+◌, ◌*◌, ◌↔◌, ◌⊎◌, ℕ, pos, Bool, nat_eq, not, List, [], ◌∷◌, length, if◌then◌else◌}
 use Rattle.std.specs.List.{Contains, filter, list_any}
 use Rattle.std.specs.List.Sorted.{IsStrictlyIncreasing}
 use Rattle.ded_num.specs.Length.{length_of}
 use Rattle.ded_model.specs.declared.bound.Bound.{Bound}
 use Rattle.ded_model.specs.declared.bound.Bound.TheVariants.{Infinite}
-use Rattle.ded_box.specs.Intervals.{intervals_meet, may_meet}
+use Rattle.ded_box.specs.Intervals.{intervals_meet}
 use Rattle.ded_box.specs.Boxes.{Shared, boxes_meet}
 use Rattle.ded_index.specs.declared.entry.Entry.{Entry}
 

@@ -1,5 +1,5 @@
 -- The search tree in a list: the node of a range is its middle, and it has the greatest high end in the range.
-use Rattle.std.specs.Prelude.{◌≡◌, ◌+◌, ◌/◌, ◌<◌, ◌⊎◌, ℕ, zero, suc, Bool, true, false, List, [], ◌∷◌, map, take, drop, length, slice_index_or}
+use Rattle.std.specs.Prelude.{◌≡◌, ◌+◌, ◌/◌, ◌<◌, ℕ, zero, suc, true, false, List, [], ◌∷◌, map, take, drop, length, slice_index_or}
 use Rattle.std.specs.List.{AllByRecursion}
 use Rattle.std.specs.Ordering.{is_lt}
 use Rattle.ded_model.specs.declared.bound.Bound.{Bound}

@@ -162,7 +162,7 @@ module _ {A : Type 0} (h : A → Point → Bool) (ss : List Slot) (c : List A) (
         let first = and_left (conj_holds h c p) (conj_holds h (get_or cs a.place []) p) parts in
         let second = and_right (conj_holds h c p) (conj_holds h (get_or cs a.place []) p) parts in
         let near = some_weaker (λ e. (e.id ≡ a.place) × IsRound h ss (get_or cs a.place []) e.bounds) (λ e. (e.id ≡ a.place) × Shared e.bounds x) es
-            (λ e r. (r.0, record { values = values_at ss p; positive = values_positive ss p i; first = r.1 p i second; second = round p i first })) (index.each a.place a.inside) in
+        (λ e r. (r.0, record { values = values_at ss p; positive = values_positive ss p i; first = r.1 p i second; second = round p i first })) (index.each a.place a.inside) in
         let m = (found.exact a.place).1 near in
         picked_holds h c cs js p a.place m.0 m.1 m.2 a.holds;
   }

@@ -1,4 +1,4 @@
-use Rattle.std.proofs.Common.{◌≡◌, drop, length}
+use Rattle.std.proofs.Common.{◌≡◌, drop}
 use Rattle.ded_box.specs.Boxes.{boxes_meet}
 use Rattle.ded_box.proofs.bound_box.all_meet.Given as goal
 

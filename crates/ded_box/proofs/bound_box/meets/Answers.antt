@@ -1,4 +1,4 @@
-use Rattle.std.proofs.Common.{◌≡◌, ◌∙◌, ap₂, subst, sym}
+use Rattle.std.proofs.Common.{◌∙◌, ap₂, subst, sym}
 use Rattle.std.specs.Prelude.{◌↔◌, IsTrue}
 use Rattle.ded_box.specs.Boxes.{Shared, boxes_meet}
 use Rattle.ded_box.proofs.Shares.{boxes_meet-is}

@@ -1,4 +1,3 @@
-use Rattle.std.proofs.Common.{◌≡◌}
 use Rattle.ded_index.proofs.Added.{added_to_tree, added_apart}
 use Rattle.ded_index.proofs.index.add.Goals as goal
 

@@ -1,4 +1,4 @@
-use Rattle.std.proofs.Common.{rules, ◌≡◌, ◌∙◌, ◌/◌, ◌+◌, ◌-◌, ◌<◌, ◌++◌, List, ℕ, arith, refl, ap, sym, subst, length, length-append, take, drop}
+use Rattle.std.proofs.Common.{rules, ◌≡◌, ◌∙◌, ◌/◌, ◌+◌, ◌-◌, ◌<◌, ◌++◌, List, ℕ, arith, refl, ap, sym, subst, length, length-append, drop}
 use Rattle.std.proofs.lemmas.List.{length-take, length-drop}
 use Rattle.std.specs.Option.{MatchOption}
 use Rattle.std.specs.Prelude.{slice_set}
@@ -9,7 +9,6 @@ use Rattle.ded_box.specs.Intervals.{wider}
 use Rattle.ded_index.specs.declared.entry.Entry.{Entry}
 use Rattle.ded_index.specs.Entries.{high}
 use Rattle.ded_index.specs.Trees.{entries_of, IsGreatest}
-use Rattle.ded_index.proofs.Members.{entries_of-length}
 use Rattle.ded_index.proofs.Filled.{IsFilled, filled, filled_entries, filled_greatest, filled_ends, no_ends, sound_take, sound_right_any, right_part, place_of, half_below}
 use Rattle.ded_index.proofs.tree.+fill.Goals as goal
 use Rattle.ded_index.proofs.tree.+fill.Goals.{After-close}
@@ -26,9 +25,10 @@ fill-right-requires t c =
     let m : ℕ = length ns / 2 in
     let p : 0 < length ns = search rules in
     let inside = half_below (length ns) p in
-    let nodes = c.fill-left.new.nodes ++ drop m ns in
-    (omega (arith, length-take (length nodes - (m + 1)) (drop (m + 1) nodes), length-drop m ns, length-append c.fill-left.new.nodes (drop m ns), place_of ns c.fill-left.new.nodes m inside c.fill-left.ensures.entries),
-     sound_right_any ns c.fill-left.new.nodes m inside c.fill-left.ensures.entries c.requires.sound)
+    let nodes = c.fill-left.new.nodes ++ drop m ns in (
+      omega (arith, length-take (length nodes - (m + 1)) (drop (m + 1) nodes), length-drop m ns, length-append c.fill-left.new.nodes (drop m ns), place_of ns c.fill-left.new.nodes m inside c.fill-left.ensures.entries),
+      sound_right_any ns c.fill-left.new.nodes m inside c.fill-left.ensures.entries c.requires.sound,
+    )
 
 -- the list with both halves put back and the node closed
 abbrev out : (t : ℕ) → After-close t → List Node

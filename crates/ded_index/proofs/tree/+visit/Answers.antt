@@ -1,5 +1,5 @@
 use Rattle.std.proofs.Common.{rules, ◌≡◌, ◌∙◌, ◌/◌, ◌+◌, ◌-◌, ◌<◌, ◌++◌, ℕ, true, false, arith, ap, ap₂, sym, subst, length, take, drop}
-use Rattle.std.proofs.lemmas.List.{length-take, length-drop}
+use Rattle.std.proofs.lemmas.List.{length-take}
 use Rattle.std.proofs.lemmas.Result.{IfOk-weaker}
 use Rattle.ded_model.specs.declared.bound.Bound.{Bound}
 use Rattle.ded_box.specs.Intervals.{may_meet}
@@ -7,7 +7,7 @@ use Rattle.ded_index.specs.Entries.{first_of, low, ids_in}
 use Rattle.ded_index.specs.Trees.{entries_of, IsTree}
 use Rattle.ded_index.specs.Costs.{IsCost}
 use Rattle.ded_index.proofs.Pruning.{tree_round, tail_is}
-use Rattle.ded_index.proofs.Costs.{cost_none, cost_dead, cost_left, cost_both, halves}
+use Rattle.ded_index.proofs.Costs.{cost_left, cost_both, halves}
 use Rattle.ded_index.proofs.Finding.{dead, left_alone, all_three}
 use Rattle.ded_index.proofs.tree.+visit.Goals as goal
 

@@ -1,9 +1,8 @@
-use Rattle.std.proofs.Common.{rules, true, ◌≡◌, ◌∙◌, ℕ, List, ap, sym, subst, length, take, drop, ◌++◌}
+use Rattle.std.proofs.Common.{rules, true, ◌≡◌, ◌∙◌, ap, sym, subst, length, take, drop, ◌++◌}
 use Rattle.std.specs.List.Sorted.{IsPermutation}
 use Rattle.std.proofs.lemmas.List.Sorted.{answers_always, IsPermutation-map}
 use Rattle.ded_box.specs.Intervals.{has_value}
 use Rattle.ded_box.specs.Boxes.{AreIntervals}
-use Rattle.ded_index.specs.declared.tree.Node.{Node}
 use Rattle.ded_index.specs.Entries.{first_of}
 use Rattle.ded_index.specs.Trees.{entries_of, InOrder, AreFull, AreSound, IsTree}
 use Rattle.ded_index.proofs.Kept.{node_before, nodes_ranked, in_order, all_moved, written, same_count}

@@ -9,5 +9,5 @@ invariant-loop-i l = record {
   full : AreFull (entries_of l.tree.items);
   sound : AreSound (entries_of l.tree.items);
   apart : AreApart l.apart.items;
-  entries : IsPermutation (numbered 0 (take l.i l.boxes)) (entries_of l.tree.items ++ l.apart.items)
+  entries : IsPermutation (numbered 0 (take l.i l.boxes)) (entries_of l.tree.items ++ l.apart.items);
 }

@@ -1,5 +1,5 @@
 use Rattle.std.proofs.Common.{rules, ◌≡◌, ◌∙◌, ap, ap₂, sym, subst, length, take, drop, ◌++◌, List, ◌||◌, not, nat_eq}
-use Rattle.std.specs.List.{filter, list_any}
+use Rattle.std.specs.List.{list_any}
 use Rattle.std.proofs.lemmas.Fn.{filter_same}
 use Rattle.ded_box.specs.Boxes.{AreIntervals}
 use Rattle.ded_index.specs.declared.entry.Entry.{Entry}
@@ -29,7 +29,7 @@ kept_apart c = filter_same _ (λ e. not (nat_eq e.id c.args.id)) _ (λ x b q h. 
 pub invariant_of-self : goal.invariant_of-self
 invariant_of-self c =
     let whole : take c.retain.new.self.len (c.fill.new.nodes ++ drop (length c.fill.new.nodes) c.retain.new.self.items) ≡ c.fill.new.nodes =
-        written c.fill.new.nodes c.retain.new.self.items c.retain.new.self.len (same_count c.fill.new.nodes c.retain.new.self.items (c.fill.ensures.entries ∙ ap entries_of c.deref_mut.ensures.value)) (search rules) in
+    written c.fill.new.nodes c.retain.new.self.items c.retain.new.self.len (same_count c.fill.new.nodes c.retain.new.self.items (c.fill.ensures.entries ∙ ap entries_of c.deref_mut.ensures.value)) (search rules) in
     subst (λ ns. IsIndex ns c.retain-2.new.self.items) (sym whole) (subst (IsIndex c.fill.new.nodes) (sym (kept_apart c)) (index_without c.args.id c.self.inside.tree.items c.fill.new.nodes c.self.inside.apart.items c.self.invariant (kept c) c.fill.ensures.ends))
 
 pub returns-clause-value : goal.returns-clause-value
@@ -40,5 +40,5 @@ returns-clause-value c =
 pub returns-clause-removed : goal.returns-clause-removed
 returns-clause-removed c =
     let whole : take c.retain.new.self.len (c.fill.new.nodes ++ drop (length c.fill.new.nodes) c.retain.new.self.items) ≡ c.fill.new.nodes =
-        written c.fill.new.nodes c.retain.new.self.items c.retain.new.self.len (same_count c.fill.new.nodes c.retain.new.self.items (c.fill.ensures.entries ∙ ap entries_of c.deref_mut.ensures.value)) (search rules) in
+    written c.fill.new.nodes c.retain.new.self.items c.retain.new.self.len (same_count c.fill.new.nodes c.retain.new.self.items (c.fill.ensures.entries ∙ ap entries_of c.deref_mut.ensures.value)) (search rules) in
     ap₂ (λ (ns : List Node) (es : List Entry). entries_of ns ++ es) whole (kept_apart c) ∙ without-both c.args.id c.self.inside.tree.items c.fill.new.nodes c.self.inside.apart.items (kept c) ∙ ap (without c.args.id) c.self.view_is
