@@ -1,5 +1,5 @@
 -- What the catalogue's calls do is what the commands say.
-use Rattle.std.proofs.Common.{◌≡◌, ◌≢◌, ◌<◌, ◌≤◌, ◌+◌, ℕ, suc, Bool, true, false, arith, refl, sym, ap, ◌∙◌, subst, true≢false, ⊎_elim, List, [], ◌∷◌, length, drop, drop-cons, get_or}
+use Rattle.std.proofs.Common.{◌≡◌, ◌≢◌, ◌<◌, ◌≤◌, ◌+◌, ℕ, suc, Bool, true, false, arith, sym, ap, ◌∙◌, subst, true≢false, ⊎_elim, List, ◌∷◌, length, drop, drop-cons, get_or}
 use Rattle.std.specs.Prelude.{None, Some, is_some, Result, Ok, Err, OnOk, OnErr, ◌==◌, ◌||◌}
 use Rattle.std.specs.List.{list_any}
 use Rattle.std.specs.declared.option.Option.{Option}

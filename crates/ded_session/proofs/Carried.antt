@@ -3,14 +3,13 @@
 -- The names decide all causes of 7 to 19 but two: that a relation is full, or has spent its numbers. These are of inserts
 -- alone. A greater number is only that of a view of too high a level, which is of views alone. So where the names refuse a
 -- command, theirs is the least; and where they accept it, an insert is refused for the lesser of these two.
-use Rattle.std.proofs.Common.{◌≡◌, ◌≢◌, ◌<◌, ℕ, Bool, true, false, arith, refl, sym, ap, ◌∙◌, subst, true≢false, ◌⊎◌, inl, inr, ⊎_elim, List}
+use Rattle.std.proofs.Common.{◌≡◌, ◌≢◌, ◌<◌, ℕ, Bool, true, false, arith, refl, sym, ap, ◌∙◌, true≢false, ◌⊎◌, inl, inr, ⊎_elim, List}
 use Rattle.std.specs.Prelude.{None, Some, if◌then◌else◌}
-use Rattle.std.specs.declared.option.Option.{Option}
 use Rattle.std.specs.Option.{unwrap_or}
 use Rattle.ded_model.specs.declared.command.Refusal.{Refusal}
 use Rattle.ded_model.specs.declared.command.Refusal.TheVariants.{LongStatement, Unfinished, Syntax, LongName, LongNumber, Deep, Many, Twice, Unknown, Taken, Kind, Arity, Unbound, WrongSort, Used, NoTuple, Full, Spent, Level, Wide, Memory}
 use Rattle.ded_model.specs.Catalogue.{Catalogue}
-use Rattle.ded_model.specs.Command.{CommandForm, relation, insert, delete, drop, view, keep, ask, query, show, box_of, explain}
+use Rattle.ded_model.specs.Command.{CommandForm, insert, view}
 use Rattle.ded_model.specs.Form.{FormAtom}
 use Rattle.ded_model.specs.Logic.{Logics}
 use Rattle.ded_model.specs.Refusals.{refusal_number}

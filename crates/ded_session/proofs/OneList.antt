@@ -1,5 +1,5 @@
 -- Which replies a statement may get.
-use Rattle.std.proofs.Common.{◌≡◌, ℕ, Bool, true, false, refl, sym, ap, ◌∙◌, true≢false, List}
+use Rattle.std.proofs.Common.{◌≡◌, ℕ, true, refl, sym, ap, ◌∙◌, true≢false, List}
 use Rattle.ded_lex.specs.Pieces.{Statement, Whole}
 use Rattle.ded_lex.specs.Pieces as pieces
 use Rattle.ded_model.specs.declared.bound.BoxReply.{BoxReply}

@@ -1,5 +1,5 @@
 -- What a command that is read may be answered, and what it then makes of a catalogue.
-use Rattle.std.specs.Prelude.{◌≡◌, ◌≢◌, ◌<◌, Bool, true, false, Option, None, Some, Result, Ok, Err}
+use Rattle.std.specs.Prelude.{◌≡◌, ◌≢◌, ◌<◌, Bool, true, false, Option, None}
 use Rattle.std.specs.Option.{unwrap_or}
 use Rattle.ded_model.specs.declared.command.Refusal.{Refusal}
 use Rattle.ded_model.specs.declared.command.Refusal.TheVariants.{Memory}
@@ -10,7 +10,7 @@ use Rattle.ded_sorts.specs.declared.checked.Checked.{Checked}
 use Rattle.ded_sorts.specs.Causes.{has_cause, insert_refusal}
 use Rattle.ded_sorts.specs.Checks.{HasNoCause, IsResolved}
 use Rattle.ded_resolve.specs.Storing.{IsStorable}
-use Rattle.ded_session.specs.Replies.{ReplyForm, done, refused}
+use Rattle.ded_session.specs.Replies.{ReplyForm, refused}
 use Rattle.ded_session.specs.Steps.{Does}
 
 -- ---- of a command that the names accept

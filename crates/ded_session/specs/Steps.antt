@@ -1,5 +1,5 @@
 -- What a statement is answered, and what it makes of a catalogue.
-use Rattle.std.specs.Prelude.{◌≡◌, ◌↔◌, ◌<◌, ◌≤◌, ◌+◌, ℕ, Bool, true, false, IsTrue, Option, Some, None, List, [], ◌∷◌, ◌++◌, length}
+use Rattle.std.specs.Prelude.{◌≡◌, ◌↔◌, ◌<◌, ◌≤◌, ◌+◌, ℕ, Bool, true, false, IsTrue, Option, Some, None, List, [], ◌∷◌, length}
 use Rattle.std.specs.List.{AllByRecursion}
 use Rattle.ded_lex.specs.Pieces.{Statement, Whole}
 use Rattle.ded_lex.specs.Pieces as pieces
@@ -19,11 +19,10 @@ use Rattle.ded_model.specs.Cell.{IsReduced, HoldsSomewhere}
 use Rattle.ded_model.specs.Catalogue.{Catalogue, tuples_of, at_slots, at_names, Holds, IsTruth, PlanHolds}
 use Rattle.ded_model.specs.Catalogue as entry
 use Rattle.ded_model.specs.Command.{CommandForm, relation, insert, delete, drop, view, keep, ask, query, show, box_of, explain}
-use Rattle.ded_model.specs.Form.{Form, FormAtom}
+use Rattle.ded_model.specs.Form.{Form}
 use Rattle.ded_model.specs.Known.{Known, IsTupleOver, IsWellFormed}
 use Rattle.ded_model.specs.Lines.{IsSubset, tuples_lines}
-use Rattle.ded_model.specs.Logic.{Logics, AllAtoms}
-use Rattle.ded_model.specs.Logic as logic
+use Rattle.ded_model.specs.Logic.{AllAtoms}
 use Rattle.ded_model.specs.Measure.{measures, goal_b, goal_rank, goal_lines, plan_b, plan_rank, IsTight}
 use Rattle.ded_model.specs.PlanForm.{PlanAtom, PlanForm, scan, rows}
 use Rattle.ded_model.specs.Point.{Point, IsPoint, AllBytes}

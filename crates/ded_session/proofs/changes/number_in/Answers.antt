@@ -1,5 +1,5 @@
 -- A number that isn't the next one is further back, and it isn't nowhere.
-use Rattle.std.proofs.Common.{sym, ◌∙◌}
+use Rattle.std.proofs.Common.{◌∙◌}
 use Rattle.ded_session.proofs.Calls.{further, nothing_left}
 use Rattle.ded_session.proofs.changes.number_in.Goals as goal
 
