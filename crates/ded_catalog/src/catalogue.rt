@@ -131,7 +131,7 @@ impl Catalogue {
     }
 
     /// Deletes the tuple of the number, which has to be there, from the relation of the name. It takes no memory.
-    pub fn delete(&mut self, name: &Name, number: u32)
+    pub fn delete(&mut self, name: &Name, number: u64)
         requires { list_any (λ t. t.0 == number) (tuples_in (catalogue_of self.old) name.now) ≡ true }
         ensures { Deletes (catalogue_of self.old) (catalogue_of self.new) name.now number }
     {

@@ -43,12 +43,12 @@ impl Relation {
     }
 
     /// Gives up the tuple of the number.
-    pub(crate) fn remove(&mut self, number: u32)
+    pub(crate) fn remove(&mut self, number: u64)
         requires ascending { IsAscending self.old.tuples.items }
         requires present { list_any (λ t. t.0 == number) self.old.tuples.items ≡ true }
         ensures { Removes self.old self.new number }
     {
-        match place_of(self.tuples.as_slice(), u64::from(number)) {
+        match place_of(self.tuples.as_slice(), number) {
             Some(place) => {
                 let _ = self.tuples.remove(place);
             }

@@ -62,7 +62,7 @@ impl Stored {
     }
 
     /// Deletes the tuple of the number from the relation.
-    pub(crate) fn delete(&mut self, number: u32)
+    pub(crate) fn delete(&mut self, number: u64)
         requires { AreRelations self.old self.old (λ old new. IsAscending old.tuples.items × (list_any (λ t. t.0 == number) old.tuples.items ≡ true)) }
         ensures { AreRelations self.old self.new (λ old new. Removes old new number) }
     {

@@ -102,7 +102,7 @@ pub(crate) fn insert_into(
 }
 
 /// Deletes the tuple of the number from the relation of the name.
-pub(crate) fn delete_from(table: &mut Table, name: &Name, number: u32)
+pub(crate) fn delete_from(table: &mut Table, name: &Name, number: u64)
     requires { ChangesRelation table.old.entries table.old.entries name.now (λ old new. IsAscending old.tuples.items × (list_any (λ t. t.0 == number) old.tuples.items ≡ true)) }
     ensures { ChangesRelation table.old.entries table.new.entries name.now (λ old new. Removes old new number) }
 {

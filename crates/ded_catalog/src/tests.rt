@@ -78,10 +78,10 @@ fn delete(
     alloc: Global,
     catalogue: &mut Catalogue,
     bytes: &[u8],
-    number: u32,
+    number: u64,
 ) -> Result<(), NoMemory> {
     let name = name_of(alloc, bytes)?;
-    if catalogue.has_tuple(&name, u64::from(number)) {
+    if catalogue.has_tuple(&name, number) {
         catalogue.delete(&name, number);
     }
     Ok(())

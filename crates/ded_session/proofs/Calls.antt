@@ -44,33 +44,3 @@ pub tuples_shown : (o : Option Entry) (ts : List (ℕ × List Atom)) → Some ts
 tuples_shown None ts e = absurd cc
 tuples_shown (Some (entry.relation n h m us)) ts e = cc
 tuples_shown (Some (entry.view n h f)) ts e = absurd cc
-
--- nothing is stored where there is no relation
-pub none_stored : (o : Option Entry) (k : ℕ) → relation_in o ≡ None → list_any (λ t. t.0 == k) (stored_in o) ≡ true → ⊥
-none_stored None k e h = true≢false (sym h)
-none_stored (Some (entry.relation n c m us)) k e h = absurd cc
-none_stored (Some (entry.view n c f)) k e h = true≢false (sym h)
-
--- ---- a number among others
-
-suc_is : (n : ℕ) → n + 1 ≡ suc n
-suc_is n = omega arith
-
-other : (a b : Bool) → (a || b) ≡ true → a ≡ false → b ≡ true
-other true b h e = absurd (true≢false e)
-other false b h e = h
-
-differs : (a k : ℕ) → a ≢ k → (a == k) ≡ false
-differs a k ne = ⊎_elim (λ e. absurd (ne e.1)) (λ e. e.0) (eqb_tells a k)
-
--- it is further back where it isn't the next one
-pub further : (ts : List (ℕ × List Atom)) (k i : ℕ) (x : ℕ × List Atom) → i < length ts → x ≡ get_or ts i x → x.0 ≢ k
-    → list_any (λ t. t.0 == k) (drop i ts) ≡ true → list_any (λ t. t.0 == k) (drop (i + 1) ts) ≡ true
-further ts k i x there is ne h =
-    let split : drop i ts ≡ get_or ts i x ∷ drop (i + 1) ts = rw (suc_is i) (drop-cons ts i x there) in
-    let here : drop i ts ≡ x ∷ drop (i + 1) ts = split ∙ ap (λ (y : ℕ × List Atom). y ∷ drop (i + 1) ts) (sym is) in
-    other (x.0 == k) (list_any (λ t. t.0 == k) (drop (i + 1) ts)) (sym (ap (λ (us : List (ℕ × List Atom)). list_any (λ t. t.0 == k) us) here) ∙ h) (differs x.0 k ne)
-
-pub nothing_left : (ts : List (ℕ × List Atom)) (k i : ℕ) → length ts ≤ i → list_any (λ t. t.0 == k) (drop i ts) ≡ true → ⊥
-nothing_left ts k i past h =
-    true≢false (sym h ∙ ap (λ (us : List (ℕ × List Atom)). list_any (λ t. t.0 == k) us) (drop_of_length-le ts past))

@@ -53,33 +53,8 @@ pub(crate) fn delete(catalogue: &mut Catalogue, name: &Name, number: u64) -> Rep
     requires { list_any (λ t. t.0 == number) (tuples_in (catalogue_of catalogue.old) name.now) ≡ true }
     ensures { Carries (delete name.now number) (catalogue_of catalogue.old) (reply_form result) (catalogue_of catalogue.new) }
 {
-    let present = present_number(catalogue, name, number);
-    catalogue.delete(name, present);
+    catalogue.delete(name, number);
     Reply::Done
-}
-
-/// The number of a present tuple.
-fn present_number(catalogue: &Catalogue, name: &Name, number: u64) -> u32
-    requires { list_any (λ t. t.0 == number) (tuples_in (catalogue_of catalogue.now) name.now) ≡ true }
-    ensures { result ≡ number }
-{
-    match catalogue.stored(name) {
-        Some(stored) => number_in(stored, number),
-        None => unreachable!(),
-    }
-}
-
-/// The number as it is stored.
-fn number_in(stored: &[(u32, Tuple)], number: u64) -> u32
-    requires { list_any (λ t. t.0 == number) stored.now ≡ true }
-    ensures { result ≡ number }
-{
-    for tuple in stored {
-        if u64::from(tuple.0) == number {
-            return tuple.0;
-        }
-    }
-    unreachable!()
 }
 
 /// Drops a name.

@@ -5,6 +5,4 @@ use Rattle.ded_catalog.proofs.stored.Relation.remove.Goals as goal
 
 pub returns : goal.returns
 returns c =
-    removes c.args.self.now _ c.args.number c.in-Some.place
-    (subst (λ ts. IsPlaceOf ts c.args.number c.in-Some.place) c.as_slice.ensures.value (subst (λ k. IsPlaceOf c.as_slice.result.now k c.in-Some.place) c.from.ensures c.in-Some.ensures.found))
-    refl refl c.remove.ensures.items
+    removes c.args.self.now _ c.args.number c.in-Some.place (subst (λ ts. IsPlaceOf ts c.args.number c.in-Some.place) c.as_slice.ensures.value c.in-Some.ensures.found) refl refl c.remove.ensures.items
