@@ -1,14 +1,17 @@
 -- Replies of one line that are written alike are the same.
-use Rattle.std.proofs.Common.{◌≡◌, ℕ, ◌<◌, ◌^◌, List, [], ◌∷◌, ◌++◌, refl, sym, ap, ◌∙◌, drop, arith, true, false}
-use Rattle.std.specs.Prelude.{Option, None, Some, if◌then◌else◌}
+use Rattle.std.proofs.Common.{◌≡◌, ℕ, ◌<◌, ◌^◌, List, [], ◌∷◌, ◌++◌, length, map, refl, sym, ap, ◌∙◌, append_assoc, drop, arith, true, false}
+use Rattle.std.specs.Prelude.{Option, None, Some, if◌then◌else◌, codes}
 use Rattle.std.specs.Str.{bytes_eq}
 use Rattle.std.proofs.lemmas.Fmt.{decimal_injective}
 use Rattle.ded_model.specs.declared.command.Refusal.{Refusal}
 use Rattle.ded_model.specs.declared.command.Refusal.TheVariants.{LongStatement, Unfinished, Syntax, LongName, LongNumber, Deep, Many, Twice, Unknown, Taken, Kind, Arity, Unbound, WrongSort, Used, NoTuple, Full, Spent, Level, Wide, Memory}
-use Rattle.ded_print.specs.Lines.{LineReply, done, truth, numbered, refused, reply_line, reply_text, refusal_line, line_text, IsPrintable}
+use Rattle.ded_print.specs.Lines.{LineReply, done, truth, numbered, refused, reply_line, reply_text, refusal_line, line_text, lines_text, IsPrintable}
 use Rattle.ded_print.specs.Numbers.{number_text}
+use Rattle.ded_model.specs.declared.name.Column.{Column}
+use Rattle.ded_model.specs.Row.{Atom}
+use Rattle.ded_print.specs.Tuples.{column_names, stored_line, stored_text}
 use Rattle.ded_print.proofs.Decimals.{decimal_is}
-use Rattle.ded_print.proofs.LineReplies.{first_line}
+use Rattle.ded_print.proofs.LineReplies.{first_line, lines, number_line, same_line}
 use Rattle.ded_print.proofs.Refusals.{written, as_written}
 
 -- ---- numbers
@@ -96,3 +99,26 @@ pub first_reply : (r s : LineReply) (xs ys : List ℕ) → IsPrintable r → IsP
 first_reply r s xs ys p q e =
     let both = first_line r s xs ys e in
     (same_reply r s p q both.0, both.1)
+
+-- ---- stored tuples
+
+tuples_line : ℕ → List ℕ
+tuples_line n = codes "tuples" ++ (32 ∷ number_text n)
+
+-- the first line counts tuples, which no reply of one line does
+counts_tuples : (n : ℕ) (reply : LineReply) → tuples_line n ≡ reply_line reply → ⊥
+unfolding first tuples_line
+counts_tuples n done e = absurd (omega (arith, ap first e))
+counts_tuples n (truth true) e = absurd (omega (arith, ap first e))
+counts_tuples n (truth false) e = absurd (omega (arith, ap first e))
+counts_tuples n (numbered k) e = absurd (omega (arith, ap (λ (l : List ℕ). first (drop 5 l)) e))
+counts_tuples n (refused r) e = absurd (omega (arith, ap first e))
+
+pub no_line : (columns : List Column) (ts : List (ℕ × List Atom)) (reply : LineReply) (xs ys : List ℕ) → stored_text columns ts ++ xs ≡ reply_text reply ++ ys → ⊥
+unfolding tuples_line
+no_line columns ts reply xs ys e =
+    let rest = lines_text (map (stored_line (column_names columns)) ts) ++ line_text (codes "end") in
+    let whole = append_assoc (tuples_line (length ts) ++ 10 ∷ []) rest xs ∙ append_assoc (tuples_line (length ts)) (10 ∷ []) (rest ++ xs) in
+    counts_tuples (length ts) reply
+    (same_line (tuples_line (length ts)) (reply_line reply) (rest ++ xs) ys (number_line (length ts)) (lines reply)
+    (sym whole ∙ e ∙ append_assoc (reply_line reply) (10 ∷ []) ys)).0

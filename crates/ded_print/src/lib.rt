@@ -14,6 +14,7 @@ mod line;
 mod naming;
 mod number;
 mod row;
+mod stored;
 #[cfg(test)]
 mod tests;
 mod theme;
@@ -21,4 +22,5 @@ mod tuple;
 
 pub use answer::print_answer;
 pub use line::{print_done, print_number, print_refusal, print_truth};
+pub use stored::print_stored;
 pub use tuple::print_tuple;

@@ -1,5 +1,7 @@
 //! What no contract says: that calls can succeed.
-use crate::{print_answer, print_done, print_number, print_refusal, print_truth, print_tuple};
+use crate::{
+    print_answer, print_done, print_number, print_refusal, print_stored, print_truth, print_tuple,
+};
 use ded_io::{BytesSink, Failed};
 use ded_model::answer::Answer;
 use ded_model::command::Refusal;
@@ -83,5 +85,19 @@ fn an_answer_stands_on_lines(rt: HostRuntime) -> Result<(), Fail> {
     let mut sink = BytesSink::new(rt.alloc(), 64, 64, &[])?;
     assert_eq!(rt; print_answer(&answer, &mut sink), Ok(()));
     assert_eq!(rt; sink.held(), b"answer 1\n{ }\nend\n".as_slice());
+    Ok(())
+}
+
+#[test]
+fn stored_tuples_have_their_numbers(rt: HostRuntime) -> Result<(), Fail> {
+    let mut list = Vec::new(rt.alloc());
+    for number in [3, 12] {
+        let atoms = Vec::new(rt.alloc());
+        list.push((number, Tuple { atoms }))?;
+    }
+    let heading = text_heading(&rt)?;
+    let mut sink = BytesSink::new(rt.alloc(), 64, 64, &[])?;
+    assert_eq!(rt; print_stored(&heading, &list, &mut sink), Ok(()));
+    assert_eq!(rt; sink.held(), b"tuples 2\n3 { }\n12 { }\nend\n".as_slice());
     Ok(())
 }

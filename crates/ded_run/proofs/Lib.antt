@@ -1,4 +1,5 @@
 pub mod Steps
+pub mod Telling
 pub mod Answering
 pub mod Reading
 pub mod Parsing

@@ -12,6 +12,7 @@
 #![tactic(auto)]
 
 mod dialogue;
+pub mod laws;
 mod program;
 mod reply;
 #[cfg(test)]

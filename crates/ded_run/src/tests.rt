@@ -6,10 +6,15 @@ use std::process::Abort;
 use std::test::Fail;
 
 // A script, the texts of its replies, and how it ends.
-const SCRIPTS: [(&[u8], &[u8], Status); 5] = [
+const SCRIPTS: [(&[u8], &[u8], Status); 6] = [
     (b"ask 3 <= 7;", b"yes\n", Status::Done),
     (b"", b"", Status::Done),
     (b"ask 1 = 1; -- the end", b"yes\n", Status::Done),
+    (
+        b"relation P(x); insert P { 2*x < 4 }; show P;",
+        b"ok\ntuple 1\ntuples 1\n1 { x < 2 }\nend\n",
+        Status::Done,
+    ),
     (
         b"ask 1 = 1",
         b"refused 2 unfinished\n",

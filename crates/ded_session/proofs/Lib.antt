@@ -1,2 +1,7 @@
+mod Accepted
+mod Carried
+mod Calls
 mod GroundLemmas
+mod Questions
+pub mod OneList
 mod StepLemmas

@@ -1,181 +1,114 @@
--- From what the reader says of bytes to what the rules say of a statement. Every command that is spelled compares two whole
--- numbers, and none of the refusals that look at the catalogue has a cause in such a command.
-use Rattle.std.proofs.Common.{◌≡◌, ◌≢◌, ◌<◌, ◌≤◌, ℕ, false, arith, refl, sym, ap, ◌∙◌, subst, true≢false, Bool, true, List, [], ◌∷◌, length}
-use Rattle.std.specs.Prelude.{ℤ, pos, ◌&&◌}
-use Rattle.std.specs.Ordering.{int_eq}
-use Rattle.std.proofs.lemmas.Bool.Decides.{Decides-int_eq}
+-- From what is read of bytes, and what their command is answered, to what the rules say of the statement.
+use Rattle.std.proofs.Common.{◌≡◌, ◌≢◌, ◌<◌, ◌≤◌, ℕ, Bool, true, false, arith, refl, sym, ap, ◌∙◌, true≢false, ◌⊎◌, inl, inr, ⊎_elim, List, length}
 use Rattle.ded_lex.specs.Pieces.{Whole}
 use Rattle.ded_model.specs.declared.command.Language.{Language}
 use Rattle.ded_model.specs.declared.command.Refusal.{Refusal}
 use Rattle.ded_model.specs.declared.command.Refusal.TheVariants.{LongStatement, Unfinished, Syntax, LongName, LongNumber, Deep, Many, Twice, Unknown, Taken, Kind, Arity, Unbound, WrongSort, Used, NoTuple, Full, Spent, Level, Wide, Memory}
-use Rattle.ded_model.specs.declared.formula.CompareOp.{CompareOp}
-use Rattle.ded_model.specs.declared.formula.CompareOp.TheVariants.{Less, LessEq, Equal, NotEqual, GreaterEq, Greater}
-use Rattle.ded_model.specs.declared.formula.Operand.{Operand}
-use Rattle.ded_model.specs.declared.formula.Operand.TheVariants.{Single, Sum, Quoted}
 use Rattle.ded_model.specs.Catalogue.{Catalogue}
-use Rattle.ded_model.specs.Command.{CommandForm, relation, insert, delete, drop, view, keep, ask, query, show, box_of, explain}
-use Rattle.ded_model.specs.Form.{Form, compare, member}
-use Rattle.ded_model.specs.Logic.{atom, always, never, negation, every_of, some_of, implies, minus, exists, forall}
+use Rattle.ded_model.specs.Command.{CommandForm}
+use Rattle.ded_model.specs.LongRows.{has_long_row}
+use Rattle.ded_model.specs.Plain.{IsPlainCommand}
 use Rattle.ded_model.specs.Refusals.{refusal_number}
-use Rattle.ded_syntax.specs.Answered.{is_none, is_whole, compares_wholes, is_answered}
-use Rattle.ded_syntax.specs.Spelling.{Spells, AppliesIn, IsRead, IsLeastIn}
-use Rattle.ded_session.specs.declared.reply.Reply.{Reply}
-use Rattle.ded_session.specs.declared.reply.Reply.TheVariants.{Truth, Refused}
-use Rattle.ded_session.specs.Answered.{reply_form}
 use Rattle.ded_sorts.specs.Causes.{has_cause}
+use Rattle.ded_syntax.specs.Answered.{is_answered}
+use Rattle.ded_syntax.specs.Spelling.{Spells, AppliesIn, IsRead, IsLeastIn}
+use Rattle.ded_syntax.proofs.One.{one_command}
+use Rattle.ded_syntax.proofs.PlainSums.{spelled_plain}
+use Rattle.ded_session.specs.Carrying.{Answers, IsFirstCause, NoCause}
 use Rattle.ded_session.specs.Causes.{Commands, Applies, NoneApplies}
-use Rattle.ded_session.specs.Ground.{IsWholeNumber, IsGround, AsksGround, whole}
-use Rattle.ded_session.specs.Steps.{Does, Step, MayRefuse}
+use Rattle.ded_session.specs.Replies.{ReplyForm, done, number, truth, tuples, stored, boxes, steps, refused}
+use Rattle.ded_session.specs.Steps.{Step, MayRefuse}
 
--- ---- what is spelled
+-- ---- a command that is read
 
-both : (a b : Bool) → (a && b) ≡ true → (a ≡ true) × (b ≡ true)
-both true b e = (refl, e)
-both false b e = absurd cc
+module _ (l : Language) (bytes : List ℕ) (x : CommandForm) (h : IsRead l bytes x) where
+  pub read_answered : is_answered x ≡ true
+  read_answered = h.spells.passes
 
-no_parts : (ps : List (List ℕ × ℤ)) → is_none ps ≡ true → ps ≡ []
-no_parts [] e = refl
-no_parts (p ∷ ps) e = absurd cc
+  -- it has no long row, since it would be refused for it
+  pub read_short : has_long_row x ≡ false
+  read_short = by (has_long_row x) refl
+    where
+      by : (b : Bool) → has_long_row x ≡ b → b ≡ false
+      by false e = refl
+      by true e = absurd (h.accepted LongNumber (inr (record { command = x; depth = h.depth; spells = h.spells; long = e })))
 
--- an operand that the reader lets through is a whole number
-whole_of : (t : Operand) → is_whole t ≡ true → IsWholeNumber t
-whole_of (Sum t) e =
-    let h = both (is_none t.parts) (int_eq t.over (pos 1)) e in
-    record {
-      number = t.constant;
-      is =
-          ap (λ (ps : List (List ℕ × ℤ)). Sum (record { parts = ps; constant = t.constant; over = t.over })) (no_parts t.parts h.0)
-          ∙ ap (λ (m : ℤ). Sum (record { parts = []; constant = t.constant; over = m })) ((Decides-int_eq t.over (pos 1)).0 h.1);
-    }
-whole_of (Single n) e = absurd cc
-whole_of (Quoted n) e = absurd cc
+  pub read_plain : IsPlainCommand x
+  read_plain = spelled_plain is_answered l bytes x h.depth h.spells
 
-ground_of : (f : Form) → compares_wholes f ≡ true → IsGround f
-ground_of (atom (compare l op r)) e =
-    let h = both (is_whole l) (is_whole r) e in
-    let a = whole_of l h.0 in
-    let b = whole_of r h.1 in
-    record { left = a.number; op = op; right = b.number; is = ap (λ (x : Operand). atom (compare x op r)) a.is ∙ ap (λ (x : Operand). atom (compare (whole a.number) op x)) b.is }
-ground_of (atom (member n ts)) e = absurd cc
-ground_of always e = absurd cc
-ground_of never e = absurd cc
-ground_of (negation f) e = absurd cc
-ground_of (every_of fs) e = absurd cc
-ground_of (some_of fs) e = absurd cc
-ground_of (implies f g) e = absurd cc
-ground_of (minus f g) e = absurd cc
-ground_of (exists s k f) e = absurd cc
-ground_of (forall s k f) e = absurd cc
-
-asks_of : (x : CommandForm) → is_answered x ≡ true → AsksGround x
-asks_of (ask f) e = record { question = f; ground = ground_of f e; is = refl }
-asks_of (relation n k) e = absurd cc
-asks_of (insert n fs) e = absurd cc
-asks_of (delete n k) e = absurd cc
-asks_of (drop n) e = absurd cc
-asks_of (view n k f) e = absurd cc
-asks_of (keep n) e = absurd cc
-asks_of (query k f) e = absurd cc
-asks_of (show n) e = absurd cc
-asks_of (box_of n) e = absurd cc
-asks_of (explain k f) e = absurd cc
-
-pub asks : (l : Language) (bytes : List ℕ) (x : CommandForm) (depth : ℕ) → Spells l bytes x depth → AsksGround x
-asks l bytes x depth h = asks_of x h.passes
-
--- ---- no cause over the catalogue
-
-no_cause_ground : (r : Refusal) (c : Catalogue) (a : ℤ) (op : CompareOp) (b : ℤ) → has_cause r c (ask (atom (compare (whole a) op (whole b)))) ≡ false
-no_cause_ground WrongSort c a Less b = refl
-no_cause_ground WrongSort c a LessEq b = refl
-no_cause_ground WrongSort c a Equal b = refl
-no_cause_ground WrongSort c a NotEqual b = refl
-no_cause_ground WrongSort c a GreaterEq b = refl
-no_cause_ground WrongSort c a Greater b = refl
-no_cause_ground Many c a op b = refl
-no_cause_ground Twice c a op b = refl
-no_cause_ground Unknown c a op b = refl
-no_cause_ground Taken c a op b = refl
-no_cause_ground Kind c a op b = refl
-no_cause_ground Arity c a op b = refl
-no_cause_ground Unbound c a op b = refl
-no_cause_ground Used c a op b = refl
-no_cause_ground NoTuple c a op b = refl
-no_cause_ground Full c a op b = refl
-no_cause_ground Spent c a op b = refl
-no_cause_ground Level c a op b = refl
-no_cause_ground LongStatement c a op b = refl
-no_cause_ground Unfinished c a op b = refl
-no_cause_ground Syntax c a op b = refl
-no_cause_ground LongName c a op b = refl
-no_cause_ground LongNumber c a op b = refl
-no_cause_ground Deep c a op b = refl
-no_cause_ground Wide c a op b = refl
-no_cause_ground Memory c a op b = refl
-
-no_cause : (r : Refusal) (c : Catalogue) (x : CommandForm) → AsksGround x → has_cause r c x ≡ false
-no_cause r c x h =
-    ap (has_cause r c) (h.is ∙ ap ask h.ground.is) ∙ no_cause_ground r c h.ground.left h.ground.op h.ground.right
-
-pub no_commands : (l : Language) (bytes : List ℕ) (r : Refusal) (c : Catalogue) → Commands l bytes r c → ⊥
-no_commands l bytes r c h = true≢false (sym h.cause ∙ no_cause r c h.command (asks l bytes h.command h.depth h.spells))
-
--- ---- refusals of a statement
+-- ---- a statement
 
 module _ (l : Language) (bytes : List ℕ) (c : Catalogue) (short : length bytes ≤ 65536) where
-  -- where no refusal applies to the bytes, none applies to the statement
-  pub none_applies : ((q : Refusal) → AppliesIn q l bytes → ⊥) → NoneApplies l (Whole bytes) c
-  none_applies n LongStatement h = absurd (omega arith)
-  none_applies n Unfinished h = h
-  none_applies n Syntax h = n Syntax h
-  none_applies n LongName h = n LongName h
-  none_applies n LongNumber h = n LongNumber h
-  none_applies n Deep h = n Deep h
-  none_applies n Many h = no_commands l bytes Many c h
-  none_applies n Twice h = no_commands l bytes Twice c h
-  none_applies n Unknown h = no_commands l bytes Unknown c h
-  none_applies n Taken h = no_commands l bytes Taken c h
-  none_applies n Kind h = no_commands l bytes Kind c h
-  none_applies n Arity h = no_commands l bytes Arity c h
-  none_applies n Unbound h = no_commands l bytes Unbound c h
-  none_applies n WrongSort h = no_commands l bytes WrongSort c h
-  none_applies n Used h = no_commands l bytes Used c h
-  none_applies n NoTuple h = no_commands l bytes NoTuple c h
-  none_applies n Full h = no_commands l bytes Full c h
-  none_applies n Spent h = no_commands l bytes Spent c h
-  none_applies n Level h = no_commands l bytes Level c h
-  none_applies n Wide h = no_commands l bytes Wide c h
-  none_applies n Memory h = no_commands l bytes Memory c h
+  -- a cause in the command that the bytes spell applies to the statement
+  cause_applies : (r : Refusal) (x : CommandForm) (depth : ℕ) → Spells l bytes x depth → has_cause r c x ≡ true → Applies r l (Whole bytes) c
+  cause_applies Many x depth s e = record { command = x; depth = depth; spells = s; cause = e }
+  cause_applies Twice x depth s e = record { command = x; depth = depth; spells = s; cause = e }
+  cause_applies Unknown x depth s e = record { command = x; depth = depth; spells = s; cause = e }
+  cause_applies Taken x depth s e = record { command = x; depth = depth; spells = s; cause = e }
+  cause_applies Kind x depth s e = record { command = x; depth = depth; spells = s; cause = e }
+  cause_applies Arity x depth s e = record { command = x; depth = depth; spells = s; cause = e }
+  cause_applies Unbound x depth s e = record { command = x; depth = depth; spells = s; cause = e }
+  cause_applies WrongSort x depth s e = record { command = x; depth = depth; spells = s; cause = e }
+  cause_applies Used x depth s e = record { command = x; depth = depth; spells = s; cause = e }
+  cause_applies NoTuple x depth s e = record { command = x; depth = depth; spells = s; cause = e }
+  cause_applies Full x depth s e = record { command = x; depth = depth; spells = s; cause = e }
+  cause_applies Spent x depth s e = record { command = x; depth = depth; spells = s; cause = e }
+  cause_applies Level x depth s e = record { command = x; depth = depth; spells = s; cause = e }
+  cause_applies _ x depth s e = absurd (true≢false (sym e))
 
-  -- a refusal of a lesser number applies to the statement only where it applies to the bytes
+  -- the causes of a statement whose bytes spell a command: those of the bytes, and those of this command
+  module _ (x : CommandForm) (depth : ℕ) (spells : Spells l bytes x depth) where
+    of_command : (q : Refusal) → Commands l bytes q c → has_cause q c x ≡ true
+    of_command q h = ap (has_cause q c) (one_command is_answered l bytes x h.command depth h.depth spells h.spells).0 ∙ h.cause
+
+    causes : (q : Refusal) → Applies q l (Whole bytes) c → (AppliesIn q l bytes) ⊎ (has_cause q c x ≡ true)
+    causes LongStatement h = absurd (omega arith)
+    causes Unfinished h = absurd h
+    causes Syntax h = inl h
+    causes LongName h = inl h
+    causes LongNumber h = inl h
+    causes Deep h = inl h
+    causes Many h = inr (of_command Many h)
+    causes Twice h = inr (of_command Twice h)
+    causes Unknown h = inr (of_command Unknown h)
+    causes Taken h = inr (of_command Taken h)
+    causes Kind h = inr (of_command Kind h)
+    causes Arity h = inr (of_command Arity h)
+    causes Unbound h = inr (of_command Unbound h)
+    causes WrongSort h = inr (of_command WrongSort h)
+    causes Used h = inr (of_command Used h)
+    causes NoTuple h = inr (of_command NoTuple h)
+    causes Full h = inr (of_command Full h)
+    causes Spent h = inr (of_command Spent h)
+    causes Level h = inr (of_command Level h)
+    causes Wide h = inr (of_command Wide h)
+    causes Memory h = inr (of_command Memory h)
+
+    -- a refusal that applies neither to the bytes nor to the command doesn't apply
+    neither : (q : Refusal) → (AppliesIn q l bytes → ⊥) → has_cause q c x ≡ false → Applies q l (Whole bytes) c → ⊥
+    neither q bare caused h = ⊎_elim bare (λ e. true≢false (sym e ∙ caused)) (causes q h)
+
+  -- ---- refused by the bytes
+
+  -- these refusals have the numbers 3 to 6
+  low_number : (r : Refusal) → AppliesIn r l bytes → refusal_number r ≤ 6
+  low_number Syntax h = omega arith
+  low_number LongName h = omega arith
+  low_number LongNumber h = omega arith
+  low_number Deep h = omega arith
+  low_number _ h = absurd h
+
   lesser : (r q : Refusal) → IsLeastIn r l bytes → refusal_number q < refusal_number r → Applies q l (Whole bytes) c → ⊥
-  lesser r q h i a = go q i a
+  lesser r q h less a = go q (h.least q) (omega (arith, low_number r h.applies)) less a
     where
-      below : (q : Refusal) → refusal_number q < refusal_number r → AppliesIn q l bytes → ⊥
-      below = h.least
-
-      go : (q : Refusal) → refusal_number q < refusal_number r → Applies q l (Whole bytes) c → ⊥
-      go LongStatement i a = absurd (omega arith)
-      go Unfinished i a = a
-      go Syntax i a = below Syntax i a
-      go LongName i a = below LongName i a
-      go LongNumber i a = below LongNumber i a
-      go Deep i a = below Deep i a
-      go Many i a = no_commands l bytes Many c a
-      go Twice i a = no_commands l bytes Twice c a
-      go Unknown i a = no_commands l bytes Unknown c a
-      go Taken i a = no_commands l bytes Taken c a
-      go Kind i a = no_commands l bytes Kind c a
-      go Arity i a = no_commands l bytes Arity c a
-      go Unbound i a = no_commands l bytes Unbound c a
-      go WrongSort i a = no_commands l bytes WrongSort c a
-      go Used i a = no_commands l bytes Used c a
-      go NoTuple i a = no_commands l bytes NoTuple c a
-      go Full i a = no_commands l bytes Full c a
-      go Spent i a = no_commands l bytes Spent c a
-      go Level i a = no_commands l bytes Level c a
-      go Wide i a = no_commands l bytes Wide c a
-      go Memory i a = no_commands l bytes Memory c a
+      go : (q : Refusal) → (refusal_number q < refusal_number r → AppliesIn q l bytes → ⊥) → refusal_number q < 6 → refusal_number q < refusal_number r → Applies q l (Whole bytes) c → ⊥
+      go LongStatement below low less a = absurd (omega arith)
+      go Unfinished below low less a = a
+      go Syntax below low less a = below less a
+      go LongName below low less a = below less a
+      go LongNumber below low less a = below less a
+      go Deep below low less a = below less a
+      go _ below low less a = absurd (omega arith)
 
   pub may_refuse : (r : Refusal) → (r ≢ Memory → IsLeastIn r l bytes) → MayRefuse r l (Whole bytes) c
   may_refuse Memory h = short
@@ -183,27 +116,32 @@ module _ (l : Language) (bytes : List ℕ) (c : Catalogue) (short : length bytes
   may_refuse LongName h = let k = h (λ e. cc) in record { applies = k.applies; least = λ q. lesser LongName q k }
   may_refuse LongNumber h = let k = h (λ e. cc) in record { applies = k.applies; least = λ q. lesser LongNumber q k }
   may_refuse Deep h = let k = h (λ e. cc) in record { applies = k.applies; least = λ q. lesser Deep q k }
-  may_refuse LongStatement h = let k = h (λ e. cc) in absurd k.applies
-  may_refuse Unfinished h = let k = h (λ e. cc) in absurd k.applies
-  may_refuse Many h = let k = h (λ e. cc) in absurd k.applies
-  may_refuse Twice h = let k = h (λ e. cc) in absurd k.applies
-  may_refuse Unknown h = let k = h (λ e. cc) in absurd k.applies
-  may_refuse Taken h = let k = h (λ e. cc) in absurd k.applies
-  may_refuse Kind h = let k = h (λ e. cc) in absurd k.applies
-  may_refuse Arity h = let k = h (λ e. cc) in absurd k.applies
-  may_refuse Unbound h = let k = h (λ e. cc) in absurd k.applies
-  may_refuse WrongSort h = let k = h (λ e. cc) in absurd k.applies
-  may_refuse Used h = let k = h (λ e. cc) in absurd k.applies
-  may_refuse NoTuple h = let k = h (λ e. cc) in absurd k.applies
-  may_refuse Full h = let k = h (λ e. cc) in absurd k.applies
-  may_refuse Spent h = let k = h (λ e. cc) in absurd k.applies
-  may_refuse Level h = let k = h (λ e. cc) in absurd k.applies
-  may_refuse Wide h = let k = h (λ e. cc) in absurd k.applies
+  may_refuse _ h = let k = h (λ e. cc) in absurd k.applies
 
-  -- the reply of an accepted command is a step
-  answered : (x : CommandForm) (depth : ℕ) → Spells l bytes x depth → ((q : Refusal) → AppliesIn q l bytes → ⊥) → AsksGround x → (reply : Reply) → Does x c (reply_form reply) c → Step l c (Whole bytes) (reply_form reply) c
-  answered x depth s n g (Truth b) h = record { none = none_applies n; command = x; depth = depth; spells = s; so = h }
-  answered x depth s n g (Refused r) h = absurd (subst (λ y. Does y c (reply_form (Refused r)) c) g.is h)
+  -- ---- answered as its command
 
-  pub step_read : (x : CommandForm) → IsRead l bytes x → (reply : Reply) → Does x c (reply_form reply) c → Step l c (Whole bytes) (reply_form reply) c
-  step_read x h reply k = answered x h.depth h.spells h.accepted (asks l bytes x h.depth h.spells) reply k
+  module _ (x : CommandForm) (h : IsRead l bytes x) where
+    first_applies : (r : Refusal) → IsFirstCause r c x → MayRefuse r l (Whole bytes) c
+    first_applies r k = go r (cause_applies r x h.depth h.spells k.applies) (λ q less. neither x h.depth h.spells q (h.accepted q) (k.least q less)) k.applies
+      where
+        go : (r : Refusal) → Applies r l (Whole bytes) c → ((q : Refusal) → refusal_number q < refusal_number r → Applies q l (Whole bytes) c → ⊥) → has_cause r c x ≡ true → MayRefuse r l (Whole bytes) c
+        go Wide a least e = absurd (true≢false (sym e))
+        go Memory a least e = absurd (true≢false (sym e))
+        go _ a least e = record { applies = a; least = least }
+
+    refusal_step : (r : Refusal) → (r ≢ Memory → IsFirstCause r c x) → MayRefuse r l (Whole bytes) c
+    refusal_step Memory k = short
+    refusal_step _ k = first_applies _ (k (λ e. cc))
+
+    none_applies : NoCause c x → NoneApplies l (Whole bytes) c
+    none_applies none q = neither x h.depth h.spells q (h.accepted q) (none q)
+
+    pub step_read : (reply : ReplyForm) (d : Catalogue) → Answers x c reply d → Step l c (Whole bytes) reply d
+    step_read (refused r) d k = (refusal_step r k.0, k.1)
+    step_read done d k = record { none = none_applies k.0; command = x; depth = h.depth; spells = h.spells; so = k.1 }
+    step_read (number n) d k = record { none = none_applies k.0; command = x; depth = h.depth; spells = h.spells; so = k.1 }
+    step_read (truth b) d k = record { none = none_applies k.0; command = x; depth = h.depth; spells = h.spells; so = k.1 }
+    step_read (tuples columns ts) d k = record { none = none_applies k.0; command = x; depth = h.depth; spells = h.spells; so = k.1 }
+    step_read (stored columns ts) d k = record { none = none_applies k.0; command = x; depth = h.depth; spells = h.spells; so = k.1 }
+    step_read (boxes columns b) d k = record { none = none_applies k.0; command = x; depth = h.depth; spells = h.spells; so = k.1 }
+    step_read (steps plan) d k = record { none = none_applies k.0; command = x; depth = h.depth; spells = h.spells; so = k.1 }

@@ -1,4 +1,5 @@
 pub mod Answered
+pub mod Carrying
 pub mod Causes
 pub mod Ground
 pub mod Pieces

@@ -2,35 +2,13 @@
 
 ghost use Rattle.std.specs.Prelude.{◌≡◌, ◌↔◌, IsTrue};
 ghost use Rattle.ded_model.specs.Catalogue.{Catalogue, IsTruth};
-ghost use Rattle.ded_model.specs.Command.{command_form};
 ghost use Rattle.ded_model.specs.Form.{form};
-ghost use Rattle.ded_session.specs.Answered.{reply_form};
-ghost use Rattle.ded_session.specs.Ground.{AsksGround, IsGround, IsWholeNumber, numbers_compare, whole};
-ghost use Rattle.ded_session.specs.Steps.{Does};
+ghost use Rattle.ded_session.specs.Ground.{IsGround, IsWholeNumber, numbers_compare, whole};
 
-use crate::reply::Reply;
-use ded_model::command::Command;
 use ded_model::formula::{CompareOp, Formula, Operand};
 
-/// The answer to a comparison of two whole numbers, over any catalogue.
-pub fn answer(command: Command) -> Reply
-    requires { AsksGround (command_form command) }
-    ensures { (c : Catalogue) → Does (command_form command) c (reply_form result) c }
-{
-    answer_to(&command)
-}
-
-fn answer_to(command: &Command) -> Reply
-    requires { AsksGround (command_form command.now) }
-    ensures { (c : Catalogue) → Does (command_form command.now) c (reply_form result) c }
-{
-    match command {
-        Command::Ask(formula) => Reply::Truth(is_so(formula)),
-        _ => unreachable!(),
-    }
-}
-
-fn is_so(formula: &Formula) -> bool
+/// Whether the comparison is so, over any catalogue.
+pub(crate) fn is_so(formula: &Formula) -> bool
     requires { IsGround (form formula.now) }
     ensures { (c : Catalogue) → IsTrue result ↔ IsTruth c (form formula.now) }
 {

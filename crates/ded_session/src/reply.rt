@@ -4,13 +4,21 @@ ghost use Rattle.std.specs.Prelude.{◌≡◌};
 ghost use Rattle.ded_session.specs.Answered.{reply_form};
 ghost use Rattle.ded_session.specs.Replies.{is_refusal};
 
+use crate::stored::StoredTuples;
 use ded_model::command::Refusal;
+use ded_model::name::Heading;
 
 /// The reply to a statement.
-#[derive(Clone, Copy, Debug, PartialEq, Eq)]
+#[derive(Drop)]
 pub enum Reply {
+    /// The statement was done.
+    Done,
+    /// A tuple was inserted, and got this number.
+    Number(u32),
     /// Whether what was asked is so.
     Truth(bool),
+    /// The heading of a relation, and its tuples with their numbers.
+    Stored(Heading, StoredTuples),
     /// The statement changed nothing.
     Refused(Refusal),
 }
@@ -21,8 +29,8 @@ impl Reply {
         ensures { result ≡ is_refusal (reply_form self.now) }
     {
         match self {
-            Reply::Truth(_) => false,
             Reply::Refused(_) => true,
+            _ => false,
         }
     }
 }

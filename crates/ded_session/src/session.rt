@@ -97,7 +97,7 @@ impl Session {
         ensures step { Step (language_in self.old) (catalogue_in self.old) (Whole bytes.now) (reply_form result) (catalogue_in self.new) }
         ensures language { language_in self.new ≡ next_language (language_in self.old) }
     {
-        let reply = reply_to(self.alloc, bytes, self.language);
+        let reply = reply_to(self.alloc, bytes, self.language, &mut self.catalogue);
         self.language = after(self.language);
         reply
     }

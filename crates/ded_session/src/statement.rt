@@ -2,23 +2,29 @@
 
 ghost use Rattle.std.specs.Prelude.{◌≤◌, length};
 ghost use Rattle.ded_lex.specs.Pieces.{Whole};
-ghost use Rattle.ded_model.specs.Catalogue.{Catalogue};
+ghost use Rattle.ded_catalog.specs.State.{catalogue_of};
 ghost use Rattle.ded_session.specs.Answered.{reply_form};
 ghost use Rattle.ded_session.specs.Steps.{Step};
 
-use crate::ground::answer;
+use crate::command::answer;
 use crate::reply::Reply;
+use ded_catalog::Catalogue;
 use ded_model::command::Language;
 use ded_syntax::read_command;
 use std::alloc::Global;
 
-/// The reply to the bytes of a whole piece, over any catalogue: as yet no command changes or reads one.
-pub fn reply_to(alloc: Global, bytes: &[u8], language: Language) -> Reply
+/// Answers the bytes of a whole piece, and changes the catalogue as its command says.
+pub(crate) fn reply_to(
+    alloc: Global,
+    bytes: &[u8],
+    language: Language,
+    catalogue: &mut Catalogue,
+) -> Reply
     requires { length bytes.now ≤ 65536 }
-    ensures { (c : Catalogue) → Step language c (Whole bytes.now) (reply_form result) c }
+    ensures { Step language (catalogue_of catalogue.old) (Whole bytes.now) (reply_form result) (catalogue_of catalogue.new) }
 {
     match read_command(alloc, bytes, language) {
-        Ok(command) => answer(command),
+        Ok(command) => answer(alloc, command, catalogue),
         Err(refusal) => Reply::Refused(refusal),
     }
 }

@@ -1,0 +1,232 @@
+-- What the names accept of a command is what the calls of the catalogue ask for.
+use Rattle.std.proofs.Common.{◌≡◌, ◌<◌, ◌≤◌, ℕ, Bool, true, false, refl, sym, ap, ◌∙◌, subst, true≢false, arith, List, not}
+use Rattle.std.specs.Prelude.{None, Some, is_some, is_none, ◌==◌, ◌||◌, nat_lt}
+use Rattle.std.specs.List.{list_any}
+use Rattle.std.specs.declared.option.Option.{Option}
+use Rattle.std.proofs.lemmas.Bool.Decides.{nat_tests}
+use Rattle.ded_model.specs.declared.command.Refusal.TheVariants.{Many, Twice, Unknown, Taken, Kind, Arity, Unbound, WrongSort, Used, NoTuple, Level}
+use Rattle.ded_model.specs.declared.command.Command.{Command}
+use Rattle.ded_model.specs.declared.command.Command.TheVariants as program
+use Rattle.ded_model.specs.declared.formula.Formula.{Formula}
+use Rattle.ded_model.specs.declared.goal.Goal.{Goal}
+use Rattle.ded_model.specs.declared.name.Column.{Column}
+use Rattle.ded_model.specs.Catalogue.{Catalogue}
+use Rattle.ded_model.specs.Command.{CommandForm, command_form, relation, insert, delete, drop, view, keep, ask, query, show, box_of, explain}
+use Rattle.ded_model.specs.Form.{Form, FormAtom, form}
+use Rattle.ded_model.specs.Goal.{goal_form}
+use Rattle.ded_model.specs.Known.{Known, IsAccepted, IsTupleOver, level_of, has_missorted}
+use Rattle.ded_model.specs.Logic.{Logics}
+use Rattle.ded_model.specs.Row.{Atom}
+use Rattle.ded_model.specs.Slotted.{goal_of, tuple_of}
+use Rattle.ded_model.specs.Width.{tuple_length}
+use Rattle.ded_sorts.specs.declared.checked.Checked.{Checked}
+use Rattle.ded_sorts.specs.declared.checked.Checked.TheVariants as checked
+use Rattle.ded_sorts.specs.Causes.{is_relation_with, is_view_with}
+use Rattle.ded_sorts.specs.Checks.{IsResolved, HasNoCause, forms_of}
+use Rattle.ded_sorts.specs.Entries.{known, tuples_in, columns_in, entry_uses}
+use Rattle.ded_syntax.specs.Answered.{is_answered}
+use Rattle.ded_session.specs.Carrying.{IsReady, is_served, Carries}
+use Rattle.ded_session.specs.Replies.{ReplyForm}
+
+-- ---- tests
+
+none_of : {A : Type 0} (o : Option A) → is_some o ≡ false → o ≡ None
+none_of None e = refl
+none_of (Some x) e = absurd (true≢false e)
+
+some_of : {A : Type 0} (o : Option A) → is_none o ≡ false → is_some o ≡ true
+some_of None e = absurd (true≢false e)
+some_of (Some x) e = refl
+
+true_of : (b : Bool) → not b ≡ false → b ≡ true
+true_of true e = refl
+true_of false e = absurd (true≢false e)
+
+or_left : (a b : Bool) → (a || b) ≡ false → a ≡ false
+or_left false b e = refl
+or_left true b e = absurd (true≢false e)
+
+relation_of : (o : Option Known) → is_none o ≡ false → is_view_with o ≡ false → is_relation_with o ≡ true
+relation_of None e f = absurd (true≢false e)
+relation_of (Some k) e f = ap not f
+
+at_most : (n : ℕ) → nat_lt 16 n ≡ false → n ≤ 16
+at_most n e = grind (arith, nat_tests)
+
+-- ---- commands
+
+module _ (c : Catalogue) where
+  new_relation : (n : List ℕ) (h : List Column) → HasNoCause c (relation n h) → known c n ≡ None
+  new_relation n h a = none_of (known c n) (a Taken refl)
+
+  into_relation : (n : List ℕ) (fs : Logics FormAtom) → HasNoCause c (insert n fs) → is_relation_with (known c n) ≡ true
+  into_relation n fs a = relation_of (known c n) (a Unknown refl) (a Kind refl)
+
+  of_relation : (n : List ℕ) → HasNoCause c (show n) → is_relation_with (known c n) ≡ true
+  of_relation n a = relation_of (known c n) (a Unknown refl) (a Kind refl)
+
+  present : (n : List ℕ) (k : ℕ) → HasNoCause c (delete n k) → list_any (λ t. t.0 == k) (tuples_in c n) ≡ true
+  present n k a = true_of (list_any (λ t. t.0 == k) (tuples_in c n)) (a NoTuple refl)
+
+  accepted : (n : List ℕ) (h : List Column) (f : Form) → HasNoCause c (view n h f) → IsAccepted (known c) h f
+  accepted n h f a = record {
+    few = a Many refl;
+    once = a Twice refl;
+    known = a Unknown refl;
+    arity = a Arity refl;
+    bound = a Unbound refl;
+    sorted = or_left (has_missorted (known c) h f) false (a WrongSort refl);
+  }
+
+  -- ---- by slots
+
+  relation_is : (x : CommandForm) (n : List ℕ) (h : List Column) → IsResolved c x (checked.Relation n h) → x ≡ relation n h
+  relation_is (relation m k) n h r = ap (λ (y : List ℕ). relation y k) (sym r.0) ∙ ap (relation n) (sym r.1)
+  relation_is _ n h r = absurd r
+
+  -- the comparisons of an insert, whose tuple by slots this is
+  record Inserts (x : CommandForm) (n : List ℕ) (t : List Atom) : Type 0 where
+    comparisons : Logics FormAtom
+    is : x ≡ insert n comparisons
+    tuple : t ≡ tuple_of (columns_in c n) (forms_of comparisons)
+
+  insert_is : (x : CommandForm) (n : List ℕ) (t : List Atom) → IsResolved c x (checked.Insert n t) → Inserts x n t
+  insert_is (insert m fs) n t r = record {
+    comparisons = fs;
+    is = ap (λ (y : List ℕ). insert y fs) (sym r.0);
+    tuple = r.1 ∙ ap (λ (y : List ℕ). tuple_of (columns_in c y) (forms_of fs)) (sym r.0);
+  }
+  insert_is _ n t r = absurd r
+
+  delete_is : (x : CommandForm) (n : List ℕ) (k : ℕ) → IsResolved c x (checked.Delete n k) → x ≡ delete n k
+  delete_is (delete m j) n k r = ap (λ (y : List ℕ). delete y j) (sym r.0) ∙ ap (delete n) (sym r.1)
+  delete_is _ n k r = absurd r
+
+  drop_is : (x : CommandForm) (n : List ℕ) → IsResolved c x (checked.Drop n) → x ≡ drop n
+  drop_is (drop m) n r = ap drop (sym r)
+  drop_is _ n r = absurd r
+
+  show_is : (x : CommandForm) (n : List ℕ) → IsResolved c x (checked.Show n) → x ≡ show n
+  show_is (show m) n r = ap show (sym r)
+  show_is _ n r = absurd r
+
+  view_is : (x : CommandForm) (n : List ℕ) (h : List Column) (f : Formula) (g : Goal) → IsResolved c x (checked.View n h f g) → (x ≡ view n h (form f)) × (goal_form g ≡ goal_of h (form f))
+  view_is (view m k e) n h f g r =
+      (ap (λ (y : List ℕ). view y k e) (sym r.0) ∙ ap (λ (y : List Column). view n y e) (sym r.1) ∙ ap (view n h) (sym r.2),
+      r.3 ∙ ap (λ (y : List Column). goal_of y e) (sym r.1) ∙ ap (goal_of h) (sym r.2))
+  view_is _ n h f g r = absurd r
+
+  -- ---- what stands behind a command by slots
+
+  module _ (k : Checked) (ready : IsReady c k) where
+    pub ready_relation : (n : List ℕ) (h : List Column) → k ≡ checked.Relation n h → known c n ≡ None
+    ready_relation n h e =
+        let r = subst (IsReady c) e ready in
+        new_relation n h (subst (HasNoCause c) (relation_is r.written n h r.resolved) r.accepted)
+
+    pub ready_insert : (n : List ℕ) (t : List Atom) → k ≡ checked.Insert n t → (is_relation_with (known c n) ≡ true) × IsTupleOver (columns_in c n) t × (tuple_length t ≤ 63)
+    ready_insert n t e =
+        let r = subst (IsReady c) e ready in
+        let i = insert_is r.written n t r.resolved in
+        (into_relation n i.comparisons (subst (HasNoCause c) i.is r.accepted), r.storable.0, r.storable.1)
+
+    pub ready_delete : (n : List ℕ) (i : ℕ) → k ≡ checked.Delete n i → list_any (λ t. t.0 == i) (tuples_in c n) ≡ true
+    ready_delete n i e =
+        let r = subst (IsReady c) e ready in
+        present n i (subst (HasNoCause c) (delete_is r.written n i r.resolved) r.accepted)
+
+    pub ready_drop : (n : List ℕ) → k ≡ checked.Drop n → (is_some (known c n) ≡ true) × (list_any (entry_uses n) c.entries ≡ false)
+    ready_drop n e =
+        let r = subst (IsReady c) e ready in
+        let a = subst (HasNoCause c) (drop_is r.written n r.resolved) r.accepted in
+        (some_of (known c n) (a Unknown refl), a Used refl)
+
+    pub ready_show : (n : List ℕ) → k ≡ checked.Show n → is_relation_with (known c n) ≡ true
+    ready_show n e =
+        let r = subst (IsReady c) e ready in
+        of_relation n (subst (HasNoCause c) (show_is r.written n r.resolved) r.accepted)
+
+    pub ready_view : (n : List ℕ) (h : List Column) (f : Formula) (g : Goal) → k ≡ checked.View n h f g
+        → (known c n ≡ None) × IsAccepted (known c) h (form f) × (level_of (known c) (form f) ≤ 16) × (goal_form g ≡ goal_of h (form f))
+    ready_view n h f g e =
+        let r = subst (IsReady c) e ready in
+        let v = view_is r.written n h f g r.resolved in
+        let a = subst (HasNoCause c) v.0 r.accepted in
+        (none_of (known c n) (a Taken refl), accepted n h (form f) a, at_most (level_of (known c) (form f)) (a Level refl), v.1)
+
+    -- what such a command says, as it is written
+    pub written_relation : (n : List ℕ) (h : List Column) → k ≡ checked.Relation n h → (x : CommandForm) → IsResolved c x k → x ≡ relation n h
+    written_relation n h e x r = relation_is x n h (subst (IsResolved c x) e r)
+
+    pub written_delete : (n : List ℕ) (i : ℕ) → k ≡ checked.Delete n i → (x : CommandForm) → IsResolved c x k → x ≡ delete n i
+    written_delete n i e x r = delete_is x n i (subst (IsResolved c x) e r)
+
+    pub written_drop : (n : List ℕ) → k ≡ checked.Drop n → (x : CommandForm) → IsResolved c x k → x ≡ drop n
+    written_drop n e x r = drop_is x n (subst (IsResolved c x) e r)
+
+    pub written_show : (n : List ℕ) → k ≡ checked.Show n → (x : CommandForm) → IsResolved c x k → x ≡ show n
+    written_show n e x r = show_is x n (subst (IsResolved c x) e r)
+
+    pub written_view : (n : List ℕ) (h : List Column) (f : Formula) (g : Goal) → k ≡ checked.View n h f g → (x : CommandForm) → IsResolved c x k → x ≡ view n h (form f)
+    written_view n h f g e x r = (view_is x n h f g (subst (IsResolved c x) e r)).0
+
+  -- one that is an insert by slots is carried out as the insert that it is written as
+  pub written_insert : (d : Catalogue) (reply : ReplyForm) (k : Checked) (n : List ℕ) (t : List Atom) → k ≡ checked.Insert n t
+      → ((comparisons : Logics FormAtom) → t ≡ tuple_of (columns_in c n) (forms_of comparisons) → Carries (insert n comparisons) c reply d)
+      → (x : CommandForm) → IsResolved c x k → Carries x c reply d
+  written_insert d reply k n t e does x r =
+      let i = insert_is x n t (subst (IsResolved c x) e r) in
+      subst (λ (y : CommandForm). Carries y c reply d) (sym i.is) (does i.comparisons i.tuple)
+
+  -- ---- the other commands aren't served
+
+  no_keep : (x : CommandForm) (n : List ℕ) → is_served x ≡ true → IsResolved c x (checked.Keep n) → ⊥
+  no_keep (keep m) n s r = true≢false (sym s)
+  no_keep _ n s r = r
+
+  no_ask : (x : CommandForm) (g : Goal) → is_served x ≡ true → IsResolved c x (checked.Ask g) → ⊥
+  no_ask (ask f) g s r = true≢false (sym s)
+  no_ask _ g s r = r
+
+  no_query : (x : CommandForm) (h : List Column) (g : Goal) → is_served x ≡ true → IsResolved c x (checked.Query h g) → ⊥
+  no_query (query k f) h g s r = true≢false (sym s)
+  no_query _ h g s r = r
+
+  no_box : (x : CommandForm) (n : List ℕ) → is_served x ≡ true → IsResolved c x (checked.BoxOf n) → ⊥
+  no_box (box_of m) n s r = true≢false (sym s)
+  no_box _ n s r = r
+
+  no_explain : (x : CommandForm) (h : List Column) (g : Goal) → is_served x ≡ true → IsResolved c x (checked.Explain h g) → ⊥
+  no_explain (explain k f) h g s r = true≢false (sym s)
+  no_explain _ h g s r = r
+
+  pub nothing_else : (k : Checked) → IsReady c k
+      → ((n : List ℕ) (h : List Column) → k ≡ checked.Relation n h → ⊥) → ((n : List ℕ) (t : List Atom) → k ≡ checked.Insert n t → ⊥)
+      → ((n : List ℕ) (i : ℕ) → k ≡ checked.Delete n i → ⊥) → ((n : List ℕ) → k ≡ checked.Drop n → ⊥)
+      → ((n : List ℕ) (h : List Column) (f : Formula) (g : Goal) → k ≡ checked.View n h f g → ⊥) → ((n : List ℕ) → k ≡ checked.Show n → ⊥) → ⊥
+  nothing_else (checked.Relation n h) r p1 p2 p3 p4 p5 p6 = p1 n h refl
+  nothing_else (checked.Insert n t) r p1 p2 p3 p4 p5 p6 = p2 n t refl
+  nothing_else (checked.Delete n i) r p1 p2 p3 p4 p5 p6 = p3 n i refl
+  nothing_else (checked.Drop n) r p1 p2 p3 p4 p5 p6 = p4 n refl
+  nothing_else (checked.View n h f g) r p1 p2 p3 p4 p5 p6 = p5 n h f g refl
+  nothing_else (checked.Show n) r p1 p2 p3 p4 p5 p6 = p6 n refl
+  nothing_else (checked.Keep n) r p1 p2 p3 p4 p5 p6 = no_keep r.written n r.served r.resolved
+  nothing_else (checked.Ask g) r p1 p2 p3 p4 p5 p6 = no_ask r.written g r.served r.resolved
+  nothing_else (checked.Query h g) r p1 p2 p3 p4 p5 p6 = no_query r.written h g r.served r.resolved
+  nothing_else (checked.BoxOf n) r p1 p2 p3 p4 p5 p6 = no_box r.written n r.served r.resolved
+  nothing_else (checked.Explain h g) r p1 p2 p3 p4 p5 p6 = no_explain r.written h g r.served r.resolved
+
+-- ---- which commands are served
+
+pub serves : (k : Command) → is_answered (command_form k) ≡ true → ((f : Formula) → k ≡ program.Ask f → ⊥) → is_served (command_form k) ≡ true
+serves (program.Relation n h) e other = refl
+serves (program.Insert n fs) e other = refl
+serves (program.Delete n i) e other = refl
+serves (program.Drop n) e other = refl
+serves (program.View n h f) e other = refl
+serves (program.Show n) e other = refl
+serves (program.Ask f) e other = absurd (other f refl)
+serves (program.Keep n) e other = absurd (true≢false (sym e))
+serves (program.Query h f) e other = absurd (true≢false (sym e))
+serves (program.BoxOf n) e other = absurd (true≢false (sym e))
+serves (program.Explain h f) e other = absurd (true≢false (sym e))
