@@ -39,8 +39,5 @@ fn copied(alloc: Global, catalogue: &Catalogue, name: &Name) -> Result<Reply, No
     let Some(tuples) = catalogue.stored(name) else {
         unreachable!()
     };
-    Ok(Reply::Stored(
-        heading.copy()?,
-        StoredTuples::copy_of(alloc, tuples)?,
-    ))
+    Ok(Reply::Stored(heading.copy()?, StoredTuples::copy_of(alloc, tuples)?))
 }
