@@ -1,5 +1,5 @@
 -- What the calls that change a catalogue owe, over the table that it has.
-use Rattle.std.proofs.Common.{◌≡◌, ℕ, ◌+◌, ◌≤◌, ◌==◌, nat_le, Bool, true, false, List, [], ◌∷◌, ◌++◌, length, Option, None, Some, is_some, refl, sym, ap, ◌∙◌, subst, true≢false, bytes_eq, arith}
+use Rattle.std.proofs.Common.{◌≡◌, ℕ, ◌+◌, ◌≤◌, ◌==◌, nat_le, nat_lt, ◌||◌, Bool, true, false, List, [], ◌∷◌, ◌++◌, length, Option, None, Some, is_some, refl, sym, ap, ◌∙◌, subst, true≢false, bytes_eq, arith}
 use Rattle.std.specs.Prelude.{if◌then◌else◌}
 use Rattle.std.specs.List.{list_any}
 use Rattle.std.specs.Map.{lookup, set_value, remove_entry}
@@ -28,8 +28,9 @@ use Rattle.ded_catalog.specs.declared.stored.Stored.{Stored}
 use Rattle.ded_catalog.specs.declared.stored.Stored.TheVariants as stored
 use Rattle.ded_catalog.specs.Changed.{ChangesRelation}
 use Rattle.ded_catalog.specs.Kept.{IsRight, AreKept, IsKept}
-use Rattle.ded_catalog.specs.State.{Table, entry_form, entry_forms, catalogue_of, known_with, relation_at, level_at, atom_level_in}
+use Rattle.ded_catalog.specs.State.{Table, entry_form, entry_forms, catalogue_of, stored_known, known_with, relation_at, level_at, atom_level_in}
 use Rattle.ded_catalog.specs.Tuples.{IsAscending, refusal_of, IsSame, Pushes, Removes}
+use Rattle.ded_catalog.proofs.Agreeing.{left_false}
 use Rattle.ded_catalog.proofs.Keeping.{kept-add, kept-change, changes, kept-drop, drops}
 use Rattle.ded_catalog.proofs.Lookups.{Split, split, forms-append, entry_of-lookup, known_of-lookup, absent_unknown, present_known}
 use Rattle.ded_catalog.proofs.Numbers.{stored-push, stored-remove, stored-ascend, length-remove}
@@ -104,6 +105,18 @@ pub at-kept : (limit : ℕ) (n : List ℕ) (s : Stored) (before after : List (Li
 at-kept limit n s [] after K h = (K, h.1, h.2)
 at-kept limit n s (e ∷ before) after K h = at-kept limit n s before after (with_known K (entry_form e.0 e.1)) h.3
 
+-- a heading that isn't too long for a formula
+at_most : (h : List Column) (b : Bool) → (nat_lt 16 (length h) || b) ≡ false → length h ≤ 16
+at_most h b e = within (length h) (left_false (nat_lt 16 (length h)) b e)
+  where
+    within : (m : ℕ) → nat_lt 16 m ≡ false → m ≤ 16
+    within m e = grind (arith, nat_tests)
+
+-- what stands there has at most 16 columns
+few-right : (limit : ℕ) (n : List ℕ) (s : Stored) (K : KnownNames) → IsEntryOver limit K (entry_form n s) → IsRight K s → length (columns_with (Some (stored_known s))) ≤ 16
+few-right limit n (stored.Relation r) K over right = right
+few-right limit n (stored.View v) K over right = at_most v.heading _ over.0.few
+
 module _ (limit : ℕ) (es : List (List ℕ × Stored)) (n : List ℕ) (kept : IsKept limit es) where
   abbrev t : Table
   t = record { limit = limit; names = es }
@@ -111,6 +124,14 @@ module _ (limit : ℕ) (es : List (List ℕ × Stored)) (n : List ℕ) (kept : I
   -- what is known of the name
   pub is_known : known (catalogue_of t) n ≡ known_with (lookup (bytes_eq n) es) None
   is_known = known_of-lookup limit es n kept
+
+  -- its columns are at most 16
+  pub few_known : (o : Option Stored) → lookup (bytes_eq n) es ≡ o → length (columns_with (known_with o None)) ≤ 16
+  few_known None found = omega arith
+  few_known (Some s) found =
+      let p = split n s es found in
+      let at = at-kept limit n s p.before p.after (λ m. None) (subst (AreKept limit (λ m. None)) p.was kept.entries) in
+      few-right limit n s at.0 at.1 at.2
 
   -- a new name isn't in the table
   pub new_name : known (catalogue_of t) n ≡ None → lookup (bytes_eq n) es ≡ None
@@ -126,8 +147,8 @@ module _ (limit : ℕ) (es : List (List ℕ × Stored)) (n : List ℕ) (kept : I
 
   -- ---- definitions
 
-  pub kept-defined : (r : Relation) → r.tuples.items ≡ [] → known (catalogue_of t) n ≡ None → IsKept limit (es ++ (n, stored.Relation r) ∷ [])
-  kept-defined r e h = kept-add limit es n (stored.Relation r) kept h (same_stored limit r.heading r.heading r.inserts r.inserts [] r.tuples.items refl refl e (tt, omega arith)) tt
+  pub kept-defined : (r : Relation) → r.tuples.items ≡ [] → length r.heading ≤ 16 → known (catalogue_of t) n ≡ None → IsKept limit (es ++ (n, stored.Relation r) ∷ [])
+  kept-defined r e few h = kept-add limit es n (stored.Relation r) kept h (same_stored limit r.heading r.heading r.inserts r.inserts [] r.tuples.items refl refl e (tt, omega arith)) few
 
   pub kept-viewed : (v : View) → known (catalogue_of t) n ≡ None → IsAccepted (known (catalogue_of t)) v.heading (form v.formula)
       → level_of (known (catalogue_of t)) (form v.formula) ≤ 16 → v.level ≡ level_of (known (catalogue_of t)) (form v.formula) → goal_form v.goal ≡ goal_of v.heading (form v.formula)
@@ -174,7 +195,7 @@ module _ (limit : ℕ) (es : List (List ℕ × Stored)) (n : List ℕ) (kept : I
           → (AreStored old.heading old.inserts 0 old.tuples.items × (length old.tuples.items ≤ limit) → AreStored new.heading new.inserts 0 new.tuples.items × (length new.tuples.items ≤ limit))
           → IsKept limit fs
       kept-there h over = subst (IsKept limit) (sym now)
-          (kept-change limit n (stored.Relation old) (stored.Relation new) (same_heading n old new h) (λ K. over) (λ K x. tt) s.before s.after (subst (IsKept limit) s.was kept))
+          (kept-change limit n (stored.Relation old) (stored.Relation new) (same_heading n old new h) (λ K. over) (λ K few. subst (λ (k : List Column). length k ≤ 16) (sym h) few) s.before s.after (subst (IsKept limit) s.was kept))
 
       changed-there : ChangesEntry (catalogue_of t) (catalogue_of u) n (entry_form n (stored.Relation old)) (entry_form n (stored.Relation new))
       changed-there = changes t u n (stored.Relation old) (stored.Relation new) s.before s.after refl s.was now

@@ -1,6 +1,7 @@
 -- A copy of the table stands for the same entries, and is kept where the table is.
-use Rattle.std.proofs.Common.{◌≡◌, ℕ, None, List, [], ◌∷◌, refl, sym, ap, ◌∙◌, subst}
+use Rattle.std.proofs.Common.{◌≡◌, ℕ, ◌≤◌, length, None, List, [], ◌∷◌, refl, sym, ap, ◌∙◌, subst}
 use Rattle.std.specs.List.{AllZip}
+use Rattle.ded_model.specs.declared.name.Column.{Column}
 use Rattle.ded_model.specs.Catalogue.{Entry}
 use Rattle.ded_model.specs.Catalogue as entry
 use Rattle.ded_model.specs.Known.{KnownNames, IsEntryOver, with_known, level_of}
@@ -22,7 +23,7 @@ entry_copy n m (View v) (Relation s) e c = absurd c
 entry_copy n m (View v) (View w) e c = λ i. entry.view (e i) (c.0 i) (c.1 i)
 
 right_copy : (K : KnownNames) (s w : Stored) → IsCopy s w → IsRight K s → IsRight K w
-right_copy K (Relation r) (Relation s) c h = tt
+right_copy K (Relation r) (Relation s) c h = subst (λ (k : List Column). length k ≤ 16) (sym c.0) h
 right_copy K (Relation r) (View w) c h = absurd c
 right_copy K (View v) (Relation s) c h = absurd c
 right_copy K (View v) (View w) c h = (c.3 ∙ h.0 ∙ ap (level_of K) (sym c.1), c.2 ∙ h.1 ∙ (λ i. goal_of (sym c.0 i) (sym c.1 i)))

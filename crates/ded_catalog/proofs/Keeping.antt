@@ -97,7 +97,7 @@ over-without limit n K J k (View v) g u o =
     (accepted-agree n K J g v.heading (form v.formula) u o.0, subst (λ l. l ≤ 16) (level-agree n K J g (form v.formula) u) o.1)
 
 right-without : (n : List ℕ) (K J : KnownNames) (k : List ℕ) (s : Stored) → Agrees n K J → entry_uses n (entry_form k s) ≡ false → IsRight K s → IsRight J s
-right-without n K J k (Relation r) g u h = tt
+right-without n K J k (Relation r) g u h = h
 right-without n K J k (View v) g u h = (h.0 ∙ level-agree n K J g (form v.formula) u, h.1)
 
 -- a name that something is known of isn't one that nothing is known of

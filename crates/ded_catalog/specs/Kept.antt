@@ -1,5 +1,5 @@
 -- What a catalogue of the program keeps of its entries.
-use Rattle.std.specs.Prelude.{◌≡◌, ◌≤◌, ℕ, None, List, [], ◌∷◌}
+use Rattle.std.specs.Prelude.{◌≡◌, ◌≤◌, ℕ, None, List, [], ◌∷◌, length}
 use Rattle.ded_model.specs.Form.{form}
 use Rattle.ded_model.specs.Goal.{goal_form}
 use Rattle.ded_model.specs.Known.{KnownNames, IsEntryOver, level_of, with_known}
@@ -8,9 +8,9 @@ use Rattle.ded_catalog.specs.declared.stored.Stored.{Stored}
 use Rattle.ded_catalog.specs.declared.stored.Stored.TheVariants.{Relation, View}
 use Rattle.ded_catalog.specs.State.{entry_form}
 
--- a view has its level over the names before it, and the goal of its formula
+-- a relation has at most 16 columns; a view has its level over the names before it, and the goal of its formula
 abbrev pub IsRight : KnownNames → Stored → Type 0
-IsRight K (Relation r) = Unit {0}
+IsRight K (Relation r) = length r.heading ≤ 16
 IsRight K (View v) = (v.level ≡ level_of K (form v.formula)) × (goal_form v.goal ≡ goal_of v.heading (form v.formula))
 
 -- each entry has a new name, is well formed over those before it, and has what is right over them

@@ -1,5 +1,5 @@
 //! Catalogues.
-ghost use Rattle.std.specs.Prelude.{◌≡◌, ◌==◌, ◌≤◌, true, false, None, [], is_some, IsOk, IfOk, IfErr, OnOk, OnErr};
+ghost use Rattle.std.specs.Prelude.{◌≡◌, ◌==◌, ◌≤◌, true, false, None, [], length, is_some, IsOk, IfOk, IfErr, OnOk, OnErr};
 ghost use Rattle.std.specs.List.{list_any};
 
 mod names;
@@ -83,24 +83,26 @@ impl Catalogue {
         }
     }
 
-    /// Defines a relation without tuples under a new name.
+    /// Defines a relation without tuples, of at most 16 columns, under a new name.
     ///
     /// # Errors
     /// `NoMemory`, where nothing is changed.
     pub fn define(&mut self, name: Name, heading: Heading) -> Result<(), NoMemory>
-        requires { known (catalogue_of self.old) name ≡ None }
+        requires new { known (catalogue_of self.old) name ≡ None }
+        requires few { length heading ≤ 16 }
         ensures ok { OnOk result (AddsEntry (catalogue_of self.old) (catalogue_of self.new) (relation name heading 0 [])) }
         ensures err { OnErr result (catalogue_of self.new ≡ catalogue_of self.old) }
     {
         self.define_at(name, heading, 0)
     }
 
-    /// Defines a relation without tuples under a new name, which counts as one that has accepted `inserts` inserts.
+    /// Defines a relation without tuples, of at most 16 columns, under a new name, which counts as one that has accepted `inserts` inserts.
     ///
     /// # Errors
     /// `NoMemory`, where nothing is changed.
     pub fn define_at(&mut self, name: Name, heading: Heading, inserts: u32) -> Result<(), NoMemory>
-        requires { known (catalogue_of self.old) name ≡ None }
+        requires new { known (catalogue_of self.old) name ≡ None }
+        requires few { length heading ≤ 16 }
         ensures ok { OnOk result (AddsEntry (catalogue_of self.old) (catalogue_of self.new) (relation name heading inserts [])) }
         ensures err { OnErr result (catalogue_of self.new ≡ catalogue_of self.old) }
     {

@@ -1,5 +1,5 @@
 //! Commands by slots.
-ghost use Rattle.std.specs.Prelude.{◌≡◌, ◌≢◌, ◌≤◌, ◌<◌, ◌^◌, false, map, List, [], IfOk, IfErr};
+ghost use Rattle.std.specs.Prelude.{◌≡◌, ◌≢◌, ◌≤◌, false, map, List, [], length, IfOk, IfErr};
 ghost use Rattle.ded_model.specs.Catalogue.{Catalogue};
 ghost use Rattle.ded_model.specs.Command.{command_form, insert, view, ask, query, explain};
 ghost use Rattle.ded_model.specs.Form.{form, forms};
@@ -22,7 +22,7 @@ use ded_model::memory::NoMemory;
 use ded_model::name::{Heading, Name};
 use ded_model::tuple::Tuple;
 use ded_sorts::{Checked, Known, Names, check};
-use std::alloc::{AllocError, Global};
+use std::alloc::Global;
 
 /// The command by slots, over the names. Each sum of the command is over 1 and has each name once, and no row of its formula
 /// has a number above 2^63 - 1 in magnitude.
@@ -82,9 +82,10 @@ fn insertion<N: Names>(
     Ok(Checked::Insert(name, tuple))
 }
 
-/// The columns of a relation or a view, none where the name isn't defined.
+/// The columns of a relation or a view, at most 16; none where the name isn't defined.
 fn heading_of<N: Names>(alloc: Global, name: &Name, names: &N) -> Result<Heading, NoMemory>
-    ensures { IfOk result (λ h. h ≡ columns_in (N.catalogue names.now) name.now) }
+    ensures value { IfOk result (λ h. h ≡ columns_in (N.catalogue names.now) name.now) }
+    ensures few { IfOk result (λ h. length h ≤ 16) }
 {
     match names.known(name)? {
         Some(Known::Relation(heading) | Known::View(heading, _)) => Ok(heading),
@@ -94,17 +95,14 @@ fn heading_of<N: Names>(alloc: Global, name: &Name, names: &N) -> Result<Heading
     }
 }
 
-/// The normal tuple of comparisons over a heading, which has numbers of at most 63 digits. No memory is had for a tuple over
-/// more columns than slots have numbers.
+/// The normal tuple of comparisons over a heading, which has numbers of at most 63 digits.
 fn short_tuple(alloc: Global, heading: &Heading, comparisons: &[Formula]) -> Result<Tuple, NoMemory>
-    requires { AreReady heading.now (forms comparisons.now) }
+    requires few { length heading.now ≤ 16 }
+    requires ready { AreReady heading.now (forms comparisons.now) }
     ensures value { IfOk result (λ t. t ≡ tuple_of heading.now (map form comparisons.now)) }
     ensures over { IfOk result (λ t. IsTupleOver heading.now t) }
     ensures short { IfOk result (λ t. tuple_length t ≤ 63) }
 {
-    if heading.columns.len() > u32::MAX as usize {
-        return Err(AllocError);
-    }
     tuple(alloc, heading, comparisons)
 }
 

@@ -1,5 +1,5 @@
 //! Commands over one relation, `T(n text)`.
-ghost use Rattle.std.specs.Prelude.{◌≡◌, false, [], ◌∷◌, IfOk};
+ghost use Rattle.std.specs.Prelude.{◌≡◌, ◌≤◌, false, [], ◌∷◌, length, IfOk};
 ghost use Rattle.ded_model.specs.declared.formula.CompareOp.TheVariants as op;
 ghost use Rattle.ded_model.specs.declared.formula.Operand.TheVariants as operand;
 ghost use Rattle.ded_model.specs.Catalogue.{relation};
@@ -26,6 +26,7 @@ use std::test::Fail;
 struct Table {
     relation: Name,
     columns: Heading,
+    ghost few: { length columns ≤ 16 },
 }
 
 impl Names for Table {
@@ -56,7 +57,9 @@ fn name_of(alloc: Global, bytes: &[u8]) -> Result<Name, NoMemory>
 }
 
 /// One column of texts, with the name `n`.
-fn texts(alloc: Global) -> Result<Heading, NoMemory> {
+fn texts(alloc: Global) -> Result<Heading, NoMemory>
+    ensures { IfOk result (λ h. length h ≡ 1) }
+{
     let mut columns = Vec::new(alloc);
     columns.push(Column {
         name: name_of(alloc, b"n")?,

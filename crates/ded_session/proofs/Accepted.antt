@@ -1,5 +1,5 @@
 -- What the names accept of a command is what the calls of the catalogue ask for.
-use Rattle.std.proofs.Common.{◌≡◌, ◌≤◌, ℕ, Bool, true, false, refl, sym, ap, ◌∙◌, subst, true≢false, arith, List, not}
+use Rattle.std.proofs.Common.{◌≡◌, ◌<◌, ◌≤◌, ℕ, Bool, true, false, refl, sym, ap, ◌∙◌, subst, true≢false, arith, List, length, not}
 use Rattle.std.specs.Prelude.{None, Some, is_some, is_none, ◌==◌, ◌||◌, nat_lt}
 use Rattle.std.specs.List.{list_any}
 use Rattle.std.specs.declared.option.Option.{Option}
@@ -56,8 +56,8 @@ at_most n e = grind (arith, nat_tests)
 -- ---- commands
 
 module _ (c : Catalogue) where
-  new_relation : (n : List ℕ) (h : List Column) → HasNoCause c (relation n h) → known c n ≡ None
-  new_relation n h a = none_of (known c n) (a Taken refl)
+  new_relation : (n : List ℕ) (h : List Column) → HasNoCause c (relation n h) → (known c n ≡ None) × (length h ≤ 16)
+  new_relation n h a = (none_of (known c n) (a Taken refl), at_most (length h) (a Many refl))
 
   into_relation : (n : List ℕ) (fs : Logics FormAtom) → HasNoCause c (insert n fs) → is_relation_with (known c n) ≡ true
   into_relation n fs a = relation_of (known c n) (a Unknown refl) (a Kind refl)
@@ -120,7 +120,7 @@ module _ (c : Catalogue) where
   -- ---- what stands behind a command by slots
 
   module _ (k : Checked) (ready : IsReady c k) where
-    pub ready_relation : (n : List ℕ) (h : List Column) → k ≡ checked.Relation n h → known c n ≡ None
+    pub ready_relation : (n : List ℕ) (h : List Column) → k ≡ checked.Relation n h → (known c n ≡ None) × (length h ≤ 16)
     ready_relation n h e =
         let r = subst (IsReady c) e ready in
         new_relation n h (subst (HasNoCause c) (relation_is r.written n h r.resolved) r.accepted)

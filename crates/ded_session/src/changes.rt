@@ -1,5 +1,5 @@
 //! The commands that change the catalogue, each where the names refuse it for nothing.
-ghost use Rattle.std.specs.Prelude.{◌≡◌, ◌==◌, ◌≤◌, true, false, None, is_some, OnOk, OnErr};
+ghost use Rattle.std.specs.Prelude.{◌≡◌, ◌==◌, ◌≤◌, true, false, None, is_some, length, OnOk, OnErr};
 ghost use Rattle.std.specs.List.{list_any};
 ghost use Rattle.ded_model.specs.Command.{relation, insert, delete, drop, view};
 ghost use Rattle.ded_model.specs.Form.{FormAtom, form};
@@ -27,7 +27,8 @@ use ded_model::tuple::Tuple;
 
 /// Defines a relation without tuples.
 pub(crate) fn define(catalogue: &mut Catalogue, name: Name, heading: Heading) -> Reply
-    requires { known (catalogue_of catalogue.old) name ≡ None }
+    requires new { known (catalogue_of catalogue.old) name ≡ None }
+    requires few { length heading ≤ 16 }
     ensures { Carries (relation name heading) (catalogue_of catalogue.old) (reply_form result) (catalogue_of catalogue.new) }
 {
     done(catalogue.define(name, heading))

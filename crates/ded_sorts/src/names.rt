@@ -1,5 +1,5 @@
 //! Names of relations and views, and what is known of them.
-ghost use Rattle.std.specs.Prelude.{◌≡◌, ◌==◌, IfOk, Some};
+ghost use Rattle.std.specs.Prelude.{◌≡◌, ◌==◌, ◌≤◌, length, IfOk, Some};
 ghost use Rattle.std.specs.List.{list_any};
 ghost use Rattle.ded_model.specs.Catalogue.{Catalogue};
 ghost use Rattle.ded_model.specs.Known.{columns_with, level_with};
@@ -54,9 +54,10 @@ pub trait Names {
     /// The catalogue that the value stands for.
     ghost catalogue: { Self → Catalogue };
 
-    /// What is known of the name, none exactly where no entry has it.
+    /// What is known of the name, none exactly where no entry has it. A heading that is known has at most 16 columns.
     fn known(&self, name: &Name) -> Result<Option<Known>, NoMemory>
-        ensures { IfOk result (λ k. known_form k ≡ known (catalogue self.now) name.now) };
+        ensures value { IfOk result (λ k. known_form k ≡ known (catalogue self.now) name.now) }
+        ensures few { IfOk result (λ k. length (columns_with (known_form k)) ≤ 16) };
 
     /// Whether the formula of a defined view mentions the name. It takes no memory.
     fn used(&self, name: &Name) -> bool

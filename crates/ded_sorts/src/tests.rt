@@ -1,6 +1,6 @@
 //! That commands are refused for the reasons that the language names, the least first.
 
-ghost use Rattle.std.specs.Prelude.{◌≡◌, IfOk, pos, [], ◌∷◌};
+ghost use Rattle.std.specs.Prelude.{◌≡◌, ◌≤◌, length, IfOk, pos, [], ◌∷◌};
 ghost use Rattle.ded_model.specs.Catalogue.{relation, view};
 ghost use Rattle.ded_model.specs.Form.{member};
 ghost use Rattle.ded_model.specs.Logic.{atom};
@@ -23,6 +23,8 @@ struct Table {
     columns: Heading,
     view: Name,
     heading: Heading,
+    ghost few_columns: { length columns ≤ 16 },
+    ghost few_in_view: { length heading ≤ 16 },
 }
 
 impl Names for Table {
@@ -54,7 +56,9 @@ fn name_of(alloc: Global, bytes: &[u8]) -> Result<Name, NoMemory> {
 }
 
 // A heading of columns with names of one byte.
-fn heading_of(alloc: Global, list: &[(u8, Sort)]) -> Result<Heading, NoMemory> {
+fn heading_of(alloc: Global, list: &[(u8, Sort)]) -> Result<Heading, NoMemory>
+    ensures { IfOk result (λ h. length h ≡ length list.now) }
+{
     let mut columns = Vec::new(alloc);
     for (byte, sort) in list {
         columns.push(Column {

@@ -5,4 +5,4 @@ use Rattle.ded_resolve.proofs.Readiness.{tuple_is}
 use Rattle.ded_resolve.proofs.resolving.insertion.Goals as goal
 
 pub returns-clause-resolved : goal.returns-clause-resolved
-returns-clause-resolved g c = (refl, tuple_is c.in_ok-tuple.tuple c.in_ok-heading.heading (columns_in (g.N.Names.catalogue c.args.names.now) c.args.name) c.deref.result.now c.args.comparisons.items c.in_ok-tuple.ensures.value c.in_ok-heading.ensures c.deref.ensures.value)
+returns-clause-resolved g c = (refl, tuple_is c.in_ok-tuple.tuple c.in_ok-heading.heading (columns_in (g.N.Names.catalogue c.args.names.now) c.args.name) c.deref.result.now c.args.comparisons.items c.in_ok-tuple.ensures.value c.in_ok-heading.ensures.value c.deref.ensures.value)

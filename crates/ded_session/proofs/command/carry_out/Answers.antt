@@ -8,7 +8,9 @@ use Rattle.ded_session.proofs.Accepted.{ready_relation, ready_insert, ready_dele
 use Rattle.ded_session.proofs.command.carry_out.Goals as goal
 
 pub define-requires : goal.define-requires
-define-requires c = ready_relation (catalogue_of c.args.catalogue.now) c.args.command c.requires c.in-Relation.name c.in-Relation.heading c.in-Relation.is
+define-requires c =
+    let r = ready_relation (catalogue_of c.args.catalogue.now) c.args.command c.requires c.in-Relation.name c.in-Relation.heading c.in-Relation.is in
+    record { new = r.0; few = r.1 }
 
 pub insert-requires : goal.insert-requires
 insert-requires c =

@@ -10,12 +10,12 @@ known_one : (r n : List ℕ) (h : List Column) → known_of (relation r h 0 [] �
 unfolding known_of
 known_one r n h = refl
 
-pub returns-then-is_same : goal.returns-then-is_same
-returns-then-is_same c =
+pub returns-then-is_same-clause-value : goal.returns-then-is_same-clause-value
+returns-then-is_same-clause-value c =
     let t = c.args.self.now in
     rw (known_one t.relation c.args.name.now t.columns, ← c.if-is_same.ensures, c.in_ok-copy.ensures) refl
 
-pub returns : goal.returns
-returns c =
+pub returns-clause-value : goal.returns-clause-value
+returns-clause-value c =
     let t = c.args.self.now in
     rw (known_one t.relation c.args.name.now t.columns, ← c.if-is_same.ensures) refl

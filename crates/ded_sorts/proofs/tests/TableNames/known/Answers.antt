@@ -26,17 +26,17 @@ known_two r w n h k = step (bytes_eq r r)
     step true = refl
     step false = refl
 
-pub returns-then-is_same : goal.returns-then-is_same
-returns-then-is_same c =
+pub returns-then-is_same-clause-value : goal.returns-then-is_same-clause-value
+returns-then-is_same-clause-value c =
     let t = c.args.self.now in
     rw (known_two t.relation t.view c.args.name.now t.columns t.heading, ← c.if-is_same.ensures, c.in_ok-copy.ensures) refl
 
-pub returns-then-is_same-2 : goal.returns-then-is_same-2
-returns-then-is_same-2 c =
+pub returns-then-is_same-2-clause-value : goal.returns-then-is_same-2-clause-value
+returns-then-is_same-2-clause-value c =
     let t = c.args.self.now in
     rw (known_two t.relation t.view c.args.name.now t.columns t.heading, ← c.if-is_same.ensures, ← c.if-is_same-2.ensures, c.in_ok-copy-2.ensures) refl
 
-pub returns : goal.returns
-returns c =
+pub returns-clause-value : goal.returns-clause-value
+returns-clause-value c =
     let t = c.args.self.now in
     rw (known_two t.relation t.view c.args.name.now t.columns t.heading, ← c.if-is_same.ensures, ← c.if-is_same-2.ensures) refl
