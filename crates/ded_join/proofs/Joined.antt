@@ -2,7 +2,7 @@
 --
 -- What a list of some of the pairs mentions, and its lines, are those of all pairs. At a point where a pair holds, the values
 -- at the slots lie in the boxes of both conjunctions, so the boxes share them and the pair was picked.
-use Rattle.std.proofs.Common.{◌≡◌, ℕ, zero, suc, ◌+◌, ◌<◌, ◌≤◌, Bool, true, false, ◌&&◌, ◌||◌, List, [], ◌∷◌, ◌++◌, Vec, Global, length, take, get_or, ◌⊎◌, inl, inr, arith, refl, sym, ap, ◌∙◌, subst, true≢false, add-one}
+use Rattle.std.proofs.Common.{◌≡◌, ℕ, zero, suc, ◌+◌, ◌<◌, Bool, true, false, ◌&&◌, List, [], ◌∷◌, ◌++◌, Vec, Global, length, take, get_or, ◌⊎◌, inl, inr, arith, refl, sym, ap, ◌∙◌, subst, true≢false, add-one}
 use Rattle.std.specs.Prelude.{pos, ◌<ℤ◌}
 use Rattle.std.proofs.lemmas.Int.{ints}
 use Rattle.std.proofs.Math.Seq.{take-suc}
@@ -10,23 +10,20 @@ use Rattle.std.specs.List.{AllByRecursion, Contains, list_any}
 use Rattle.ded_model.specs.declared.slot.Slot.{Slot}
 use Rattle.ded_model.specs.Point.{Point, IsPoint}
 use Rattle.ded_model.specs.Cell.{conj_holds}
-use Rattle.ded_model.specs.Bound.{Fraction, value_at}
 use Rattle.ded_model.specs.Lines.{Line, In}
 use Rattle.ded_model.proofs.Rows.{or_left, or_right}
 use Rattle.ded_model.proofs.Points.{and_left, and_right}
 use Rattle.ded_model.proofs.Members.{or_split, In-left, In-right, In-split}
 use Rattle.ded_theory.specs.Conjunctions.{conj_mentions, conj_lines}
 use Rattle.ded_theory.proofs.Conjunctions.{conj_holds-append}
-use Rattle.ded_box.specs.Intervals.{IsPositive}
-use Rattle.ded_box.specs.Boxes.{AreValues, Shared, in_box}
-use Rattle.ded_genrel.specs.Lists.{conjs_hold, conjs_mention, conjs_lines, conjs_of, AreNormal, pairs_with, pairs}
+use Rattle.ded_box.specs.Boxes.{AreValues, Shared}
+use Rattle.ded_genrel.specs.Lists.{conjs_hold, conjs_lines, conjs_of, AreNormal, pairs_with, pairs}
 use Rattle.ded_genrel.specs.Operations.{IsMeet}
 use Rattle.ded_genrel.proofs.Items.{all-append, conjs_to, normal-at, pairs-push}
 use Rattle.ded_genrel.proofs.Laws.{meet_is, conjs_hold-append}
 use Rattle.ded_index.specs.declared.entry.Entry.{Entry}
 use Rattle.ded_index.specs.Entries.{Box, SomeEntry, AreFound}
-use Rattle.ded_index.proofs.Members.{some-all}
-use Rattle.ded_join.specs.Rounds.{values_at, IsRound, IsIndexOf, picked}
+use Rattle.ded_join.specs.Rounds.{values_at, IsRound, IsBoxOf, IsIndexOf, picked}
 
 -- the conjunction is one of the list
 abbrev Among : {A : Type 0} → List A → List (List A) → Type 0
@@ -134,19 +131,19 @@ values_positive (s ∷ ss) p i = (above p.den i.positive, values_positive ss p i
     above : (n : ℕ) → 0 < n → pos 0 <ℤ pos n
     above n h = omega (arith, ints)
 
-module _ {A : Type 0} (h : A → Point → Bool) (ss : List Slot) (c : List A) (cs : List (List A)) (es : List Entry) (x : Box) (js : List ℕ) (index : IsIndexOf h ss cs es) (round : IsRound h ss c x) (found : AreFound x es js) where
+module _ {A : Type 0} (h : A → Point → Bool) (m : A → Slot → Bool) (l : A → List Line) (ss : List Slot) (c : List A) (cs : List (List A)) (es : List Entry) (x : Box) (js : List ℕ) (index : IsIndexOf h m l ss cs es) (box : IsBoxOf h m l ss c x) (found : AreFound x es js) where
   -- the places that are found are places of conjunctions
   pub places_of : (ks : List ℕ) → ((j : ℕ) → Contains ks j → j < length cs) → AllByRecursion (λ j. j < length cs) ks
   places_of [] f = tt
   places_of (k ∷ ks) f = (f k (zero, omega arith, refl), places_of ks (λ j m. f j (suc m.0, omega (arith, m.1), m.2)))
 
-  inside : (j : ℕ) (ys : List Entry) → SomeEntry (λ e. (e.id ≡ j) × Shared e.bounds x) ys → AllByRecursion (λ e. e.id < length cs) ys → j < length cs
+  inside : (j : ℕ) (ys : List Entry) → SomeEntry (λ e. (e.id ≡ j) × Shared e.bounds x) ys → AllByRecursion (λ e. (e.id < length cs) × IsBoxOf h m l ss (get_or cs e.id []) e.bounds) ys → j < length cs
   inside j [] s w = absurd s
-  inside j (y ∷ ys) (inl a) w = subst (λ n. n < length cs) a.0 w.0
+  inside j (y ∷ ys) (inl a) w = subst (λ n. n < length cs) a.0 w.0.0
   inside j (y ∷ ys) (inr b) w = inside j ys b w.1
 
   pub places : AllByRecursion (λ j. j < length cs) js
-  places = places_of js (λ j m. inside j es ((found.exact j).0 m) index.within)
+  places = places_of js (λ j m. inside j es ((found.exact j).0 m) index.own)
 
   some_weaker : (P Q : Entry → Type 0) (ys : List Entry) → ((e : Entry) → P e → Q e) → SomeEntry P ys → SomeEntry Q ys
   some_weaker P Q [] f s = absurd s
@@ -162,7 +159,7 @@ module _ {A : Type 0} (h : A → Point → Bool) (ss : List Slot) (c : List A) (
         let first = and_left (conj_holds h c p) (conj_holds h (get_or cs a.place []) p) parts in
         let second = and_right (conj_holds h c p) (conj_holds h (get_or cs a.place []) p) parts in
         let near = some_weaker (λ e. (e.id ≡ a.place) × IsRound h ss (get_or cs a.place []) e.bounds) (λ e. (e.id ≡ a.place) × Shared e.bounds x) es
-        (λ e r. (r.0, record { values = values_at ss p; positive = values_positive ss p i; first = r.1 p i second; second = round p i first })) (index.each a.place a.inside) in
+        (λ e r. (r.0, record { values = values_at ss p; positive = values_positive ss p i; first = r.1 p i second; second = box.round p i first })) (index.each a.place a.inside) in
         let m = (found.exact a.place).1 near in
         picked_holds h c cs js p a.place m.0 m.1 m.2 a.holds;
   }

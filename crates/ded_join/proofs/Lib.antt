@@ -1,4 +1,5 @@
 pub mod Indexed
 pub mod Joined
+pub mod Nearness
 pub mod Rounding
 mod Truths

@@ -2,7 +2,7 @@
 ghost use Rattle.std.specs.Prelude.{◌≡◌, ◌<◌, ◌^◌, true, length, IfOk, ◌∷◌, []};
 ghost use Rattle.std.specs.List.{AllByRecursion};
 ghost use Rattle.ded_model.specs.declared.slot.Sort.TheVariants.{Rat};
-ghost use Rattle.ded_join.specs.Rounds.{AreRational, IsRound, IsIndexOf, interval_of};
+ghost use Rattle.ded_join.specs.Rounds.{AreRational, IsBoxOf, IsIndexOf, interval_of};
 
 use ded_box::BoundBox;
 use ded_genrel::GenRel;
@@ -13,7 +13,8 @@ use ded_model::slot::Slot;
 use ded_theory::{Span, Theory};
 use std::alloc::Global;
 
-/// The box of the bounds that the atoms give the slots. Its interval is empty where they hold nowhere.
+/// The box of the bounds that the atoms give the slots. Its intervals are empty where they hold nowhere, and those of atoms that
+/// aren't wide are exact.
 ///
 /// # Errors
 /// Want of memory.
@@ -24,7 +25,7 @@ pub(crate) fn box_round<T: Theory>(
 ) -> Result<BoundBox, NoMemory>
     requires normal { AllByRecursion T.normal atoms.now }
     requires rational { AreRational slots.now }
-    ensures { IfOk result (λ x. IsRound T.holds slots.now atoms.now x) }
+    ensures { IfOk result (λ x. IsBoxOf T.holds T.mentions T.lines slots.now atoms.now x) }
 {
     let mut spans = Vec::with_capacity(alloc, slots.len())?;
     for slot in slots {
@@ -58,7 +59,7 @@ pub(crate) fn index_of<T: Theory>(
 ) -> Result<BoxIndex, NoMemory>
     requires few { length list.now < 2 ^ 32 }
     requires rational { AreRational slots.now }
-    ensures { IfOk result (λ x. IsIndexOf T.holds slots.now list.now x) }
+    ensures { IfOk result (λ x. IsIndexOf T.holds T.mentions T.lines slots.now list.now x) }
 {
     let mut boxes = Vec::new(alloc);
     for conj in list.list() {

@@ -2,6 +2,7 @@
 ghost use Rattle.std.specs.Prelude.{◌≡◌, ◌+◌, ◌-◌, ◌<◌, ◌≤◌, ◌^◌, ◌++◌, min, length, IfOk};
 ghost use Rattle.std.specs.List.{AllByRecursion};
 ghost use Rattle.ded_genrel.specs.Operations.{IsMeet};
+ghost use Rattle.ded_join.specs.Near.{AreNearPairs};
 ghost use Rattle.ded_join.specs.Rounds.{AreRational, picked};
 
 use crate::boxes::{box_round, index_of};
@@ -15,7 +16,8 @@ use std::alloc::Global;
 const TOO_MANY: usize = 1 << 32;
 
 /// A list that holds where both do. It pairs conjunctions whose bounds on the slots share values, in the order of
-/// `GenRel::meet`; where no slots are given, or the second list has 2^32 conjunctions or more, it is `meet`.
+/// `GenRel::meet`; where no slots are given, or the second list has 2^32 conjunctions or more, it is `meet`. Else, of conjunctions
+/// that aren't wide, it pairs only those that hold somewhere and whose exact bounds at each slot share a value.
 ///
 /// # Errors
 /// Want of memory.
@@ -26,7 +28,8 @@ pub fn join<T: Theory>(
     slots: &[Slot],
 ) -> Result<GenRel<T>, NoMemory>
     requires { AreRational slots.now }
-    ensures { IfOk result (λ r. IsMeet T.holds T.mentions T.lines a.now b.now r) }
+    ensures is { IfOk result (λ r. IsMeet T.holds T.mentions T.lines a.now b.now r) }
+    ensures near { IfOk result (λ r. 0 < length slots.now → length b.now < 2 ^ 32 → AreNearPairs T.holds T.mentions T.lines slots.now a.now b.now r) }
 {
     if slots.is_empty() || b.list().len() >= TOO_MANY {
         a.meet(b)
@@ -48,6 +51,7 @@ pub fn join_counted<T: Theory>(
 ) -> Result<GenRel<T>, NoMemory>
     requires { AreRational slots.now }
     ensures is { IfOk result (λ r. IsMeet T.holds T.mentions T.lines a.now b.now r) }
+    ensures near { IfOk result (λ r. 0 < length slots.now → length b.now < 2 ^ 32 → AreNearPairs T.holds T.mentions T.lines slots.now a.now b.now r) }
     ensures met { IfOk result (λ r. met.new ≡ min (met.old + length r) (2 ^ 64 - 1)) }
 {
     let joined = join(alloc, a, b, slots)?;
@@ -62,9 +66,11 @@ fn join_by_index<T: Theory>(
     b: &GenRel<T>,
     slots: &[Slot],
 ) -> Result<GenRel<T>, NoMemory>
+    requires some { 0 < length slots.now }
     requires few { length b.now < 2 ^ 32 }
     requires rational { AreRational slots.now }
-    ensures { IfOk result (λ r. IsMeet T.holds T.mentions T.lines a.now b.now r) }
+    ensures is { IfOk result (λ r. IsMeet T.holds T.mentions T.lines a.now b.now r) }
+    ensures near { IfOk result (λ r. AreNearPairs T.holds T.mentions T.lines slots.now a.now b.now r) }
 {
     let index = index_of(alloc, b, slots)?;
     let mut out = GenRel::new(alloc);

@@ -1,4 +1,4 @@
-use Rattle.std.proofs.Common.{◌≡◌, ◌∙◌, ◌++◌, ◌∷◌, [], ◌<◌, ℕ, get_or, ap, sym, subst, length, take, append_assoc}
+use Rattle.std.proofs.Common.{◌∙◌, ◌++◌, ◌∷◌, [], ◌<◌, ℕ, get_or, ap, sym, subst, length, take, append_assoc}
 use Rattle.std.specs.List.{AllByRecursion}
 use Rattle.ded_genrel.proofs.Items.{all-append}
 use Rattle.ded_join.specs.Rounds.{picked}
