@@ -8,7 +8,8 @@ use Rattle.ded_model.specs.Logic.{also, logics, AllAtomsOf}
 use Rattle.ded_model.specs.Goal.{GoalForm, goal_form, goal_forms}
 use Rattle.ded_model.specs.PlanForm.{plan_form, plan_forms}
 use Rattle.ded_algebra.specs.Compile.{plan_of, plans_of}
-use Rattle.ded_algebra.specs.Compiled.{IsNormalGoalAtom, IsNormalGoal, HasByteTexts, IsOfBytes, IsCompiled}
+use Rattle.ded_model.specs.NormalGoal.{IsNormalGoalAtom, IsNormalGoal}
+use Rattle.ded_algebra.specs.Compiled.{HasByteTexts, IsOfBytes, IsCompiled}
 use Rattle.ded_algebra.proofs.PlanMeanings.{means}
 use Rattle.ded_algebra.proofs.PlanLines.{plan_of-length, plan_of-rank, plan_of-lines, plan_of-clashes}
 use Rattle.ded_algebra.proofs.PlanShapes.{plan_slots, plan_scans, conjunctive_plan}

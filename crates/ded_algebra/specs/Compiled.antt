@@ -1,39 +1,18 @@
 -- What is promised of the plan of a goal.
-use Rattle.std.specs.Prelude.{◌≡◌, ◌↔◌, ◌<◌, ◌≤◌, ℕ, Bool, true, false, ◌&&◌, List, [], ◌∷◌, map}
+use Rattle.std.specs.Prelude.{◌≡◌, ◌↔◌, ◌≤◌, ℕ, Bool, true, false, ◌&&◌, List, [], ◌∷◌, map}
 use Rattle.std.specs.Str.{bytes_eq}
 use Rattle.ded_model.specs.declared.slot.Slot.{Slot}
 use Rattle.ded_model.specs.declared.slot.Sort.{Sort}
 use Rattle.ded_model.specs.declared.slot.Sort.TheVariants.{Rat, Text}
 use Rattle.ded_model.specs.declared.goal.Place.{Place}
 use Rattle.ded_model.specs.declared.goal.Place.TheVariants.{At, Value, Quoted}
-use Rattle.ded_model.specs.declared.tuple.ThemeAtom.{ThemeAtom}
-use Rattle.ded_model.specs.declared.tuple.ThemeAtom.TheVariants.{EqText, NeText, EqSlot, NeSlot}
 use Rattle.ded_model.specs.Point.{Key, AllBytes, Point, IsPoint, same_sort}
-use Rattle.ded_model.specs.Normal.{IsNormalRow}
 use Rattle.ded_model.specs.Logic.{some_atom, count_atoms, conjunctive, AllAtoms}
 use Rattle.ded_model.specs.Goal.{GoalAtom, linear, theme, member, GoalForm, goal_mentions}
 use Rattle.ded_model.specs.PlanForm.{PlanAtom, scan, rows, PlanForm, plan_mentions}
 use Rattle.ded_model.specs.Catalogue.{Catalogue, GoalHolds, PlanHolds}
 use Rattle.ded_model.specs.Lines.{IsSubset}
 use Rattle.ded_model.specs.Measure.{Measures, goal_b, goal_rank, goal_lines, goal_clashes, plan_b, plan_rank, plan_lines, plan_clashes}
-
--- ---- goals whose atoms are normal
-
--- over text slots, of two the one of lesser number first
-abbrev pub IsOrderedTheme : ThemeAtom → Type 0
-IsOrderedTheme (EqText s t) = s.sort ≡ Text
-IsOrderedTheme (NeText s t) = s.sort ≡ Text
-IsOrderedTheme (EqSlot s t) = (s.sort ≡ Text) × (t.sort ≡ Text) × (s.number < t.number)
-IsOrderedTheme (NeSlot s t) = (s.sort ≡ Text) × (t.sort ≡ Text) × (s.number < t.number)
-
-abbrev pub IsNormalGoalAtom : GoalAtom → Type 0
-IsNormalGoalAtom (linear r) = IsNormalRow r
-IsNormalGoalAtom (theme a) = IsOrderedTheme a
-IsNormalGoalAtom (member n ts) = Unit {0}
-
--- the rows and text atoms of a goal are normal, as those of the goal of a formula are
-abbrev pub IsNormalGoal : GoalForm → Type 0
-IsNormalGoal g = AllAtoms IsNormalGoalAtom g
 
 -- ---- goals of byte texts
 

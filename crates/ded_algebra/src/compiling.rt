@@ -8,7 +8,8 @@ ghost use Rattle.ded_model.specs.PlanForm.{plan_form, plan_forms, rows, scan};
 ghost use Rattle.ded_model.specs.Point.{slot, AreDistinctSlots};
 ghost use Rattle.ded_model.specs.Slotted.{goal_atoms};
 ghost use Rattle.ded_algebra.specs.Compile.{row_plan, joined, projected, member_plan, plan_of, plans_of};
-ghost use Rattle.ded_algebra.specs.Compiled.{IsOrderedTheme, IsNormalGoalAtom, IsNormalGoal, AreByteTexts, HasByteTexts, IsOfBytes, IsCompiled};
+ghost use Rattle.ded_model.specs.NormalGoal.{IsOrderedTheme, IsNormalGoalAtom, IsNormalGoal};
+ghost use Rattle.ded_algebra.specs.Compiled.{AreByteTexts, HasByteTexts, IsOfBytes, IsCompiled};
 
 use crate::arguments::{first_free, quoted};
 use crate::scanning::{Scanning, rows_of};

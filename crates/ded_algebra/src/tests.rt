@@ -1,7 +1,7 @@
 //! The shapes of plans.
 ghost use Rattle.std.specs.Prelude.{IfOk};
 ghost use Rattle.ded_model.specs.Goal.{goal_form};
-ghost use Rattle.ded_algebra.specs.Compiled.{IsNormalGoal};
+ghost use Rattle.ded_model.specs.NormalGoal.{IsNormalGoal};
 
 use crate::compile;
 use ded_model::goal::{Goal, Place, Places, SlotTerm};

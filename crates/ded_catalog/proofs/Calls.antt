@@ -21,7 +21,7 @@ use Rattle.ded_model.specs.Slotted.{goal_of}
 use Rattle.ded_model.specs.Width.{tuple_length}
 use Rattle.ded_sorts.specs.Causes.{insert_refusal, is_relation_with}
 use Rattle.ded_sorts.specs.Changes.{ChangesEntry, DropsEntry, Inserts, Deletes}
-use Rattle.ded_sorts.specs.Entries.{entry_of, stored_in, inserts_in, tuples_in, known, columns_in, entry_uses}
+use Rattle.ded_model.specs.Entries.{entry_of, stored_in, inserts_in, tuples_in, known, columns_in, entry_uses}
 use Rattle.ded_catalog.specs.declared.stored.Relation.{Relation}
 use Rattle.ded_catalog.specs.declared.stored.View.{View}
 use Rattle.ded_catalog.specs.declared.stored.Stored.{Stored}

@@ -4,7 +4,7 @@ use Rattle.std.specs.List.{list_any}
 use Rattle.ded_model.specs.Form.{form}
 use Rattle.ded_model.specs.Known.{KnownNames, AreEntriesOver, IsEntryOver, IsWellFormed, entry_known, with_known, known_from, known_of}
 use Rattle.ded_sorts.specs.Changes.{AddsEntry, ChangesEntry, DropsEntry}
-use Rattle.ded_sorts.specs.Entries.{entry_uses}
+use Rattle.ded_model.specs.Entries.{entry_uses}
 use Rattle.ded_catalog.specs.declared.stored.Stored.{Stored}
 use Rattle.ded_catalog.specs.declared.stored.Stored.TheVariants.{Relation, View}
 use Rattle.ded_catalog.specs.State.{Table, entry_form, entry_forms, catalogue_of}

@@ -10,7 +10,7 @@ use Rattle.std.proofs.lemmas.Option.{same_Some, none-some}
 use Rattle.std.proofs.lemmas.Slice.Eq.{bytes_eq-Decides}
 use Rattle.ded_model.specs.Catalogue.{entry_name}
 use Rattle.ded_model.specs.Known.{KnownNames, entry_known, with_known, known_from, known_of}
-use Rattle.ded_sorts.specs.Entries.{entry_of}
+use Rattle.ded_model.specs.Entries.{entry_of}
 use Rattle.ded_catalog.specs.declared.stored.Stored.{Stored}
 use Rattle.ded_catalog.specs.declared.stored.Stored.TheVariants.{View}
 use Rattle.ded_catalog.specs.declared.stored.Stored.TheVariants as stored

@@ -9,7 +9,7 @@ use Rattle.ded_model.specs.Form.{form}
 use Rattle.ded_model.specs.Goal.{goal_form}
 use Rattle.ded_model.specs.Row.{Atom}
 use Rattle.ded_model.specs.Slotted.{goal_of}
-use Rattle.ded_sorts.specs.Entries.{entry_of, stored_in, relation_in, view_in, known, entry_uses}
+use Rattle.ded_model.specs.Entries.{entry_of, stored_in, relation_in, view_in, known, entry_uses}
 use Rattle.ded_catalog.specs.declared.stored.Relation.{Relation}
 use Rattle.ded_catalog.specs.declared.stored.Stored.{Stored}
 use Rattle.ded_catalog.specs.declared.stored.Stored.TheVariants as stored

@@ -54,7 +54,7 @@ impl Catalogue {
     ghost use Rattle.ded_model.specs.Width.{tuple_length};
     ghost use Rattle.ded_sorts.specs.Causes.{insert_refusal, is_relation_with};
     ghost use Rattle.ded_sorts.specs.Changes.{AddsEntry, Inserts, Deletes, DropsEntry};
-    ghost use Rattle.ded_sorts.specs.Entries.{known, tuples_in, columns_in, entry_uses};
+    ghost use Rattle.ded_model.specs.Entries.{known, tuples_in, columns_in, entry_uses};
     ghost use Rattle.ded_catalog.specs.State.{catalogue_of};
 
     /// A catalogue without entries, whose relations may have `limit` tuples, 1 to 1,000,000. It takes no memory yet.

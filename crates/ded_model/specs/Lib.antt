@@ -4,6 +4,7 @@ pub mod Cell
 pub mod Coefs
 pub mod Command
 pub mod Constraint
+pub mod Entries
 pub mod Form
 pub mod Goal
 pub mod Grown
@@ -15,6 +16,7 @@ pub mod LongRows
 pub mod Measure
 pub mod Negation
 pub mod Normal
+pub mod NormalGoal
 pub mod Plain
 pub mod PlanForm
 pub mod Point

@@ -5,7 +5,7 @@ use Rattle.ded_model.specs.Known.{IsTupleOver}
 use Rattle.ded_model.specs.Width.{tuple_length}
 use Rattle.ded_sorts.specs.declared.checked.Checked.{Checked}
 use Rattle.ded_sorts.specs.declared.checked.Checked.TheVariants.{Insert}
-use Rattle.ded_sorts.specs.Entries.{columns_in}
+use Rattle.ded_model.specs.Entries.{columns_in}
 
 -- the tuple of an insert is over the columns of its relation, with numbers of at most 63 digits
 abbrev pub IsStorable : Catalogue → Checked → Type 0

@@ -10,7 +10,7 @@ ghost use Rattle.ded_model.specs.Slotted.{goal_of, tuple_of};
 ghost use Rattle.ded_model.specs.Width.{tuple_length};
 ghost use Rattle.ded_model.specs.Goal.{goal_form};
 ghost use Rattle.ded_sorts.specs.Checks.{known_form, IsResolved, HasNoCause, IsLeastCause};
-ghost use Rattle.ded_sorts.specs.Entries.{columns_in};
+ghost use Rattle.ded_model.specs.Entries.{columns_in};
 ghost use Rattle.ded_resolve.specs.Ready.{IsReady, AreReady};
 ghost use Rattle.ded_resolve.specs.Storing.{IsStorable};
 

@@ -23,7 +23,7 @@ use Rattle.ded_sorts.specs.declared.checked.Checked.{Checked}
 use Rattle.ded_sorts.specs.declared.checked.Checked.TheVariants as checked
 use Rattle.ded_sorts.specs.Causes.{is_relation_with, is_view_with}
 use Rattle.ded_sorts.specs.Checks.{IsResolved, HasNoCause, forms_of}
-use Rattle.ded_sorts.specs.Entries.{known, tuples_in, columns_in, entry_uses}
+use Rattle.ded_model.specs.Entries.{known, tuples_in, columns_in, entry_uses}
 use Rattle.ded_syntax.specs.Answered.{is_answered}
 use Rattle.ded_session.specs.Carrying.{IsReady, is_served, Carries}
 use Rattle.ded_session.specs.Replies.{ReplyForm}

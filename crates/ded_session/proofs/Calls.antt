@@ -15,7 +15,7 @@ use Rattle.ded_model.specs.Command.{CommandForm}
 use Rattle.ded_model.specs.Known.{Known, columns_with}
 use Rattle.ded_model.specs.Row.{Atom}
 use Rattle.ded_sorts.specs.Causes.{is_relation_with}
-use Rattle.ded_sorts.specs.Entries.{stored_in, relation_in}
+use Rattle.ded_model.specs.Entries.{stored_in, relation_in}
 use Rattle.ded_session.specs.Carrying.{Carries, refusal_left}
 use Rattle.ded_session.specs.Replies.{ReplyForm, done, refused}
 use Rattle.ded_session.specs.Steps.{Does}

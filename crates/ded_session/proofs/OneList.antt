@@ -9,7 +9,7 @@ use Rattle.ded_model.specs.Catalogue.{Catalogue}
 use Rattle.ded_model.specs.Command.{CommandForm, query, show, box_of, explain}
 use Rattle.ded_model.specs.PlanForm.{PlanForm}
 use Rattle.ded_model.specs.Row.{Atom}
-use Rattle.ded_sorts.specs.Entries.{columns_in, tuples_in}
+use Rattle.ded_model.specs.Entries.{columns_in, tuples_in}
 use Rattle.ded_syntax.specs.Answered.{is_answered}
 use Rattle.ded_syntax.proofs.One.{one_command}
 use Rattle.ded_session.specs.Replies.{tuples, stored, boxes, steps}

@@ -35,7 +35,7 @@ use Rattle.ded_model.specs.Width.{IsNarrowList, IsBoxNarrow, rational_columns}
 use Rattle.ded_syntax.specs.Spelling.{Spells}
 use Rattle.ded_sorts.specs.Changes.{AddsEntry, DropsEntry, Inserts, Deletes}
 use Rattle.ded_sorts.specs.Checks.{forms_of}
-use Rattle.ded_sorts.specs.Entries.{known, tuples_in, columns_in}
+use Rattle.ded_model.specs.Entries.{known, tuples_in, columns_in}
 use Rattle.ded_session.specs.Causes.{IsLeast, NoneApplies}
 use Rattle.ded_session.specs.Replies.{ReplyForm, done, number, truth, tuples, stored, boxes, steps, refused}
 

@@ -11,7 +11,7 @@ ghost use Rattle.ded_model.specs.Width.{tuple_length};
 ghost use Rattle.ded_catalog.specs.State.{catalogue_of};
 ghost use Rattle.ded_sorts.specs.Causes.{is_relation_with};
 ghost use Rattle.ded_sorts.specs.Checks.{forms_of};
-ghost use Rattle.ded_sorts.specs.Entries.{known, tuples_in, columns_in, entry_uses};
+ghost use Rattle.ded_model.specs.Entries.{known, tuples_in, columns_in, entry_uses};
 ghost use Rattle.ded_session.specs.Answered.{reply_form};
 ghost use Rattle.ded_session.specs.Carrying.{Carries};
 ghost use Rattle.ded_session.specs.Replies.{done, refused};

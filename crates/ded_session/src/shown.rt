@@ -3,7 +3,7 @@ ghost use Rattle.std.specs.Prelude.{◌≡◌, true, IfOk};
 ghost use Rattle.ded_model.specs.Command.{show};
 ghost use Rattle.ded_catalog.specs.State.{catalogue_of};
 ghost use Rattle.ded_sorts.specs.Causes.{is_relation_with};
-ghost use Rattle.ded_sorts.specs.Entries.{known, tuples_in, columns_in};
+ghost use Rattle.ded_model.specs.Entries.{known, tuples_in, columns_in};
 ghost use Rattle.ded_session.specs.Answered.{reply_form};
 ghost use Rattle.ded_session.specs.Carrying.{Carries};
 ghost use Rattle.ded_session.specs.Replies.{stored};

@@ -9,7 +9,7 @@ use Rattle.ded_model.specs.Catalogue.{Entry, Catalogue, entry_name, entry_column
 use Rattle.ded_model.specs.Catalogue as entry
 use Rattle.ded_model.specs.Known.{Known, KnownNames, AreEntriesOver, IsWellFormed, columns_with, entry_known, with_known, known_from, known_of}
 use Rattle.ded_sorts.specs.Causes.{is_relation_with, is_view_with}
-use Rattle.ded_sorts.specs.Entries.{entry_of, relation_in, view_in, known, columns_in}
+use Rattle.ded_model.specs.Entries.{entry_of, relation_in, view_in, known, columns_in}
 
 -- what is known where the entry of the name is this one: what was known before, or what is known of the entry
 abbrev pub KnownFrom : Option Entry → Option Known → Option Known → Type 0

@@ -12,7 +12,7 @@ use Rattle.ded_model.specs.Form.{Form, FormAtom, compare}
 use Rattle.ded_model.specs.Known.{Known, level_of, is_many, has_twice, uses_unknown, has_other_arity, has_unbound, has_missorted, scope_of, operand_sort}
 use Rattle.ded_model.specs.Logic.{Scope, every_of, some_below}
 use Rattle.ded_model.specs.Point.{same_sort}
-use Rattle.ded_sorts.specs.Entries.{entry_of, inserts_in, tuples_in, known, columns_in, entry_uses}
+use Rattle.ded_model.specs.Entries.{entry_of, inserts_in, tuples_in, known, columns_in, entry_uses}
 
 -- ---- causes of the refusals that a command has over a catalogue
 

@@ -15,7 +15,7 @@ use Rattle.ded_sorts.specs.declared.names.Known.{Known}
 use Rattle.ded_sorts.specs.declared.names.Known.TheVariants.{Relation, View}
 use Rattle.ded_sorts.specs.declared.checked.Checked.{Checked}
 use Rattle.ded_sorts.specs.declared.checked.Checked.TheVariants as checked
-use Rattle.ded_sorts.specs.Entries.{columns_in}
+use Rattle.ded_model.specs.Entries.{columns_in}
 use Rattle.ded_sorts.specs.Causes.{has_cause}
 
 -- ---- what is known of a name

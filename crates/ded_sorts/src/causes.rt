@@ -5,7 +5,7 @@ ghost use Rattle.ded_model.specs.Form.{form, forms};
 ghost use Rattle.ded_model.specs.Known.{scope_of, uses_unknown};
 ghost use Rattle.ded_model.specs.Logic.{some_below, some_below_of};
 ghost use Rattle.ded_sorts.specs.Causes as cause;
-ghost use Rattle.ded_sorts.specs.Entries.{known, columns_in};
+ghost use Rattle.ded_model.specs.Entries.{known, columns_in};
 
 use crate::atoms::{AtomTest, some_atom, some_atom_of};
 use crate::names::Names;

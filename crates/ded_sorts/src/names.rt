@@ -49,7 +49,7 @@ impl Known {
 
 /// The names that a command may use. A value stands for a catalogue.
 pub trait Names {
-    ghost use Rattle.ded_sorts.specs.Entries.{known, tuples_in, entry_uses};
+    ghost use Rattle.ded_model.specs.Entries.{known, tuples_in, entry_uses};
 
     /// The catalogue that the value stands for.
     ghost catalogue: { Self → Catalogue };

@@ -6,7 +6,7 @@ ghost use Rattle.ded_model.specs.Known as model;
 ghost use Rattle.ded_model.specs.Known.{is_unbound_operand, is_unbound_atom, is_missorted_atom};
 ghost use Rattle.ded_model.specs.Point.{same_sort};
 ghost use Rattle.ded_sorts.specs.Causes.{is_rational_inequality};
-ghost use Rattle.ded_sorts.specs.Entries.{known};
+ghost use Rattle.ded_model.specs.Entries.{known};
 ghost use Rattle.ded_sorts.specs.Scopes.{scope_form};
 
 use crate::atoms::AtomTest;

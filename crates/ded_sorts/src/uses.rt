@@ -3,7 +3,7 @@ ghost use Rattle.std.specs.Prelude.{◌≡◌, IfOk};
 ghost use Rattle.ded_model.specs.Form.{form, forms};
 ghost use Rattle.ded_model.specs.Known.{is_unknown_atom, is_arity_atom, atom_level, level_with};
 ghost use Rattle.ded_model.specs.Logic.{greatest, greatest_of};
-ghost use Rattle.ded_sorts.specs.Entries.{known};
+ghost use Rattle.ded_model.specs.Entries.{known};
 
 use crate::atoms::AtomTest;
 use crate::names::Names;

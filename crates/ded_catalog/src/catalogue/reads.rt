@@ -18,7 +18,7 @@ impl Catalogue {
     ghost use Rattle.ded_model.specs.Known.{IsWellFormed};
     ghost use Rattle.ded_model.specs.Slotted.{goal_of};
     ghost use Rattle.ded_sorts.specs.Causes.{insert_refusal, is_relation_with};
-    ghost use Rattle.ded_sorts.specs.Entries.{known, entry_of, relation_in, view_in};
+    ghost use Rattle.ded_model.specs.Entries.{known, entry_of, relation_in, view_in};
     ghost use Rattle.ded_catalog.specs.State.{catalogue_of};
 
     /// Every catalogue is well formed: each entry has a new name, the tuples of a relation are normal, over its columns

@@ -1,6 +1,6 @@
 -- The tuple is that of the command's comparisons, over the relation's columns.
 use Rattle.std.proofs.Common.{refl}
-use Rattle.ded_sorts.specs.Entries.{columns_in}
+use Rattle.ded_model.specs.Entries.{columns_in}
 use Rattle.ded_resolve.proofs.Readiness.{tuple_is}
 use Rattle.ded_resolve.proofs.resolving.insertion.Goals as goal
 

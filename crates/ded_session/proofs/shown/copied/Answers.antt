@@ -3,7 +3,7 @@ use Rattle.std.proofs.Common.{ap, sym, ◌∙◌, List, ℕ}
 use Rattle.ded_model.specs.declared.name.Column.{Column}
 use Rattle.ded_model.specs.Row.{Atom}
 use Rattle.ded_catalog.specs.State.{catalogue_of}
-use Rattle.ded_sorts.specs.Entries.{entry_of, known, columns_in}
+use Rattle.ded_model.specs.Entries.{entry_of, known, columns_in}
 use Rattle.ded_sorts.proofs.KnownEntries.{relation_there}
 use Rattle.ded_session.specs.Replies.{stored}
 use Rattle.ded_session.proofs.Calls.{columns_shown, tuples_shown, list_there}

@@ -1,5 +1,5 @@
 use Rattle.ded_model.specs.Known.{is_unknown_atom}
-use Rattle.ded_sorts.specs.Entries.{known}
+use Rattle.ded_model.specs.Entries.{known}
 use Rattle.ded_sorts.proofs.Unscoped.{some_below-unscoped}
 use Rattle.ded_sorts.proofs.causes.uses_undefined.Goals as goal
 

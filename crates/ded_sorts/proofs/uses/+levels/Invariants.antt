@@ -2,7 +2,7 @@ use Rattle.std.proofs.Common.{◌≡◌, max, drop}
 use Rattle.ded_model.specs.Form.{forms}
 use Rattle.ded_model.specs.Known.{atom_level}
 use Rattle.ded_model.specs.Logic.{greatest_of}
-use Rattle.ded_sorts.specs.Entries.{known}
+use Rattle.ded_model.specs.Entries.{known}
 use Rattle.ded_sorts.proofs.uses.+levels.Given as goal
 
 abbrev pub invariant-greatest_level_of-loop-formula : goal.invariant-greatest_level_of-loop-formula

@@ -1,7 +1,7 @@
 use Rattle.std.proofs.Common.{◌≡◌, ◌==◌, true, sym, subst}
 use Rattle.std.specs.List.{list_any}
 use Rattle.ded_sorts.specs.Changes.{Deletes}
-use Rattle.ded_sorts.specs.Entries.{tuples_in}
+use Rattle.ded_model.specs.Entries.{tuples_in}
 use Rattle.ded_catalog.specs.State.{catalogue_of}
 use Rattle.ded_catalog.proofs.Calls.{tuple_there, kept-removed, deletes}
 use Rattle.ded_catalog.proofs.catalogue.Catalogue.delete.Goals as goal

@@ -1,7 +1,7 @@
 use Rattle.std.proofs.Common.{◌≡◌, true, false, is_some, sym, subst}
 use Rattle.std.specs.List.{list_any}
 use Rattle.ded_sorts.specs.Changes.{DropsEntry}
-use Rattle.ded_sorts.specs.Entries.{known, entry_uses}
+use Rattle.ded_model.specs.Entries.{known, entry_uses}
 use Rattle.ded_catalog.specs.State.{catalogue_of}
 use Rattle.ded_catalog.proofs.Calls.{name_there, kept-taken, drops-taken}
 use Rattle.ded_catalog.proofs.catalogue.Catalogue.drop_name.Goals as goal

@@ -1,7 +1,7 @@
 use Rattle.std.proofs.Common.{ap, ◌∙◌}
 use Rattle.std.specs.Option.{option_map}
 use Rattle.ded_model.specs.Form.{form}
-use Rattle.ded_sorts.specs.Entries.{entry_of, view_in}
+use Rattle.ded_model.specs.Entries.{entry_of, view_in}
 use Rattle.ded_catalog.specs.State.{catalogue_of}
 use Rattle.ded_catalog.proofs.Reading.{formula_there}
 use Rattle.ded_catalog.proofs.catalogue.Catalogue.formula.Goals as goal

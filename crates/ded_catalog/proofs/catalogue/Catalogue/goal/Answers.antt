@@ -2,7 +2,7 @@ use Rattle.std.proofs.Common.{ap, ◌∙◌}
 use Rattle.std.specs.Option.{option_map}
 use Rattle.ded_model.specs.Goal.{goal_form}
 use Rattle.ded_model.specs.Slotted.{goal_of}
-use Rattle.ded_sorts.specs.Entries.{entry_of, view_in}
+use Rattle.ded_model.specs.Entries.{entry_of, view_in}
 use Rattle.ded_catalog.specs.State.{catalogue_of}
 use Rattle.ded_catalog.proofs.Reading.{goal_there}
 use Rattle.ded_catalog.proofs.catalogue.Catalogue.goal.Goals as goal

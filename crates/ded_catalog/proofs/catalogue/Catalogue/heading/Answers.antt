@@ -1,6 +1,6 @@
 use Rattle.std.proofs.Common.{ap, ◌∙◌}
 use Rattle.std.specs.Option.{option_map}
-use Rattle.ded_sorts.specs.Entries.{known}
+use Rattle.ded_model.specs.Entries.{known}
 use Rattle.ded_catalog.specs.State.{catalogue_of}
 use Rattle.ded_catalog.proofs.Reading.{heading_there}
 use Rattle.ded_catalog.proofs.catalogue.Catalogue.heading.Goals as goal

@@ -4,7 +4,7 @@ use Rattle.ded_model.specs.declared.command.Refusal.TheVariants.{Memory}
 use Rattle.ded_model.specs.Known.{IsTupleOver}
 use Rattle.ded_sorts.specs.Causes.{insert_refusal, is_relation_with}
 use Rattle.ded_sorts.specs.Changes.{Inserts}
-use Rattle.ded_sorts.specs.Entries.{known, columns_in}
+use Rattle.ded_model.specs.Entries.{known, columns_in}
 use Rattle.ded_catalog.specs.State.{catalogue_of}
 use Rattle.ded_catalog.proofs.Calls.{relation_there, refusal_there, kept-pushed, kept-same, inserts, same_catalogue}
 use Rattle.ded_catalog.proofs.Results.{either, if_ok_by, if_err_by, on_err}

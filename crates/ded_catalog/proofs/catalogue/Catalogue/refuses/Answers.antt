@@ -1,6 +1,6 @@
 use Rattle.std.proofs.Common.{◌≡◌, true, is_some, ap, sym, ◌∙◌, subst, true≢false}
 use Rattle.ded_sorts.specs.Causes.{insert_refusal, is_relation_with}
-use Rattle.ded_sorts.specs.Entries.{known}
+use Rattle.ded_model.specs.Entries.{known}
 use Rattle.ded_catalog.specs.State.{catalogue_of}
 use Rattle.ded_catalog.proofs.Calls.{relation_there, refusal_there}
 use Rattle.ded_catalog.proofs.Reading.{relation_found}

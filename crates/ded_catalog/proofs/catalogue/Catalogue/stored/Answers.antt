@@ -1,6 +1,6 @@
 use Rattle.std.proofs.Common.{Some, ap, ◌∙◌}
 use Rattle.std.specs.Option.{option_map}
-use Rattle.ded_sorts.specs.Entries.{entry_of, relation_in}
+use Rattle.ded_model.specs.Entries.{entry_of, relation_in}
 use Rattle.ded_catalog.specs.State.{catalogue_of}
 use Rattle.ded_catalog.proofs.Reading.{tuples_there}
 use Rattle.ded_catalog.proofs.catalogue.Catalogue.stored.Goals as goal

@@ -1,6 +1,6 @@
 use Rattle.std.proofs.Common.{◌==◌, sym, ap, ◌∙◌, subst}
 use Rattle.std.specs.List.{list_any}
-use Rattle.ded_sorts.specs.Entries.{tuples_in, stored_in}
+use Rattle.ded_model.specs.Entries.{tuples_in, stored_in}
 use Rattle.ded_catalog.specs.State.{catalogue_of}
 use Rattle.ded_catalog.specs.Tuples.{IsAscending}
 use Rattle.ded_catalog.proofs.Calls.{ascending_there, entry_there}

@@ -1,6 +1,6 @@
 use Rattle.std.proofs.Common.{◌≤◌, ap, sym, ◌∙◌, length, refl, subst}
 use Rattle.ded_model.specs.Known.{columns_with}
-use Rattle.ded_sorts.specs.Entries.{known}
+use Rattle.ded_model.specs.Entries.{known}
 use Rattle.ded_catalog.specs.State.{catalogue_of}
 use Rattle.ded_catalog.proofs.Calls.{is_known, few_known}
 use Rattle.ded_catalog.proofs.Results.{if_ok_by}

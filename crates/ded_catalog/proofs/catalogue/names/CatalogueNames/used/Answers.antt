@@ -1,6 +1,6 @@
 use Rattle.std.proofs.Common.{ap, ◌∙◌}
 use Rattle.std.specs.List.{list_any}
-use Rattle.ded_sorts.specs.Entries.{entry_uses}
+use Rattle.ded_model.specs.Entries.{entry_uses}
 use Rattle.ded_catalog.specs.State.{catalogue_of}
 use Rattle.ded_catalog.proofs.Reading.{uses_there}
 use Rattle.ded_catalog.proofs.catalogue.names.CatalogueNames.used.Goals as goal
