@@ -1,3 +1,4 @@
 pub mod Compile
 pub mod Compiled
+pub mod Evaluation
 pub mod Gathering

@@ -44,7 +44,7 @@ pub fn minus<T: Theory>(
     let mut out = GenRel::new(alloc);
     for conj in from.list() {
         let pieces = outside(alloc, copy_conj::<T>(alloc, conj)?, taken)?;
-        push_all(&mut out, pieces)?;
+        out.append(pieces)?;
     }
     Ok(out)
 }
@@ -64,14 +64,4 @@ fn outside<T: Theory>(
         pieces = without(alloc, pieces, conj)?;
     }
     Ok(pieces)
-}
-
-/// Sets the conjunctions of the second list at the end of the first.
-fn push_all<T: Theory>(out: &mut GenRel<T>, more: GenRel<T>) -> Result<(), NoMemory>
-    ensures { IfOk result (λ _. out.new ≡ out.old ++ more) }
-{
-    for conj in more.conjs {
-        out.push(conj)?;
-    }
-    Ok(())
 }

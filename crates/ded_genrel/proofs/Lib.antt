@@ -1,4 +1,5 @@
 pub mod Emptiness
+pub mod Inhabited
 pub mod Items
 pub mod Laws
 pub mod Projected

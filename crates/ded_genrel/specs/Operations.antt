@@ -3,7 +3,7 @@ use Rattle.std.specs.Prelude.{◌≡◌, ◌<◌, ◌↔◌, Bool, true, false, 
 use Rattle.std.specs.List.{AllByRecursion}
 use Rattle.ded_model.specs.declared.slot.Slot.{Slot}
 use Rattle.ded_model.specs.Point.{Point, IsPoint, same_slot}
-use Rattle.ded_model.specs.Cell.{HoldsSomewhere}
+use Rattle.ded_model.specs.Cell.{conj_holds, HoldsSomewhere}
 use Rattle.ded_model.specs.Lines.{Line, IsSubset, elim_at}
 use Rattle.ded_model.specs.Renaming.{renamed, IsRenamedPoint, mapped_lines}
 use Rattle.ded_theory.specs.declared.answers.Verdict.{Verdict}
@@ -43,6 +43,11 @@ pub record IsRenaming (map : List (Slot × Slot)) (h h' : Point → Bool) (m m' 
   pub holds : (p q : Point) → 0 < p.den → IsRenamedPoint map m p q → h' q ≡ h p
   pub slots : (t : Slot) → m' t ≡ true → (s : Slot) × (m s ≡ true) × (renamed map s ≡ t)
   pub lines : l' ≡ mapped_lines map l
+
+-- the list without conjunctions that no point satisfies: each that is kept is wide or holds somewhere
+pub record IsInhabitedPart {A : Type 0} (h : A → Point → Bool) (m : A → Slot → Bool) (l : A → List Line) (conjs out : List (List A)) : Type 0 where
+  pub is : IsOperation h m l (conjs_hold h conjs) (conjs_mention m conjs) (conjs_lines l conjs) out
+  pub kept : AllByRecursion (λ c. (IsWide m l c → ⊥) → HoldsSomewhere (conj_holds h c)) out
 
 -- `Empty` and `Inhabited` are so, and `Unknown` comes only of a wide conjunction
 abbrev pub IsVerdictOn : {A : Type 0} → (A → Point → Bool) → (A → Slot → Bool) → (A → List Line) → List (List A) → Verdict → Type 0

@@ -4,7 +4,7 @@ ghost use Rattle.std.specs.List.{AllByRecursion};
 ghost use Rattle.ded_model.specs.declared.memory.Refused.TheVariants.{Wide};
 ghost use Rattle.ded_model.specs.Renaming.{IsOneToOne, KeepsSorts};
 ghost use Rattle.ded_genrel.specs.Lists.{conjs_of, AreNormal, conjs_hold, conjs_mention, conjs_lines, conjs_clash, pairs_with, pairs};
-ghost use Rattle.ded_genrel.specs.Operations.{IsUnion, IsMeet, IsProjection, IsRenaming, IsVerdictOn};
+ghost use Rattle.ded_genrel.specs.Operations.{IsUnion, IsMeet, IsProjection, IsRenaming, IsInhabitedPart, IsVerdictOn};
 
 use crate::conjunction::{both_conjs, copy_conj, renamed_conj};
 use ded_model::memory::{NoMemory, Refused};
@@ -154,6 +154,44 @@ impl<T: Theory> GenRel<T> {
             }
         }
         Ok(verdict)
+    }
+
+    /// The list without conjunctions that no point satisfies: each that is kept is wide or holds somewhere.
+    ///
+    /// # Errors
+    /// Want of memory.
+    pub fn inhabited(self) -> Result<Self, NoMemory>
+        ensures { IfOk result (λ r. IsInhabitedPart T.holds T.mentions T.lines self r) }
+    {
+        let mut out = GenRel::new(*self.conjs.allocator());
+        for conj in self.conjs {
+            out.push_inhabited(conj)?;
+        }
+        Ok(out)
+    }
+
+    /// Sets the conjunctions of another list at the end.
+    ///
+    /// # Errors
+    /// Want of memory.
+    pub fn append(&mut self, more: Self) -> Result<(), NoMemory>
+        ensures { IfOk result (λ _. self.new ≡ self.old ++ more) }
+    {
+        for conj in more.conjs {
+            self.push(conj)?;
+        }
+        Ok(())
+    }
+
+    /// Sets the conjunction at the end, unless no point satisfies it.
+    fn push_inhabited(&mut self, conj: Vec<T::Atom>) -> Result<(), NoMemory>
+        requires { AllByRecursion T.normal conj.items }
+        ensures { IfOk result (λ _. (conjs : List (List T.Atom)) → IsInhabitedPart T.holds T.mentions T.lines conjs self.old → IsInhabitedPart T.holds T.mentions T.lines (conjs ++ conj.items ∷ []) self.new) }
+    {
+        match T::refute(*self.conjs.allocator(), &conj)? {
+            Verdict::Empty => Ok(()),
+            _ => self.push(conj),
+        }
     }
 
     /// Sets copies of the conjunctions at the end.

@@ -16,8 +16,8 @@ pub loop-conj-preserved : goal.loop-conj-preserved
 loop-conj-preserved g c =
     let atoms = all_atoms c.args.from.now ++ all_atoms c.args.taken.now in
     let same = c.in_ok-copy_conj.ensures ∙ c.deref.ensures.value in
-    subtracting_more g.T.Theory.holds g.T.Theory.mentions g.T.Theory.lines g.T.Theory.cell atoms c.args.taken.now (conjs_of (take c.loop-conj.conj-index c.list-conj-items.result.now)) (conjs_of (take (c.loop-conj.conj-index + 1) c.list-conj-items.result.now)) c.loop-conj.out c.push_all.new.out c.in_ok-pieces.pieces
-    c.conj-item.result.items c.in_ok-copy_conj.field-0.items (conjs_to c.list-conj-items.result.now c.loop-conj.conj-index c.conj-item.result c.loop-conj-test.true c.conj-item.is) c.in_ok-push_all.ensures same c.loop-conj.invariant
+    subtracting_more g.T.Theory.holds g.T.Theory.mentions g.T.Theory.lines g.T.Theory.cell atoms c.args.taken.now (conjs_of (take c.loop-conj.conj-index c.list-conj-items.result.now)) (conjs_of (take (c.loop-conj.conj-index + 1) c.list-conj-items.result.now)) c.loop-conj.out c.append.new.self c.in_ok-pieces.pieces
+    c.conj-item.result.items c.in_ok-copy_conj.field-0.items (conjs_to c.list-conj-items.result.now c.loop-conj.conj-index c.conj-item.result c.loop-conj-test.true c.conj-item.is) c.in_ok-append.ensures same c.loop-conj.invariant
     (c.in_ok-pieces.ensures atoms
     (from_made g.T.Theory.holds g.T.Theory.mentions g.T.Theory.lines g.T.Theory.cell g.met.T.Theory.cells_tell c.args.from.now c.args.taken.now c.list-conj-items.result.now c.loop-conj.conj-index c.conj-item.result c.in_ok-copy_conj.field-0.items c.loop-conj-test.true c.conj-item.is c.list-conj-items.ensures.list same)
     (taken_among g.T.Theory.holds g.T.Theory.mentions g.T.Theory.lines g.T.Theory.cell c.args.from.now c.args.taken.now))

@@ -3,7 +3,7 @@ use Rattle.std.proofs.lemmas.Iterator.Adapters.{YieldsList-from_vec}
 use Rattle.std.proofs.lemmas.Iterator.Consumers.{YieldsList-turn}
 use Rattle.ded_genrel.specs.Lists.{conjs_of}
 use Rattle.ded_genrel.proofs.Items.{normal-at, conjs_of-append}
-use Rattle.ded_complement.proofs.difference.push_all.Goals as goal
+use Rattle.ded_genrel.proofs.list.GenRel.append.Goals as goal
 
 pub push-requires : goal.push-requires
 push-requires g c =
@@ -13,5 +13,5 @@ push-requires g c =
 
 pub loop-conj-preserved : goal.loop-conj-preserved
 loop-conj-preserved g c =
-    c.in_ok-push.ensures.pushed ∙ ap (λ xs. xs ++ c.in-Some.conj.items ∷ []) c.loop-conj.invariant ∙ append_assoc c.args.out.now (conjs_of c.loop-conj.yielded) (c.in-Some.conj.items ∷ [])
-    ∙ ap (λ xs. c.args.out.now ++ xs) (sym (conjs_of-append c.loop-conj.yielded (c.in-Some.conj ∷ [])))
+    c.in_ok-push.ensures.pushed ∙ ap (λ xs. xs ++ c.in-Some.conj.items ∷ []) c.loop-conj.invariant ∙ append_assoc c.args.self.now (conjs_of c.loop-conj.yielded) (c.in-Some.conj.items ∷ [])
+    ∙ ap (λ xs. c.args.self.now ++ xs) (sym (conjs_of-append c.loop-conj.yielded (c.in-Some.conj ∷ [])))

@@ -1,0 +1,64 @@
+-- What plans are evaluated over, and what an evaluation gives.
+use Rattle.std.specs.Prelude.{◌≡◌, ◌↔◌, ℕ, Bool, true, false, IsTrue, Option, Some, None, List, [], ◌∷◌, map}
+use Rattle.std.specs.Str.{bytes_eq}
+use Rattle.std.specs.List.{list_any, AllByRecursion}
+use Rattle.ded_model.specs.declared.slot.Slot.{Slot}
+use Rattle.ded_model.specs.declared.name.Column.{Column}
+use Rattle.ded_model.specs.Point.{slot, Point, IsPoint}
+use Rattle.ded_model.specs.Row.{Atom}
+use Rattle.ded_model.specs.Known.{IsTupleOver}
+use Rattle.ded_model.specs.Catalogue.{Entry, relation, view, Catalogue, entry_name, tuples_of, PlanHolds}
+use Rattle.ded_model.specs.Entries.{entry_of, relation_in}
+use Rattle.ded_model.specs.Logic.{AllAtoms}
+use Rattle.ded_model.specs.PlanForm.{PlanAtom, scan, rows, PlanForm, plan_mentions}
+use Rattle.ded_model.specs.Lines.{Line, IsSubset}
+use Rattle.ded_model.specs.Measure.{measures, plan_lines}
+use Rattle.std.specs.Option.{option_map}
+
+-- ---- what is given
+
+-- relations alone, each with a name of its own
+abbrev pub AreGiven : List Entry → Type 0
+AreGiven [] = Unit {0}
+AreGiven (relation n h m ts ∷ es) = (list_any (λ e. bytes_eq n (entry_name e)) es ≡ false) × AreGiven es
+AreGiven (view n h f ∷ es) = ⊥
+
+-- the tuples that stand under a name, none where it isn't given
+abbrev pub given_tuples : Catalogue → List ℕ → Option (List (List Atom))
+given_tuples c n = option_map tuples_of (relation_in (entry_of c.entries n))
+
+-- ---- plans that can be evaluated
+
+-- columns of the sorts of the slots that they are read into
+abbrev pub HaveSorts : List Column → List Slot → Type 0
+HaveSorts [] [] = Unit {0}
+HaveSorts [] (s ∷ ss) = ⊥
+HaveSorts (c ∷ h) [] = ⊥
+HaveSorts (c ∷ h) (s ∷ ss) = (c.sort ≡ s.sort) × HaveSorts h ss
+
+-- a relation with columns of the slots' sorts, whose tuples are normal, over its columns, and made of atoms that are read
+abbrev pub IsScannedFrom : (Atom → Type 0) → Option Entry → List Slot → Type 0
+IsScannedFrom Reads None ss = ⊥
+IsScannedFrom Reads (Some (relation n h m ts)) ss = HaveSorts h ss × AllByRecursion (λ t. IsTupleOver h t × AllByRecursion Reads t) (tuples_of ts)
+IsScannedFrom Reads (Some (view n h f)) ss = ⊥
+
+abbrev pub IsScannable : (Atom → Type 0) → Catalogue → PlanAtom → Type 0
+IsScannable Reads c (scan n ss) = IsScannedFrom Reads (entry_of c.entries n) ss
+IsScannable Reads c (rows t) = AllByRecursion Reads t
+
+-- each name that the plan scans has tuples over columns of the sorts of the scan's slots, and all atoms are such as can be read
+abbrev pub IsEvaluable : (Atom → Type 0) → Catalogue → PlanForm → Type 0
+IsEvaluable Reads c f = AllAtoms (IsScannable Reads c) f
+
+-- any atom is read
+abbrev pub IsAnyAtom : Atom → Type 0
+IsAnyAtom a = Unit {0}
+
+-- ---- what is given back
+
+-- what holds at points, mentions slots and has lines holds exactly where the plan does over the catalogue, mentions only slots that
+-- the plan mentions freely, and has lines among the plan's
+pub record IsEvaluation (c : Catalogue) (f : PlanForm) (test : Point → Bool) (used : Slot → Bool) (ls : List Line) : Type 0 where
+  pub holds : (p : Point) → IsPoint p → IsTrue (test p) ↔ PlanHolds c f p
+  pub slots : (s : Slot) → used s ≡ true → plan_mentions f (slot s) ≡ true
+  pub lines : IsSubset ls (plan_lines (measures c) f)

@@ -1,0 +1,19 @@
+//! Plans evaluated over given relations.
+//!
+//! The evaluation goes from the leaves of a plan to its root with the operations on lists of conjunctions: scans rename stored
+//! tuples, joins go through an index over boxes, differences and complements are cut piece by piece, and projections eliminate.
+//! Conjunctions that no point satisfies are dropped at once. It is written over any theory whose atoms stand for rows and text
+//! atoms ([`OfTuples`]).
+//!
+//! It stands on `ded_algebra` for what a plan is evaluated over and what an evaluation promises, and on `ded_join`,
+//! `ded_complement` and `ded_genrel` for the operations. The list that it gives holds exactly where the plan does, mentions only
+//! slots that the plan mentions freely, and has lines among the plan's; it gives up only where the plan clashes.
+#![tactic(auto)]
+
+mod evaluation;
+mod reading;
+mod scanning;
+mod slots;
+
+pub use evaluation::evaluate_counted;
+pub use reading::OfTuples;

@@ -1,0 +1,67 @@
+//! Tuples read as conjunctions of a theory.
+ghost use Rattle.std.specs.Prelude.{IfOk};
+ghost use Rattle.std.specs.List.{AllByRecursion};
+ghost use Rattle.ded_model.specs.Normal.{IsNormalAtom, IsNormalTuple};
+ghost use Rattle.ded_eval.specs.Reading.{IsConjunctionOf, IsListOf};
+
+use ded_genrel::GenRel;
+use ded_model::memory::NoMemory;
+use ded_model::tuple::{Atom, Tuple};
+use ded_theory::Theory;
+use std::alloc::Global;
+
+/// A theory whose atoms stand for rows and text atoms.
+pub trait OfTuples: Theory {
+    ghost use Rattle.std.specs.Prelude.{List};
+    ghost use Rattle.ded_model.specs.Coefs.{AreCoefs};
+    ghost use Rattle.ded_model.specs.Lines.{Line, In};
+    ghost use Rattle.ded_model.specs.Row.{Atom};
+    ghost use Rattle.ded_eval.specs.Reading.{StandsFor};
+
+    /// Whether a normal row or text atom can be read as an atom.
+    ghost reads: { Atom → Type 0 };
+
+    /// The atom that stands for a normal row or text atom.
+    fn read(atom: &Atom) -> Result<Self::Atom, NoMemory>
+        requires normal { IsNormalAtom atom.now }
+        requires reads { reads atom.now }
+        ensures stands { IfOk result (λ a. StandsFor holds mentions lines a atom.now) }
+        ensures normal { IfOk result normal };
+
+    /// The lines of an atom in normal form have rational slots in order.
+    ghost line_coefs: { (a : Self.Atom) (l : Line) → normal a → In l (lines a) → AreCoefs l.coefs };
+}
+
+/// The conjunction that stands for a tuple.
+///
+/// # Errors
+/// Want of memory.
+pub(crate) fn conjunction<T: OfTuples>(alloc: Global, tuple: &Tuple) -> Result<Vec<T::Atom>, NoMemory>
+    requires { AllByRecursion T.reads tuple.now }
+    ensures stands { IfOk result (λ v. IsConjunctionOf T.holds T.mentions T.lines v.items tuple.now) }
+    ensures normal { IfOk result (λ v. AllByRecursion T.normal v.items) }
+{
+    let mut atoms = Vec::with_capacity(alloc, tuple.atoms.len())?;
+    for atom in &tuple.atoms {
+        atoms.push(T::read(atom)?)?;
+    }
+    Ok(atoms)
+}
+
+/// The list of conjunctions that stands for a list of tuples.
+///
+/// # Errors
+/// Want of memory.
+pub(crate) fn conjunctions<T: OfTuples>(
+    alloc: Global,
+    tuples: &[Tuple],
+) -> Result<GenRel<T>, NoMemory>
+    requires { AllByRecursion (λ t. AllByRecursion T.reads t) tuples.now }
+    ensures { IfOk result (λ r. IsListOf T.holds T.mentions T.lines r tuples.now) }
+{
+    let mut list = GenRel::new(alloc);
+    for tuple in tuples {
+        list.push(conjunction::<T>(alloc, tuple)?)?;
+    }
+    Ok(list)
+}

@@ -1,0 +1,62 @@
+//! Scans: the tuples of a relation, its columns read into slots.
+ghost use Rattle.std.specs.Prelude.{◌≡◌, ◌≤◌, ◌^◌, IfOk, List, length};
+ghost use Rattle.std.specs.List.{AllByRecursion};
+ghost use Rattle.ded_model.specs.declared.name.Column.{Column};
+ghost use Rattle.ded_model.specs.Catalogue.{Catalogue};
+ghost use Rattle.ded_model.specs.Entries.{entry_of};
+ghost use Rattle.ded_model.specs.Logic.{atom};
+ghost use Rattle.ded_model.specs.PlanForm.{scan};
+ghost use Rattle.ded_model.specs.Point.{AreDistinctSlots};
+ghost use Rattle.ded_genrel.specs.Lists.{conjs_hold, conjs_mention, conjs_lines};
+ghost use Rattle.ded_algebra.specs.Evaluation.{IsScannedFrom, IsEvaluation};
+ghost use Rattle.ded_eval.specs.Scanning.{column_pairs};
+
+use crate::reading::{OfTuples, conjunctions};
+use ded_algebra::Relations;
+use ded_genrel::GenRel;
+use ded_model::memory::NoMemory;
+use ded_model::name::Name;
+use ded_model::slot::{Slot, Slots};
+use std::alloc::{AllocError, Global};
+
+/// The tuples of a name, its columns read into the slots.
+///
+/// # Errors
+/// Want of memory.
+pub(crate) fn scanned<T: OfTuples, R: Relations>(
+    alloc: Global,
+    name: &Name,
+    slots: &Slots,
+    relations: &R,
+) -> Result<GenRel<T>, NoMemory>
+    requires { IsScannedFrom T.reads (entry_of (R.catalogue relations.now).entries name.now) slots.now }
+    ensures { IfOk result (λ r. IsEvaluation (R.catalogue relations.now) (atom (scan name.now slots.now)) (conjs_hold T.holds r) (conjs_mention T.mentions r) (conjs_lines T.lines r)) }
+{
+    match relations.tuples(name) {
+        Some(tuples) => {
+            let pairs = column_pairs(alloc, &slots.list)?;
+            conjunctions::<T>(alloc, tuples)?.rename(&pairs)
+        }
+        None => unreachable!(),
+    }
+}
+
+/// Each column, by number from 0, with the slot that it is read into.
+///
+/// # Errors
+/// Want of memory, also where a column would have no number.
+fn column_pairs(alloc: Global, slots: &[Slot]) -> Result<Vec<(Slot, Slot)>, NoMemory>
+    ensures { IfOk result (λ v. v.items ≡ column_pairs 0 slots.now) }
+{
+    let mut pairs = Vec::with_capacity(alloc, slots.len())?;
+    let mut number: u32 = 0;
+    for slot in slots {
+        let column = Slot {
+            number,
+            sort: slot.sort,
+        };
+        pairs.push((column, *slot))?;
+        number = number.checked_add(1).ok_or(AllocError)?;
+    }
+    Ok(pairs)
+}
