@@ -25,11 +25,11 @@ pub trait OfTuples: Theory {
     fn read(atom: &Atom) -> Result<Self::Atom, NoMemory>
         requires normal { IsNormalAtom atom.now }
         requires reads { reads atom.now }
-        ensures stands { IfOk result (λ a. StandsFor holds mentions lines a atom.now) }
-        ensures normal { IfOk result normal };
+        ensures stands { IfOk result (λ a. StandsFor Self.holds Self.mentions Self.lines a atom.now) }
+        ensures normal { IfOk result Self.normal };
 
     /// The lines of an atom in normal form have rational slots in order.
-    ghost line_coefs: { (a : Self.Atom) (l : Line) → normal a → In l (lines a) → AreCoefs l.coefs };
+    ghost line_coefs: { (a : Self.Atom) (l : Line) → Self.normal a → In l (Self.lines a) → AreCoefs l.coefs };
 }
 
 /// The conjunction that stands for a tuple.

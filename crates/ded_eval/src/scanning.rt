@@ -1,5 +1,5 @@
 //! Scans: the tuples of a relation, its columns read into slots.
-ghost use Rattle.std.specs.Prelude.{◌≡◌, ◌≤◌, ◌^◌, IfOk, List, length};
+ghost use Rattle.std.specs.Prelude.{◌≡◌, ◌+◌, IfOk};
 ghost use Rattle.std.specs.List.{AllByRecursion};
 ghost use Rattle.ded_model.specs.declared.name.Column.{Column};
 ghost use Rattle.ded_model.specs.Catalogue.{Catalogue};
@@ -49,14 +49,21 @@ fn column_pairs(alloc: Global, slots: &[Slot]) -> Result<Vec<(Slot, Slot)>, NoMe
     ensures { IfOk result (λ v. v.items ≡ column_pairs 0 slots.now) }
 {
     let mut pairs = Vec::with_capacity(alloc, slots.len())?;
-    let mut number: u32 = 0;
+    let mut number = 0;
     for slot in slots {
         let column = Slot {
             number,
             sort: slot.sort,
         };
         pairs.push((column, *slot))?;
-        number = number.checked_add(1).ok_or(AllocError)?;
+        number = following(number)?;
     }
     Ok(pairs)
+}
+
+/// The next number; the greatest one has none.
+fn following(number: u32) -> Result<u32, NoMemory>
+    ensures { IfOk result (λ n. n ≡ number + 1) }
+{
+    number.checked_add(1).ok_or(AllocError)
 }

@@ -47,7 +47,7 @@ onto_step map out xs i l = sym (ap (renamed_onto map out) (split xs i l))
 -- ---- a coefficient at an absent slot
 
 -- nothing to cut
-cut-absent : (s : Slot) (cs : List (Slot × ℤ)) → has_slot cs s ≡ false → cut s cs ≡ cs
+pub cut-absent : (s : Slot) (cs : List (Slot × ℤ)) → has_slot cs s ≡ false → cut s cs ≡ cs
 cut-absent s [] h = refl
 cut-absent s (c ∷ cs) h = go (same_slot c.0 s) h (cut-absent s cs)
   where
@@ -60,20 +60,20 @@ sum_at-with_coef : (s : Slot) (a : ℤ) (cs : List (Slot × ℤ)) (p : Point) �
 sum_at-with_coef s a cs p h = sum_at-nonzero (put s a (cut s cs)) p ∙ ap (λ xs. sum_at (put s a xs) p) (cut-absent s cs h) ∙ sum_at-put s a cs p
 
 -- its slots are that one and those before
-with_coef_slots : (s : Slot) (a : ℤ) (cs : List (Slot × ℤ)) (t : Slot) → has_slot (with_coef s a cs) t ≡ true → (same_slot s t ≡ true) ⊎ (has_slot cs t ≡ true)
+pub with_coef_slots : (s : Slot) (a : ℤ) (cs : List (Slot × ℤ)) (t : Slot) → has_slot (with_coef s a cs) t ≡ true → (same_slot s t ≡ true) ⊎ (has_slot cs t ≡ true)
 with_coef_slots s a cs t h = elim (put_slots s a (cut s cs) t (nonzero_slots (put s a (cut s cs)) t h)) [ inl e ↦ inl e | inr e ↦ inr (cut_slots s cs t e).1 ]
 
 -- ---- all coefficients
 
 -- a slot below all others is absent
-absent-below : (s : Slot) (cs : List (Slot × ℤ)) → AllAbove s.number cs → has_slot cs s ≡ false
+pub absent-below : (s : Slot) (cs : List (Slot × ℤ)) → AllAbove s.number cs → has_slot cs s ≡ false
 absent-below s [] h = refl
 absent-below s (c ∷ cs) h = ap (λ b. b || has_slot cs s) (greater_slot c.0 s h.0) ∙ absent-below s cs h.1
 
 -- no new slot of the coefficients that are left is taken
-record AreFree (map : List (Slot × Slot)) (out cs : List (Slot × ℤ)) : Type 0 where
-  free : (s : Slot) → has_slot cs s ≡ true → has_slot out (renamed map s) ≡ false
-  apart : (s t : Slot) → has_slot cs s ≡ true → has_slot cs t ≡ true → renamed map s ≡ renamed map t → s ≡ t
+pub record AreFree (map : List (Slot × Slot)) (out cs : List (Slot × ℤ)) : Type 0 where
+  pub free : (s : Slot) → has_slot cs s ≡ true → has_slot out (renamed map s) ≡ false
+  pub apart : (s t : Slot) → has_slot cs s ≡ true → has_slot cs t ≡ true → renamed map s ≡ renamed map t → s ≡ t
 
 -- a test that isn't passed
 fails : (b : Bool) → (b ≡ true → ⊥) → b ≡ false
@@ -81,7 +81,7 @@ fails true h = absurd (h refl)
 fails false h = refl
 
 -- so it is after each step
-free_step : (map : List (Slot × Slot)) (out : List (Slot × ℤ)) (c : Slot × ℤ) (cs : List (Slot × ℤ)) → AreFree map out (c ∷ cs) → AreCoefs (c ∷ cs) → AreFree map (with_coef (renamed map c.0) c.1 out) cs
+pub free_step : (map : List (Slot × Slot)) (out : List (Slot × ℤ)) (c : Slot × ℤ) (cs : List (Slot × ℤ)) → AreFree map out (c ∷ cs) → AreCoefs (c ∷ cs) → AreFree map (with_coef (renamed map c.0) c.1 out) cs
 free_step map out c cs h k = record {
   free = λ s e. fails (has_slot (with_coef (renamed map c.0) c.1 out) (renamed map s)) (λ f. elim (with_coef_slots (renamed map c.0) c.1 out (renamed map s) f) [
     | inl g ↦ (let same = h.apart c.0 s (or_left _ _ (same_slot_refl c.0)) (or_right (same_slot c.0 s) _ e) (same_slot_is (renamed map c.0) (renamed map s) g) in
@@ -114,7 +114,7 @@ unfolding row_mentions
 free_first map r h = record { free = λ s e. refl; apart = λ s t e f g. h.apart s t e f g }
 
 -- a slot of the coefficients is rational
-is_rational : (s : Slot) (cs : List (Slot × ℤ)) → AreCoefs cs → has_slot cs s ≡ true → s.sort ≡ Rat
+pub is_rational : (s : Slot) (cs : List (Slot × ℤ)) → AreCoefs cs → has_slot cs s ≡ true → s.sort ≡ Rat
 is_rational s [] k e = absurd (true≢false (sym e))
 is_rational s (c ∷ cs) k e = go (same_slot c.0 s) refl e (is_rational s cs k.4)
   where
@@ -151,7 +151,7 @@ renamed_only map r t h = elim (onto_slots map [] r.coefs t (sym (row_mentions-no
 -- ---- coefficients
 
 -- the coefficients grow by the one that is set
-coef_at-with_coef : (s : Slot) (a : ℤ) (cs : List (Slot × ℤ)) (t : Slot) → has_slot cs s ≡ false → coef_at (with_coef s a cs) t ≡ cond (same_slot s t) a (pos 0) +ℤ coef_at cs t
+pub coef_at-with_coef : (s : Slot) (a : ℤ) (cs : List (Slot × ℤ)) (t : Slot) → has_slot cs s ≡ false → coef_at (with_coef s a cs) t ≡ cond (same_slot s t) a (pos 0) +ℤ coef_at cs t
 coef_at-with_coef s a cs t h = coef_at-nonzero (put s a (cut s cs)) t ∙ ap (λ xs. coef_at (put s a xs) t) (cut-absent s cs h) ∙ coef_at-put s a cs t
 
 -- two slots are the same where their new ones are
