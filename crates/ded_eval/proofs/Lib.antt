@@ -1,7 +1,10 @@
 pub mod ColumnCoefs
 pub mod ColumnPoints
 pub mod Columns
+pub mod Evaluated
 pub mod Given
 pub mod Pairs
+pub mod Parts
+pub mod Projected
 pub mod Scanned
 pub mod TuplesRead

@@ -22,11 +22,10 @@ use Rattle.ded_model.specs.Renaming.{renamed, IsOneToOne, KeepsSorts, mapped_lin
 use Rattle.ded_model.proofs.Members.{In-split, or_split}
 use Rattle.ded_model.proofs.Growth.{renamed-grows}
 use Rattle.ded_model.proofs.LineSlots.{has_slot}
-use Rattle.ded_theory.specs.Conjunctions.{conj_mentions, conj_lines}
-use Rattle.ded_theory.proofs.Conjunctions.{conj_line_slots}
-use Rattle.ded_model.proofs.Rows.{or_left, or_right}
+use Rattle.ded_theory.specs.Conjunctions.{conj_lines}
 use Rattle.ded_genrel.specs.Lists.{AreNormal, conjs_hold, conjs_mention, conjs_lines}
 use Rattle.ded_genrel.specs.Operations.{IsRenaming}
+use Rattle.ded_genrel.proofs.Laws.{conjs_line_slots}
 use Rattle.ded_algebra.specs.Evaluation.{HaveSorts, IsEvaluation}
 use Rattle.ded_eval.specs.Reading.{IsListOf}
 use Rattle.ded_eval.specs.Scanning.{column_pairs}
@@ -57,16 +56,9 @@ module _ {A : Type 0} (h : A → Point → Bool) (m : A → Slot → Bool) (l : 
   lines_of P each [] k x i = absurd i
   lines_of P each (c ∷ cs) k x i = ⊎_elim (λ (j : In x (l c)). each c x k.0 j) (λ j. lines_of P each cs k.1 x j) (In-split x (l c) (conj_lines l cs) i)
 
-  lists_lines : (P : Line → Type 0) → ((a : A) (x : Line) → n a → In x (l a) → P x) → (cs : List (List A)) → AreNormal n cs → (x : Line) → In x (conjs_lines l cs) → P x
+  pub lists_lines : (P : Line → Type 0) → ((a : A) (x : Line) → n a → In x (l a) → P x) → (cs : List (List A)) → AreNormal n cs → (x : Line) → In x (conjs_lines l cs) → P x
   lists_lines P each [] k x i = absurd i
   lists_lines P each (c ∷ cs) k x i = ⊎_elim (λ (j : In x (conj_lines l c)). lines_of P each c k.0 x j) (λ j. lists_lines P each cs k.1 x j) (In-split x (conj_lines l c) (conjs_lines l cs) i)
-
-  -- and mentions what the list does
-  list_line_slots : ((a : A) (x : Line) (s : Slot) → In x (l a) → row_mentions x s ≡ true → m a s ≡ true) → (cs : List (List A)) (x : Line) (s : Slot) → In x (conjs_lines l cs) → row_mentions x s ≡ true → conjs_mention m cs s ≡ true
-  list_line_slots each [] x s i e = absurd i
-  list_line_slots each (c ∷ cs) x s i e = ⊎_elim
-      (λ (j : In x (conj_lines l c)). or_left (conj_mentions m c s) (conjs_mention m cs s) (conj_line_slots l m each c x s j e))
-      (λ j. or_right (conj_mentions m c s) (conjs_mention m cs s) (list_line_slots each cs x s j e)) (In-split x (conj_lines l c) (conjs_lines l cs) i)
 
   module _ (Reads : Atom → Type 0) (c : Catalogue) (x : List ℕ) (ss : List Slot) (ts : List (List Atom)) (f : IsFound Reads c x ss ts) (list : List (List A)) (is : IsListOf h m l list ts) where
     -- the list is over the columns
@@ -100,4 +92,4 @@ module _ {A : Type 0} (h : A → Point → Bool) (m : A → Slot → Bool) (l : 
             r.holds (column_point q f.heading ss) q positive (columns_point q f.heading ss (conjs_mention m list) f.sorts columns) ∙ is.holds (column_point q f.heading ss)
 
         mapped : mapped_lines (column_pairs 0 ss) (conjs_lines l list) ≡ renamed_lines ss (conjs_lines l list)
-        mapped = mapped_columns f.heading ss f.sorts d (conjs_lines l list) (λ y i. (lists_lines (λ z. AreCoefs z.coefs) line_coefs list k y i, λ s e. columns s (list_line_slots line_slots list y s i (mentioned y s e))))
+        mapped = mapped_columns f.heading ss f.sorts d (conjs_lines l list) (λ y i. (lists_lines (λ z. AreCoefs z.coefs) line_coefs list k y i, λ s e. columns s (conjs_line_slots l m line_slots list y s i (mentioned y s e))))

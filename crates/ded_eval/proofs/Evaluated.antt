@@ -1,0 +1,179 @@
+-- Evaluations put together: what is done with the lists of the parts of a plan gives the list of the plan.
+use Rattle.std.proofs.Common.{◌≡◌, ℕ, zero, suc, ◌+◌, ◌<◌, ◌≤◌, Vec, Global, Bool, true, false, not, ◌&&◌, ◌||◌, List, [], ◌∷◌, ◌++◌, ◌⊎◌, ⊎_elim, inl, inr, length, get_or, take, map, arith, refl, sym, ap, ap₂, ◌∙◌, subst, true≢false, append_assoc, append-nil}
+use Rattle.std.specs.Prelude.{◌↔◌, IsTrue, ◌==◌}
+use Rattle.std.proofs.Math.Bool.{or_assoc}
+use Rattle.std.proofs.lemmas.Bool.Decides.{nat_tests}
+use Rattle.ded_model.specs.declared.slot.Slot.{Slot}
+use Rattle.ded_model.specs.declared.slot.Sort.{Sort}
+use Rattle.ded_model.specs.declared.slot.Sort.TheVariants.{Rat, Text}
+use Rattle.ded_model.specs.Point.{Key, slot, same_slot, same_key, Point, IsPoint, IsExtension}
+use Rattle.ded_model.specs.Row.{Atom, row_mentions}
+use Rattle.ded_model.specs.Coefs.{AreCoefs}
+use Rattle.ded_model.specs.Logic.{Logic, atom, negation, every_of, some_of, minus, exists, Logics, none, also, logics, Sat, SatEvery, SatSome, mentions, any_mentions}
+use Rattle.ded_model.specs.Catalogue.{Catalogue, meaning, PlanHolds}
+use Rattle.ded_model.specs.Measure.{measures, plan_atom_lines, plan_atom_clash, plan_lines, plan_clashes}
+use Rattle.ded_model.specs.PlanForm.{PlanForm, PlanAtom, rows, PlanAtomHolds, in_plan_atom, plan_mentions}
+use Rattle.ded_model.specs.Lines.{Line, In, IsSubset, both_mention, lines_clash, clash_at, elim_at, combined, elim_past, clash_past, atoms_lines, lines, all_lines, clashes, any_clashes}
+use Rattle.ded_model.proofs.Points.{and_left}
+use Rattle.ded_model.proofs.Rows.{or_left, or_right}
+use Rattle.ded_model.proofs.Members.{subset_refl, subset_trans, subset_append, subset_none, or_split, elim-In, IsPair, elim-grows, clash-grows, Clash, clash_of-In}
+use Rattle.ded_model.proofs.LineSlots.{has_slot}
+use Rattle.ded_row.proofs.Targets.{is_rational}
+use Rattle.ded_theory.specs.Conjunctions.{conj_lines}
+use Rattle.ded_theory.specs.Eliminations.{SomeExtension}
+use Rattle.ded_algebra.proofs.SamePoints.{extension-point}
+use Rattle.ded_algebra.specs.Evaluation.{IsEvaluation}
+use Rattle.ded_genrel.specs.Lists.{conjs_of, conjs_hold, conjs_mention, conjs_lines}
+use Rattle.ded_genrel.specs.Operations.{IsOperation, IsMeet, IsProjection, IsInhabitedPart}
+use Rattle.ded_genrel.proofs.Laws.{or_false, conjs_hold-append, conjs_mention-append, conjs_lines-append, conjs_elim-within, conjs_clash-within}
+use Rattle.ded_eval.specs.Reading.{IsConjunctionOf}
+
+-- ---- one part more
+
+module _ {L : Type 0} (H : L → Point → Type 0) where
+  every-push : (fs : List (Logic L)) (f : Logic L) (p : Point) → SatEvery H (logics (fs ++ f ∷ [])) p ↔ (SatEvery H (logics fs) p × Sat H f p)
+  every-push [] f p = (λ h. (tt, h.0), λ h. (h.1, tt))
+  every-push (g ∷ fs) f p = let ih = every-push fs f p in (λ h. (let r = ih.0 h.1 in ((h.0, r.0), r.1)), λ h. (h.0.0, ih.1 (h.0.1, h.1)))
+
+  some-push : (fs : List (Logic L)) (f : Logic L) (p : Point) → SatSome H (logics (fs ++ f ∷ [])) p ↔ (SatSome H (logics fs) p ⊎ Sat H f p)
+  some-push [] f p = (λ h. ⊎_elim (λ (x : Sat H f p). inr x) (λ x. absurd x) h, λ h. ⊎_elim (λ (x : ⊥). absurd x) (λ x. inl x) h)
+  some-push (g ∷ fs) f p = (λ h. ⊎_elim (λ (x : Sat H g p). inl (inl x)) (λ x. rest ((some-push fs f p).0 x)) h, λ h. ⊎_elim (λ x. first ((some-push fs f p).1) x) (λ x. inr ((some-push fs f p).1 (inr x))) h)
+    where
+      rest : SatSome H (logics fs) p ⊎ Sat H f p → (Sat H g p ⊎ SatSome H (logics fs) p) ⊎ Sat H f p
+      rest (inl x) = inl (inr x)
+      rest (inr x) = inr x
+
+      first : (SatSome H (logics fs) p ⊎ Sat H f p → SatSome H (logics (fs ++ f ∷ [])) p) → Sat H g p ⊎ SatSome H (logics fs) p → Sat H g p ⊎ SatSome H (logics (fs ++ f ∷ [])) p
+      first k (inl x) = inl x
+      first k (inr x) = inr (k (inl x))
+
+  -- all of more are all of the first ones
+  every-left : (fs gs : List (Logic L)) (p : Point) → SatEvery H (logics (fs ++ gs)) p → SatEvery H (logics fs) p
+  every-left [] gs p h = tt
+  every-left (f ∷ fs) gs p h = (h.0, every-left fs gs p h.1)
+
+mentions-push : {L : Type 0} (test : L → Key → Bool) (fs : List (Logic L)) (f : Logic L) (k : Key) → any_mentions test (logics (fs ++ f ∷ [])) k ≡ (any_mentions test (logics fs) k || mentions test f k)
+mentions-push test [] f k = or_false (mentions test f k)
+mentions-push test (g ∷ fs) f k = ap (λ b. mentions test g k || b) (mentions-push test fs f k) ∙ sym (or_assoc (mentions test g k) _ _)
+
+lines-push : {L : Type 0} (of : L → List Line) (fs : List (Logic L)) (f : Logic L) → all_lines of (logics (fs ++ f ∷ [])) ≡ all_lines of (logics fs) ++ lines of f
+lines-push of [] f = append-nil (lines of f)
+lines-push of (g ∷ fs) f = ap (λ ls. lines of g ++ ls) (lines-push of fs f) ∙ sym (append_assoc (lines of g) (all_lines of (logics fs)) (lines of f))
+
+-- ---- tests
+
+both_true : (a b : Bool) → (a && b) ≡ true → (a ≡ true) × (b ≡ true)
+both_true true b h = (refl, h)
+both_true false b h = absurd (true≢false (sym h))
+
+pub true_both : (a b : Bool) → a ≡ true → b ≡ true → (a && b) ≡ true
+true_both a b e f = rw (e, f) refl
+
+not_true : (b : Bool) → not b ≡ true → b ≡ true → ⊥
+not_true true h e = true≢false (sym h)
+not_true false h e = true≢false (sym e)
+
+true_not : (b : Bool) → (b ≡ true → ⊥) → not b ≡ true
+true_not true h = absurd (h refl)
+true_not false h = refl
+
+module _ {A : Type 0} (h : A → Point → Bool) (m : A → Slot → Bool) (l : A → List Line) where
+  -- the list is what the plan stands for
+  abbrev pub IsListFor : Catalogue → PlanForm → List (List A) → Type 0
+  IsListFor c f xs = IsEvaluation c f (conjs_hold h xs) (conjs_mention m xs) (conjs_lines l xs)
+
+  -- without conjunctions that no point satisfies, an operation gives the same
+  pub operation_inhabited : (test : Point → Bool) (used : Slot → Bool) (given : List Line) (out part : List (List A)) → IsOperation h m l test used given out → IsInhabitedPart h m l out part → IsOperation h m l test used given part
+  operation_inhabited test used given out part o k = record {
+    holds = λ p i. k.is.holds p i ∙ o.holds p i;
+    slots = λ s u. o.slots s (k.is.slots s u);
+    lines = subset_trans (conjs_lines l part) (conjs_lines l out) given k.is.lines o.lines;
+  }
+
+  -- ---- rows
+
+  pub rows_for : (c : Catalogue) (t : List Atom) (atoms : List A) (list out : List (List A)) → list ≡ atoms ∷ [] → IsConjunctionOf h m l atoms t → IsInhabitedPart h m l list out → IsListFor c (atom (rows t)) out
+  rows_for c t atoms list out e k r = record {
+    holds = λ p i. (let same = r.is.holds p i ∙ ap (λ xs. conjs_hold h xs p) e ∙ or_false _ ∙ k.holds p in (λ x. sym same ∙ x, λ x. same ∙ x));
+    slots = λ s u. sym (ap (λ xs. conjs_mention m xs s) e ∙ or_false _ ∙ k.slots s) ∙ r.is.slots s u;
+    lines = subset_trans (conjs_lines l out) (conjs_lines l list) (atoms_lines t) r.is.lines (subst (λ ls. IsSubset ls (atoms_lines t)) (sym (ap (conjs_lines l) e ∙ append-nil (conj_lines l atoms))) k.lines);
+  }
+
+  -- ---- unions
+
+  pub united_none : (c : Catalogue) → IsListFor c (some_of none) []
+  united_none c = record { holds = λ p i. (λ x. true≢false (sym x), λ x. absurd x); slots = λ s u. u; lines = subset_none [] }
+
+  pub united_more : (c : Catalogue) (fs : List PlanForm) (f : PlanForm) (xs ys : List (List A)) → IsListFor c (some_of (logics fs)) xs → IsListFor c f ys → IsListFor c (some_of (logics (fs ++ f ∷ []))) (xs ++ ys)
+  united_more c fs f xs ys a b = record {
+    holds = λ p i. (
+      λ x. (some-push (PlanAtomHolds (meaning c)) fs f p).1 (⊎_elim (λ (e : conjs_hold h xs p ≡ true). inl ((a.holds p i).0 e)) (λ e. inr ((b.holds p i).0 e)) (or_split _ _ (sym (conjs_hold-append h xs ys p) ∙ x))),
+      λ x. conjs_hold-append h xs ys p ∙ ⊎_elim (λ (e : SatSome (PlanAtomHolds (meaning c)) (logics fs) p). or_left _ _ ((a.holds p i).1 e)) (λ e. or_right (conjs_hold h xs p) _ ((b.holds p i).1 e)) ((some-push (PlanAtomHolds (meaning c)) fs f p).0 x),
+    );
+    slots = λ s u. mentions-push in_plan_atom fs f (slot s)
+        ∙ ⊎_elim (λ (e : conjs_mention m xs s ≡ true). or_left _ _ (a.slots s e)) (λ e. or_right (any_mentions in_plan_atom (logics fs) (slot s)) _ (b.slots s e)) (or_split _ _ (sym (conjs_mention-append m xs ys s) ∙ u));
+    lines = subst (λ ls. IsSubset ls (all_lines (plan_atom_lines (measures c)) (logics (fs ++ f ∷ [])))) (sym (conjs_lines-append l xs ys))
+        (subst (IsSubset (conjs_lines l xs ++ conjs_lines l ys)) (sym (lines-push (plan_atom_lines (measures c)) fs f))
+        (subset_append (conjs_lines l xs) (conjs_lines l ys) (all_lines (plan_atom_lines (measures c)) (logics fs)) (plan_lines (measures c) f) a.lines b.lines));
+  }
+
+  -- ---- joins
+
+  pub joined_none : (c : Catalogue) → IsListFor c (every_of none) ([] ∷ [])
+  joined_none c = record { holds = λ p i. (λ x. tt, λ x. refl); slots = λ s u. u; lines = subset_none [] }
+
+  pub joined_more : (c : Catalogue) (fs : List PlanForm) (f : PlanForm) (xs ys out : List (List A)) → IsListFor c (every_of (logics fs)) xs → IsListFor c f ys → IsMeet h m l xs ys out → IsListFor c (every_of (logics (fs ++ f ∷ []))) out
+  joined_more c fs f xs ys out a b o = record {
+    holds = λ p i. (
+      λ x. (let r = both_true _ _ (sym (o.holds p i) ∙ x) in (every-push (PlanAtomHolds (meaning c)) fs f p).1 ((a.holds p i).0 r.0, (b.holds p i).0 r.1)),
+      λ x. (let r = (every-push (PlanAtomHolds (meaning c)) fs f p).0 x in o.holds p i ∙ true_both _ _ ((a.holds p i).1 r.0) ((b.holds p i).1 r.1)),
+    );
+    slots = λ s u. mentions-push in_plan_atom fs f (slot s)
+        ∙ ⊎_elim (λ (e : conjs_mention m xs s ≡ true). or_left _ _ (a.slots s e)) (λ e. or_right (any_mentions in_plan_atom (logics fs) (slot s)) _ (b.slots s e)) (or_split _ _ (o.slots s u));
+    lines = subst (IsSubset (conjs_lines l out)) (sym (lines-push (plan_atom_lines (measures c)) fs f))
+        (subset_trans (conjs_lines l out) (conjs_lines l xs ++ conjs_lines l ys) (all_lines (plan_atom_lines (measures c)) (logics fs) ++ plan_lines (measures c) f) o.lines
+        (subset_append (conjs_lines l xs) (conjs_lines l ys) (all_lines (plan_atom_lines (measures c)) (logics fs)) (plan_lines (measures c) f) a.lines b.lines));
+  }
+
+  -- where the first parts leave nothing, all of them do
+  pub joined_ends : (c : Catalogue) (fs gs : List PlanForm) (xs : List (List A)) → length xs ≡ 0 → IsListFor c (every_of (logics fs)) xs → IsListFor c (every_of (logics (fs ++ gs))) xs
+  joined_ends c fs gs (x ∷ xs) e a = absurd (omega (arith, e))
+  joined_ends c fs gs [] e a = record {
+    holds = λ p i. (λ x. absurd (true≢false (sym x)), λ x. (a.holds p i).1 (every-left (PlanAtomHolds (meaning c)) fs gs p x));
+    slots = λ s u. absurd (true≢false (sym u));
+    lines = subset_none _;
+  }
+
+  -- ---- differences and complements
+
+  pub minus_for : (c : Catalogue) (f g : PlanForm) (xs ys out : List (List A)) → IsListFor c f xs → IsListFor c g ys
+      → IsOperation h m l (λ p. conjs_hold h xs p && not (conjs_hold h ys p)) (λ s. conjs_mention m xs s || conjs_mention m ys s) (conjs_lines l xs ++ conjs_lines l ys) out → IsListFor c (minus f g) out
+  minus_for c f g xs ys out a b o = record {
+    holds = λ p i. (
+      λ x. (let r = both_true _ _ (sym (o.holds p i) ∙ x) in ((a.holds p i).0 r.0, λ y. not_true _ r.1 ((b.holds p i).1 y))),
+      λ x. o.holds p i ∙ true_both _ _ ((a.holds p i).1 x.0) (true_not _ (λ e. x.1 ((b.holds p i).0 e))),
+    );
+    slots = λ s u. ⊎_elim (λ (e : conjs_mention m xs s ≡ true). or_left _ _ (a.slots s e)) (λ e. or_right (plan_mentions f (slot s)) _ (b.slots s e)) (or_split _ _ (o.slots s u));
+    lines = subset_trans (conjs_lines l out) (conjs_lines l xs ++ conjs_lines l ys) (plan_lines (measures c) f ++ plan_lines (measures c) g) o.lines
+        (subset_append (conjs_lines l xs) (conjs_lines l ys) (plan_lines (measures c) f) (plan_lines (measures c) g) a.lines b.lines);
+  }
+
+  -- from nothing nothing is left
+  pub minus_none : (c : Catalogue) (f g : PlanForm) (xs : List (List A)) → length xs ≡ 0 → IsListFor c f xs → IsListFor c (minus f g) xs
+  minus_none c f g (x ∷ xs) e a = absurd (omega (arith, e))
+  minus_none c f g [] e a = record { holds = λ p i. (λ x. absurd (true≢false (sym x)), λ x. (a.holds p i).1 x.0); slots = λ s u. absurd (true≢false (sym u)); lines = subset_none _ }
+
+  pub complement_for : (c : Catalogue) (f : PlanForm) (xs out : List (List A)) → IsListFor c f xs → IsOperation h m l (λ p. not (conjs_hold h xs p)) (conjs_mention m xs) (conjs_lines l xs) out → IsListFor c (negation f) out
+  complement_for c f xs out a o = record {
+    holds = λ p i. (λ x y. not_true _ (sym (o.holds p i) ∙ x) ((a.holds p i).1 y), λ x. o.holds p i ∙ true_not _ (λ e. x ((a.holds p i).0 e)));
+    slots = λ s u. a.slots s (o.slots s u);
+    lines = subset_trans (conjs_lines l out) (conjs_lines l xs) (plan_lines (measures c) f) o.lines a.lines;
+  }
+
+  -- what an empty list of conjunctions stands for
+  pub no_conjunction : (xs : List (Vec A Global)) (conjs : List (List A)) (b : Bool) → conjs_of xs ≡ conjs → b ≡ (length xs == 0) → b ≡ true → length conjs ≡ 0
+  no_conjunction [] conjs b e f g = ap length (sym e)
+  no_conjunction (x ∷ xs) conjs b e f g = absurd (more (length xs) (sym f ∙ g))
+    where
+      more : (n : ℕ) → (suc n == 0) ≡ true → ⊥
+      more n e = grind (arith, nat_tests)

@@ -1,0 +1,144 @@
+use Rattle.std.proofs.Common.{rules, ◌≡◌, true, ◌+◌, ◌++◌, ◌∷◌, [], ◌∙◌, sym, ap, ap₂, subst, take, drop, map}
+use Rattle.std.proofs.lemmas.List.{take_all}
+use Rattle.std.proofs.lemmas.Result.{IfOk-weaker}
+use Rattle.ded_model.specs.declared.plan.Plan.TheFolds.{fold-roll-Plan, fold_out-Plan}
+use Rattle.ded_model.specs.declared.plan.Plan.TheViews.{the_lemmas}
+use Rattle.ded_model.specs.Logic.{atom, negation, every_of, some_of, minus, exists, none, logics, AllAtomsOf}
+use Rattle.ded_model.specs.Point.{slot}
+use Rattle.ded_model.specs.Coefs.{AreCoefs}
+use Rattle.ded_model.specs.Lines.{any_clashes}
+use Rattle.ded_model.specs.Measure.{measures, plan_atom_lines, plan_atom_clash, plan_clashes}
+use Rattle.ded_model.specs.PlanForm.{PlanForm, rows, plan_form, plan_forms}
+use Rattle.ded_model.proofs.Rows.{or_right}
+use Rattle.ded_join.specs.Rounds.{AreRational}
+use Rattle.ded_algebra.specs.Evaluation.{IsScannable}
+use Rattle.ded_genrel.specs.Lists.{AreNormal, conjs_lines}
+use Rattle.ded_eval.specs.Joining.{begun}
+use Rattle.ded_eval.proofs.Evaluated.{IsListFor, no_conjunction, united_none, united_more, joined_none, joined_more, joined_ends, minus_for, minus_none, complement_for}
+use Rattle.ded_eval.proofs.Parts.{part_atoms, part_clashes, parts_to, parts_split, rest_atoms}
+use Rattle.ded_eval.proofs.Projected.{AreInOrder, projection_for, projection_clash}
+use Rattle.ded_eval.proofs.Scanned.{lists_lines}
+use Rattle.ded_eval.proofs.evaluation.+evaluate.Goals as goal
+
+pub evaluate_counted-returns-then-is_empty-clause-is : goal.evaluate_counted-returns-then-is_empty-clause-is
+evaluate_counted-returns-then-is_empty-clause-is g t c =
+    let xs = c.in_ok-from-in-Minus.from in
+    let cat = g.R.Relations.catalogue c.args.relations.now in
+    let e : plan_form c.args.plan.now ≡ minus (plan_form c.deref.result.now) (plan_form c.in-Minus.taken.value) = search (rules, the_lemmas, fold-roll-Plan, fold_out-Plan) in
+    subst (λ f. IsListFor g.T.Theory.holds g.T.Theory.mentions g.T.Theory.lines cat f xs) (sym e)
+    (minus_none g.T.Theory.holds g.T.Theory.mentions g.T.Theory.lines cat (plan_form c.deref.result.now) (plan_form c.in-Minus.taken.value) xs
+    (no_conjunction g.T.Theory.holds g.T.Theory.mentions g.T.Theory.lines c.list.result.now xs c.is_empty.result c.list.ensures.list c.is_empty.ensures c.if-is_empty.true) c.in_ok-from-in-Minus.ensures.is)
+
+pub evaluate_counted-returns-in_ok-rows-in-Rows-clause-is : goal.evaluate_counted-returns-in_ok-rows-in-Rows-clause-is
+evaluate_counted-returns-in_ok-rows-in-Rows-clause-is g t c =
+    let cat = g.R.Relations.catalogue c.args.relations.now in
+    let e : plan_form c.args.plan.now ≡ atom (rows c.in-Rows.tuple) = search (rules, the_lemmas, fold-roll-Plan, fold_out-Plan) in
+    subst (λ f. IsListFor g.T.Theory.holds g.T.Theory.mentions g.T.Theory.lines cat f c.in_ok-rows-in-Rows.field-0) (sym e) (c.in_ok-rows-in-Rows.ensures cat)
+
+pub evaluate_counted-returns-in_ok-minus-in-Minus-clause-is : goal.evaluate_counted-returns-in_ok-minus-in-Minus-clause-is
+evaluate_counted-returns-in_ok-minus-in-Minus-clause-is g t c =
+    let cat = g.R.Relations.catalogue c.args.relations.now in
+    let e : plan_form c.args.plan.now ≡ minus (plan_form c.deref.result.now) (plan_form c.deref-in-Minus.result.now) = search (rules, the_lemmas, fold-roll-Plan, fold_out-Plan) in
+    subst (λ f. IsListFor g.T.Theory.holds g.T.Theory.mentions g.T.Theory.lines cat f c.in_ok-minus-in-Minus.field-0) (sym e)
+    (minus_for g.T.Theory.holds g.T.Theory.mentions g.T.Theory.lines cat (plan_form c.deref.result.now) (plan_form c.deref-in-Minus.result.now) c.in_ok-from-in-Minus.from c.in_ok-taken-in-Minus.taken c.in_ok-minus-in-Minus.field-0
+    c.in_ok-from-in-Minus.ensures.is c.in_ok-taken-in-Minus.ensures.is c.in_ok-minus-in-Minus.ensures.is)
+
+pub evaluate_counted-returns-in_ok-complement-in-Not-clause-is : goal.evaluate_counted-returns-in_ok-complement-in-Not-clause-is
+evaluate_counted-returns-in_ok-complement-in-Not-clause-is g t c =
+    let cat = g.R.Relations.catalogue c.args.relations.now in
+    let e : plan_form c.args.plan.now ≡ negation (plan_form c.deref-in-Not.result.now) = search (rules, the_lemmas, fold-roll-Plan, fold_out-Plan) in
+    subst (λ f. IsListFor g.T.Theory.holds g.T.Theory.mentions g.T.Theory.lines cat f c.in_ok-complement-in-Not.field-0) (sym e)
+    (complement_for g.T.Theory.holds g.T.Theory.mentions g.T.Theory.lines cat (plan_form c.deref-in-Not.result.now) c.in_ok-list-in-Not.list c.in_ok-complement-in-Not.field-0 c.in_ok-list-in-Not.ensures.is c.in_ok-complement-in-Not.ensures.is)
+
+pub evaluate_counted-returns-in_ok-evaluate_counted-in-Project-clause-is : goal.evaluate_counted-returns-in_ok-evaluate_counted-in-Project-clause-is
+evaluate_counted-returns-in_ok-evaluate_counted-in-Project-clause-is g t c =
+    let cat = g.R.Relations.catalogue c.args.relations.now in
+    let xs = c.in_ok-evaluate_counted-in-Project.field-0 in
+    let e : plan_form c.args.plan.now ≡ exists c.in-Project.slot.sort (slot c.in-Project.slot) (plan_form c.deref-in-Project.result.now) = search (rules, the_lemmas, fold-roll-Plan, fold_out-Plan) in
+    let order : AreInOrder (conjs_lines g.T.Theory.lines xs)
+      = lists_lines g.T.Theory.holds g.T.Theory.mentions g.T.Theory.lines g.T.Theory.normal (λ y. AreCoefs y.coefs) g.met.T.OfTuples.line_coefs xs (subst (AreNormal g.T.Theory.normal) c.project.view_is c.project.invariant) in
+    IfOk-weaker c.project-in-Project.result _ _ (λ r k.
+      subst (λ f. IsListFor g.T.Theory.holds g.T.Theory.mentions g.T.Theory.lines cat f r) (sym e)
+      (projection_for g.T.Theory.holds g.T.Theory.mentions g.T.Theory.lines cat (plan_form c.deref-in-Project.result.now) c.in-Project.slot xs r order c.in_ok-evaluate_counted-in-Project.ensures.is k)) c.project-in-Project.ensures.is
+
+pub evaluate_counted-returns-in_ok-evaluate_counted-in-Project-clause-wide : goal.evaluate_counted-returns-in_ok-evaluate_counted-in-Project-clause-wide
+evaluate_counted-returns-in_ok-evaluate_counted-in-Project-clause-wide g t c w =
+    let M = measures (g.R.Relations.catalogue c.args.relations.now) in
+    let xs = c.in_ok-evaluate_counted-in-Project.field-0 in
+    let e : plan_form c.args.plan.now ≡ exists c.in-Project.slot.sort (slot c.in-Project.slot) (plan_form c.deref-in-Project.result.now) = search (rules, the_lemmas, fold-roll-Plan, fold_out-Plan) in
+    let order : AreInOrder (conjs_lines g.T.Theory.lines xs)
+      = lists_lines g.T.Theory.holds g.T.Theory.mentions g.T.Theory.lines g.T.Theory.normal (λ y. AreCoefs y.coefs) g.met.T.OfTuples.line_coefs xs (subst (AreNormal g.T.Theory.normal) c.project.view_is c.project.invariant) in
+    ap (plan_clashes M) e ∙ or_right (plan_clashes M (plan_form c.deref-in-Project.result.now)) _
+        (projection_clash g.T.Theory.holds g.T.Theory.mentions g.T.Theory.lines (g.R.Relations.catalogue c.args.relations.now) (plan_form c.deref-in-Project.result.now) c.in-Project.slot xs order c.in_ok-evaluate_counted-in-Project.ensures.is
+        (c.project-in-Project.ensures.wide w))
+
+pub joined-loop-part-init : goal.joined-loop-part-init
+joined-loop-part-init g t c = (
+  joined_none g.T.Theory.holds g.T.Theory.mentions g.T.Theory.lines (g.R.Relations.catalogue c.args.relations.now),
+  subst AreRational (sym c.new-slots.ensures.items) tt,
+  subst (λ ps. AllAtomsOf (IsScannable g.T.OfTuples.reads (g.R.Relations.catalogue c.args.relations.now)) (plan_forms ps)) (sym c.deref-part-items.ensures.value) c.requires,
+)
+
+pub joined-returns-in_err-next-clause-wide : goal.joined-returns-in_err-next-clause-wide
+joined-returns-in_err-next-clause-wide g t c w =
+    let M = measures (g.R.Relations.catalogue c.args.relations.now) in
+    let clashes : plan_clashes M (plan_form c.part-item.result) ≡ true = c.in_err-next.ensures.wide (search rules) in
+    ap (λ ps. any_clashes (plan_atom_lines M) (plan_atom_clash M) (plan_forms ps)) (sym c.deref-part-items.ensures.value)
+    ∙ part_clashes (plan_atom_lines M) (plan_atom_clash M) c.deref-part-items.result.now c.loop-part.part-index c.part-item.result c.loop-part-test.true c.part-item.is clashes
+
+pub joined-returns-then-is_empty-clause-is : goal.joined-returns-then-is_empty-clause-is
+joined-returns-then-is_empty-clause-is g t c =
+    let cat = g.R.Relations.catalogue c.args.relations.now in
+    let items = c.deref-part-items.result.now in
+    let i = c.loop-part.part-index in
+    let more = joined_more g.T.Theory.holds g.T.Theory.mentions g.T.Theory.lines cat (map plan_form (take i items)) (plan_form c.part-item.result) (begun c.loop-part.list) c.in_ok-next.next c.in_ok-joined.joined c.loop-part.invariant.0 c.in_ok-next.ensures.is c.in_ok-joined.ensures in
+    subst (λ fs. IsListFor g.T.Theory.holds g.T.Theory.mentions g.T.Theory.lines cat (every_of (logics fs)) c.in_ok-joined.joined)
+    (ap (λ fs. fs ++ map plan_form (drop (i + 1) items)) (sym (parts_to items i c.part-item.result c.loop-part-test.true c.part-item.is)) ∙ sym (parts_split items (i + 1)) ∙ ap (map plan_form) c.deref-part-items.ensures.value)
+    (joined_ends g.T.Theory.holds g.T.Theory.mentions g.T.Theory.lines cat (map plan_form (take i items) ++ plan_form c.part-item.result ∷ []) (map plan_form (drop (i + 1) items)) c.in_ok-joined.joined
+    (no_conjunction g.T.Theory.holds g.T.Theory.mentions g.T.Theory.lines c.list.result.now c.in_ok-joined.joined c.is_empty.result c.list.ensures.list c.is_empty.ensures c.if-is_empty.true) more)
+
+pub joined-loop-part-preserved : goal.joined-loop-part-preserved
+joined-loop-part-preserved g t c =
+    let cat = g.R.Relations.catalogue c.args.relations.now in
+    let items = c.deref-part-items.result.now in
+    let i = c.loop-part.part-index in
+    (subst (λ fs. IsListFor g.T.Theory.holds g.T.Theory.mentions g.T.Theory.lines cat (every_of (logics fs)) c.in_ok-joined.joined) (sym (parts_to items i c.part-item.result c.loop-part-test.true c.part-item.is))
+    (joined_more g.T.Theory.holds g.T.Theory.mentions g.T.Theory.lines cat (map plan_form (take i items)) (plan_form c.part-item.result) (begun c.loop-part.list) c.in_ok-next.next c.in_ok-joined.joined c.loop-part.invariant.0 c.in_ok-next.ensures.is c.in_ok-joined.ensures),
+    c.in_ok-add_all.ensures,
+    rest_atoms (IsScannable g.T.OfTuples.reads cat) items i c.loop-part-test.true c.loop-part.invariant.2)
+
+pub joined-returns-clause-is : goal.joined-returns-clause-is
+joined-returns-clause-is g t c =
+    let cat = g.R.Relations.catalogue c.args.relations.now in
+    let items = c.deref-part-items.result.now in
+    subst (IsListFor g.T.Theory.holds g.T.Theory.mentions g.T.Theory.lines cat (every_of (plan_forms c.args.parts.now.items))) (sym c.in_ok-whole.ensures)
+    (subst (λ ps. IsListFor g.T.Theory.holds g.T.Theory.mentions g.T.Theory.lines cat (every_of (plan_forms ps)) (begun c.loop-part.list)) (take_all c.loop-part.part-index items c.loop-part-test.false ∙ c.deref-part-items.ensures.value) c.loop-part.invariant.0)
+
+pub united-loop-part-init : goal.united-loop-part-init
+united-loop-part-init g t c = (
+  subst (IsListFor g.T.Theory.holds g.T.Theory.mentions g.T.Theory.lines (g.R.Relations.catalogue c.args.relations.now) (some_of none)) (sym c.new-list.ensures) (united_none g.T.Theory.holds g.T.Theory.mentions g.T.Theory.lines (g.R.Relations.catalogue c.args.relations.now)),
+  subst (λ ps. AllAtomsOf (IsScannable g.T.OfTuples.reads (g.R.Relations.catalogue c.args.relations.now)) (plan_forms ps)) (sym c.deref-part-items.ensures.value) c.requires,
+)
+
+pub united-returns-in_err-evaluate_counted-clause-wide : goal.united-returns-in_err-evaluate_counted-clause-wide
+united-returns-in_err-evaluate_counted-clause-wide g t c w =
+    let M = measures (g.R.Relations.catalogue c.args.relations.now) in
+    let clashes : plan_clashes M (plan_form c.part-item.result) ≡ true = c.in_err-evaluate_counted.ensures.wide (search rules) in
+    ap (λ ps. any_clashes (plan_atom_lines M) (plan_atom_clash M) (plan_forms ps)) (sym c.deref-part-items.ensures.value)
+    ∙ part_clashes (plan_atom_lines M) (plan_atom_clash M) c.deref-part-items.result.now c.loop-part.part-index c.part-item.result c.loop-part-test.true c.part-item.is clashes
+
+pub united-loop-part-preserved : goal.united-loop-part-preserved
+united-loop-part-preserved g t c =
+    let cat = g.R.Relations.catalogue c.args.relations.now in
+    let items = c.deref-part-items.result.now in
+    let i = c.loop-part.part-index in
+    (subst (λ fs. IsListFor g.T.Theory.holds g.T.Theory.mentions g.T.Theory.lines cat (some_of (logics fs)) c.append.new.self) (sym (parts_to items i c.part-item.result c.loop-part-test.true c.part-item.is))
+    (subst (IsListFor g.T.Theory.holds g.T.Theory.mentions g.T.Theory.lines cat (some_of (logics (map plan_form (take i items) ++ plan_form c.part-item.result ∷ [])))) (sym c.in_ok-append.ensures)
+    (united_more g.T.Theory.holds g.T.Theory.mentions g.T.Theory.lines cat (map plan_form (take i items)) (plan_form c.part-item.result) c.loop-part.list c.in_ok-evaluate_counted.field-0 c.loop-part.invariant.0 c.in_ok-evaluate_counted.ensures.is)),
+    rest_atoms (IsScannable g.T.OfTuples.reads cat) items i c.loop-part-test.true c.loop-part.invariant.1)
+
+pub united-returns-clause-is : goal.united-returns-clause-is
+united-returns-clause-is g t c =
+    let cat = g.R.Relations.catalogue c.args.relations.now in
+    let items = c.deref-part-items.result.now in
+    subst (λ ps. IsListFor g.T.Theory.holds g.T.Theory.mentions g.T.Theory.lines cat (some_of (plan_forms ps)) c.loop-part.list) (take_all c.loop-part.part-index items c.loop-part-test.false ∙ c.deref-part-items.ensures.value) c.loop-part.invariant.0

@@ -1,0 +1,18 @@
+use Rattle.std.proofs.Common.{take, drop, map}
+use Rattle.ded_model.specs.Logic.{every_of, some_of, logics, AllAtomsOf}
+use Rattle.ded_model.specs.PlanForm.{plan_form, plan_forms}
+use Rattle.ded_join.specs.Rounds.{AreRational}
+use Rattle.ded_algebra.specs.Evaluation.{IsScannable}
+use Rattle.ded_eval.specs.Joining.{begun}
+use Rattle.ded_eval.proofs.Evaluated.{IsListFor}
+use Rattle.ded_eval.proofs.evaluation.+evaluate.Given as goal
+
+abbrev pub invariant-joined-loop-part : goal.invariant-joined-loop-part
+invariant-joined-loop-part g l =
+    IsListFor g.T.Theory.holds g.T.Theory.mentions g.T.Theory.lines (g.R.Relations.catalogue l.relations) (every_of (logics (map plan_form (take l.part-index l.part-items)))) (begun l.list)
+    × AreRational l.slots.items × AllAtomsOf (IsScannable g.T.OfTuples.reads (g.R.Relations.catalogue l.relations)) (plan_forms (drop l.part-index l.part-items))
+
+abbrev pub invariant-united-loop-part : goal.invariant-united-loop-part
+invariant-united-loop-part g l =
+    IsListFor g.T.Theory.holds g.T.Theory.mentions g.T.Theory.lines (g.R.Relations.catalogue l.relations) (some_of (logics (map plan_form (take l.part-index l.part-items)))) l.list
+    × AllAtomsOf (IsScannable g.T.OfTuples.reads (g.R.Relations.catalogue l.relations)) (plan_forms (drop l.part-index l.part-items))
