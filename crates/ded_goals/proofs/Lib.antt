@@ -5,6 +5,7 @@ mod Chains
 mod Differences
 mod Fitting
 mod Halving
+mod NormalGoals
 pub mod Operands
 mod Overs
 mod Places

@@ -23,11 +23,11 @@ abbrev pub IsTextSide : TextSide → Type 0
 IsTextSide (at s) = s.sort ≡ Text
 IsTextSide (word t) = Unit {0}
 
--- a row or a text atom is normal
-abbrev pub IsNormalGoal : GoalForm → Type 0
-IsNormalGoal (atom (linear r)) = IsNormalRow r
-IsNormalGoal (atom (theme a)) = IsNormalTheme a
-IsNormalGoal _ = Unit {0}
+-- a comparison's goal that is a row or a text atom is a normal one
+abbrev pub IsNormalComparison : GoalForm → Type 0
+IsNormalComparison (atom (linear r)) = IsNormalRow r
+IsNormalComparison (atom (theme a)) = IsNormalTheme a
+IsNormalComparison _ = Unit {0}
 
 -- the atom, if there is one
 abbrev pub found : Option Atom → List Atom

@@ -8,7 +8,7 @@ ghost use Rattle.ded_model.specs.Normal.{IsNormalTuple, is_true_row, constant_ro
 ghost use Rattle.ded_model.specs.Known.{has_unbound, scope_of, IsTupleOver};
 ghost use Rattle.ded_model.specs.Slotted.{goal_atoms, goal_below, comparison_atoms, tuple_of};
 ghost use Rattle.ded_model.specs.Plain.{IsPlain};
-ghost use Rattle.ded_goals.specs.Tuples.{is_missorted_comparison, IsNormalGoal, found, AreNormalAtoms, placed, IsFitting, AreFitting};
+ghost use Rattle.ded_goals.specs.Tuples.{is_missorted_comparison, IsNormalComparison, found, AreNormalAtoms, placed, IsFitting, AreFitting};
 
 use crate::comparisons::comparison;
 use crate::placing::put;
@@ -89,7 +89,7 @@ fn atom(alloc: Global, scope: &Scope, formula: &Formula) -> Result<Option<Atom>,
 /// The atom of a goal, if it is a single one and not true everywhere.
 fn goal_atom(alloc: Global, goal: Goal) -> Option<Atom>
     ensures atoms { found result ≡ goal_atoms (goal_form goal) }
-    ensures normal { IsNormalGoal (goal_form goal) → AreNormalAtoms (found result) }
+    ensures normal { IsNormalComparison (goal_form goal) → AreNormalAtoms (found result) }
 {
     match goal {
         Goal::Linear(row) => {
