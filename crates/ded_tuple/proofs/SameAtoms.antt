@@ -1,5 +1,5 @@
 -- Normal atoms that the order doesn't tell apart are the same.
-use Rattle.std.proofs.Common.{◌≡◌, ◌≢◌, ℕ, Bool, true, false, List, [], ◌∷◌, arith, refl, sym, ap, ap₂, ◌∙◌, true≢false}
+use Rattle.std.proofs.Common.{◌≡◌, ℕ, Bool, true, false, List, [], ◌∷◌, arith, refl, sym, ap, ap₂, ◌∙◌, true≢false}
 use Rattle.std.specs.Prelude.{ℤ, pos}
 use Rattle.std.specs.declared.cmp.Ordering.{Ordering}
 use Rattle.std.specs.declared.cmp.Ordering.TheVariants.{Less, Equal, Greater}
