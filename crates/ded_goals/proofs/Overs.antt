@@ -5,8 +5,6 @@ use lib.IntN.{neg_ℤ}
 use Rattle.std.specs.List.{list_any}
 use Rattle.std.specs.Result.{IfOk}
 use Rattle.std.specs.Prelude.{Result}
-use Rattle.std.specs.declared.cmp.Ordering.{Ordering}
-use Rattle.std.specs.declared.cmp.Ordering.TheVariants.{Less, Equal, Greater}
 use Rattle.ded_model.specs.declared.slot.Slot.{Slot}
 use Rattle.ded_model.specs.declared.slot.Sort.TheVariants.{Rat}
 use Rattle.ded_model.specs.declared.name.Column.{Column}
@@ -23,7 +21,7 @@ use Rattle.ded_model.specs.Sum.{SlotSum, denominator}
 use Rattle.ded_model.specs.Coefs.{put_all, mixed}
 use Rattle.ded_model.specs.Point.{name, same_key, same_slot, stands_in}
 use Rattle.ded_model.specs.Row.{Atom, row_mentions, theme_mentions, atom_mentions, tuple_mentions}
-use Rattle.ded_model.specs.Normal.{normal_row, is_true_row, atom_order, place_atom, ordered_atoms, IsNormalTuple}
+use Rattle.ded_model.specs.Normal.{normal_row, is_true_row, ordered_atoms, IsNormalTuple}
 use Rattle.ded_model.specs.Logic.{atom, always, never, negation, every_of, some_of, implies, minus, exists, forall, Scope, logics, some_below, some_below_of}
 use Rattle.ded_model.specs.Form.{Form, compare, member}
 use Rattle.ded_model.specs.Goal.{GoalForm, linear, theme}
