@@ -1,4 +1,4 @@
--- What the making of a normal tuple goes by.
+-- Which comparisons have an atom that is normal, and the atoms of a goal.
 use Rattle.std.specs.Prelude.{◌≡◌, Bool, false, ◌||◌, Option, Some, None, List, [], ◌∷◌}
 use Rattle.ded_model.specs.declared.slot.Sort.TheVariants.{Text}
 use Rattle.ded_model.specs.Row.{Atom}

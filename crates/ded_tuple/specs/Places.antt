@@ -20,7 +20,7 @@ atom_place a (b ∷ bs) = behind (atom_order a b) (atom_place a bs)
     behind Equal n = 0
     behind Greater n = n + 1
 
--- whether the atom stands behind them
+-- whether the atom itself stands behind these
 abbrev pub is_placed : Atom → List Atom → Bool
 is_placed a [] = false
 is_placed a (b ∷ bs) = by_order (atom_order a b) (is_placed a bs)
