@@ -1,0 +1,6 @@
+pub mod Reaches
+pub mod LineReaches
+pub mod RenamedReaches
+pub mod PlanReaches
+pub mod ArgumentSlots
+pub mod GoalReaches
