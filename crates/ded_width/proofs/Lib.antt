@@ -4,3 +4,6 @@ pub mod RenamedReaches
 pub mod PlanReaches
 pub mod ArgumentSlots
 pub mod GoalReaches
+pub mod AscendingGoals
+pub mod NameReaches
+pub mod FormulaReaches
