@@ -2,15 +2,14 @@
 --
 -- An argument is kept at its own slot only where that stands there for the first time. The new slots have numbers above those
 -- of the places, each one more than the one before.
-use Rattle.std.proofs.Common.{◌≡◌, ℕ, suc, ◌+◌, ◌<◌, ◌≤◌, Bool, true, false, ◌||◌, cond, List, [], ◌∷◌, ◌++◌, arith, inl, inr, refl, sym, ap, ap₂, subst, ◌∙◌, true≢false}
-use Rattle.std.specs.Prelude.{ℤ, pos, int_div}
+use Rattle.std.proofs.Common.{◌≡◌, ℕ, suc, ◌<◌, ◌≤◌, Bool, true, false, ◌||◌, cond, List, [], ◌∷◌, ◌++◌, arith, inl, inr, refl, sym, ap, ap₂, subst, ◌∙◌, true≢false}
+use Rattle.std.specs.Prelude.{ℤ, pos}
 use lib.IntN.{neg_ℤ}
 use Rattle.ded_model.specs.declared.slot.Slot.{Slot}
 use Rattle.ded_model.specs.declared.slot.Sort.{Sort}
 use Rattle.ded_model.specs.declared.slot.Sort.TheVariants.{Rat, Text}
 use Rattle.ded_model.specs.declared.goal.Place.{Place}
 use Rattle.ded_model.specs.declared.goal.Place.TheVariants.{At, Value, Quoted}
-use Rattle.ded_model.specs.declared.tuple.BothAtom.TheVariants.{First, Second}
 use Rattle.ded_model.specs.declared.row.RowOp.TheVariants.{Zero}
 use Rattle.ded_model.specs.Constraint.{LinearConstraint}
 use Rattle.ded_model.specs.Point.{same_slot, stands_in, AreDistinctSlots}
@@ -18,7 +17,7 @@ use Rattle.ded_model.specs.Coefs.{AllAbove, put, put_all}
 use Rattle.ded_model.specs.Row.{Atom}
 use Rattle.ded_model.specs.Normal.{normal_row, normal_with, coefs_over, divisor_of}
 use Rattle.ded_model.specs.Sum.{SlotSum, denominator}
-use Rattle.ded_model.specs.Scanned.{Scanned, kept, fresh, argument_row, of_slot, same_atom, scanned_after, scanned, first_free, scanned_slots, tied_atoms}
+use Rattle.ded_model.specs.Scanned.{kept, fresh, argument_row, of_slot, same_atom, scanned_after, scanned, first_free, scanned_slots, tied_atoms}
 use Rattle.ded_model.proofs.Points.{same_slot_is, same_slot_refl}
 use Rattle.ded_model.proofs.Members.{or_split}
 use Rattle.ded_goals.proofs.Ascending.{Ascend, AllRational, ascend-put, ascend-mixed}

@@ -2,7 +2,7 @@
 --
 -- An atom of a name has the name's lines, renamed to the slots of its arguments, and the lines of the rows that tie the new
 -- ones. Then the new slots are eliminated, each of which its rank counts.
-use Rattle.std.proofs.Common.{◌≡◌, ℕ, suc, ◌+◌, Bool, true, false, ◌||◌, List, [], ◌∷◌, ◌++◌, arith, refl, sym, ap, subst, ◌∙◌}
+use Rattle.std.proofs.Common.{◌≡◌, ℕ, ◌+◌, Bool, true, false, ◌||◌, List, [], ◌∷◌, arith, refl, sym, subst}
 use Rattle.std.specs.Prelude.{max}
 use Rattle.ded_model.specs.declared.slot.Slot.{Slot}
 use Rattle.ded_model.specs.declared.slot.Sort.{Sort}
@@ -11,7 +11,7 @@ use Rattle.ded_model.specs.Point.{slot, AreDistinctSlots}
 use Rattle.ded_model.specs.Logic.{one_more}
 use Rattle.ded_model.specs.Goal.{GoalAtom, linear, theme, member, GoalForm}
 use Rattle.ded_model.specs.Scanned.{Scanned, scanned, scanned_slots, tied_atoms, fresh_slots, rational_count}
-use Rattle.ded_model.specs.Lines.{Line, atoms_lines, renamed_lines, elim_past_all, clash_past_all, elim_past, clash_past}
+use Rattle.ded_model.specs.Lines.{Line, elim_past_all, clash_past_all, elim_past, clash_past}
 use Rattle.ded_model.specs.Measure.{Measures, scanned_lines, goal_atom_b, goal_atom_rank, goal_atom_lines, goal_atom_clash, goal_b, goal_rank, goal_lines, goal_clashes}
 use Rattle.ded_model.specs.Width.{IsNarrowWith, tuple_length}
 use Rattle.ded_width.specs.Reach.{AreInReach, AreWithinReach, AreAscendingRows, IsAscendingGoalAtom, IsAscendingGoal}

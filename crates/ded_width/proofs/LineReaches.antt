@@ -1,6 +1,6 @@
 -- The lines of rows have no more digits than the rows.
-use Rattle.std.proofs.Common.{◌≡◌, ◌≢◌, ◌≤◌, ℕ, zero, suc, ◌<◌, ◌*◌, Bool, true, false, cond, List, [], ◌∷◌, map, inl, inr, arith, refl, sym, ap, ap₂, ◌∙◌, subst, true≢false}
-use Rattle.std.specs.Prelude.{ℤ, pos, negsuc, ◌+ℤ◌, ◌*ℤ◌, int_div, unsigned_abs}
+use Rattle.std.proofs.Common.{◌≡◌, ◌≤◌, ℕ, zero, suc, Bool, true, false, cond, List, [], ◌∷◌, map, inl, inr, arith, refl, sym, ap, ◌∙◌, subst, true≢false}
+use Rattle.std.specs.Prelude.{ℤ, pos, negsuc, ◌+ℤ◌, ◌*ℤ◌, int_div}
 use lib.IntN.{+ℤ_idl}
 use Rattle.std.proofs.Math.IntN.{*ℤ-zero, zero-*ℤ}
 use Rattle.std.proofs.lemmas.Int.{ints}
@@ -14,17 +14,17 @@ use Rattle.ded_model.specs.declared.tuple.BothAtom.TheVariants.{First, Second}
 use Rattle.ded_model.specs.Constraint.{LinearConstraint}
 use Rattle.ded_model.specs.Point.{same_slot}
 use Rattle.ded_model.specs.Coefs.{AreCoefs, coef_at}
-use Rattle.ded_model.specs.Row.{Atom, row_mentions}
+use Rattle.ded_model.specs.Row.{Atom}
 use Rattle.ded_model.specs.Normal.{IsNormalTuple, DivideWhole, coefs_over, divisor_of, normal_row}
-use Rattle.ded_model.specs.Lines.{Line, In, line_with, row_lines, atoms_lines, tuples_lines, IsLineWithin, AreWithin}
-use Rattle.ded_model.specs.Width.{greatest_length, row_length, tuple_length, tuples_length}
+use Rattle.ded_model.specs.Lines.{line_with, row_lines, atoms_lines, IsLineWithin, AreWithin}
+use Rattle.ded_model.specs.Width.{greatest_length, row_length, tuple_length}
 use Rattle.ded_model.proofs.Points.{same_slot_is}
 use Rattle.ded_model.proofs.Members.{or_split}
 use Rattle.ded_model.proofs.Divisors.{divisor-whole, divisor-whole_constant}
 use Rattle.ded_model.proofs.CoefLemmas.{coef_at-here, coef_at-past}
 use Rattle.ded_model.proofs.LineLengths.{quotient_within}
 use Rattle.ded_model.proofs.LineSlots.{has_slot, line_slots}
-use Rattle.ded_width.specs.Reach.{AreAscending, AreAscendingRows, AreRationalLines}
+use Rattle.ded_width.specs.Reach.{AreAscending, AreAscendingRows}
 use Rattle.ded_width.proofs.Reaches.{IsInReach, nothing, of_length, both}
 
 -- ---- the line of numbers

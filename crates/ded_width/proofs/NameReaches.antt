@@ -2,13 +2,11 @@
 --
 -- A relation has the lines of normal tuples. A view has what its goal has over the entries before it, and its formula is
 -- accepted over these.
-use Rattle.std.proofs.Common.{◌≡◌, ℕ, Bool, true, false, cond, List, [], ◌∷◌, ◌≤◌, ◌<◌, bytes_eq, None, refl}
+use Rattle.std.proofs.Common.{ℕ, Bool, true, false, cond, List, [], ◌∷◌, bytes_eq, None, refl}
 use Rattle.ded_model.specs.declared.name.Column.{Column}
 use Rattle.ded_model.specs.Row.{Atom}
-use Rattle.ded_model.specs.Form.{Form}
-use Rattle.ded_model.specs.Goal.{GoalForm}
 use Rattle.ded_model.specs.Catalogue.{Entry, relation, view, Catalogue, entry_name, tuples_of}
-use Rattle.ded_model.specs.Known.{KnownNames, IsAccepted, AreStored, IsEntryOver, AreEntriesOver, IsWellFormed, with_known}
+use Rattle.ded_model.specs.Known.{KnownNames, AreStored, IsEntryOver, AreEntriesOver, IsWellFormed, with_known}
 use Rattle.ded_model.specs.Slotted.{goal_of}
 use Rattle.ded_model.specs.Lines.{tuples_lines}
 use Rattle.ded_model.specs.Width.{tuples_length}

@@ -1,6 +1,5 @@
 -- A narrow plan is tight.
 use Rattle.std.proofs.Common.{◌≡◌, ℕ, false, List}
-use Rattle.ded_model.specs.Logic.{Logic, AllAtoms}
 use Rattle.ded_model.specs.PlanForm.{PlanAtom, scan, rows, PlanForm}
 use Rattle.ded_model.specs.Measure.{Measures, plan_atom_b, plan_atom_rank, plan_atom_lines, plan_atom_clash, plan_b, plan_rank, plan_lines, plan_clashes}
 use Rattle.ded_model.specs.Width.{IsNarrowWith}

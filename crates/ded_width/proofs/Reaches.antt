@@ -2,7 +2,7 @@
 --
 -- With a greatest length b, the lines at the rank q have at most (b + 1) * 2 ^ q - 1 digits: an elimination makes of k digits at
 -- most 2k + 1. Where (b + 1) * 2 ^ (q + 1) is at most 128, that is at most 63, so that an elimination does not clash.
-use Rattle.std.proofs.Common.{◌≡◌, ℕ, suc, ◌+◌, ◌-◌, ◌*◌, ◌^◌, ◌<◌, ◌≤◌, Bool, true, false, ◌||◌, List, [], ◌++◌, inl, inr, refl, sym, ◌∙◌, ap, subst, arith}
+use Rattle.std.proofs.Common.{◌≡◌, ℕ, suc, ◌+◌, ◌-◌, ◌*◌, ◌^◌, ◌<◌, ◌≤◌, Bool, false, ◌||◌, List, [], ◌++◌, inl, inr, refl, sym, ◌∙◌, ap, subst, arith}
 use Rattle.std.specs.Prelude.{max}
 use lib.Pow.{pow_pos}
 use Rattle.std.proofs.Math.Pow.{pow-add, pow_mono}
@@ -10,9 +10,8 @@ use Rattle.ded_model.specs.declared.slot.Slot.{Slot}
 use Rattle.ded_model.specs.declared.slot.Sort.{Sort}
 use Rattle.ded_model.specs.declared.slot.Sort.TheVariants.{Rat, Text}
 use Rattle.ded_model.specs.Point.{Key, slot, name}
-use Rattle.ded_model.specs.Row.{row_mentions}
 use Rattle.ded_model.specs.Logic.{Logic, atom, always, never, negation, every_of, some_of, implies, minus, exists, forall, Logics, none, also, AllAtoms, AllAtomsOf, rank, greatest_rank, greatest, greatest_of, one_more}
-use Rattle.ded_model.specs.Lines.{Line, In, AreWithin, elim_at, elim_past, clash_past, lines, all_lines, clashes, any_clashes}
+use Rattle.ded_model.specs.Lines.{Line, AreWithin, elim_at, elim_past, clash_past, lines, all_lines, clashes, any_clashes}
 use Rattle.ded_model.specs.Width.{IsNarrowWith}
 use Rattle.ded_model.proofs.Members.{In-split}
 use Rattle.ded_model.proofs.LineLengths.{within_more, elim-within, no_clash}

@@ -15,7 +15,6 @@ use Rattle.ded_model.specs.Row.{row_mentions}
 use Rattle.ded_model.specs.Lines.{Line, In, put_at, renamed_coefs, renamed_lines, AreWithin}
 use Rattle.ded_model.proofs.Points.{same_slot_is, same_slot_refl}
 use Rattle.ded_model.proofs.Rows.{or_left, or_right}
-use Rattle.ded_model.proofs.Members.{or_split}
 use Rattle.ded_model.proofs.LineCoefs.{coef_at-put}
 use Rattle.ded_model.proofs.LineSlots.{has_slot, put_slots, line_slots}
 use Rattle.ded_model.proofs.Growth.{renamed-In}
