@@ -7,3 +7,4 @@ pub mod GoalReaches
 pub mod AscendingGoals
 pub mod NameReaches
 pub mod FormulaReaches
+mod WorkedWidths
