@@ -52,6 +52,10 @@ product_up b d i j h k =
     let q = times_up b (2 ^ i) (2 ^ j) p in
     let r = factor_up b d (2 ^ j) h in omega arith
 
+-- what is narrow is narrow with less
+pub narrow_with_less : (b d i j : ℕ) → b ≤ d → i ≤ j → IsNarrowWith d j → IsNarrowWith b i
+narrow_with_less b d i j h k n = let p = product_up b d i j h k in omega (arith, p, n)
+
 -- below one more quantifier all is short
 short_below : (b q : ℕ) → IsNarrowWith b (suc q) → reach b q ≤ 63
 short_below b q n = let f = twice b q in omega arith

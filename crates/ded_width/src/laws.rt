@@ -1,5 +1,5 @@
 //! What is narrow is tight.
-ghost use Rattle.std.specs.Prelude.{◌≡◌, false, List};
+ghost use Rattle.std.specs.Prelude.{◌≡◌, ◌≤◌, false, List};
 ghost use Rattle.ded_model.specs.declared.name.Column.{Column};
 ghost use Rattle.ded_model.specs.Form.{Form};
 ghost use Rattle.ded_model.specs.Goal.{GoalForm};
@@ -39,9 +39,14 @@ pub fn names()
     ensures reach { (c : Catalogue) → IsWellFormed c → AreInReach (measures c) }
 {}
 
-/// A narrow formula that is accepted over a well formed catalogue is tight.
+/// The lines of a formula that is accepted over a well formed catalogue have less than (b + 1) * 2 ^ q digits, b its greatest
+/// length and q its rank. Where the formula is narrow it is tight, and no elimination in a plan clashes that has at most its length
+/// and rank.
 pub fn formulas()
     ensures within { (c : Catalogue) → IsWellFormed c → (h : List Column) (f : Form) → IsAccepted (known c) h f
         → AreWithinReach (goal_b (measures c) (goal_of h f)) (goal_rank (measures c) (goal_of h f)) (goal_lines (measures c) (goal_of h f)) }
     ensures tight { (c : Catalogue) → IsWellFormed c → (h : List Column) (f : Form) → IsAccepted (known c) h f → IsNarrow c h f → IsTight c h f }
+    ensures plans { (c : Catalogue) → IsWellFormed c → (h : List Column) (f : Form) → IsNarrow c h f → (plan : PlanForm) → IsAscendingPlan plan
+        → plan_b (measures c) plan ≤ goal_b (measures c) (goal_of h f) → plan_rank (measures c) plan ≤ goal_rank (measures c) (goal_of h f)
+        → plan_clashes (measures c) plan ≡ false }
 {}
