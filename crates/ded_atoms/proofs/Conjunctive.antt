@@ -11,6 +11,7 @@ use Rattle.ded_model.specs.Normal.{IsNormalTheme, IsNormalTuple}
 use Rattle.ded_theory.specs.Both.{by_kind, IsByKind}
 use Rattle.ded_theory.specs.Conjunctions.{conj_mentions, conj_lines}
 use Rattle.ded_elimination.specs.LinearAtoms.{IsLinearAtom}
+use Rattle.ded_tuple.specs.TrueRows.{IsNormalOrTrue}
 
 -- it holds alike
 pub tuple_holds-is : (t : List Atom) (p : Point) → conj_holds (by_kind row_holds theme_holds) t p ≡ tuple_holds t p
@@ -37,6 +38,12 @@ pub normal-is : (t : List Atom) → IsNormalTuple t → AllByRecursion (IsByKind
 normal-is [] n = tt
 normal-is (First r ∷ t) n = (record { coefs = n.0.0; row = n.0.1 }, normal-is t n.2)
 normal-is (Second a ∷ t) n = (n.0, normal-is t n.2)
+
+-- atoms that are normal for the theory are what the making of a normal tuple asks for
+pub normal_or_true : (atoms : List Atom) → AllByRecursion (IsByKind IsLinearAtom IsNormalTheme) atoms → AllByRecursion IsNormalOrTrue atoms
+normal_or_true [] h = tt
+normal_or_true (First r ∷ atoms) h = ((h.0.coefs, h.0.row), normal_or_true atoms h.1)
+normal_or_true (Second a ∷ atoms) h = (h.0, normal_or_true atoms h.1)
 
 -- it tells points apart alike
 pub atom_cell-is : (a : Atom) (p : Point) → by_kind row_cell theme_cell a p ≡ atom_cell a p

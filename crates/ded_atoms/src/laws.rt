@@ -8,6 +8,7 @@ ghost use Rattle.ded_model.specs.Cell.{conj_holds, atom_cell};
 ghost use Rattle.ded_model.specs.Lines.{atoms_lines};
 ghost use Rattle.ded_model.specs.Normal.{IsNormalTuple};
 ghost use Rattle.ded_model.specs.Width.{IsNarrowList};
+ghost use Rattle.ded_tuple.specs.TrueRows.{IsNormalOrTrue};
 ghost use Rattle.ded_theory.specs.Conjunctions.{conj_mentions, conj_lines, IsWide};
 
 use crate::Atoms;
@@ -22,8 +23,9 @@ pub fn tuples_are_conjunctions()
 {}
 
 /// The atoms of a normal tuple are in the normal form that the theory asks for, and they are wide only where the tuple isn't
-/// narrow.
+/// narrow. Atoms in that form are normal one by one, as the making of a normal tuple asks.
 pub fn normal_tuples()
     ensures normal { (t : List Atom) → IsNormalTuple t → AllByRecursion ⟦<Atoms as Theory>⟧.normal t }
+    ensures atoms { (atoms : List Atom) → AllByRecursion ⟦<Atoms as Theory>⟧.normal atoms → AllByRecursion IsNormalOrTrue atoms }
     ensures narrow { (t : List Atom) → IsNormalTuple t → IsNarrowList t → IsWide ⟦<Atoms as Theory>⟧.mentions ⟦<Atoms as Theory>⟧.lines t → ⊥ }
 {}

@@ -19,7 +19,8 @@ use Rattle.ded_model.specs.Slotted.{SlotScope, slot_of, is_text_operand, text_si
 use Rattle.ded_model.specs.Known.{has_unbound, is_unbound_atom, scope_of, sorts_differ, operand_sort}
 use Rattle.ded_model.specs.Plain.{IsPlain}
 use Rattle.ded_goals.specs.Scope.{sorts_of}
-use Rattle.ded_goals.specs.Tuples.{is_missorted_comparison, IsTextSide, placed, IsFitting, AreFitting}
+use Rattle.ded_goals.specs.Tuples.{is_missorted_comparison, IsTextSide, IsFitting, AreFitting}
+use Rattle.ded_tuple.specs.Places.{placed}
 use Rattle.ded_goals.proofs.Summing.{sort_in-slot, fails_left, fails_right}
 use Rattle.ded_goals.proofs.Reading.{numbered_heading, sorts_heading}
 

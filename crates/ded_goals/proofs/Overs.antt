@@ -5,8 +5,6 @@ use lib.IntN.{neg_ℤ}
 use Rattle.std.specs.List.{list_any}
 use Rattle.std.specs.Result.{IfOk}
 use Rattle.std.specs.Prelude.{Result}
-use Rattle.std.specs.declared.cmp.Ordering.{Ordering}
-use Rattle.std.specs.declared.cmp.Ordering.TheVariants.{Less, Equal, Greater}
 use Rattle.ded_model.specs.declared.slot.Slot.{Slot}
 use Rattle.ded_model.specs.declared.slot.Sort.TheVariants.{Rat}
 use Rattle.ded_model.specs.declared.name.Column.{Column}
@@ -23,7 +21,7 @@ use Rattle.ded_model.specs.Sum.{SlotSum, denominator}
 use Rattle.ded_model.specs.Coefs.{put_all, mixed}
 use Rattle.ded_model.specs.Point.{name, same_key, same_slot, stands_in}
 use Rattle.ded_model.specs.Row.{Atom, row_mentions, theme_mentions, atom_mentions, tuple_mentions}
-use Rattle.ded_model.specs.Normal.{normal_row, is_true_row, atom_order, place_atom, ordered_atoms, IsNormalTuple}
+use Rattle.ded_model.specs.Normal.{normal_row, is_true_row, ordered_atoms, IsNormalTuple}
 use Rattle.ded_model.specs.Logic.{atom, always, never, negation, every_of, some_of, implies, minus, exists, forall, Scope, logics, some_below, some_below_of}
 use Rattle.ded_model.specs.Form.{Form, compare, member}
 use Rattle.ded_model.specs.Goal.{GoalForm, linear, theme}
@@ -34,6 +32,7 @@ use Rattle.ded_model.proofs.Rows.{or_left, or_right}
 use Rattle.ded_model.proofs.Members.{or_split}
 use Rattle.ded_model.proofs.LineSlots.{has_slot, put_slots, put_all_slots, nonzero_slots}
 use Rattle.ded_row.proofs.Forms.{row_mentions-normal}
+use Rattle.ded_tuple.proofs.Ordered.{mentions-ordered}
 use Rattle.ded_goals.specs.Scope.{sorts_of}
 use Rattle.ded_goals.proofs.Summing.{fails_left, fails_right}
 use Rattle.ded_goals.proofs.Reading.{sorts_heading}
@@ -209,25 +208,6 @@ mentions-append (x ∷ xs) ys s h = elim (or_split (atom_mentions x s) _ h) [
   | inl e ↦ inl (or_left _ _ e)
   | inr e ↦ elim (mentions-append xs ys s e) [ inl f ↦ inl (or_right (atom_mentions x s) _ f) | inr f ↦ inr f ]
 ]
-
--- an atom put at its place
-mentions-place : (a : Atom) (xs : List Atom) (s : Slot) → tuple_mentions (place_atom a xs) s ≡ true → (atom_mentions a s ≡ true) ⊎ (tuple_mentions xs s ≡ true)
-unfolding tuple_mentions
-mentions-place a [] s h = or_split (atom_mentions a s) _ h
-mentions-place a (b ∷ bs) s h = go (atom_order a b) refl (mentions-place a bs s)
-  where
-    go : (o : Ordering) → atom_order a b ≡ o → (tuple_mentions (place_atom a bs) s ≡ true → (atom_mentions a s ≡ true) ⊎ (tuple_mentions bs s ≡ true)) → (atom_mentions a s ≡ true) ⊎ (tuple_mentions (b ∷ bs) s ≡ true)
-    go Less e ih = or_split (atom_mentions a s) _ (rw e at h)
-    go Equal e ih = inr (rw e at h)
-    go Greater e ih = elim (or_split (atom_mentions b s) _ (rw e at h)) [
-      | inl f ↦ inr (or_left _ _ f)
-      | inr f ↦ elim (ih f) [ inl g ↦ inl g | inr g ↦ inr (or_right (atom_mentions b s) _ g) ]
-    ]
-
-mentions-ordered : (xs : List Atom) (s : Slot) → tuple_mentions (ordered_atoms xs) s ≡ true → tuple_mentions xs s ≡ true
-unfolding tuple_mentions
-mentions-ordered [] s h = h
-mentions-ordered (x ∷ xs) s h = elim (mentions-place x (ordered_atoms xs) s h) [ inl e ↦ or_left _ _ e | inr e ↦ or_right (atom_mentions x s) _ (mentions-ordered xs s e) ]
 
 -- the atoms of comparisons
 comparisons_in : (scope : SlotScope) (fs : List Form) (s : Slot) → list_any (some_below is_unbound_atom (sorts_of scope)) fs ≡ false → tuple_mentions (comparison_atoms scope fs) s ≡ true → stands scope s ≡ true

@@ -1,10 +1,8 @@
--- What the making of a normal tuple goes by.
-use Rattle.std.specs.Prelude.{◌≡◌, ℕ, ◌+◌, Bool, true, false, ◌||◌, Option, Some, None, List, [], ◌∷◌}
-use Rattle.std.specs.declared.cmp.Ordering.{Ordering}
-use Rattle.std.specs.declared.cmp.Ordering.TheVariants.{Less, Equal, Greater}
+-- Which comparisons have an atom that is normal, and the atoms of a goal.
+use Rattle.std.specs.Prelude.{◌≡◌, Bool, false, ◌||◌, Option, Some, None, List, [], ◌∷◌}
 use Rattle.ded_model.specs.declared.slot.Sort.TheVariants.{Text}
 use Rattle.ded_model.specs.Row.{Atom}
-use Rattle.ded_model.specs.Normal.{IsNormalRow, IsNormalTheme, IsNormalAtom, BeginsAfter, atom_order, place_atom}
+use Rattle.ded_model.specs.Normal.{IsNormalRow, IsNormalTheme, IsNormalAtom}
 use Rattle.ded_model.specs.Logic.{atom, Scope, Logics, AllAtomsOf, some_below, some_below_of}
 use Rattle.ded_model.specs.Form.{Form, FormAtom, compare, member}
 use Rattle.ded_model.specs.Goal.{linear, theme, GoalForm}
@@ -23,11 +21,11 @@ abbrev pub IsTextSide : TextSide → Type 0
 IsTextSide (at s) = s.sort ≡ Text
 IsTextSide (word t) = Unit {0}
 
--- a row or a text atom is normal
-abbrev pub IsNormalGoal : GoalForm → Type 0
-IsNormalGoal (atom (linear r)) = IsNormalRow r
-IsNormalGoal (atom (theme a)) = IsNormalTheme a
-IsNormalGoal _ = Unit {0}
+-- a comparison's goal that is a row or a text atom is a normal one
+abbrev pub IsNormalComparison : GoalForm → Type 0
+IsNormalComparison (atom (linear r)) = IsNormalRow r
+IsNormalComparison (atom (theme a)) = IsNormalTheme a
+IsNormalComparison _ = Unit {0}
 
 -- the atom, if there is one
 abbrev pub found : Option Atom → List Atom
@@ -37,36 +35,6 @@ found (Some a) = a ∷ []
 abbrev pub AreNormalAtoms : List Atom → Type 0
 AreNormalAtoms [] = Unit {0}
 AreNormalAtoms (a ∷ atoms) = IsNormalAtom a × AreNormalAtoms atoms
-
--- each atom stands before the next one
-abbrev pub AreOrdered : List Atom → Type 0
-AreOrdered [] = Unit {0}
-AreOrdered (a ∷ atoms) = BeginsAfter a atoms × AreOrdered atoms
-
--- how many of the first atoms stand before the atom
-abbrev pub atom_place : Atom → List Atom → ℕ
-atom_place a [] = 0
-atom_place a (b ∷ bs) = behind (atom_order a b) (atom_place a bs)
-  where
-    behind : Ordering → ℕ → ℕ
-    behind Less n = 0
-    behind Equal n = 0
-    behind Greater n = n + 1
-
--- whether the atom stands behind them
-abbrev pub is_placed : Atom → List Atom → Bool
-is_placed a [] = false
-is_placed a (b ∷ bs) = by_order (atom_order a b) (is_placed a bs)
-  where
-    by_order : Ordering → Bool → Bool
-    by_order Less later = false
-    by_order Equal later = true
-    by_order Greater later = later
-
--- the atoms put at their places, the last one first
-abbrev pub placed : List Atom → List Atom → List Atom
-placed [] tuple = tuple
-placed (a ∷ atoms) tuple = place_atom a (placed atoms tuple)
 
 -- in the scope each variable is bound, each sum is over 1 and has each name once, and no comparison has a text in the place of a
 -- number, or a number in the place of a text

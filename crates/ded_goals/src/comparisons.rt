@@ -8,7 +8,7 @@ ghost use Rattle.ded_model.specs.Slotted.{compare_goal, comparison_row, sums_goa
 ghost use Rattle.ded_model.specs.Plain.{IsPlainAtom};
 ghost use Rattle.ded_goals.specs.TextSums.{has_text_sum};
 ghost use Rattle.ded_goals.specs.Scope.{sorts_of, AreApart, IsSmall, IsPlaceable, ArePlaceable};
-ghost use Rattle.ded_goals.specs.Tuples.{is_missorted_comparison, IsNormalGoal};
+ghost use Rattle.ded_goals.specs.Tuples.{is_missorted_comparison, IsNormalComparison};
 
 use crate::scope::Scope;
 use crate::sums::{difference, slot_sum};
@@ -33,7 +33,7 @@ pub fn comparison(
     requires bound { is_unbound_atom (sorts_of scope.now) (compare left.now op right.now) ≡ false }
     requires sorted { has_text_sum (sorts_of scope.now) (compare left.now op right.now) ≡ false }
     ensures goal { IfOk result (λ g. goal_form g ≡ compare_goal scope.now left.now op right.now) }
-    ensures normal { is_missorted_comparison (sorts_of scope.now) (compare left.now op right.now) ≡ false → IfOk result (λ g. IsNormalGoal (goal_form g)) }
+    ensures normal { is_missorted_comparison (sorts_of scope.now) (compare left.now op right.now) ≡ false → IfOk result (λ g. IsNormalComparison (goal_form g)) }
 {
     if is_text(scope, left) || is_text(scope, right) {
         return texts(alloc, text_side(scope, left), op, text_side(scope, right));
@@ -59,7 +59,7 @@ fn sums(alloc: Global, left: SlotTerm, op: CompareOp, right: SlotTerm) -> Result
     requires left { IsSmall left }
     requires right { IsSmall right }
     ensures goal { IfOk result (λ g. goal_form g ≡ sums_goal left op right) }
-    ensures normal { IfOk result (λ g. IsNormalGoal (goal_form g)) }
+    ensures normal { IfOk result (λ g. IsNormalComparison (goal_form g)) }
 {
     let row = row(left, op, right)?;
     match op {

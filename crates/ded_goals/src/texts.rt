@@ -5,7 +5,7 @@ ghost use Rattle.ded_model.specs.Point.{AllBytes};
 ghost use Rattle.ded_model.specs.Goal.{goal_form};
 ghost use Rattle.ded_model.specs.Slotted.{text_side, texts_goal, same_text_goal, other_text_goal, same_slots_goal, other_slots_goal, truth_goal};
 ghost use Rattle.ded_goals.specs.Sides.{side_form};
-ghost use Rattle.ded_goals.specs.Tuples.{IsTextSide, IsNormalGoal};
+ghost use Rattle.ded_goals.specs.Tuples.{IsTextSide, IsNormalComparison};
 
 use crate::scope::Scope;
 use ded_model::formula::{CompareOp, Operand};
@@ -37,7 +37,7 @@ pub fn text_side<'a>(scope: &Scope, operand: &'a Operand) -> Side<'a>
 /// The goal of a comparison of texts, which have no order.
 pub fn texts(alloc: Global, left: Side, op: CompareOp, right: Side) -> Result<Goal, NoMemory>
     ensures goal { IfOk result (λ g. goal_form g ≡ texts_goal (side_form left.entry) op (side_form right.entry)) }
-    ensures normal { IsTextSide (side_form left.entry) → IsTextSide (side_form right.entry) → IfOk result (λ g. IsNormalGoal (goal_form g)) }
+    ensures normal { IsTextSide (side_form left.entry) → IsTextSide (side_form right.entry) → IfOk result (λ g. IsNormalComparison (goal_form g)) }
 {
     match op {
         CompareOp::Equal => same_text(alloc, left, right),
@@ -49,7 +49,7 @@ pub fn texts(alloc: Global, left: Side, op: CompareOp, right: Side) -> Result<Go
 /// The goal that both sides are the same text.
 fn same_text(alloc: Global, left: Side, right: Side) -> Result<Goal, NoMemory>
     ensures goal { IfOk result (λ g. goal_form g ≡ same_text_goal (side_form left.entry) (side_form right.entry)) }
-    ensures normal { IsTextSide (side_form left.entry) → IsTextSide (side_form right.entry) → IfOk result (λ g. IsNormalGoal (goal_form g)) }
+    ensures normal { IsTextSide (side_form left.entry) → IsTextSide (side_form right.entry) → IfOk result (λ g. IsNormalComparison (goal_form g)) }
 {
     match (left, right) {
         (Side::At(s), Side::At(t)) => Ok(same_slots(s, t)),
@@ -62,7 +62,7 @@ fn same_text(alloc: Global, left: Side, right: Side) -> Result<Goal, NoMemory>
 /// The goal that the sides are different texts.
 fn other_text(alloc: Global, left: Side, right: Side) -> Result<Goal, NoMemory>
     ensures goal { IfOk result (λ g. goal_form g ≡ other_text_goal (side_form left.entry) (side_form right.entry)) }
-    ensures normal { IsTextSide (side_form left.entry) → IsTextSide (side_form right.entry) → IfOk result (λ g. IsNormalGoal (goal_form g)) }
+    ensures normal { IsTextSide (side_form left.entry) → IsTextSide (side_form right.entry) → IfOk result (λ g. IsNormalComparison (goal_form g)) }
 {
     match (left, right) {
         (Side::At(s), Side::At(t)) => Ok(other_slots(s, t)),
@@ -75,7 +75,7 @@ fn other_text(alloc: Global, left: Side, right: Side) -> Result<Goal, NoMemory>
 /// The goal that both slots have the same text. The slot of lesser number stands first.
 fn same_slots(s: Slot, t: Slot) -> Goal
     ensures goal { goal_form result ≡ same_slots_goal s t }
-    ensures normal { s.sort ≡ Text → t.sort ≡ Text → IsNormalGoal (goal_form result) }
+    ensures normal { s.sort ≡ Text → t.sort ≡ Text → IsNormalComparison (goal_form result) }
 {
     if s.is_same(t) {
         Goal::True
@@ -89,7 +89,7 @@ fn same_slots(s: Slot, t: Slot) -> Goal
 /// The goal that the slots have different texts. The slot of lesser number stands first.
 fn other_slots(s: Slot, t: Slot) -> Goal
     ensures goal { goal_form result ≡ other_slots_goal s t }
-    ensures normal { s.sort ≡ Text → t.sort ≡ Text → IsNormalGoal (goal_form result) }
+    ensures normal { s.sort ≡ Text → t.sort ≡ Text → IsNormalComparison (goal_form result) }
 {
     if s.is_same(t) {
         Goal::False

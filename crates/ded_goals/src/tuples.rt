@@ -3,15 +3,14 @@ ghost use Rattle.std.specs.Prelude.{◌≡◌, ◌<◌, ◌^◌, false, map, len
 ghost use Rattle.ded_model.specs.Logic.{every_of, some_below};
 ghost use Rattle.ded_model.specs.Form.{form, forms};
 ghost use Rattle.ded_model.specs.Goal.{goal_form};
-ghost use Rattle.ded_model.specs.Coefs.{AreCoefs};
-ghost use Rattle.ded_model.specs.Normal.{IsNormalTuple, is_true_row, constant_row, ordered_atoms};
+ghost use Rattle.ded_model.specs.Normal.{IsNormalTuple, constant_row, ordered_atoms};
 ghost use Rattle.ded_model.specs.Known.{has_unbound, scope_of, IsTupleOver};
 ghost use Rattle.ded_model.specs.Slotted.{goal_atoms, goal_below, comparison_atoms, tuple_of};
 ghost use Rattle.ded_model.specs.Plain.{IsPlain};
-ghost use Rattle.ded_goals.specs.Tuples.{is_missorted_comparison, IsNormalGoal, found, AreNormalAtoms, placed, IsFitting, AreFitting};
+ghost use Rattle.ded_goals.specs.Tuples.{is_missorted_comparison, IsNormalComparison, found, AreNormalAtoms, IsFitting, AreFitting};
+ghost use Rattle.ded_tuple.specs.Places.{placed};
 
 use crate::comparisons::comparison;
-use crate::placing::put;
 use crate::scope::Scope;
 use ded_model::formula::Formula;
 use ded_model::goal::Goal;
@@ -19,6 +18,7 @@ use ded_model::memory::NoMemory;
 use ded_model::name::Heading;
 use ded_model::row::{Coefs, Row, RowOp};
 use ded_model::tuple::{Atom, BothAtom, Tuple};
+use ded_tuple::{is_true, put};
 use std::alloc::Global;
 
 /// The normal tuple of comparisons over a heading. Each variable is a column of the heading, each sum is over 1 and has each
@@ -89,7 +89,7 @@ fn atom(alloc: Global, scope: &Scope, formula: &Formula) -> Result<Option<Atom>,
 /// The atom of a goal, if it is a single one and not true everywhere.
 fn goal_atom(alloc: Global, goal: Goal) -> Option<Atom>
     ensures atoms { found result ≡ goal_atoms (goal_form goal) }
-    ensures normal { IsNormalGoal (goal_form goal) → AreNormalAtoms (found result) }
+    ensures normal { IsNormalComparison (goal_form goal) → AreNormalAtoms (found result) }
 {
     match goal {
         Goal::Linear(row) => {
@@ -103,14 +103,6 @@ fn goal_atom(alloc: Global, goal: Goal) -> Option<Atom>
         Goal::False => Some(BothAtom::First(falsehood(alloc))),
         _ => None,
     }
-}
-
-/// Whether the row is one without coefficients that is no inequality below 0.
-fn is_true(row: &Row) -> bool
-    ensures value { result ≡ is_true_row row.now }
-    ensures kept { AreCoefs row.now.coefs }
-{
-    row.coefs.list().is_empty() && row.op != RowOp::Below
 }
 
 /// The row that holds nowhere.

@@ -5,3 +5,4 @@ mod GroundLemmas
 mod Questions
 pub mod OneList
 mod StepLemmas
+mod WideQuestions

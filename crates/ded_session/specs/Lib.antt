@@ -7,3 +7,4 @@ pub mod Replies
 pub mod Runs
 pub mod State
 pub mod Steps
+pub mod Widths

@@ -4,11 +4,14 @@ ghost use Rattle.ded_lex.specs.Pieces.{Statement};
 ghost use Rattle.ded_model.specs.declared.bound.BoxReply.{BoxReply};
 ghost use Rattle.ded_model.specs.declared.command.Language.{Language};
 ghost use Rattle.ded_model.specs.declared.name.Column.{Column};
+ghost use Rattle.ded_model.specs.declared.command.Refusal.TheVariants.{Wide};
 ghost use Rattle.ded_model.specs.Catalogue.{Catalogue};
+ghost use Rattle.ded_model.specs.Known.{IsWellFormed};
 ghost use Rattle.ded_model.specs.PlanForm.{PlanForm};
 ghost use Rattle.ded_model.specs.Row.{Atom};
-ghost use Rattle.ded_session.specs.Replies.{boxes, steps, stored, tuples};
-ghost use Rattle.ded_session.specs.Steps.{Step};
+ghost use Rattle.ded_session.specs.Replies.{boxes, refused, steps, stored, tuples};
+ghost use Rattle.ded_session.specs.Steps.{Accepts, Step};
+ghost use Rattle.ded_session.specs.Widths.{IsNotNarrow};
 
 /// A statement over a catalogue shows one list of tuples at most.
 pub fn one_list()
@@ -24,4 +27,10 @@ pub fn no_other_replies()
         Step language c s (boxes h b) d → ⊥ }
     ensures steps { (language : Language) (c d : Catalogue) (s : Statement) (plan : PlanForm) →
         Step language c s (steps plan) d → ⊥ }
+{}
+
+/// A statement over a well formed catalogue is refused as too wide only where it is accepted, and what it asks isn't narrow.
+pub fn wide_questions()
+    ensures { (language : Language) (c d : Catalogue) (s : Statement) → IsWellFormed c → Step language c s (refused Wide) d
+        → Accepts language s c (λ command. IsNotNarrow command c) }
 {}

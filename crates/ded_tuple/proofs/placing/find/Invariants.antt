@@ -2,8 +2,8 @@ use Rattle.std.proofs.Common.{◌≡◌, ◌-◌, ◌<◌, ◌≤◌, get_or, le
 use Rattle.std.specs.declared.cmp.Ordering.TheVariants.{Less}
 use Rattle.ded_model.specs.Row.{Atom}
 use Rattle.ded_model.specs.Normal.{atom_order}
-use Rattle.ded_goals.specs.Tuples.{atom_place}
-use Rattle.ded_goals.proofs.placing.find.Given as goal
+use Rattle.ded_tuple.specs.Places.{atom_place}
+use Rattle.ded_tuple.proofs.placing.find.Given as goal
 
 abbrev pub invariant-loop-low : goal.invariant-loop-low
 invariant-loop-low l = record {

@@ -5,9 +5,9 @@ use Rattle.std.specs.declared.cmp.Ordering.TheVariants.{Less, Equal, Greater}
 use Rattle.std.specs.Ordering.{ordering_reverse}
 use Rattle.ded_model.specs.Row.{Atom}
 use Rattle.ded_model.specs.Normal.{atom_order, IsNormalTuple}
-use Rattle.ded_goals.specs.Tuples.{AreOrdered, atom_place, is_placed}
-use Rattle.ded_goals.proofs.AtomOrders.{turned}
-use Rattle.ded_goals.proofs.Chains.{atom-chains}
+use Rattle.ded_tuple.specs.Places.{AreOrdered, atom_place, is_placed}
+use Rattle.ded_tuple.proofs.AtomOrders.{turned}
+use Rattle.ded_tuple.proofs.Chains.{atom-chains}
 
 -- a normal tuple is in order
 pub normal-ordered : (xs : List Atom) → IsNormalTuple xs → AreOrdered xs

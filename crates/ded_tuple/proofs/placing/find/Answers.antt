@@ -1,10 +1,10 @@
 use Rattle.std.proofs.Common.{◌≡◌, ℕ, ◌+◌, ◌-◌, ◌/◌, ◌<◌, ◌≤◌, length, get_or, arith}
 use Rattle.std.specs.declared.cmp.Ordering.TheVariants.{Less, Equal, Greater}
 use Rattle.ded_model.specs.Normal.{atom_order}
-use Rattle.ded_goals.specs.Tuples.{atom_place}
-use Rattle.ded_goals.proofs.Places.{place-within}
-use Rattle.ded_goals.proofs.Halving.{less_at, greater_at, equal_at, not_there, read_at, behind_at}
-use Rattle.ded_goals.proofs.placing.find.Goals as goal
+use Rattle.ded_tuple.specs.Places.{atom_place}
+use Rattle.ded_tuple.proofs.Places.{place-within}
+use Rattle.ded_tuple.proofs.Halving.{less_at, greater_at, equal_at, not_there, read_at, behind_at}
+use Rattle.ded_tuple.proofs.placing.find.Goals as goal
 
 -- the middle lies between
 middle : (m n k : ℕ) → m < n → n ≤ k → m + (n - m) / 2 < k

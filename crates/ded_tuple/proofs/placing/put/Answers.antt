@@ -1,11 +1,11 @@
 use Rattle.std.proofs.Common.{◌≡◌, sym, ap, ◌∙◌, subst, arith}
-use Rattle.ded_goals.specs.Tuples.{AreOrdered}
-use Rattle.ded_goals.proofs.Halving.{normal-ordered}
-use Rattle.ded_goals.proofs.Places.{place-within, put-inserted, put-there, put-normal}
+use Rattle.ded_tuple.specs.Places.{AreOrdered}
+use Rattle.ded_tuple.proofs.Halving.{normal-ordered}
+use Rattle.ded_tuple.proofs.Places.{place-within, put-inserted, put-there, put-normal}
 use Rattle.std.specs.Prelude.{insert}
 use Rattle.ded_model.specs.Normal.{IsNormalTuple, place_atom}
-use Rattle.ded_goals.proofs.placing.put.Goals as goal
-use Rattle.ded_goals.proofs.placing.put.Goals.{In_ok-insert}
+use Rattle.ded_tuple.proofs.placing.put.Goals as goal
+use Rattle.ded_tuple.proofs.placing.put.Goals.{In_ok-insert}
 
 pub insert-requires : goal.insert-requires
 insert-requires c =

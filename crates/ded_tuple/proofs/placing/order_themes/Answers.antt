@@ -2,8 +2,8 @@ use Rattle.std.proofs.Common.{◌≡◌, ap, ap₂, ◌∙◌}
 use Rattle.std.specs.Ordering.{ordering_then, nat_cmp}
 use Rattle.std.specs.Cmp.Lexicographic.{slice_cmp}
 use Rattle.ded_model.specs.Normal.{first_slot, kind_place, quoted_text, second_number}
-use Rattle.ded_goals.proofs.AtomOrders.{theme_order-is}
-use Rattle.ded_goals.proofs.placing.order_themes.Goals as goal
+use Rattle.ded_tuple.proofs.AtomOrders.{theme_order-is}
+use Rattle.ded_tuple.proofs.placing.order_themes.Goals as goal
 
 pub returns : goal.returns
 returns c =

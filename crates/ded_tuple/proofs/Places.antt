@@ -6,9 +6,9 @@ use Rattle.std.specs.declared.cmp.Ordering.{Ordering}
 use Rattle.std.specs.declared.cmp.Ordering.TheVariants.{Less, Equal, Greater}
 use Rattle.std.specs.Prelude.{insert}
 use Rattle.ded_model.specs.Row.{Atom}
-use Rattle.ded_model.specs.Normal.{atom_order, IsNormalAtom, BeginsAfter, IsNormalTuple, place_atom, ordered_atoms}
-use Rattle.ded_goals.specs.Tuples.{AreNormalAtoms, atom_place, is_placed}
-use Rattle.ded_goals.proofs.AtomOrders.{atom_order-turned}
+use Rattle.ded_model.specs.Normal.{atom_order, IsNormalAtom, BeginsAfter, IsNormalTuple, place_atom}
+use Rattle.ded_tuple.specs.Places.{atom_place, is_placed}
+use Rattle.ded_tuple.proofs.AtomOrders.{atom_order-turned}
 
 -- ---- what the code does
 
@@ -75,11 +75,6 @@ place-normal a (b ∷ bs) h k = go (atom_order a b) refl (place-normal a bs h k.
     go Less f ih = rw f (h, f, k)
     go Equal f ih = rw f k
     go Greater f ih = rw f (k.0, begins_after b a bs (atom_order-turned a b f) k.1, ih)
-
--- atoms in order are a normal tuple
-pub ordered-normal : (atoms : List Atom) → AreNormalAtoms atoms → IsNormalTuple (ordered_atoms atoms)
-ordered-normal [] h = tt
-ordered-normal (a ∷ atoms) h = place-normal a (ordered_atoms atoms) h.0 (ordered-normal atoms h.1)
 
 -- ---- as the code has it
 

@@ -1,0 +1,15 @@
+-- Commands whose question isn't narrow.
+use Rattle.std.specs.Prelude.{[]}
+use Rattle.ded_model.specs.Catalogue.{Catalogue, tuples_of}
+use Rattle.ded_model.specs.Command.{CommandForm, ask, query, box_of}
+use Rattle.ded_model.specs.Entries.{columns_in, tuples_in}
+use Rattle.ded_model.specs.Measure.{IsNarrow}
+use Rattle.ded_model.specs.Width.{IsBoxNarrow}
+
+-- (b + 1) * 2 ^ q is above 128, with the greatest length b and the rank q of the formula, or of the relation's tuples and its
+-- rational columns
+abbrev pub IsNotNarrow : CommandForm → Catalogue → Type 0
+IsNotNarrow (ask f) c = IsNarrow c [] f → ⊥
+IsNotNarrow (query h f) c = IsNarrow c h f → ⊥
+IsNotNarrow (box_of n) c = IsBoxNarrow (columns_in c n) (tuples_of (tuples_in c n)) → ⊥
+IsNotNarrow _ c = ⊥

@@ -1,0 +1,6 @@
+mod AtomOrders
+mod Chains
+mod Halving
+pub mod Ordered
+mod Places
+mod SameAtoms

@@ -1,0 +1,52 @@
+//! What is narrow is tight.
+ghost use Rattle.std.specs.Prelude.{◌≡◌, ◌≤◌, false, List};
+ghost use Rattle.ded_model.specs.declared.name.Column.{Column};
+ghost use Rattle.ded_model.specs.Form.{Form};
+ghost use Rattle.ded_model.specs.Goal.{GoalForm};
+ghost use Rattle.ded_model.specs.PlanForm.{PlanForm};
+ghost use Rattle.ded_model.specs.Catalogue.{Catalogue};
+ghost use Rattle.ded_model.specs.Entries.{known};
+ghost use Rattle.ded_model.specs.Known.{KnownNames, IsAccepted, IsWellFormed, has_missorted};
+ghost use Rattle.ded_model.specs.Slotted.{goal_of};
+ghost use Rattle.ded_model.specs.Measure.{Measures, goal_b, goal_rank, goal_lines, goal_clashes, plan_b, plan_rank, plan_lines, plan_clashes, measures, IsNarrow, IsTight};
+ghost use Rattle.ded_model.specs.Width.{IsNarrowWith};
+ghost use Rattle.ded_width.specs.Reach.{AreInReach, AreWithinReach, IsAscendingGoal, IsAscendingPlan};
+
+/// The lines of a plan have less than (b + 1) * 2 ^ q digits, b its greatest length and q its rank. Where that is narrow, no
+/// elimination in the plan clashes.
+pub fn plans()
+    ensures within { (M : Measures) → AreInReach M → (f : PlanForm) → IsAscendingPlan f
+        → AreWithinReach (plan_b M f) (plan_rank M f) (plan_lines M f) }
+    ensures tight { (M : Measures) → AreInReach M → (f : PlanForm) → IsAscendingPlan f
+        → IsNarrowWith (plan_b M f) (plan_rank M f) → plan_clashes M f ≡ false }
+{}
+
+/// So do the lines of a goal, and where its length and rank are narrow, no elimination in it clashes.
+pub fn goals()
+    ensures within { (M : Measures) → AreInReach M → (g : GoalForm) → IsAscendingGoal g
+        → AreWithinReach (goal_b M g) (goal_rank M g) (goal_lines M g) }
+    ensures tight { (M : Measures) → AreInReach M → (g : GoalForm) → IsAscendingGoal g
+        → IsNarrowWith (goal_b M g) (goal_rank M g) → goal_clashes M g ≡ false }
+{}
+
+/// The goal of a formula in which no text stands where a number has to has ascending rows and sums.
+pub fn accepted_goals()
+    ensures ascending { (K : KnownNames) (h : List Column) (f : Form) → has_missorted K h f ≡ false → IsAscendingGoal (goal_of h f) }
+{}
+
+/// The names of a well formed catalogue have lines of these lengths, its views among them.
+pub fn names()
+    ensures reach { (c : Catalogue) → IsWellFormed c → AreInReach (measures c) }
+{}
+
+/// The lines of a formula that is accepted over a well formed catalogue have less than (b + 1) * 2 ^ q digits, b its greatest
+/// length and q its rank. Where the formula is narrow it is tight, and no elimination in a plan clashes that has at most its length
+/// and rank.
+pub fn formulas()
+    ensures within { (c : Catalogue) → IsWellFormed c → (h : List Column) (f : Form) → IsAccepted (known c) h f
+        → AreWithinReach (goal_b (measures c) (goal_of h f)) (goal_rank (measures c) (goal_of h f)) (goal_lines (measures c) (goal_of h f)) }
+    ensures tight { (c : Catalogue) → IsWellFormed c → (h : List Column) (f : Form) → IsAccepted (known c) h f → IsNarrow c h f → IsTight c h f }
+    ensures plans { (c : Catalogue) → IsWellFormed c → (h : List Column) (f : Form) → IsNarrow c h f → (plan : PlanForm) → IsAscendingPlan plan
+        → plan_b (measures c) plan ≤ goal_b (measures c) (goal_of h f) → plan_rank (measures c) plan ≤ goal_rank (measures c) (goal_of h f)
+        → plan_clashes (measures c) plan ≡ false }
+{}
