@@ -6,5 +6,7 @@ pub mod Given
 pub mod Pairs
 pub mod Parts
 pub mod Projected
+pub mod RowsRead
 pub mod Scanned
 pub mod TuplesRead
+pub mod TuplesWritten

@@ -1,3 +1,4 @@
 pub mod Joining
+pub mod Laws
 pub mod Reading
 pub mod Scanning

@@ -27,3 +27,9 @@ module _ {A : Type 0} (h : A → Point → Bool) (m : A → Slot → Bool) (l : 
     pub holds : (p : Point) → conjs_hold h cs p ≡ tuples_hold ts p
     pub slots : (s : Slot) → conjs_mention m cs s ≡ tuples_mention ts s
     pub lines : IsSubset (conjs_lines l cs) (tuples_lines ts)
+
+-- the tuples hold where the conjunctions of their atoms do, mention only slots that these mention, and have lines among theirs
+pub record IsWrittenAs (cs ts : List (List Atom)) : Type 0 where
+  pub holds : (p : Point) → tuples_hold ts p ≡ tuples_hold cs p
+  pub slots : (s : Slot) → tuples_mention ts s ≡ true → tuples_mention cs s ≡ true
+  pub lines : IsSubset (tuples_lines ts) (tuples_lines cs)

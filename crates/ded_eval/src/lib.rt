@@ -10,10 +10,16 @@
 //! slots that the plan mentions freely, and has lines among the plan's; it gives up only where the plan clashes.
 #![tactic(auto)]
 
+mod atoms;
+mod engine;
 mod evaluation;
 mod reading;
+mod rows;
 mod scanning;
 mod slots;
 
+pub use atoms::{eval, eval_counted};
+pub use engine::{Engine, tuples};
 pub use evaluation::evaluate_counted;
 pub use reading::OfTuples;
+pub use rows::OfRows;

@@ -1,0 +1,52 @@
+//! The evaluation over rows and text atoms.
+ghost use Rattle.std.specs.Prelude.{◌≡◌, true, IfOk, IsErrOf};
+ghost use Rattle.ded_model.specs.declared.memory.Refused.TheVariants.{Wide};
+ghost use Rattle.ded_model.specs.Measure.{measures, plan_clashes};
+ghost use Rattle.ded_model.specs.PlanForm.{plan_form};
+ghost use Rattle.ded_genrel.specs.Lists.{conjs_hold, conjs_mention, conjs_lines};
+ghost use Rattle.ded_algebra.specs.Evaluation.{IsAnyAtom, IsEvaluable, IsEvaluation};
+
+use crate::evaluation::evaluate_counted;
+use ded_algebra::Relations;
+use ded_atoms::Atoms;
+use ded_genrel::GenRel;
+use ded_model::memory::Refused;
+use ded_model::plan::Plan;
+use ded_theory::Theory;
+use std::alloc::Global;
+
+/// A list that holds exactly where the plan does over the given relations. It mentions only slots that the plan mentions freely,
+/// and has lines among those of the plan. Each name that the plan scans is given, with tuples over columns of the sorts of the
+/// scan's slots.
+///
+/// # Errors
+/// `Wide` only where the plan clashes over the given relations, and else want of memory.
+pub fn eval<R: Relations>(
+    alloc: Global,
+    plan: &Plan,
+    relations: &R,
+) -> Result<GenRel<Atoms>, Refused>
+    requires { IsEvaluable IsAnyAtom (R.catalogue relations.now) (plan_form plan.now) }
+    ensures is { IfOk result (λ r. IsEvaluation (R.catalogue relations.now) (plan_form plan.now) (conjs_hold ⟦<Atoms as Theory>⟧.holds r) (conjs_mention ⟦<Atoms as Theory>⟧.mentions r) (conjs_lines ⟦<Atoms as Theory>⟧.lines r)) }
+    ensures wide { IsErrOf result Wide → plan_clashes (measures (R.catalogue relations.now)) (plan_form plan.now) ≡ true }
+{
+    let mut met = 0;
+    eval_counted(alloc, plan, relations, &mut met)
+}
+
+/// The same, and `met` grows by the count of pairs that joins meet, up to the greatest `u64`.
+///
+/// # Errors
+/// As [`eval`].
+pub fn eval_counted<R: Relations>(
+    alloc: Global,
+    plan: &Plan,
+    relations: &R,
+    met: &mut u64,
+) -> Result<GenRel<Atoms>, Refused>
+    requires { IsEvaluable IsAnyAtom (R.catalogue relations.now) (plan_form plan.now) }
+    ensures is { IfOk result (λ r. IsEvaluation (R.catalogue relations.now) (plan_form plan.now) (conjs_hold ⟦<Atoms as Theory>⟧.holds r) (conjs_mention ⟦<Atoms as Theory>⟧.mentions r) (conjs_lines ⟦<Atoms as Theory>⟧.lines r)) }
+    ensures wide { IsErrOf result Wide → plan_clashes (measures (R.catalogue relations.now)) (plan_form plan.now) ≡ true }
+{
+    evaluate_counted::<Atoms, R>(alloc, plan, relations, met)
+}

@@ -1,0 +1,45 @@
+//! The evaluation as tuples.
+ghost use Rattle.std.specs.Prelude.{◌≡◌, true, IfOk, IsErrOf};
+ghost use Rattle.ded_model.specs.Row.{tuples_hold, tuples_mention};
+ghost use Rattle.ded_model.specs.Lines.{tuples_lines};
+ghost use Rattle.ded_eval.specs.Reading.{IsWrittenAs};
+ghost use Rattle.ded_genrel.specs.Lists.{conjs_of};
+
+use crate::atoms::eval;
+use ded_algebra::{Evaluate, Relations};
+use ded_atoms::Atoms;
+use ded_genrel::GenRel;
+use ded_model::memory::{NoMemory, Refused};
+use ded_model::plan::Plan;
+use ded_model::tuple::Tuples;
+use ded_tuple::normal_tuple;
+use std::alloc::Global;
+
+/// Evaluates plans by [`eval`].
+pub struct Engine {}
+
+impl Evaluate for Engine {
+    fn evaluate<R: Relations>(
+        &self,
+        alloc: Global,
+        plan: &Plan,
+        relations: &R,
+    ) -> Result<Tuples, Refused> {
+        let list = eval(alloc, plan, relations)?;
+        Ok(tuples(alloc, list)?)
+    }
+}
+
+/// The normal tuples of the conjunctions of a list.
+///
+/// # Errors
+/// Want of memory.
+pub fn tuples(alloc: Global, list: GenRel<Atoms>) -> Result<Tuples, NoMemory>
+    ensures { IfOk result (λ ts. IsWrittenAs list ts) }
+{
+    let mut tuples = Vec::with_capacity(alloc, list.list().len())?;
+    for conj in list.conjs {
+        tuples.push(normal_tuple(alloc, conj)?)?;
+    }
+    Ok(Tuples { list: tuples })
+}
