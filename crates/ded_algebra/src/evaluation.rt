@@ -21,12 +21,11 @@ pub trait Relations {
     /// The catalogue that the value stands for.
     ghost catalogue: { Self → Catalogue };
 
-    /// The tuples of the name, none exactly where the name isn't given. It takes no memory.
+    /// The tuples of the name, none exactly where the name isn't given. Only relations are given, and their names are distinct. It
+    /// takes no memory.
     fn tuples(&self, name: &Name) -> Option<&[Tuple]>
-        ensures { option_map (λ ts. ts.now) result ≡ given_tuples (catalogue self.now) name.now };
-
-    /// Relations alone, whose names are distinct.
-    ghost given: { (r : Self) → AreGiven (catalogue r).entries };
+        ensures tuples { option_map (λ ts. ts.now) result ≡ given_tuples (catalogue self.now) name.now }
+        ensures given { AreGiven (catalogue self.now).entries };
 }
 
 /// What evaluates plans.

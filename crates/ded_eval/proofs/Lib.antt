@@ -2,7 +2,8 @@ pub mod ColumnCoefs
 pub mod ColumnPoints
 pub mod Columns
 pub mod Evaluated
-pub mod Given
+pub mod Found
+pub mod Names
 pub mod Pairs
 pub mod Parts
 pub mod Projected

@@ -32,7 +32,7 @@ use Rattle.ded_eval.specs.Scanning.{column_pairs}
 use Rattle.ded_eval.proofs.Columns.{IsRead, read, read_sort, read_into, read_once}
 use Rattle.ded_eval.proofs.ColumnCoefs.{mapped_columns}
 use Rattle.ded_eval.proofs.ColumnPoints.{column_point, overs_one, columns_point}
-use Rattle.ded_eval.proofs.Given.{IsFound}
+use Rattle.ded_eval.proofs.Found.{IsFound}
 
 -- tuples over columns mention the columns' slots
 over_columns : (Q : List Atom → Type 0) (h : List Column) (ts : List (List Atom)) (s : Slot) → AllByRecursion (λ t. IsTupleOver h t × Q t) ts → tuples_mention ts s ≡ true → stands_in (heading_slots 0 h) s ≡ true

@@ -1,3 +1,4 @@
+pub mod Given
 pub mod Joining
 pub mod Laws
 pub mod Reading

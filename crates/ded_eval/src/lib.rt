@@ -13,13 +13,17 @@
 mod atoms;
 mod engine;
 mod evaluation;
+mod given;
 mod reading;
 mod rows;
 mod scanning;
 mod slots;
+#[cfg(test)]
+mod tests;
 
 pub use atoms::{eval, eval_counted};
 pub use engine::{Engine, tuples};
 pub use evaluation::evaluate_counted;
+pub use given::{Given, GivenRelation};
 pub use reading::OfTuples;
 pub use rows::OfRows;

@@ -5,7 +5,7 @@ use Rattle.ded_model.specs.Renaming.{IsOneToOne, KeepsSorts}
 use Rattle.ded_genrel.specs.Lists.{AreNormal, conjs_hold, conjs_mention, conjs_lines}
 use Rattle.ded_genrel.specs.Operations.{IsRenaming}
 use Rattle.ded_eval.specs.Scanning.{column_pairs}
-use Rattle.ded_eval.proofs.Given.{found}
+use Rattle.ded_eval.proofs.Found.{found}
 use Rattle.ded_eval.proofs.Scanned.{scan_apart, scan_sorts, scan_is}
 use Rattle.ded_eval.proofs.scanning.scanned.Goals as goal
 
@@ -13,20 +13,20 @@ pub rename-requires-clause-one : goal.rename-requires-clause-one
 rename-requires-clause-one g c =
     subst (λ ps. IsOneToOne ps (conjs_mention g.T.Theory.mentions c.in_ok-conjunctions-in-Some.field-0)) (sym (c.deref-in-Some.ensures.value ∙ c.in_ok-pairs-in-Some.ensures ∙ ap (column_pairs 0) (c.deref.ensures.value ∙ c.slots.view_is)))
     (scan_apart g.T.Theory.holds g.T.Theory.mentions g.T.Theory.lines g.T.Theory.normal g.T.OfTuples.reads (g.R.Relations.catalogue c.args.relations.now) c.args.name.now c.args.slots.now c.in-Some.tuples.now
-    (found g.T.OfTuples.reads (g.R.Relations.catalogue c.args.relations.now) c.args.name.now c.args.slots.now c.in-Some.tuples.now (g.met.R.Relations.given c.args.relations.now) c.requires (sym c.in-Some.ensures))
+    (found g.T.OfTuples.reads (g.R.Relations.catalogue c.args.relations.now) c.args.name.now c.args.slots.now c.in-Some.tuples.now c.in-Some.ensures.given c.requires (sym c.in-Some.ensures.tuples))
     c.in_ok-conjunctions-in-Some.field-0 c.in_ok-conjunctions-in-Some.ensures (subst AreDistinctSlots c.slots.view_is c.slots.invariant))
 
 pub rename-requires-clause-sorts : goal.rename-requires-clause-sorts
 rename-requires-clause-sorts g c =
     subst (λ ps. KeepsSorts ps (conjs_mention g.T.Theory.mentions c.in_ok-conjunctions-in-Some.field-0)) (sym (c.deref-in-Some.ensures.value ∙ c.in_ok-pairs-in-Some.ensures ∙ ap (column_pairs 0) (c.deref.ensures.value ∙ c.slots.view_is)))
     (scan_sorts g.T.Theory.holds g.T.Theory.mentions g.T.Theory.lines g.T.Theory.normal g.T.OfTuples.reads (g.R.Relations.catalogue c.args.relations.now) c.args.name.now c.args.slots.now c.in-Some.tuples.now
-    (found g.T.OfTuples.reads (g.R.Relations.catalogue c.args.relations.now) c.args.name.now c.args.slots.now c.in-Some.tuples.now (g.met.R.Relations.given c.args.relations.now) c.requires (sym c.in-Some.ensures))
+    (found g.T.OfTuples.reads (g.R.Relations.catalogue c.args.relations.now) c.args.name.now c.args.slots.now c.in-Some.tuples.now c.in-Some.ensures.given c.requires (sym c.in-Some.ensures.tuples))
     c.in_ok-conjunctions-in-Some.field-0 c.in_ok-conjunctions-in-Some.ensures)
 
 pub returns : goal.returns
 returns g c = IfOk-weaker c.rename-in-Some.result _ _ (λ r k.
     scan_is g.T.Theory.holds g.T.Theory.mentions g.T.Theory.lines g.T.Theory.normal g.T.OfTuples.reads (g.R.Relations.catalogue c.args.relations.now) c.args.name.now c.args.slots.now c.in-Some.tuples.now
-    (found g.T.OfTuples.reads (g.R.Relations.catalogue c.args.relations.now) c.args.name.now c.args.slots.now c.in-Some.tuples.now (g.met.R.Relations.given c.args.relations.now) c.requires (sym c.in-Some.ensures))
+    (found g.T.OfTuples.reads (g.R.Relations.catalogue c.args.relations.now) c.args.name.now c.args.slots.now c.in-Some.tuples.now c.in-Some.ensures.given c.requires (sym c.in-Some.ensures.tuples))
     c.in_ok-conjunctions-in-Some.field-0 c.in_ok-conjunctions-in-Some.ensures g.met.T.OfTuples.line_coefs g.met.T.Theory.line_slots (subst AreDistinctSlots c.slots.view_is c.slots.invariant)
     (subst (AreNormal g.T.Theory.normal) c.rename.view_is c.rename.invariant) r
     (subst (λ ps. IsRenaming ps (conjs_hold g.T.Theory.holds c.in_ok-conjunctions-in-Some.field-0) (conjs_hold g.T.Theory.holds r) (conjs_mention g.T.Theory.mentions c.in_ok-conjunctions-in-Some.field-0) (conjs_mention g.T.Theory.mentions r)

@@ -1,0 +1,77 @@
+//! Relations that are given by name.
+ghost use Rattle.std.specs.Prelude.{◌≡◌, ◌++◌, ◌∷◌, [], false, OnOk, OnErr};
+
+use ded_algebra::Relations;
+use ded_model::memory::NoMemory;
+use ded_model::name::{Heading, Name};
+use ded_model::tuple::{Tuple, Tuples};
+use std::alloc::Global;
+use std::marker::Model;
+
+/// A relation under its name, with its heading and its tuples.
+#[derive(Drop)]
+pub struct GivenRelation {
+    pub name: Name,
+    pub heading: Heading,
+    pub tuples: Tuples,
+}
+
+/// Relations of distinct names, in the order in which they were given. Contracts see the list.
+#[derive(Drop)]
+pub struct Given {
+    relations: Vec<GivenRelation>,
+}
+
+impl Model for Given {
+    ghost use Rattle.std.specs.Prelude.{List};
+    ghost use Rattle.ded_eval.specs.declared.given.GivenRelation.{GivenRelation};
+
+    ghost Value = { List GivenRelation };
+
+    ghost view = { λ g. g.relations.items };
+
+    ghost use Rattle.ded_eval.specs.Given.{AreNamedApart};
+
+    ghost invariant = { λ g. AreNamedApart g.relations.items };
+}
+
+impl Given {
+    ghost use Rattle.ded_eval.specs.Given.{has_name};
+
+    /// No relations. It takes no memory.
+    pub fn new(alloc: Global) -> Given
+        ensures { result ≡ [] }
+    {
+        Given {
+            relations: Vec::new(alloc),
+        }
+    }
+
+    /// One relation more, of a name that isn't given yet.
+    ///
+    /// # Errors
+    /// Want of memory; nothing is changed then.
+    pub fn add(&mut self, relation: GivenRelation) -> Result<(), NoMemory>
+        requires new { has_name relation.name self.old ≡ false }
+        ensures ok { OnOk result (self.new ≡ self.old ++ relation ∷ []) }
+        ensures err { OnErr result (self.new ≡ self.old) }
+    {
+        self.relations.push(relation)?;
+        Ok(())
+    }
+}
+
+impl Relations for Given {
+    ghost use Rattle.ded_eval.specs.Given.{given_catalogue};
+
+    ghost catalogue = { given_catalogue };
+
+    fn tuples(&self, name: &Name) -> Option<&[Tuple]> {
+        for relation in &self.relations {
+            if relation.name == *name {
+                return Some(&relation.tuples.list);
+            }
+        }
+        None
+    }
+}
