@@ -2,29 +2,27 @@
 --
 -- A renaming sets the coefficients from the first on, and what is said of scans from the last on. Both are in order, and have the
 -- same coefficient at each slot; so they are the same.
-use Rattle.std.proofs.Common.{◌≡◌, ◌≢◌, ℕ, nat_lt, zero, suc, ◌+◌, ◌≤◌, ◌<◌, Bool, true, false, cond, ◌||◌, List, [], ◌∷◌, ◌++◌, ◌⊎◌, inl, inr, arith, refl, sym, ap, ap₂, ◌∙◌, subst, true≢false}
+use Rattle.std.proofs.Common.{◌≡◌, ◌≢◌, ℕ, nat_lt, zero, suc, ◌+◌, ◌<◌, Bool, true, false, cond, ◌||◌, List, [], ◌∷◌, ◌++◌, ◌⊎◌, inl, inr, arith, refl, sym, ap, ap₂, ◌∙◌, subst, true≢false}
 use Rattle.std.specs.Prelude.{ℤ, pos, ◌+ℤ◌}
 use Rattle.std.proofs.lemmas.Int.{ints}
 use lib.IntN.{+ℤ_idl, +ℤ_idr}
 use Rattle.ded_model.specs.declared.slot.Slot.{Slot}
-use Rattle.ded_model.specs.declared.slot.Sort.{Sort}
-use Rattle.ded_model.specs.declared.slot.Sort.TheVariants.{Rat, Text}
+use Rattle.ded_model.specs.declared.slot.Sort.TheVariants.{Rat}
 use Rattle.ded_model.specs.declared.name.Column.{Column}
 use Rattle.ded_model.specs.Point.{same_slot, same_sort, stands_in, AreDistinctSlots}
 use Rattle.ded_model.specs.Known.{heading_slots}
 use Rattle.ded_model.specs.Coefs.{AllAbove, AreCoefs, coef_at, put, nonzero, with_coef}
 use Rattle.ded_model.specs.Lines.{Line, In, put_at, renamed_coefs, renamed_lines, line_with}
-use Rattle.ded_model.specs.Row.{row_mentions}
 use Rattle.ded_model.specs.Renaming.{renamed, renamed_onto, mapped_lines}
 use Rattle.ded_model.proofs.Points.{same_slot_is, same_slot_refl}
 use Rattle.ded_model.proofs.Rows.{or_left, or_right}
 use Rattle.ded_model.proofs.CoefLemmas.{same_number, equal_by_number, not_zero, nonzero-coefs, above_lesser, AreCoefs-with_coef, coef_at-above, coef_at-here, coef_at-past}
 use Rattle.ded_model.proofs.LineCoefs.{coef_at-put}
 use Rattle.ded_model.proofs.LineSlots.{has_slot}
-use Rattle.ded_row.proofs.Targets.{AreFree, free_step, cut-absent, with_coef_slots, absent-below, is_rational, coef_at-with_coef}
+use Rattle.ded_row.proofs.Targets.{AreFree, free_step, cut-absent, with_coef_slots, absent-below, coef_at-with_coef}
 use Rattle.ded_algebra.specs.Evaluation.{HaveSorts}
 use Rattle.ded_eval.specs.Scanning.{column_pairs}
-use Rattle.ded_eval.proofs.Columns.{IsRead, read, read_sort, read_into, read_number, read_once}
+use Rattle.ded_eval.proofs.Columns.{IsRead, read, read_sort, read_number, read_once}
 
 -- ---- lists of coefficients by their coefficients
 
@@ -134,7 +132,7 @@ module _ (h : List Column) (ss : List Slot) (j : HaveSorts h ss) (d : AreDistinc
   are_put (c ∷ cs) k o =
       let rest = are_put cs k.4 (rest_columns c cs o) in
       let set : renamed_coefs ss (c ∷ cs) ≡ with_coef (renamed (column_pairs 0 ss) c.0) c.1 (renamed_coefs ss cs)
-        = put_first c cs k o ∙ put_sets (renamed (column_pairs 0 ss) c.0) c.1 (renamed_coefs ss cs) k.2 (first_absent c cs k o rest) rest.coefs in
+      = put_first c cs k o ∙ put_sets (renamed (column_pairs 0 ss) c.0) c.1 (renamed_coefs ss cs) k.2 (first_absent c cs k o rest) rest.coefs in
       record {
         coefs = subst AreCoefs (sym set) (AreCoefs-with_coef (renamed (column_pairs 0 ss) c.0) (first_sort c cs k o) c.1 k.1 (renamed_coefs ss cs) rest.coefs);
         from = λ t e. elim (with_coef_slots (renamed (column_pairs 0 ss) c.0) c.1 (renamed_coefs ss cs) t (ap (λ xs. has_slot xs t) (sym set) ∙ e)) [

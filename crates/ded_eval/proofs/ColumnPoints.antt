@@ -1,14 +1,14 @@
 -- Points at which the columns of a relation have the values of the slots that they are read into.
-use Rattle.std.proofs.Common.{◌≡◌, ℕ, ◌+◌, ◌*◌, ◌<◌, Bool, true, false, cond, List, [], ◌∷◌, inl, inr, arith, refl, sym, ap, ap₂, ◌∙◌, subst, map}
+use Rattle.std.proofs.Common.{◌≡◌, ℕ, ◌+◌, ◌*◌, ◌<◌, Bool, true, cond, List, [], ◌∷◌, inl, inr, arith, refl, sym, ap, ap₂, ◌∙◌, map}
 use Rattle.std.specs.Prelude.{ℤ, pos, ◌*ℤ◌}
 use Rattle.std.proofs.Math.IntN.{*ℤ-one}
 use Rattle.ded_model.specs.declared.slot.Slot.{Slot}
 use Rattle.ded_model.specs.declared.slot.Sort.{Sort}
 use Rattle.ded_model.specs.declared.slot.Sort.TheVariants.{Rat, Text}
 use Rattle.ded_model.specs.declared.name.Column.{Column}
-use Rattle.ded_model.specs.Point.{Key, slot, Value, number, text, Point, absent, last_from, as_number, as_text, number_at, text_at, same_slot, stands_in}
+use Rattle.ded_model.specs.Point.{slot, Value, Point, absent, last_from, as_number, as_text, number_at, text_at, same_slot, stands_in}
 use Rattle.ded_model.specs.Known.{heading_slots}
-use Rattle.ded_model.specs.Value.{OperandValue, sorted_value, slot_value, Argument, overs, argument_times, arguments}
+use Rattle.ded_model.specs.Value.{sorted_value, slot_value, Argument, overs, argument_times, arguments}
 use Rattle.ded_model.specs.Catalogue.{argument_coordinate, at_slots}
 use Rattle.ded_model.specs.Renaming.{renamed, HaveOneValue, IsRenamedPoint}
 use Rattle.ded_model.proofs.Points.{same_slot_refl}

@@ -1,31 +1,23 @@
 -- Evaluations put together: what is done with the lists of the parts of a plan gives the list of the plan.
-use Rattle.std.proofs.Common.{◌≡◌, ℕ, zero, suc, ◌+◌, ◌<◌, ◌≤◌, Vec, Global, Bool, true, false, not, ◌&&◌, ◌||◌, List, [], ◌∷◌, ◌++◌, ◌⊎◌, ⊎_elim, inl, inr, length, get_or, take, map, arith, refl, sym, ap, ap₂, ◌∙◌, subst, true≢false, append_assoc, append-nil}
-use Rattle.std.specs.Prelude.{◌↔◌, IsTrue, ◌==◌}
+use Rattle.std.proofs.Common.{◌≡◌, ℕ, suc, Vec, Global, Bool, true, false, not, ◌&&◌, ◌||◌, List, [], ◌∷◌, ◌++◌, ◌⊎◌, ⊎_elim, inl, inr, length, arith, refl, sym, ap, ◌∙◌, subst, true≢false, append_assoc, append-nil}
+use Rattle.std.specs.Prelude.{◌↔◌, ◌==◌}
 use Rattle.std.proofs.Math.Bool.{or_assoc}
 use Rattle.std.proofs.lemmas.Bool.Decides.{nat_tests}
 use Rattle.ded_model.specs.declared.slot.Slot.{Slot}
-use Rattle.ded_model.specs.declared.slot.Sort.{Sort}
-use Rattle.ded_model.specs.declared.slot.Sort.TheVariants.{Rat, Text}
-use Rattle.ded_model.specs.Point.{Key, slot, same_slot, same_key, Point, IsPoint, IsExtension}
-use Rattle.ded_model.specs.Row.{Atom, row_mentions}
-use Rattle.ded_model.specs.Coefs.{AreCoefs}
-use Rattle.ded_model.specs.Logic.{Logic, atom, negation, every_of, some_of, minus, exists, Logics, none, also, logics, Sat, SatEvery, SatSome, mentions, any_mentions}
-use Rattle.ded_model.specs.Catalogue.{Catalogue, meaning, PlanHolds}
-use Rattle.ded_model.specs.Measure.{measures, plan_atom_lines, plan_atom_clash, plan_lines, plan_clashes}
-use Rattle.ded_model.specs.PlanForm.{PlanForm, PlanAtom, rows, PlanAtomHolds, in_plan_atom, plan_mentions}
-use Rattle.ded_model.specs.Lines.{Line, In, IsSubset, both_mention, lines_clash, clash_at, elim_at, combined, elim_past, clash_past, atoms_lines, lines, all_lines, clashes, any_clashes}
-use Rattle.ded_model.proofs.Points.{and_left}
+use Rattle.ded_model.specs.Point.{Key, slot, Point}
+use Rattle.ded_model.specs.Row.{Atom}
+use Rattle.ded_model.specs.Logic.{Logic, atom, negation, every_of, some_of, minus, none, logics, Sat, SatEvery, SatSome, mentions, any_mentions}
+use Rattle.ded_model.specs.Catalogue.{Catalogue, meaning}
+use Rattle.ded_model.specs.Measure.{measures, plan_atom_lines, plan_lines}
+use Rattle.ded_model.specs.PlanForm.{PlanForm, rows, PlanAtomHolds, in_plan_atom, plan_mentions}
+use Rattle.ded_model.specs.Lines.{Line, IsSubset, atoms_lines, lines, all_lines}
 use Rattle.ded_model.proofs.Rows.{or_left, or_right}
-use Rattle.ded_model.proofs.Members.{subset_refl, subset_trans, subset_append, subset_none, or_split, elim-In, IsPair, elim-grows, clash-grows, Clash, clash_of-In}
-use Rattle.ded_model.proofs.LineSlots.{has_slot}
-use Rattle.ded_row.proofs.Targets.{is_rational}
+use Rattle.ded_model.proofs.Members.{subset_trans, subset_append, subset_none, or_split}
 use Rattle.ded_theory.specs.Conjunctions.{conj_lines}
-use Rattle.ded_theory.specs.Eliminations.{SomeExtension}
-use Rattle.ded_algebra.proofs.SamePoints.{extension-point}
 use Rattle.ded_algebra.specs.Evaluation.{IsEvaluation}
 use Rattle.ded_genrel.specs.Lists.{conjs_of, conjs_hold, conjs_mention, conjs_lines}
-use Rattle.ded_genrel.specs.Operations.{IsOperation, IsMeet, IsProjection, IsInhabitedPart}
-use Rattle.ded_genrel.proofs.Laws.{or_false, conjs_hold-append, conjs_mention-append, conjs_lines-append, conjs_elim-within, conjs_clash-within}
+use Rattle.ded_genrel.specs.Operations.{IsOperation, IsMeet, IsInhabitedPart}
+use Rattle.ded_genrel.proofs.Laws.{or_false, conjs_hold-append, conjs_mention-append, conjs_lines-append}
 use Rattle.ded_eval.specs.Reading.{IsConjunctionOf}
 
 -- ---- one part more

@@ -1,15 +1,15 @@
 -- Relations of distinct names.
-use Rattle.std.proofs.Common.{◌≡◌, ℕ, zero, suc, ◌+◌, ◌<◌, ◌≤◌, length, get_or, drop, Bool, true, false, cond, ◌||◌, Option, Some, None, List, [], ◌∷◌, ◌++◌, map, arith, refl, sym, ap, ◌∙◌, subst, true≢false, bytes_eq, drop-cons, add-one, ap₂}
+use Rattle.std.proofs.Common.{◌≡◌, ℕ, suc, ◌+◌, ◌<◌, ◌≤◌, length, get_or, drop, Bool, true, false, cond, ◌||◌, Option, Some, None, List, [], ◌∷◌, ◌++◌, map, refl, sym, ap, ◌∙◌, subst, true≢false, bytes_eq, drop-cons, add-one}
 use Rattle.std.specs.List.{list_any}
 use Rattle.std.specs.Option.{option_map}
 use Rattle.std.proofs.lemmas.Slice.Eq.{bytes_eq-Decides}
 use Rattle.std.proofs.lemmas.List.{drop_all}
 use Rattle.ded_model.specs.Row.{Atom}
-use Rattle.ded_model.specs.Catalogue.{Entry, entry_name, tuples_of}
+use Rattle.ded_model.specs.Catalogue.{entry_name, tuples_of}
 use Rattle.ded_model.specs.Entries.{entry_of, relation_in}
-use Rattle.ded_algebra.specs.Evaluation.{AreGiven, given_tuples}
+use Rattle.ded_algebra.specs.Evaluation.{AreGiven}
 use Rattle.ded_eval.specs.declared.given.GivenRelation.{GivenRelation}
-use Rattle.ded_eval.specs.Given.{unnumbered, given_entry, given_catalogue, has_name, AreNamedApart}
+use Rattle.ded_eval.specs.Given.{unnumbered, given_entry, has_name, AreNamedApart}
 
 -- names that differ differ the other way round
 other_way : (m n : List ℕ) → bytes_eq m n ≡ false → bytes_eq n m ≡ false

@@ -1,10 +1,10 @@
 -- The parts of a join or a union, one after another.
-use Rattle.std.proofs.Common.{◌≡◌, ℕ, zero, suc, ◌+◌, ◌<◌, Bool, true, false, ◌||◌, List, [], ◌∷◌, ◌++◌, length, get_or, take, drop, map, arith, add-one, refl, sym, ap, ◌∙◌, subst}
+use Rattle.std.proofs.Common.{◌≡◌, ℕ, zero, suc, ◌+◌, ◌<◌, Bool, true, List, [], ◌∷◌, ◌++◌, length, get_or, take, drop, map, arith, add-one, sym, ap, ◌∙◌, subst}
 use Rattle.std.proofs.lemmas.List.{map-append, take-append-drop}
 use Rattle.ded_model.specs.declared.plan.Plan.{Plan}
 use Rattle.ded_model.specs.Logic.{AllAtoms, AllAtomsOf}
 use Rattle.ded_model.specs.Lines.{Line, clashes, any_clashes}
-use Rattle.ded_model.specs.PlanForm.{PlanAtom, PlanForm, plan_form, plan_forms}
+use Rattle.ded_model.specs.PlanForm.{PlanAtom, plan_form, plan_forms}
 use Rattle.ded_model.proofs.Rows.{or_left, or_right}
 use Rattle.ded_genrel.proofs.Items.{done_to}
 
@@ -33,3 +33,8 @@ pub rest_atoms : (P : PlanAtom → Type 0) (ps : List Plan) (i : ℕ) → i < le
 rest_atoms P [] i l a = absurd (omega (arith, l))
 rest_atoms P (q ∷ ps) zero l a = a.1
 rest_atoms P (q ∷ ps) (suc i) l a = subst (λ k. AllAtomsOf P (plan_forms (drop k (q ∷ ps)))) (sym (add-one (suc i))) (subst (λ k. AllAtomsOf P (plan_forms (drop k ps))) (add-one i) (rest_atoms P ps i (omega (arith, l)) a))
+
+-- one part more
+pub atoms-push : (P : PlanAtom → Type 0) (ps : List Plan) (p : Plan) → AllAtomsOf P (plan_forms ps) → AllAtoms P (plan_form p) → AllAtomsOf P (plan_forms (ps ++ p ∷ []))
+atoms-push P [] p a k = (k, tt)
+atoms-push P (q ∷ ps) p a k = (a.0, atoms-push P ps p a.1 k)

@@ -2,12 +2,11 @@
 --
 -- At a rational slot lines go over to what the elimination makes of them. At a text slot nothing is made: lines have rational slots
 -- alone, so none mentions the slot, and none clash.
-use Rattle.std.proofs.Common.{◌≡◌, Bool, true, false, cond, not, ◌&&◌, List, [], ◌∷◌, ◌⊎◌, ⊎_elim, inl, inr, refl, sym, ap, ◌∙◌, subst, true≢false}
-use Rattle.std.specs.Prelude.{◌↔◌, IsTrue}
+use Rattle.std.proofs.Common.{◌≡◌, Bool, true, false, cond, not, ◌&&◌, List, [], ⊎_elim, refl, sym, ap, ◌∙◌, true≢false}
 use Rattle.ded_model.specs.declared.slot.Slot.{Slot}
 use Rattle.ded_model.specs.declared.slot.Sort.{Sort}
 use Rattle.ded_model.specs.declared.slot.Sort.TheVariants.{Rat, Text}
-use Rattle.ded_model.specs.Point.{slot, same_slot, same_sort, Point, IsPoint, IsExtension}
+use Rattle.ded_model.specs.Point.{slot, same_slot, same_sort, Point}
 use Rattle.ded_model.specs.Row.{row_mentions}
 use Rattle.ded_model.specs.Coefs.{AreCoefs}
 use Rattle.ded_model.specs.Logic.{exists}
@@ -19,7 +18,7 @@ use Rattle.ded_model.proofs.Points.{and_left}
 use Rattle.ded_model.proofs.Members.{subset_trans, elim-In, IsPair, elim-grows, clash-grows, Clash, clash_of-In}
 use Rattle.ded_row.proofs.Targets.{is_rational}
 use Rattle.ded_algebra.proofs.SamePoints.{extension-point}
-use Rattle.ded_genrel.specs.Lists.{conjs_hold, conjs_mention, conjs_lines, conjs_elim, conjs_clash}
+use Rattle.ded_genrel.specs.Lists.{conjs_lines, conjs_elim, conjs_clash}
 use Rattle.ded_genrel.specs.Operations.{IsProjection}
 use Rattle.ded_genrel.proofs.Laws.{conjs_elim-within, conjs_clash-within}
 use Rattle.ded_eval.proofs.Evaluated.{true_both, IsListFor}

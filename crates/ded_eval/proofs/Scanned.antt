@@ -3,17 +3,16 @@
 -- A scan holds at a point where a tuple of the relation holds at the point whose columns have the values of the scan's slots. The
 -- renamed list holds at a point where the list does at a point that has the same values at the slots before; the point of the
 -- columns is one.
-use Rattle.std.proofs.Common.{◌≡◌, ℕ, ◌+◌, ◌*◌, ◌<◌, Bool, true, false, ◌||◌, List, [], ◌∷◌, ◌++◌, ⊎_elim, inl, inr, arith, refl, sym, ap, ◌∙◌, subst, true≢false, map}
-use Rattle.std.specs.Prelude.{◌↔◌, IsTrue}
+use Rattle.std.proofs.Common.{◌≡◌, ℕ, ◌*◌, ◌<◌, Bool, true, List, [], ◌∷◌, ⊎_elim, arith, sym, ap, ◌∙◌, subst, true≢false, map}
 use Rattle.std.specs.List.{AllByRecursion}
 use Rattle.ded_model.specs.declared.slot.Slot.{Slot}
 use Rattle.ded_model.specs.declared.name.Column.{Column}
-use Rattle.ded_model.specs.Point.{Point, IsPoint, same_slot, stands_in, AreDistinctSlots}
+use Rattle.ded_model.specs.Point.{Point, IsPoint, stands_in, AreDistinctSlots}
 use Rattle.ded_model.specs.Row.{Atom, row_mentions, tuple_mentions, tuples_hold, tuples_mention}
 use Rattle.ded_model.specs.Coefs.{AreCoefs}
 use Rattle.ded_model.specs.Known.{IsTupleOver, heading_slots}
 use Rattle.ded_model.specs.Value.{slot_value, overs, arguments}
-use Rattle.ded_model.specs.Catalogue.{Catalogue, meaning}
+use Rattle.ded_model.specs.Catalogue.{Catalogue}
 use Rattle.ded_model.specs.Measure.{measures}
 use Rattle.ded_model.specs.Logic.{atom}
 use Rattle.ded_model.specs.PlanForm.{scan}
@@ -26,7 +25,7 @@ use Rattle.ded_theory.specs.Conjunctions.{conj_lines}
 use Rattle.ded_genrel.specs.Lists.{AreNormal, conjs_hold, conjs_mention, conjs_lines}
 use Rattle.ded_genrel.specs.Operations.{IsRenaming}
 use Rattle.ded_genrel.proofs.Laws.{conjs_line_slots}
-use Rattle.ded_algebra.specs.Evaluation.{HaveSorts, IsEvaluation}
+use Rattle.ded_algebra.specs.Evaluation.{IsEvaluation}
 use Rattle.ded_eval.specs.Reading.{IsListOf}
 use Rattle.ded_eval.specs.Scanning.{column_pairs}
 use Rattle.ded_eval.proofs.Columns.{IsRead, read, read_sort, read_into, read_once}

@@ -1,7 +1,6 @@
 -- Tuples read as conjunctions, atom by atom, and lists of tuples, tuple by tuple.
-use Rattle.std.proofs.Common.{◌≡◌, ℕ, zero, suc, ◌<◌, Bool, true, false, ◌&&◌, ◌||◌, List, [], ◌∷◌, ◌++◌, length, get_or, arith, refl, sym, ap, ap₂, ◌∙◌, subst, append_assoc, append-nil}
+use Rattle.std.proofs.Common.{◌≡◌, ℕ, zero, suc, ◌<◌, Bool, ◌&&◌, ◌||◌, List, [], ◌∷◌, ◌++◌, length, get_or, arith, refl, sym, ap, ap₂, ◌∙◌, subst, append_assoc, append-nil}
 use Rattle.std.proofs.Math.Bool.{and_assoc, or_assoc}
-use Rattle.std.specs.List.{AllByRecursion}
 use Rattle.ded_model.specs.declared.slot.Slot.{Slot}
 use Rattle.ded_model.specs.declared.tuple.BothAtom.TheVariants.{First, Second}
 use Rattle.ded_model.specs.Point.{Point}
@@ -12,7 +11,7 @@ use Rattle.ded_model.specs.Lines.{Line, IsSubset, row_lines, atoms_lines, tuples
 use Rattle.ded_model.proofs.Members.{subset_append, subset_none}
 use Rattle.ded_theory.specs.Conjunctions.{conj_mentions, conj_lines}
 use Rattle.ded_theory.proofs.Conjunctions.{conj_holds-append, conj_mentions-append}
-use Rattle.ded_genrel.specs.Lists.{conjs_hold, conjs_mention, conjs_lines}
+use Rattle.ded_genrel.specs.Lists.{conjs_lines}
 use Rattle.ded_genrel.proofs.Laws.{and_true, or_false, conj_lines-append, conjs_hold-append, conjs_mention-append, conjs_lines-append}
 use Rattle.ded_eval.specs.Reading.{StandsFor, IsConjunctionOf, IsListOf}
 

@@ -1,11 +1,10 @@
 -- Lists of conjunctions of rows and text atoms, written as normal tuples.
-use Rattle.std.proofs.Common.{◌≡◌, Bool, true, false, ◌||◌, List, [], ◌∷◌, ◌++◌, ⊎_elim, refl, sym, ap, ap₂, ◌∙◌, subst}
-use Rattle.std.specs.Prelude.{◌↔◌, IsTrue}
+use Rattle.std.proofs.Common.{◌≡◌, true, ◌||◌, List, [], ◌∷◌, ◌++◌, ⊎_elim, refl, sym, ap₂, ◌∙◌, subst}
 use Rattle.ded_model.specs.declared.slot.Slot.{Slot}
 use Rattle.ded_model.specs.Point.{Point}
 use Rattle.ded_model.specs.Row.{Atom, row_holds, theme_holds, row_mentions, theme_mentions, tuple_holds, tuple_mentions, tuples_hold, tuples_mention}
 use Rattle.ded_model.specs.Catalogue.{Catalogue}
-use Rattle.ded_model.specs.Lines.{Line, IsSubset, row_lines, atoms_lines, tuples_lines}
+use Rattle.ded_model.specs.Lines.{IsSubset, row_lines, atoms_lines, tuples_lines}
 use Rattle.ded_model.specs.Measure.{measures, plan_lines}
 use Rattle.ded_model.specs.PlanForm.{PlanForm}
 use Rattle.ded_model.proofs.Rows.{or_left, or_right}

@@ -1,5 +1,5 @@
 -- Laws of theories whose atoms stand for rows and text atoms.
-use Rattle.std.specs.Prelude.{◌≡◌, ℤ, List, [], ◌∷◌}
+use Rattle.std.specs.Prelude.{ℤ, List, [], ◌∷◌}
 use Rattle.std.proofs.Common.{inl, inr, sym, subst}
 use Rattle.ded_model.specs.declared.slot.Slot.{Slot}
 use Rattle.ded_model.specs.declared.row.RowOp.TheVariants.{Zero}

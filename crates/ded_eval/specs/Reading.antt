@@ -1,6 +1,5 @@
 -- Atoms, tuples and lists of tuples as atoms, conjunctions and lists of conjunctions of a theory.
 use Rattle.std.specs.Prelude.{◌≡◌, Bool, true, List, [], ◌∷◌}
-use Rattle.std.specs.List.{AllByRecursion}
 use Rattle.ded_model.specs.declared.slot.Slot.{Slot}
 use Rattle.ded_model.specs.Point.{Point}
 use Rattle.ded_model.specs.Row.{Atom, atom_holds, atom_mentions, tuple_holds, tuple_mentions, tuples_hold, tuples_mention}

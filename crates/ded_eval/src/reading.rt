@@ -36,7 +36,10 @@ pub trait OfTuples: Theory {
 ///
 /// # Errors
 /// Want of memory.
-pub(crate) fn conjunction<T: OfTuples>(alloc: Global, tuple: &Tuple) -> Result<Vec<T::Atom>, NoMemory>
+pub(crate) fn conjunction<T: OfTuples>(
+    alloc: Global,
+    tuple: &Tuple,
+) -> Result<Vec<T::Atom>, NoMemory>
     requires { AllByRecursion T.reads tuple.now }
     ensures stands { IfOk result (λ v. IsConjunctionOf T.holds T.mentions T.lines v.items tuple.now) }
     ensures normal { IfOk result (λ v. AllByRecursion T.normal v.items) }

@@ -83,11 +83,7 @@ fn others(alloc: Global, list: &[Slot], but: Slot) -> Result<Vec<Slot>, NoMemory
 ///
 /// # Errors
 /// Want of memory.
-pub(crate) fn shared(
-    alloc: Global,
-    list: &[Slot],
-    other: &[Slot],
-) -> Result<Vec<Slot>, NoMemory>
+pub(crate) fn shared(alloc: Global, list: &[Slot], other: &[Slot]) -> Result<Vec<Slot>, NoMemory>
     ensures { IfOk result (λ v. AreRational v.items) }
 {
     let mut slots = Vec::new(alloc);

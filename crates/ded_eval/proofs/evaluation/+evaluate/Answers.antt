@@ -1,4 +1,4 @@
-use Rattle.std.proofs.Common.{rules, ◌≡◌, true, ◌+◌, ◌++◌, ◌∷◌, [], ◌∙◌, sym, ap, ap₂, subst, take, drop, map}
+use Rattle.std.proofs.Common.{rules, ◌≡◌, true, ◌+◌, ◌++◌, ◌∷◌, [], ◌∙◌, sym, ap, subst, take, drop, map}
 use Rattle.std.proofs.lemmas.List.{take_all}
 use Rattle.std.proofs.lemmas.Result.{IfOk-weaker}
 use Rattle.ded_model.specs.declared.plan.Plan.TheFolds.{fold-roll-Plan, fold_out-Plan}
@@ -8,14 +8,14 @@ use Rattle.ded_model.specs.Point.{slot}
 use Rattle.ded_model.specs.Coefs.{AreCoefs}
 use Rattle.ded_model.specs.Lines.{any_clashes}
 use Rattle.ded_model.specs.Measure.{measures, plan_atom_lines, plan_atom_clash, plan_clashes}
-use Rattle.ded_model.specs.PlanForm.{PlanForm, rows, plan_form, plan_forms}
+use Rattle.ded_model.specs.PlanForm.{rows, plan_form, plan_forms}
 use Rattle.ded_model.proofs.Rows.{or_right}
 use Rattle.ded_join.specs.Rounds.{AreRational}
 use Rattle.ded_algebra.specs.Evaluation.{IsScannable}
 use Rattle.ded_genrel.specs.Lists.{AreNormal, conjs_lines}
 use Rattle.ded_eval.specs.Joining.{begun}
 use Rattle.ded_eval.proofs.Evaluated.{IsListFor, no_conjunction, united_none, united_more, joined_none, joined_more, joined_ends, minus_for, minus_none, complement_for}
-use Rattle.ded_eval.proofs.Parts.{part_atoms, part_clashes, parts_to, parts_split, rest_atoms}
+use Rattle.ded_eval.proofs.Parts.{part_clashes, parts_to, parts_split, rest_atoms}
 use Rattle.ded_eval.proofs.Projected.{AreInOrder, projection_for, projection_clash}
 use Rattle.ded_eval.proofs.Scanned.{lists_lines}
 use Rattle.ded_eval.proofs.evaluation.+evaluate.Goals as goal
@@ -56,10 +56,10 @@ evaluate_counted-returns-in_ok-evaluate_counted-in-Project-clause-is g t c =
     let xs = c.in_ok-evaluate_counted-in-Project.field-0 in
     let e : plan_form c.args.plan.now ≡ exists c.in-Project.slot.sort (slot c.in-Project.slot) (plan_form c.deref-in-Project.result.now) = search (rules, the_lemmas, fold-roll-Plan, fold_out-Plan) in
     let order : AreInOrder (conjs_lines g.T.Theory.lines xs)
-      = lists_lines g.T.Theory.holds g.T.Theory.mentions g.T.Theory.lines g.T.Theory.normal (λ y. AreCoefs y.coefs) g.met.T.OfTuples.line_coefs xs (subst (AreNormal g.T.Theory.normal) c.project.view_is c.project.invariant) in
+    = lists_lines g.T.Theory.holds g.T.Theory.mentions g.T.Theory.lines g.T.Theory.normal (λ y. AreCoefs y.coefs) g.met.T.OfTuples.line_coefs xs (subst (AreNormal g.T.Theory.normal) c.project.view_is c.project.invariant) in
     IfOk-weaker c.project-in-Project.result _ _ (λ r k.
-      subst (λ f. IsListFor g.T.Theory.holds g.T.Theory.mentions g.T.Theory.lines cat f r) (sym e)
-      (projection_for g.T.Theory.holds g.T.Theory.mentions g.T.Theory.lines cat (plan_form c.deref-in-Project.result.now) c.in-Project.slot xs r order c.in_ok-evaluate_counted-in-Project.ensures.is k)) c.project-in-Project.ensures.is
+    subst (λ f. IsListFor g.T.Theory.holds g.T.Theory.mentions g.T.Theory.lines cat f r) (sym e)
+    (projection_for g.T.Theory.holds g.T.Theory.mentions g.T.Theory.lines cat (plan_form c.deref-in-Project.result.now) c.in-Project.slot xs r order c.in_ok-evaluate_counted-in-Project.ensures.is k)) c.project-in-Project.ensures.is
 
 pub evaluate_counted-returns-in_ok-evaluate_counted-in-Project-clause-wide : goal.evaluate_counted-returns-in_ok-evaluate_counted-in-Project-clause-wide
 evaluate_counted-returns-in_ok-evaluate_counted-in-Project-clause-wide g t c w =
@@ -67,10 +67,10 @@ evaluate_counted-returns-in_ok-evaluate_counted-in-Project-clause-wide g t c w =
     let xs = c.in_ok-evaluate_counted-in-Project.field-0 in
     let e : plan_form c.args.plan.now ≡ exists c.in-Project.slot.sort (slot c.in-Project.slot) (plan_form c.deref-in-Project.result.now) = search (rules, the_lemmas, fold-roll-Plan, fold_out-Plan) in
     let order : AreInOrder (conjs_lines g.T.Theory.lines xs)
-      = lists_lines g.T.Theory.holds g.T.Theory.mentions g.T.Theory.lines g.T.Theory.normal (λ y. AreCoefs y.coefs) g.met.T.OfTuples.line_coefs xs (subst (AreNormal g.T.Theory.normal) c.project.view_is c.project.invariant) in
+    = lists_lines g.T.Theory.holds g.T.Theory.mentions g.T.Theory.lines g.T.Theory.normal (λ y. AreCoefs y.coefs) g.met.T.OfTuples.line_coefs xs (subst (AreNormal g.T.Theory.normal) c.project.view_is c.project.invariant) in
     ap (plan_clashes M) e ∙ or_right (plan_clashes M (plan_form c.deref-in-Project.result.now)) _
-        (projection_clash g.T.Theory.holds g.T.Theory.mentions g.T.Theory.lines (g.R.Relations.catalogue c.args.relations.now) (plan_form c.deref-in-Project.result.now) c.in-Project.slot xs order c.in_ok-evaluate_counted-in-Project.ensures.is
-        (c.project-in-Project.ensures.wide w))
+    (projection_clash g.T.Theory.holds g.T.Theory.mentions g.T.Theory.lines (g.R.Relations.catalogue c.args.relations.now) (plan_form c.deref-in-Project.result.now) c.in-Project.slot xs order c.in_ok-evaluate_counted-in-Project.ensures.is
+    (c.project-in-Project.ensures.wide w))
 
 pub joined-loop-part-init : goal.joined-loop-part-init
 joined-loop-part-init g t c = (
@@ -101,11 +101,12 @@ pub joined-loop-part-preserved : goal.joined-loop-part-preserved
 joined-loop-part-preserved g t c =
     let cat = g.R.Relations.catalogue c.args.relations.now in
     let items = c.deref-part-items.result.now in
-    let i = c.loop-part.part-index in
-    (subst (λ fs. IsListFor g.T.Theory.holds g.T.Theory.mentions g.T.Theory.lines cat (every_of (logics fs)) c.in_ok-joined.joined) (sym (parts_to items i c.part-item.result c.loop-part-test.true c.part-item.is))
-    (joined_more g.T.Theory.holds g.T.Theory.mentions g.T.Theory.lines cat (map plan_form (take i items)) (plan_form c.part-item.result) (begun c.loop-part.list) c.in_ok-next.next c.in_ok-joined.joined c.loop-part.invariant.0 c.in_ok-next.ensures.is c.in_ok-joined.ensures),
-    c.in_ok-add_all.ensures,
-    rest_atoms (IsScannable g.T.OfTuples.reads cat) items i c.loop-part-test.true c.loop-part.invariant.2)
+    let i = c.loop-part.part-index in (
+      subst (λ fs. IsListFor g.T.Theory.holds g.T.Theory.mentions g.T.Theory.lines cat (every_of (logics fs)) c.in_ok-joined.joined) (sym (parts_to items i c.part-item.result c.loop-part-test.true c.part-item.is))
+          (joined_more g.T.Theory.holds g.T.Theory.mentions g.T.Theory.lines cat (map plan_form (take i items)) (plan_form c.part-item.result) (begun c.loop-part.list) c.in_ok-next.next c.in_ok-joined.joined c.loop-part.invariant.0 c.in_ok-next.ensures.is c.in_ok-joined.ensures),
+      c.in_ok-add_all.ensures,
+      rest_atoms (IsScannable g.T.OfTuples.reads cat) items i c.loop-part-test.true c.loop-part.invariant.2,
+    )
 
 pub joined-returns-clause-is : goal.joined-returns-clause-is
 joined-returns-clause-is g t c =
@@ -131,11 +132,12 @@ pub united-loop-part-preserved : goal.united-loop-part-preserved
 united-loop-part-preserved g t c =
     let cat = g.R.Relations.catalogue c.args.relations.now in
     let items = c.deref-part-items.result.now in
-    let i = c.loop-part.part-index in
-    (subst (λ fs. IsListFor g.T.Theory.holds g.T.Theory.mentions g.T.Theory.lines cat (some_of (logics fs)) c.append.new.self) (sym (parts_to items i c.part-item.result c.loop-part-test.true c.part-item.is))
-    (subst (IsListFor g.T.Theory.holds g.T.Theory.mentions g.T.Theory.lines cat (some_of (logics (map plan_form (take i items) ++ plan_form c.part-item.result ∷ [])))) (sym c.in_ok-append.ensures)
-    (united_more g.T.Theory.holds g.T.Theory.mentions g.T.Theory.lines cat (map plan_form (take i items)) (plan_form c.part-item.result) c.loop-part.list c.in_ok-evaluate_counted.field-0 c.loop-part.invariant.0 c.in_ok-evaluate_counted.ensures.is)),
-    rest_atoms (IsScannable g.T.OfTuples.reads cat) items i c.loop-part-test.true c.loop-part.invariant.1)
+    let i = c.loop-part.part-index in (
+      subst (λ fs. IsListFor g.T.Theory.holds g.T.Theory.mentions g.T.Theory.lines cat (some_of (logics fs)) c.append.new.self) (sym (parts_to items i c.part-item.result c.loop-part-test.true c.part-item.is))
+          (subst (IsListFor g.T.Theory.holds g.T.Theory.mentions g.T.Theory.lines cat (some_of (logics (map plan_form (take i items) ++ plan_form c.part-item.result ∷ [])))) (sym c.in_ok-append.ensures)
+          (united_more g.T.Theory.holds g.T.Theory.mentions g.T.Theory.lines cat (map plan_form (take i items)) (plan_form c.part-item.result) c.loop-part.list c.in_ok-evaluate_counted.field-0 c.loop-part.invariant.0 c.in_ok-evaluate_counted.ensures.is)),
+      rest_atoms (IsScannable g.T.OfTuples.reads cat) items i c.loop-part-test.true c.loop-part.invariant.1,
+    )
 
 pub united-returns-clause-is : goal.united-returns-clause-is
 united-returns-clause-is g t c =

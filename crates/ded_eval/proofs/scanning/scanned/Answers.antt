@@ -30,5 +30,5 @@ returns g c = IfOk-weaker c.rename-in-Some.result _ _ (λ r k.
     c.in_ok-conjunctions-in-Some.field-0 c.in_ok-conjunctions-in-Some.ensures g.met.T.OfTuples.line_coefs g.met.T.Theory.line_slots (subst AreDistinctSlots c.slots.view_is c.slots.invariant)
     (subst (AreNormal g.T.Theory.normal) c.rename.view_is c.rename.invariant) r
     (subst (λ ps. IsRenaming ps (conjs_hold g.T.Theory.holds c.in_ok-conjunctions-in-Some.field-0) (conjs_hold g.T.Theory.holds r) (conjs_mention g.T.Theory.mentions c.in_ok-conjunctions-in-Some.field-0) (conjs_mention g.T.Theory.mentions r)
-        (conjs_lines g.T.Theory.lines c.in_ok-conjunctions-in-Some.field-0) (conjs_lines g.T.Theory.lines r))
+    (conjs_lines g.T.Theory.lines c.in_ok-conjunctions-in-Some.field-0) (conjs_lines g.T.Theory.lines r))
     (c.deref-in-Some.ensures.value ∙ c.in_ok-pairs-in-Some.ensures ∙ ap (column_pairs 0) (c.deref.ensures.value ∙ c.slots.view_is)) k)) c.rename-in-Some.ensures

@@ -1,7 +1,6 @@
 use Rattle.std.proofs.Common.{sym, subst}
-use Rattle.ded_model.specs.declared.tuple.BothAtom.TheVariants.{First, Second}
+use Rattle.ded_model.specs.declared.tuple.BothAtom.TheVariants.{First}
 use Rattle.ded_model.specs.Row.{theme_holds, theme_mentions}
-use Rattle.ded_theory.specs.Both.{by_kind}
 use Rattle.ded_eval.specs.Reading.{StandsFor}
 use Rattle.ded_eval.proofs.RowsRead.{first_stands, second_stands}
 use Rattle.ded_eval.proofs.rows.BothThemeOfTuples.read.Goals as goal
