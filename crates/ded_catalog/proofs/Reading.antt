@@ -1,13 +1,11 @@
 -- What a catalogue answers, over the table that it has.
-use Rattle.std.proofs.Common.{◌≡◌, ℕ, zero, suc, ◌==◌, Bool, true, false, ◌||◌, List, [], ◌∷◌, map, Option, None, Some, IfSome, IfNone, is_some, refl, sym, ap, ◌∙◌, subst, bytes_eq, arith}
+use Rattle.std.proofs.Common.{◌≡◌, ℕ, ◌||◌, List, [], ◌∷◌, map, Option, None, Some, refl, sym, ap, ◌∙◌, subst, bytes_eq}
 use Rattle.std.specs.List.{list_any}
 use Rattle.std.specs.Map.{lookup}
 use Rattle.std.specs.Option.{option_map}
 use Rattle.std.proofs.lemmas.Option.{none-some, same_Some}
-use Rattle.std.proofs.lemmas.Bool.Decides.{nat_tests}
 use Rattle.ded_model.specs.Form.{form}
 use Rattle.ded_model.specs.Goal.{goal_form}
-use Rattle.ded_model.specs.Row.{Atom}
 use Rattle.ded_model.specs.Slotted.{goal_of}
 use Rattle.ded_model.specs.Entries.{entry_of, stored_in, relation_in, view_in, known, entry_uses}
 use Rattle.ded_catalog.specs.declared.stored.Relation.{Relation}

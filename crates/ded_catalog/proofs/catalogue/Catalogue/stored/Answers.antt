@@ -1,4 +1,4 @@
-use Rattle.std.proofs.Common.{Some, ap, ◌∙◌}
+use Rattle.std.proofs.Common.{ap, ◌∙◌}
 use Rattle.std.specs.Option.{option_map}
 use Rattle.ded_model.specs.Entries.{entry_of, relation_in}
 use Rattle.ded_catalog.specs.State.{catalogue_of}
