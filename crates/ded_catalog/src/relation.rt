@@ -57,8 +57,7 @@ impl Relation {
         requires present { list_any (λ t. t.0 == number) self.old.tuples.entries ≡ true }
         ensures { Removes self.old self.new number }
     {
-        if number <= u64::from(self.inserts) {
-            let _ = self.tuples.remove(&(number as u32));
-        }
+        prove!(number <= u64::from(self.inserts));
+        let _ = self.tuples.remove(&(number as u32));
     }
 }
