@@ -37,7 +37,7 @@ impl Catalogue {
         heading_of(&self.names, name)
     }
 
-    /// The tuples of a relation by their numbers. None exactly where the name is no relation.
+    /// The tuples of a relation by their numbers, in ascending order. None exactly where the name is no relation.
     pub fn stored(&self, name: &Name) -> Option<&BTreeMap<u32, Tuple>>
         ensures { option_map (λ ts. ts.now.entries) result ≡ relation_in (entry_of (catalogue_of self.now).entries name.now) }
     {
