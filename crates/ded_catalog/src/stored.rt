@@ -1,5 +1,5 @@
 //! What stands under a name.
-ghost use Rattle.std.specs.Prelude.{◌≡◌, ◌==◌, true, None, Some, is_some, IfOk, IfErr};
+ghost use Rattle.std.specs.Prelude.{◌≡◌, ◌==◌, true, None, IfOk, IfErr};
 ghost use Rattle.std.specs.List.{list_any};
 ghost use Rattle.std.specs.Option.{unwrap_or};
 ghost use Rattle.ded_model.specs.declared.command.Refusal.TheVariants.{Memory};
@@ -37,7 +37,7 @@ pub(crate) enum Stored {
 
 impl Stored {
     ghost use Rattle.ded_catalog.specs.Changed.{AreRelations};
-    ghost use Rattle.ded_catalog.specs.State.{relation_at, stored_uses};
+    ghost use Rattle.ded_catalog.specs.State.{stored_uses};
     ghost use Rattle.ded_catalog.specs.Tuples.{AreUpTo, refusal_of, IsSame, Pushes, Removes};
 
     /// Whether it is a view whose formula uses the name.
