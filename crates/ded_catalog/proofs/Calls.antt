@@ -29,11 +29,11 @@ use Rattle.ded_catalog.specs.declared.stored.Stored.TheVariants as stored
 use Rattle.ded_catalog.specs.Changed.{ChangesRelation}
 use Rattle.ded_catalog.specs.Kept.{IsRight, AreKept, IsKept}
 use Rattle.ded_catalog.specs.State.{Table, entry_form, entry_forms, catalogue_of, stored_known, known_with, relation_at, level_at, atom_level_in}
-use Rattle.ded_catalog.specs.Tuples.{IsAscending, refusal_of, IsSame, Pushes, Removes}
+use Rattle.ded_catalog.specs.Tuples.{AreUpTo, refusal_of, IsSame, Pushes, Removes}
 use Rattle.ded_catalog.proofs.Agreeing.{left_false}
 use Rattle.ded_catalog.proofs.Keeping.{kept-add, kept-change, changes, kept-drop, drops}
 use Rattle.ded_catalog.proofs.Lookups.{Split, split, forms-append, entry_of-lookup, known_of-lookup, absent_unknown, present_known}
-use Rattle.ded_catalog.proofs.Numbers.{stored-push, stored-remove, stored-ascend, length-remove}
+use Rattle.ded_catalog.proofs.Numbers.{stored-push, stored-remove, stored-upto, length-remove}
 
 -- ---- names
 
@@ -67,7 +67,7 @@ pub same_heading : (n : List ℕ) (r s : Relation) → s.heading ≡ r.heading �
 same_heading n r s h K = λ i. record { is_view = false; columns = sym h i; level = 0 }
 
 -- an entry of the parts of a relation
-pub same_entry : (n : List ℕ) (r : Relation) (h : List Column) (m : ℕ) (ts : List (ℕ × List Atom)) → r.heading ≡ h → r.inserts ≡ m → r.tuples.items ≡ ts → entry_form n (stored.Relation r) ≡ entry.relation n h m ts
+pub same_entry : (n : List ℕ) (r : Relation) (h : List Column) (m : ℕ) (ts : List (ℕ × List Atom)) → r.heading ≡ h → r.inserts ≡ m → r.tuples.entries ≡ ts → entry_form n (stored.Relation r) ≡ entry.relation n h m ts
 same_entry n r h m ts p q s = λ i. entry.relation n (p i) (q i) (s i)
 
 -- a relation that takes a tuple has room
@@ -79,26 +79,26 @@ has_room limit len rest h = by (nat_le limit len) refl
     by false b = grind (arith, nat_tests)
 
 pub over-pushed : (limit : ℕ) (old new : Relation) (t : List Atom) (k : ℕ) → Pushes old new t k → refusal_of limit old ≡ None → IsTupleOver old.heading t → tuple_length t ≤ 63
-    → AreStored old.heading old.inserts 0 old.tuples.items × (length old.tuples.items ≤ limit) → AreStored new.heading new.inserts 0 new.tuples.items × (length new.tuples.items ≤ limit)
+    → AreStored old.heading old.inserts 0 old.tuples.entries × (length old.tuples.entries ≤ limit) → AreStored new.heading new.inserts 0 new.tuples.entries × (length new.tuples.entries ≤ limit)
 over-pushed limit old new t k p room over short s =
-    same_stored limit old.heading new.heading (old.inserts + 1) new.inserts (old.tuples.items ++ (old.inserts + 1, t) ∷ []) new.tuples.items
-    p.heading (p.inserts ∙ p.number) (p.tuples ∙ ap (λ x. old.tuples.items ++ (x, t) ∷ []) p.number) (
-      stored-push old.heading old.inserts 0 old.tuples.items t (omega arith) s.0 over short,
-      omega (arith, length-append old.tuples.items ((old.inserts + 1, t) ∷ []), has_room limit (length old.tuples.items) (if nat_le 4294967295 old.inserts then Some Spent else None) room),
+    same_stored limit old.heading new.heading (old.inserts + 1) new.inserts (old.tuples.entries ++ (old.inserts + 1, t) ∷ []) new.tuples.entries
+    p.heading (p.inserts ∙ p.number) (p.tuples ∙ ap (λ x. old.tuples.entries ++ (x, t) ∷ []) p.number) (
+      stored-push old.heading old.inserts 0 old.tuples.entries t (omega arith) s.0 over short,
+      omega (arith, length-append old.tuples.entries ((old.inserts + 1, t) ∷ []), has_room limit (length old.tuples.entries) (if nat_le 4294967295 old.inserts then Some Spent else None) room),
     )
 
 pub over-removed : (limit : ℕ) (old new : Relation) (k : ℕ) → Removes old new k
-    → AreStored old.heading old.inserts 0 old.tuples.items × (length old.tuples.items ≤ limit) → AreStored new.heading new.inserts 0 new.tuples.items × (length new.tuples.items ≤ limit)
+    → AreStored old.heading old.inserts 0 old.tuples.entries × (length old.tuples.entries ≤ limit) → AreStored new.heading new.inserts 0 new.tuples.entries × (length new.tuples.entries ≤ limit)
 over-removed limit old new k p s =
-    let was = same_stored limit old.heading old.heading old.inserts old.inserts old.tuples.items (p.before ++ (k, p.tuple) ∷ p.after) refl refl (sym p.was) s in
-    same_stored limit old.heading new.heading old.inserts new.inserts (p.before ++ p.after) new.tuples.items p.heading p.inserts p.is (
+    let was = same_stored limit old.heading old.heading old.inserts old.inserts old.tuples.entries (p.before ++ (k, p.tuple) ∷ p.after) refl refl (sym p.was) s in
+    same_stored limit old.heading new.heading old.inserts new.inserts (p.before ++ p.after) new.tuples.entries p.heading p.inserts p.is (
       stored-remove old.heading old.inserts 0 p.before p.after (k, p.tuple) was.0,
       omega (arith, was.1, length-remove p.before p.after (k, p.tuple)),
     )
 
 pub over-same : (limit : ℕ) (old new : Relation) → IsSame old new
-    → AreStored old.heading old.inserts 0 old.tuples.items × (length old.tuples.items ≤ limit) → AreStored new.heading new.inserts 0 new.tuples.items × (length new.tuples.items ≤ limit)
-over-same limit old new p s = same_stored limit old.heading new.heading old.inserts new.inserts old.tuples.items new.tuples.items p.heading p.inserts p.tuples s
+    → AreStored old.heading old.inserts 0 old.tuples.entries × (length old.tuples.entries ≤ limit) → AreStored new.heading new.inserts 0 new.tuples.entries × (length new.tuples.entries ≤ limit)
+over-same limit old new p s = same_stored limit old.heading new.heading old.inserts new.inserts old.tuples.entries new.tuples.entries p.heading p.inserts p.tuples s
 
 -- what stands at a place is well formed
 pub at-kept : (limit : ℕ) (n : List ℕ) (s : Stored) (before after : List (List ℕ × Stored)) (K : KnownNames) → AreKept limit K (before ++ (n, s) ∷ after) → (J : KnownNames) × IsEntryOver limit J (entry_form n s) × IsRight J s
@@ -147,8 +147,8 @@ module _ (limit : ℕ) (es : List (List ℕ × Stored)) (n : List ℕ) (kept : I
 
   -- ---- definitions
 
-  pub kept-defined : (r : Relation) → r.tuples.items ≡ [] → length r.heading ≤ 16 → known (catalogue_of t) n ≡ None → IsKept limit (es ++ (n, stored.Relation r) ∷ [])
-  kept-defined r e few h = kept-add limit es n (stored.Relation r) kept h (same_stored limit r.heading r.heading r.inserts r.inserts [] r.tuples.items refl refl e (tt, omega arith)) few
+  pub kept-defined : (r : Relation) → r.tuples.entries ≡ [] → length r.heading ≤ 16 → known (catalogue_of t) n ≡ None → IsKept limit (es ++ (n, stored.Relation r) ∷ [])
+  kept-defined r e few h = kept-add limit es n (stored.Relation r) kept h (same_stored limit r.heading r.heading r.inserts r.inserts [] r.tuples.entries refl refl e (tt, omega arith)) few
 
   pub kept-viewed : (v : View) → known (catalogue_of t) n ≡ None → IsAccepted (known (catalogue_of t)) v.heading (form v.formula)
       → level_of (known (catalogue_of t)) (form v.formula) ≤ 16 → v.level ≡ level_of (known (catalogue_of t)) (form v.formula) → goal_form v.goal ≡ goal_of v.heading (form v.formula)
@@ -163,7 +163,7 @@ module _ (limit : ℕ) (es : List (List ℕ × Stored)) (n : List ℕ) (kept : I
     columns_there = ap columns_with (is_known ∙ ap (λ o. known_with o None) found)
 
     -- its entry
-    pub entry_there : entry_of (entry_forms es) n ≡ Some (entry.relation n old.heading old.inserts old.tuples.items)
+    pub entry_there : entry_of (entry_forms es) n ≡ Some (entry.relation n old.heading old.inserts old.tuples.entries)
     entry_there = entry_of-lookup n es ∙ ap (option_map (entry_form n)) found
 
     -- why it takes no tuple
@@ -171,15 +171,21 @@ module _ (limit : ℕ) (es : List (List ℕ × Stored)) (n : List ℕ) (kept : I
     refusal_there = ap (λ e. if nat_le limit (length (stored_in e)) then Some Full else if nat_le 4294967295 (inserts_in e) then Some Spent else None) entry_there
 
     -- its tuples are stored ones
-    pub stored_there : AreStored old.heading old.inserts 0 old.tuples.items × (length old.tuples.items ≤ limit)
+    pub stored_there : AreStored old.heading old.inserts 0 old.tuples.entries × (length old.tuples.entries ≤ limit)
     stored_there =
         let s = split n (stored.Relation old) es found in
         let at = at-kept limit n (stored.Relation old) s.before s.after (λ m. None) (subst (AreKept limit (λ m. None)) s.was kept.entries) in
         at.1
 
-    -- so their numbers ascend
-    pub ascending_there : IsAscending old.tuples.items
-    ascending_there i j d le lt = stored-ascend old.heading old.inserts 0 old.tuples.items i j d stored_there.0 le lt
+    -- so no number is above its count of inserts
+    pub upto_there : AreUpTo old.inserts old.tuples.entries
+    upto_there = stored-upto old.heading old.inserts 0 old.tuples.entries stored_there.0
+
+    -- the relation in its own place
+    pub itself : (Fact : Relation → Relation → Type 0) → Fact old old → ChangesRelation es es n Fact
+    itself Fact so =
+        let s = split n (stored.Relation old) es found in
+        record { old = old; new = old; was = found; is = s.was ∙ sym (s.set (stored.Relation old)); so = so }
 
     module _ (fs : List (List ℕ × Stored)) (new : Relation) (is : fs ≡ set_value (bytes_eq n) es (stored.Relation new)) where
       abbrev u : Table
@@ -192,7 +198,7 @@ module _ (limit : ℕ) (es : List (List ℕ × Stored)) (n : List ℕ) (kept : I
       now = is ∙ s.set (stored.Relation new)
 
       kept-there : new.heading ≡ old.heading
-          → (AreStored old.heading old.inserts 0 old.tuples.items × (length old.tuples.items ≤ limit) → AreStored new.heading new.inserts 0 new.tuples.items × (length new.tuples.items ≤ limit))
+          → (AreStored old.heading old.inserts 0 old.tuples.entries × (length old.tuples.entries ≤ limit) → AreStored new.heading new.inserts 0 new.tuples.entries × (length new.tuples.entries ≤ limit))
           → IsKept limit fs
       kept-there h over = subst (IsKept limit) (sym now)
           (kept-change limit n (stored.Relation old) (stored.Relation new) (same_heading n old new h) (λ K. over) (λ K few. subst (λ (k : List Column). length k ≤ 16) (sym h) few) s.before s.after (subst (IsKept limit) s.was kept))
@@ -208,9 +214,9 @@ module _ (limit : ℕ) (es : List (List ℕ × Stored)) (n : List ℕ) (kept : I
       inserts x k p = record {
         columns = old.heading;
         inserts = old.inserts;
-        present = old.tuples.items;
+        present = old.tuples.entries;
         number = p.number;
-        changes = subst (ChangesEntry (catalogue_of t) (catalogue_of u) n (entry_form n (stored.Relation old))) (same_entry n new old.heading k (old.tuples.items ++ (k, x) ∷ []) p.heading p.inserts p.tuples) changed-there;
+        changes = subst (ChangesEntry (catalogue_of t) (catalogue_of u) n (entry_form n (stored.Relation old))) (same_entry n new old.heading k (old.tuples.entries ++ (k, x) ∷ []) p.heading p.inserts p.tuples) changed-there;
       }
 
       -- after a refused one
@@ -219,7 +225,7 @@ module _ (limit : ℕ) (es : List (List ℕ × Stored)) (n : List ℕ) (kept : I
 
       pub same_catalogue : IsSame old new → catalogue_of u ≡ catalogue_of t
       same_catalogue p =
-          let entry_same = same_entry n new old.heading old.inserts old.tuples.items p.heading p.inserts p.tuples in
+          let entry_same = same_entry n new old.heading old.inserts old.tuples.entries p.heading p.inserts p.tuples in
           ap (λ l. record { limit = limit; entries = l }) (
           ap entry_forms now
           ∙ forms-append s.before ((n, stored.Relation new) ∷ s.after)
@@ -245,23 +251,25 @@ module _ (limit : ℕ) (es : List (List ℕ × Stored)) (n : List ℕ) (kept : I
             (same_entry n new old.heading old.inserts (p.before ++ p.after) p.heading p.inserts p.is) changed-there);
       }
 
+  -- an insert is into a relation, whose numbers are up to its count of inserts
+  pub numbers_there : is_relation_with (known (catalogue_of t) n) ≡ true → ChangesRelation es es n (λ old new. AreUpTo old.inserts old.tuples.entries)
+  numbers_there h = by (lookup (bytes_eq n) es) refl
+    where
+      by : (o : Option Stored) → lookup (bytes_eq n) es ≡ o → ChangesRelation es es n (λ old new. AreUpTo old.inserts old.tuples.entries)
+      by None e = absurd (true≢false (sym (relation_there h) ∙ ap (λ o. is_some (relation_at o)) e))
+      by (Some (stored.View v)) e = absurd (true≢false (sym (relation_there h) ∙ ap (λ o. is_some (relation_at o)) e))
+      by (Some (stored.Relation r)) e = itself r e _ (upto_there r e)
+
   -- a tuple that is there is one of a relation
   pub tuple_there : (k : ℕ) → list_any (λ x. x.0 == k) (tuples_in (catalogue_of t) n) ≡ true
-      → ChangesRelation es es n (λ old new. IsAscending old.tuples.items × (list_any (λ x. x.0 == k) old.tuples.items ≡ true))
+      → ChangesRelation es es n (λ old new. AreUpTo old.inserts old.tuples.entries × (list_any (λ x. x.0 == k) old.tuples.entries ≡ true))
   tuple_there k h = by (lookup (bytes_eq n) es) refl
     where
-      by : (o : Option Stored) → lookup (bytes_eq n) es ≡ o → ChangesRelation es es n (λ old new. IsAscending old.tuples.items × (list_any (λ x. x.0 == k) old.tuples.items ≡ true))
+      by : (o : Option Stored) → lookup (bytes_eq n) es ≡ o → ChangesRelation es es n (λ old new. AreUpTo old.inserts old.tuples.entries × (list_any (λ x. x.0 == k) old.tuples.entries ≡ true))
       by None e = absurd (true≢false (sym h ∙ ap (λ x. list_any (λ y. y.0 == k) (stored_in x)) (entry_of-lookup n es ∙ ap (option_map (entry_form n)) e)))
       by (Some (stored.View v)) e = absurd (true≢false (sym h ∙ ap (λ x. list_any (λ y. y.0 == k) (stored_in x)) (entry_of-lookup n es ∙ ap (option_map (entry_form n)) e)))
       by (Some (stored.Relation r)) e =
-          let s = split n (stored.Relation r) es e in
-          record {
-            old = r;
-            new = r;
-            was = e;
-            is = s.was ∙ sym (s.set (stored.Relation r));
-            so = (ascending_there r e, ap (λ x. list_any (λ y. y.0 == k) (stored_in x)) (sym (entry_there r e)) ∙ h);
-          }
+          itself r e _ (upto_there r e, ap (λ x. list_any (λ y. y.0 == k) (stored_in x)) (sym (entry_there r e)) ∙ h)
 
   -- ---- dropping
 

@@ -1,13 +1,11 @@
 -- What a catalogue answers, over the table that it has.
-use Rattle.std.proofs.Common.{◌≡◌, ℕ, zero, suc, ◌==◌, Bool, true, false, ◌||◌, List, [], ◌∷◌, map, Option, None, Some, IfSome, IfNone, is_some, refl, sym, ap, ◌∙◌, subst, bytes_eq, arith}
+use Rattle.std.proofs.Common.{◌≡◌, ℕ, ◌||◌, List, [], ◌∷◌, map, Option, None, Some, refl, sym, ap, ◌∙◌, subst, bytes_eq}
 use Rattle.std.specs.List.{list_any}
 use Rattle.std.specs.Map.{lookup}
 use Rattle.std.specs.Option.{option_map}
 use Rattle.std.proofs.lemmas.Option.{none-some, same_Some}
-use Rattle.std.proofs.lemmas.Bool.Decides.{nat_tests}
 use Rattle.ded_model.specs.Form.{form}
 use Rattle.ded_model.specs.Goal.{goal_form}
-use Rattle.ded_model.specs.Row.{Atom}
 use Rattle.ded_model.specs.Slotted.{goal_of}
 use Rattle.ded_model.specs.Entries.{entry_of, stored_in, relation_in, view_in, known, entry_uses}
 use Rattle.ded_catalog.specs.declared.stored.Relation.{Relation}
@@ -15,7 +13,6 @@ use Rattle.ded_catalog.specs.declared.stored.Stored.{Stored}
 use Rattle.ded_catalog.specs.declared.stored.Stored.TheVariants as stored
 use Rattle.ded_catalog.specs.Kept.{IsKept, AreKept}
 use Rattle.ded_catalog.specs.State.{Table, entry_form, entry_forms, catalogue_of, known_with, relation_at, view_at, heading_at, stored_uses}
-use Rattle.ded_catalog.specs.Tuples.{IsPlaceOf}
 use Rattle.ded_catalog.proofs.Calls.{is_known, at-kept}
 use Rattle.ded_catalog.proofs.Lookups.{split, entry_of-lookup}
 
@@ -24,7 +21,7 @@ heading_known None = refl
 heading_known (Some (stored.Relation r)) = refl
 heading_known (Some (stored.View v)) = refl
 
-tuples_at : (n : List ℕ) (o : Option Stored) → option_map (λ r. r.tuples.items) (relation_at o) ≡ relation_in (option_map (entry_form n) o)
+tuples_at : (n : List ℕ) (o : Option Stored) → option_map (λ r. r.tuples.entries) (relation_at o) ≡ relation_in (option_map (entry_form n) o)
 tuples_at n None = refl
 tuples_at n (Some (stored.Relation r)) = refl
 tuples_at n (Some (stored.View v)) = refl
@@ -55,7 +52,7 @@ module _ (limit : ℕ) (es : List (List ℕ × Stored)) (n : List ℕ) (kept : I
   heading_there = heading_known (lookup (bytes_eq n) es) ∙ ap (option_map (λ k. k.columns)) (sym (is_known limit es n kept))
 
   -- the tuples
-  pub tuples_there : option_map (λ r. r.tuples.items) (relation_at (lookup (bytes_eq n) es)) ≡ relation_in (entry_of (catalogue_of t).entries n)
+  pub tuples_there : option_map (λ r. r.tuples.entries) (relation_at (lookup (bytes_eq n) es)) ≡ relation_in (entry_of (catalogue_of t).entries n)
   tuples_there = tuples_at n (lookup (bytes_eq n) es) ∙ ap relation_in (sym (entry_of-lookup n es))
 
   -- none where no relation is found
@@ -87,23 +84,3 @@ uses_form n k (stored.View v) = refl
 pub uses_there : (n : List ℕ) (es : List (List ℕ × Stored)) → list_any (stored_uses n) (map (λ e. e.1) es) ≡ list_any (entry_uses n) (entry_forms es)
 uses_there n [] = refl
 uses_there n (e ∷ es) = λ i. uses_form n e.0 e.1 i || uses_there n es i
-
--- ---- numbers
-
-one : (a k : ℕ) → a ≡ k → (a == k) ≡ true
-one a k e = grind (arith, nat_tests)
-
--- a tuple with the number is one
-numbered_at : (ts : List (ℕ × List Atom)) (k i : ℕ) → IsPlaceOf ts k i → list_any (λ t. t.0 == k) ts ≡ true
-numbered_at [] k i p = absurd (omega (arith, p.0))
-numbered_at (t ∷ ts) k zero p = ap (λ b. b || list_any (λ x. x.0 == k) ts) (one t.0 k (p.1 t))
-numbered_at (t ∷ ts) k (suc i) p = ap (λ b. (t.0 == k) || b) (numbered_at ts k i (omega (arith, p.0), p.1)) ∙ or_true (t.0 == k)
-  where
-    or_true : (b : Bool) → (b || true) ≡ true
-    or_true true = refl
-    or_true false = refl
-
--- whether a place is found is whether a tuple has the number
-pub numbered : (r : Option ℕ) (ts : List (ℕ × List Atom)) (k : ℕ) → IfSome r (IsPlaceOf ts k) → IfNone r (list_any (λ t. t.0 == k) ts ≡ false) → is_some r ≡ list_any (λ t. t.0 == k) ts
-numbered None ts k some none = sym none
-numbered (Some i) ts k some none = sym (numbered_at ts k i some)

@@ -1,6 +1,7 @@
 -- From what one call answers to what the next one does.
-use Rattle.std.proofs.Common.{◌≡◌, Result, Ok, Err, IfOk, IfErr, sym, subst}
+use Rattle.std.proofs.Common.{◌≡◌, Result, Ok, Err, IfOk, IfErr, false, sym, subst, true≢false}
 use Rattle.std.specs.Prelude.{OnErr, OnOk}
+use Rattle.std.specs.Result.{is_err}
 
 -- a fact of an answer from two others
 pub if_ok : {A E : Type 0} (r : Result A E) (P Q R : A → Type 0) → ((x : A) → P x → Q x → R x) → IfOk r P → IfOk r Q → IfOk r R
@@ -21,6 +22,11 @@ if_ok_by (Err e) P R f p = tt
 pub if_err_by : {A E : Type 0} (r : Result A E) (P R : E → Type 0) → ((x : E) → P x → R x) → IfErr r P → IfErr r R
 if_err_by (Ok x) P R f p = tt
 if_err_by (Err e) P R f p = f e p
+
+-- a fact of an answer that is no error
+pub not_err : {A E : Type 0} (r : Result A E) (G : Type 0) → is_err r ≡ false → OnOk r G → G
+not_err (Ok x) G h g = g
+not_err (Err e) G h g = absurd (true≢false h)
 
 -- a fact that holds after either
 pub after : {A E X : Type 0} (r : Result A E) (P : X → Type 0) (new a b : X) → OnOk r (new ≡ a) → OnErr r (new ≡ b) → P a → P b → P new

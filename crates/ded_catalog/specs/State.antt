@@ -19,7 +19,7 @@ pub record Table : Type 0 where
 
 -- the entry of a name
 abbrev pub entry_form : List ℕ → Stored → Entry
-entry_form n (Relation r) = entry.relation n r.heading r.inserts r.tuples.items
+entry_form n (Relation r) = entry.relation n r.heading r.inserts r.tuples.entries
 entry_form n (View v) = entry.view n v.heading (form v.formula)
 
 -- the entries of the names, in order

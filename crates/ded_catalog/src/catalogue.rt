@@ -16,6 +16,7 @@ use ded_model::name::{Heading, Name};
 use ded_model::tuple::Tuple;
 use indexmap::IndexMap;
 use std::alloc::Global;
+use std::collections::BTreeMap;
 use std::marker::Model;
 
 /// Relations and views in order of definition, and the limit of tuples of a relation. Contracts see the catalogue that it
@@ -28,13 +29,12 @@ pub struct Catalogue {
 
 impl Model for Catalogue {
     ghost use Rattle.std.specs.Coded.{codes};
-    ghost use Rattle.ded_model.specs.contracts.formula.Formula as formula;
-    ghost use Rattle.ded_model.specs.contracts.goal.Goal as goal;
+    ghost use Rattle.ded_catalog.specs.contracts.stored.Stored as stored;
     ghost use Rattle.ded_catalog.specs.State.{Table};
 
     ghost Value = { Table };
 
-    ghost coded = { Prim.hlevel (codes, formula.the_row.coded, goal.the_row.coded) };
+    ghost coded = { Prim.hlevel (stored.the_row.coded, codes) };
 
     ghost use Rattle.ded_catalog.specs.Kept.{IsKept};
 
@@ -106,7 +106,7 @@ impl Catalogue {
         ensures ok { OnOk result (AddsEntry (catalogue_of self.old) (catalogue_of self.new) (relation name heading inserts [])) }
         ensures err { OnErr result (catalogue_of self.new ≡ catalogue_of self.old) }
     {
-        let tuples = Vec::new(*self.names.allocator());
+        let tuples = BTreeMap::new(*self.names.allocator());
         let relation = Stored::Relation(Relation {
             heading,
             inserts,

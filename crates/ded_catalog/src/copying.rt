@@ -4,7 +4,8 @@ ghost use Rattle.std.specs.Prelude.{◌≡◌, IfOk};
 use crate::stored::{Relation, Stored, View};
 use ded_model::memory::NoMemory;
 use ded_model::tuple::Tuple;
-use std::alloc::AllocError;
+use std::alloc::{AllocError, Global};
+use std::collections::BTreeMap;
 
 impl Clone for Stored {
     ghost use Rattle.ded_catalog.specs.Copies.{IsCopy};
@@ -14,10 +15,11 @@ impl Clone for Stored {
     fn clone(&self) -> Result<Stored, AllocError> {
         match self {
             Stored::Relation(relation) => {
+                let alloc = *relation.heading.columns.allocator();
                 Ok(Stored::Relation(Relation {
                     heading: relation.heading.copy()?,
                     inserts: relation.inserts,
-                    tuples: copy_tuples(&relation.tuples)?,
+                    tuples: copy_tuples(alloc, &relation.tuples)?,
                 }))
             }
             Stored::View(view) => Ok(Stored::View(View {
@@ -30,12 +32,15 @@ impl Clone for Stored {
     }
 }
 
-fn copy_tuples(tuples: &Vec<(u32, Tuple)>) -> Result<Vec<(u32, Tuple)>, NoMemory>
-    ensures { IfOk result (λ ts. ts.items ≡ tuples.now.items) }
+fn copy_tuples(
+    alloc: Global,
+    tuples: &BTreeMap<u32, Tuple>,
+) -> Result<BTreeMap<u32, Tuple>, NoMemory>
+    ensures { IfOk result (λ ts. ts.entries ≡ tuples.now.entries) }
 {
-    let mut copies = Vec::with_capacity(*tuples.allocator(), tuples.len())?;
-    for pair in tuples {
-        copies.push((pair.0, pair.1.copy()?))?;
+    let mut copies = BTreeMap::new(alloc);
+    for (number, tuple) in tuples {
+        copies.insert(*number, tuple.copy()?)?;
     }
     Ok(copies)
 }

@@ -1,10 +1,9 @@
 //! Relations: their tuples, found by number.
-ghost use Rattle.std.specs.Prelude.{◌≡◌, ◌==◌, ◌<◌, true, false, IfOk, IfErr, OnErr, IfSome, IfNone};
+ghost use Rattle.std.specs.Prelude.{◌≡◌, ◌==◌, true, None, IfOk, IfErr, OnErr};
 ghost use Rattle.std.specs.List.{list_any};
 ghost use Rattle.std.specs.Option.{unwrap_or};
 ghost use Rattle.ded_model.specs.declared.command.Refusal.TheVariants.{Memory};
-ghost use Rattle.ded_catalog.specs.Tuples.{IsAscending, IsPlaceOf, refusal_of, IsSame, Pushes, Removes};
-ghost use Rattle.std.specs.Prelude.{None};
+ghost use Rattle.ded_catalog.specs.Tuples.{AreUpTo, refusal_of, IsSame, Pushes, Removes};
 
 use crate::stored::Relation;
 use ded_model::command::Refusal;
@@ -26,6 +25,7 @@ impl Relation {
 
     /// Takes one tuple more, and gives its number. A refused one changes nothing.
     pub(crate) fn push(&mut self, limit: u32, tuple: Tuple) -> Result<u32, Refusal>
+        requires { AreUpTo self.old.inserts self.old.tuples.entries }
         ensures ok { IfOk result (λ k. Pushes self.old self.new tuple k) }
         ensures room { IfOk result (λ k. refusal_of limit self.old ≡ None) }
         ensures cause { IfErr result (λ r. r ≡ unwrap_or (refusal_of limit self.old) Memory) }
@@ -35,36 +35,28 @@ impl Relation {
             return Err(refusal);
         }
         let number = self.inserts + 1;
-        if self.tuples.push((number, tuple)).is_err() {
+        if self.tuples.insert(number, tuple).is_err() {
             return Err(Refusal::Memory);
         }
         self.inserts = number;
         Ok(number)
     }
 
+    /// Whether a tuple has the number.
+    pub(crate) fn has(&self, number: u64) -> bool
+        requires { AreUpTo self.now.inserts self.now.tuples.entries }
+        ensures { result ≡ list_any (λ t. t.0 == number) self.now.tuples.entries }
+    {
+        number <= u64::from(self.inserts) && self.tuples.contains_key(&(number as u32))
+    }
+
     /// Gives up the tuple of the number.
     pub(crate) fn remove(&mut self, number: u64)
-        requires ascending { IsAscending self.old.tuples.items }
-        requires present { list_any (λ t. t.0 == number) self.old.tuples.items ≡ true }
+        requires numbers { AreUpTo self.old.inserts self.old.tuples.entries }
+        requires present { list_any (λ t. t.0 == number) self.old.tuples.entries ≡ true }
         ensures { Removes self.old self.new number }
     {
-        match place_of(self.tuples.as_slice(), number) {
-            Some(place) => {
-                let _ = self.tuples.remove(place);
-            }
-            None => unreachable!(),
-        }
-    }
-}
-
-/// The place of the tuple with the number.
-pub(crate) fn place_of(tuples: &[(u32, Tuple)], number: u64) -> Option<usize>
-    requires { IsAscending tuples.now }
-    ensures found { IfSome result (IsPlaceOf tuples.now number) }
-    ensures absent { IfNone result (list_any (λ t. t.0 == number) tuples.now ≡ false) }
-{
-    match tuples.binary_search_by_key(&number, |pair| u64::from(pair.0)) {
-        Ok(place) => Some(place),
-        Err(_) => None,
+        prove!(number <= u64::from(self.inserts));
+        let _ = self.tuples.remove(&(number as u32));
     }
 }

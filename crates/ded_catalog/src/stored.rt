@@ -1,5 +1,5 @@
 //! What stands under a name.
-ghost use Rattle.std.specs.Prelude.{◌≡◌, ◌==◌, true, None, Some, is_some, IfOk, IfErr};
+ghost use Rattle.std.specs.Prelude.{◌≡◌, ◌==◌, true, None, IfOk, IfErr};
 ghost use Rattle.std.specs.List.{list_any};
 ghost use Rattle.std.specs.Option.{unwrap_or};
 ghost use Rattle.ded_model.specs.declared.command.Refusal.TheVariants.{Memory};
@@ -9,13 +9,14 @@ use ded_model::formula::Formula;
 use ded_model::goal::Goal;
 use ded_model::name::{Heading, Name};
 use ded_model::tuple::Tuple;
+use std::collections::BTreeMap;
 
-/// A relation: its heading, how many inserts it has accepted, and its tuples with their numbers, which ascend.
+/// A relation: its heading, how many inserts it has accepted, and its tuples by their numbers.
 #[derive(Drop)]
 pub(crate) struct Relation {
     pub(crate) heading: Heading,
     pub(crate) inserts: u32,
-    pub(crate) tuples: Vec<(u32, Tuple)>,
+    pub(crate) tuples: BTreeMap<u32, Tuple>,
 }
 
 /// A view: its heading, its formula as written, the goal of that, and its level.
@@ -36,8 +37,8 @@ pub(crate) enum Stored {
 
 impl Stored {
     ghost use Rattle.ded_catalog.specs.Changed.{AreRelations};
-    ghost use Rattle.ded_catalog.specs.State.{relation_at, stored_uses};
-    ghost use Rattle.ded_catalog.specs.Tuples.{IsAscending, refusal_of, IsSame, Pushes, Removes};
+    ghost use Rattle.ded_catalog.specs.State.{stored_uses};
+    ghost use Rattle.ded_catalog.specs.Tuples.{AreUpTo, refusal_of, IsSame, Pushes, Removes};
 
     /// Whether it is a view whose formula uses the name.
     pub(crate) fn uses(&self, name: &Name) -> bool
@@ -51,7 +52,7 @@ impl Stored {
 
     /// Inserts into the relation, and gives the tuple's number. A refused insert changes nothing.
     pub(crate) fn insert(&mut self, limit: u32, tuple: Tuple) -> Result<u32, Refusal>
-        requires { is_some (relation_at (Some self.old)) ≡ true }
+        requires { AreRelations self.old self.old (λ old new. AreUpTo old.inserts old.tuples.entries) }
         ensures ok { IfOk result (λ k. AreRelations self.old self.new (λ old new. Pushes old new tuple k × (refusal_of limit old ≡ None))) }
         ensures err { IfErr result (λ r. AreRelations self.old self.new (λ old new. IsSame old new × (r ≡ unwrap_or (refusal_of limit old) Memory))) }
     {
@@ -63,7 +64,7 @@ impl Stored {
 
     /// Deletes the tuple of the number from the relation.
     pub(crate) fn delete(&mut self, number: u64)
-        requires { AreRelations self.old self.old (λ old new. IsAscending old.tuples.items × (list_any (λ t. t.0 == number) old.tuples.items ≡ true)) }
+        requires { AreRelations self.old self.old (λ old new. AreUpTo old.inserts old.tuples.entries × (list_any (λ t. t.0 == number) old.tuples.entries ≡ true)) }
         ensures { AreRelations self.old self.new (λ old new. Removes old new number) }
     {
         match self {

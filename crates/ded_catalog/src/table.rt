@@ -1,5 +1,5 @@
 //! The table of names.
-ghost use Rattle.std.specs.Prelude.{◌≡◌, ◌==◌, ◌++◌, ◌∷◌, [], true, Some, None, is_some, map, max, OnOk, OnErr, IfOk, IfErr, IfSome};
+ghost use Rattle.std.specs.Prelude.{◌≡◌, ◌==◌, ◌++◌, ◌∷◌, [], true, None, map, max, OnOk, OnErr, IfOk, IfErr};
 ghost use Rattle.std.specs.List.{list_any};
 ghost use Rattle.std.specs.Map.{lookup, remove_entry};
 ghost use Rattle.std.specs.Option.{option_map, unwrap_or};
@@ -11,7 +11,7 @@ ghost use Rattle.ded_sorts.specs.Checks.{known_form};
 ghost use Rattle.ded_catalog.specs.declared.stored.Relation.{Relation};
 ghost use Rattle.ded_catalog.specs.Changed.{ChangesRelation};
 ghost use Rattle.ded_catalog.specs.State.{known_with, relation_at, view_at, heading_at, level_at, stored_uses, atom_level_in};
-ghost use Rattle.ded_catalog.specs.Tuples.{IsAscending, refusal_of, IsSame, Pushes, Removes};
+ghost use Rattle.ded_catalog.specs.Tuples.{AreUpTo, refusal_of, IsSame, Pushes, Removes};
 
 use crate::hashing::NameHashing;
 use crate::stored::{Relation, Stored, View};
@@ -91,7 +91,7 @@ pub(crate) fn insert_into(
     limit: u32,
     tuple: Tuple,
 ) -> Result<u32, Refusal>
-    requires { is_some (relation_at (lookup (bytes_eq name.now) table.old.entries)) ≡ true }
+    requires { ChangesRelation table.old.entries table.old.entries name.now (λ old new. AreUpTo old.inserts old.tuples.entries) }
     ensures ok { IfOk result (λ k. ChangesRelation table.old.entries table.new.entries name.now (λ old new. Pushes old new tuple k × (refusal_of limit old ≡ None))) }
     ensures err { IfErr result (λ r. ChangesRelation table.old.entries table.new.entries name.now (λ old new. IsSame old new × (r ≡ unwrap_or (refusal_of limit old) Memory))) }
 {
@@ -103,7 +103,7 @@ pub(crate) fn insert_into(
 
 /// Deletes the tuple of the number from the relation of the name.
 pub(crate) fn delete_from(table: &mut Table, name: &Name, number: u64)
-    requires { ChangesRelation table.old.entries table.old.entries name.now (λ old new. IsAscending old.tuples.items × (list_any (λ t. t.0 == number) old.tuples.items ≡ true)) }
+    requires { ChangesRelation table.old.entries table.old.entries name.now (λ old new. AreUpTo old.inserts old.tuples.entries × (list_any (λ t. t.0 == number) old.tuples.entries ≡ true)) }
     ensures { ChangesRelation table.old.entries table.new.entries name.now (λ old new. Removes old new number) }
 {
     match table.get_index_of(name) {

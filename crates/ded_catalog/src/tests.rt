@@ -107,15 +107,12 @@ fn has_numbers(
     let Some(tuples) = catalogue.stored(&name) else {
         return Ok(false);
     };
-    if tuples.len() != numbers.len() {
-        return Ok(false);
-    }
-    for i in 0..numbers.len() {
-        if tuples[i].0 != numbers[i] {
+    for (i, number) in tuples.keys().enumerate() {
+        if numbers.get(i) != Some(number) {
             return Ok(false);
         }
     }
-    Ok(true)
+    Ok(tuples.len() == numbers.len())
 }
 
 /// Whether the entries have these names, in order.

@@ -4,6 +4,7 @@ ghost use Rattle.std.specs.Prelude.{◌≡◌, IfOk};
 use ded_model::memory::NoMemory;
 use ded_model::tuple::Tuple;
 use std::alloc::Global;
+use std::collections::BTreeMap;
 use std::marker::Model;
 
 /// Tuples with their numbers, which ascend. Contracts see the list of the pairs.
@@ -23,12 +24,12 @@ impl Model for StoredTuples {
 
 impl StoredTuples {
     /// A copy of these tuples.
-    pub fn copy_of(alloc: Global, stored: &[(u32, Tuple)]) -> Result<StoredTuples, NoMemory>
-        ensures { IfOk result (λ t. t ≡ stored.now) }
+    pub fn copy_of(alloc: Global, stored: &BTreeMap<u32, Tuple>) -> Result<StoredTuples, NoMemory>
+        ensures { IfOk result (λ t. t ≡ stored.now.entries) }
     {
         let mut list = Vec::with_capacity(alloc, stored.len())?;
-        for tuple in stored {
-            list.push((tuple.0, tuple.1.copy()?))?;
+        for (number, tuple) in stored {
+            list.push((*number, tuple.copy()?))?;
         }
         Ok(StoredTuples { list })
     }

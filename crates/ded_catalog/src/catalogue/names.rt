@@ -2,7 +2,6 @@
 ghost use Rattle.std.specs.Prelude.{IfOk, ◌≡◌};
 
 use super::Catalogue;
-use crate::relation::place_of;
 use crate::table::{known_of, relation_of, some_uses};
 use ded_model::memory::NoMemory;
 use ded_model::name::Name;
@@ -23,7 +22,7 @@ impl Names for Catalogue {
 
     fn has_tuple(&self, name: &Name, number: u64) -> bool {
         match relation_of(&self.names, name) {
-            Some(relation) => place_of(relation.tuples.as_slice(), number).is_some(),
+            Some(relation) => relation.has(number),
             None => false,
         }
     }

@@ -10,6 +10,7 @@ use ded_model::goal::Goal;
 use ded_model::memory::NoMemory;
 use ded_model::name::{Heading, Name};
 use ded_model::tuple::Tuple;
+use std::collections::BTreeMap;
 
 impl Catalogue {
     ghost use Rattle.ded_model.specs.Catalogue.{entry_name};
@@ -36,12 +37,12 @@ impl Catalogue {
         heading_of(&self.names, name)
     }
 
-    /// The tuples of a relation with their numbers, which ascend. None exactly where the name is no relation.
-    pub fn stored(&self, name: &Name) -> Option<&[(u32, Tuple)]>
-        ensures { option_map (λ ts. ts.now) result ≡ relation_in (entry_of (catalogue_of self.now).entries name.now) }
+    /// The tuples of a relation by their numbers, in ascending order. None exactly where the name is no relation.
+    pub fn stored(&self, name: &Name) -> Option<&BTreeMap<u32, Tuple>>
+        ensures { option_map (λ ts. ts.now.entries) result ≡ relation_in (entry_of (catalogue_of self.now).entries name.now) }
     {
         match relation_of(&self.names, name) {
-            Some(relation) => Some(relation.tuples.as_slice()),
+            Some(relation) => Some(&relation.tuples),
             None => None,
         }
     }

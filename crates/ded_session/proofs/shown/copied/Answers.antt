@@ -18,4 +18,4 @@ pub returns : goal.returns
 returns c =
     let catalogue = (catalogue_of c.args.catalogue.now) in
     ap (λ (h : List Column). stored h c.in_ok-copy_of.field-0) (c.in_ok-copy.ensures ∙ columns_shown (known catalogue c.args.name.now) c.in-Some.heading.now c.in-Some.ensures)
-    ∙ ap (λ (ts : List (ℕ × List Atom)). stored (columns_in catalogue c.args.name.now) ts) (c.in_ok-copy_of.ensures ∙ tuples_shown (entry_of catalogue.entries c.args.name.now) c.in-Some-stored.tuples.now c.in-Some-stored.ensures)
+    ∙ ap (λ (ts : List (ℕ × List Atom)). stored (columns_in catalogue c.args.name.now) ts) (c.in_ok-copy_of.ensures ∙ tuples_shown (entry_of catalogue.entries c.args.name.now) c.in-Some-stored.tuples.now.entries c.in-Some-stored.ensures)

@@ -12,5 +12,5 @@ add-requires c = new_name c.self.inside.limit c.self.inside.names.entries c.args
 pub invariant_of-self : goal.invariant_of-self
 invariant_of-self c =
     after c.add.result (IsKept c.self.inside.limit) c.add.new.table.entries _ _ c.add.ensures.ok c.add.ensures.err
-    (kept-defined c.self.inside.limit c.self.inside.names.entries c.args.name c.self.invariant _ c.new-tuples.ensures.items c.requires.few (subst (λ t. known (catalogue_of t) c.args.name ≡ None) (sym c.self.view_is) c.requires.new))
+    (kept-defined c.self.inside.limit c.self.inside.names.entries c.args.name c.self.invariant _ c.new-tuples.ensures.empty c.requires.few (subst (λ t. known (catalogue_of t) c.args.name ≡ None) (sym c.self.view_is) c.requires.new))
     c.self.invariant

@@ -6,13 +6,13 @@ use Rattle.ded_sorts.specs.Causes.{insert_refusal, is_relation_with}
 use Rattle.ded_sorts.specs.Changes.{Inserts}
 use Rattle.ded_model.specs.Entries.{known, columns_in}
 use Rattle.ded_catalog.specs.State.{catalogue_of}
-use Rattle.ded_catalog.proofs.Calls.{relation_there, refusal_there, kept-pushed, kept-same, inserts, same_catalogue}
+use Rattle.ded_catalog.proofs.Calls.{numbers_there, refusal_there, kept-pushed, kept-same, inserts, same_catalogue}
 use Rattle.ded_catalog.proofs.Results.{either, if_ok_by, if_err_by, on_err}
 use Rattle.ded_catalog.proofs.catalogue.Catalogue.insert.Goals as goal
 
 pub insert_into-requires : goal.insert_into-requires
 insert_into-requires c =
-    relation_there c.self.inside.limit c.self.inside.names.entries c.args.name.now c.self.invariant (subst (λ t. is_relation_with (known (catalogue_of t) c.args.name.now) ≡ true) (sym c.self.view_is) c.requires.relation)
+    numbers_there c.self.inside.limit c.self.inside.names.entries c.args.name.now c.self.invariant (subst (λ t. is_relation_with (known (catalogue_of t) c.args.name.now) ≡ true) (sym c.self.view_is) c.requires.relation)
 
 pub invariant_of-self : goal.invariant_of-self
 invariant_of-self c =
