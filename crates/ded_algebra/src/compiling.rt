@@ -3,7 +3,7 @@ ghost use Rattle.std.specs.Prelude.{◌≡◌, IfOk, List, map};
 ghost use Rattle.ded_model.specs.declared.tuple.BothAtom.TheVariants.{Second};
 ghost use Rattle.ded_model.specs.Goal.{goal_form, goal_forms, linear};
 ghost use Rattle.ded_model.specs.Logic.{atom, negation, exists, AllAtomsOf};
-ghost use Rattle.ded_model.specs.Normal.{IsNormalRow, is_true_row};
+ghost use Rattle.ded_model.specs.Normal.{IsNormalRow};
 ghost use Rattle.ded_model.specs.PlanForm.{plan_form, plan_forms, rows, scan};
 ghost use Rattle.ded_model.specs.Point.{slot, AreDistinctSlots};
 ghost use Rattle.ded_model.specs.Slotted.{goal_atoms};
@@ -17,9 +17,10 @@ use ded_model::goal::{Goal, Place};
 use ded_model::memory::NoMemory;
 use ded_model::name::Name;
 use ded_model::plan::Plan;
-use ded_model::row::{Row, RowOp};
+use ded_model::row::Row;
 use ded_model::slot::{Slot, Slots};
 use ded_model::tuple::{BothAtom, ThemeAtom, Tuple};
+use ded_tuple::is_true;
 use std::alloc::Global;
 
 /// The plan of a goal whose rows and text atoms are normal, as those of the goal of a formula are. Over every catalogue it holds
@@ -102,13 +103,6 @@ fn row_plan(alloc: Global, row: &Row) -> Result<Plan, NoMemory>
     } else {
         rows_of(alloc, BothAtom::First(row.copy()?))
     }
-}
-
-/// Whether the row is one without coefficients that is no inequality below 0.
-fn is_true(row: &Row) -> bool
-    ensures { result ≡ is_true_row row.now }
-{
-    row.coefs.list().is_empty() && row.op != RowOp::Below
 }
 
 fn theme_plan(alloc: Global, theme: &ThemeAtom) -> Result<Plan, NoMemory>

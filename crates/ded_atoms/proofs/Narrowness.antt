@@ -3,10 +3,10 @@
 -- The lines of a tuple have no more digits than its numbers, and the rational slots that its rows mention are all those that it
 -- mentions: a text atom in normal form mentions text slots alone.
 use Rattle.std.proofs.Common.{◌≡◌, ◌≤◌, ℕ, Bool, true, false, cond, List, [], ◌∷◌, map, ⊎_elim, arith, refl, sym, ap, ◌∙◌, subst, true≢false}
-use Rattle.std.specs.Prelude.{ℤ, pos}
+use Rattle.std.specs.Prelude.{ℤ}
 use Rattle.std.specs.List.{list_any}
 use Rattle.ded_num.specs.Length.{IsWithin}
-use Rattle.ded_num.proofs.Lengths.{within_from_length, length_of_zero}
+use Rattle.ded_num.proofs.Lengths.{within_from_length}
 use Rattle.ded_model.specs.declared.slot.Slot.{Slot}
 use Rattle.ded_model.specs.declared.slot.Sort.{Sort}
 use Rattle.ded_model.specs.declared.slot.Sort.TheVariants.{Rat, Text}
@@ -24,15 +24,11 @@ use Rattle.ded_model.proofs.Points.{same_slot_is, same_slot_refl}
 use Rattle.ded_model.proofs.Rows.{or_left, or_right}
 use Rattle.ded_model.proofs.Members.{or_split, In-split}
 use Rattle.ded_model.proofs.CoefLemmas.{coef_at-here, coef_at-past}
-use Rattle.ded_model.proofs.LineCoefs.{AllNonzero}
-use Rattle.ded_model.proofs.LineLengths.{line_with-within}
+use Rattle.ded_model.proofs.LineLengths.{zero_within, line_with-within}
 use Rattle.ded_theory.specs.Both.{by_kind}
 use Rattle.ded_theory.specs.Conjunctions.{conj_mentions, conj_lines, IsWide}
 
 -- ---- lengths
-
-zero_within : (k : ℕ) → IsWithin k (pos 0)
-zero_within k = within_from_length (pos 0) k (subst (λ n. n ≤ k) (length_of_zero (pos 0) refl) (omega arith))
 
 -- the coefficient of a slot is one of the numbers, or 0
 coef_within : (cs : List (Slot × ℤ)) (s : Slot) (k : ℕ) → AreCoefs cs → greatest_length (map (λ c. c.1) cs) ≤ k → IsWithin k (coef_at cs s)
@@ -43,13 +39,9 @@ coef_within (x ∷ cs) s k c h = go (same_slot x.0 s) refl (coef_within cs s k c
     go true e ih = subst (IsWithin k) (sym (coef_at-here s x cs e c.3)) (within_from_length x.1 k (omega (arith, h)))
     go false e ih = subst (IsWithin k) (sym (coef_at-past s x cs e)) ih
 
-all_nonzero : (cs : List (Slot × ℤ)) → AreCoefs cs → AllNonzero cs
-all_nonzero [] c = tt
-all_nonzero (x ∷ cs) c = (c.2, all_nonzero cs c.4)
-
 -- the line of a row has no more digits than the row
 row_within : (r : LinearConstraint) (k : ℕ) → AreCoefs r.coefs → row_length r ≤ k → AreWithin k (row_lines r)
-row_within r k c h = line_with-within r.coefs r.constant k (all_nonzero r.coefs c) (λ t. coef_within r.coefs t k c (omega (arith, h))) (within_from_length r.constant k (omega (arith, h)))
+row_within r k c h = line_with-within r.coefs r.constant k (λ t. coef_within r.coefs t k c (omega (arith, h))) (within_from_length r.constant k (omega (arith, h)))
 
 lines_within : (t : List Atom) (k : ℕ) → IsNormalTuple t → tuple_length t ≤ k → AreWithin k (conj_lines (by_kind row_lines (λ a. [])) t)
 lines_within [] k n h l i = absurd i

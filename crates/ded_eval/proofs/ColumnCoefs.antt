@@ -4,7 +4,7 @@
 -- same coefficient at each slot; so they are the same.
 use Rattle.std.proofs.Common.{◌≡◌, ◌≢◌, ℕ, nat_lt, zero, suc, ◌+◌, ◌<◌, Bool, true, false, cond, ◌||◌, List, [], ◌∷◌, ◌++◌, ◌⊎◌, inl, inr, arith, refl, sym, ap, ap₂, ◌∙◌, subst, true≢false}
 use Rattle.std.specs.Prelude.{ℤ, pos, ◌+ℤ◌}
-use Rattle.std.proofs.lemmas.Int.{ints}
+use Rattle.std.proofs.lemmas.Bool.{cases_order, false_from_ne_true}
 use lib.IntN.{+ℤ_idl, +ℤ_idr}
 use Rattle.ded_model.specs.declared.slot.Slot.{Slot}
 use Rattle.ded_model.specs.declared.slot.Sort.TheVariants.{Rat}
@@ -19,7 +19,7 @@ use Rattle.ded_model.proofs.Rows.{or_left, or_right}
 use Rattle.ded_model.proofs.CoefLemmas.{same_number, equal_by_number, not_zero, nonzero-coefs, above_lesser, AreCoefs-with_coef, coef_at-above, coef_at-here, coef_at-past}
 use Rattle.ded_model.proofs.LineCoefs.{coef_at-put}
 use Rattle.ded_model.proofs.LineSlots.{has_slot}
-use Rattle.ded_row.proofs.Targets.{AreFree, free_step, cut-absent, with_coef_slots, absent-below, coef_at-with_coef}
+use Rattle.ded_row.proofs.Targets.{swap_law, AreFree, free_step, cut-absent, with_coef_slots, absent-below, coef_at-with_coef}
 use Rattle.ded_algebra.specs.Evaluation.{HaveSorts}
 use Rattle.ded_eval.specs.Scanning.{column_pairs}
 use Rattle.ded_eval.proofs.Columns.{IsRead, read, read_sort, read_number, read_once}
@@ -46,18 +46,12 @@ pub coefs_same : (cs ds : List (Slot × ℤ)) → AreCoefs cs → AreCoefs ds �
 coefs_same [] [] k l h = refl
 coefs_same [] (d ∷ ds) k l h = absurd (first_differs d ds [] l tt (sym (h d.0)))
 coefs_same (c ∷ cs) [] k l h = absurd (first_differs c cs [] k tt (h c.0))
-coefs_same (c ∷ cs) (d ∷ ds) k l h = go (three c.0.number d.0.number) (coefs_same cs ds k.4 l.4)
+coefs_same (c ∷ cs) (d ∷ ds) k l h = go (cases_order c.0.number d.0.number) (coefs_same cs ds k.4 l.4)
   where
-    three : (m n : ℕ) → (m < n) ⊎ ((n < m) ⊎ (m ≡ n))
-    three zero zero = inr (inr refl)
-    three zero (suc n) = inl (omega arith)
-    three (suc m) zero = inr (inl (omega arith))
-    three (suc m) (suc n) = elim (three m n) [ inl e ↦ inl (omega (arith, e)) | inr e ↦ elim e [ inl f ↦ inr (inl (omega (arith, f))) | inr f ↦ inr (inr (ap suc f)) ] ]
-
-    go : (c.0.number < d.0.number) ⊎ ((d.0.number < c.0.number) ⊎ (c.0.number ≡ d.0.number)) → (((t : Slot) → coef_at cs t ≡ coef_at ds t) → cs ≡ ds) → c ∷ cs ≡ d ∷ ds
-    go (inl e) ih = absurd (first_differs c cs (d ∷ ds) k (e, above_lesser c.0.number d.0.number ds (omega (arith, e)) l.3) (h c.0))
-    go (inr (inl e)) ih = absurd (first_differs d ds (c ∷ cs) l (e, above_lesser d.0.number c.0.number cs (omega (arith, e)) k.3) (sym (h d.0)))
-    go (inr (inr e)) ih =
+    go : (c.0.number ≡ d.0.number) ⊎ ((c.0.number < d.0.number) ⊎ (d.0.number < c.0.number)) → (((t : Slot) → coef_at cs t ≡ coef_at ds t) → cs ≡ ds) → c ∷ cs ≡ d ∷ ds
+    go (inr (inl e)) ih = absurd (first_differs c cs (d ∷ ds) k (e, above_lesser c.0.number d.0.number ds (omega (arith, e)) l.3) (h c.0))
+    go (inr (inr e)) ih = absurd (first_differs d ds (c ∷ cs) l (e, above_lesser d.0.number c.0.number cs (omega (arith, e)) k.3) (sym (h d.0)))
+    go (inl e) ih =
         let same : c.0 ≡ d.0 = equal_by_number c.0 d.0 k.0 l.0 e in
         let there : coef_at (d ∷ ds) c.0 ≡ d.1 = ap (coef_at (d ∷ ds)) same ∙ coef_at-here d.0 d ds (same_slot_refl d.0) l.3 in
         let value : c.1 ≡ d.1 = sym (coef_at-here c.0 c cs (same_slot_refl c.0) k.3) ∙ h c.0 ∙ there in
@@ -89,13 +83,6 @@ nonzero-put u a (c ∷ cs) n f k = go (same_slot c.0 u) refl f (nat_lt u.number 
 put_sets : (u : Slot) (a : ℤ) (cs : List (Slot × ℤ)) → a ≢ pos 0 → has_slot cs u ≡ false → AreCoefs cs → put u a cs ≡ with_coef u a cs
 put_sets u a cs n f k = sym (ap (λ xs. nonzero (put u a xs)) (cut-absent u cs f) ∙ nonzero-put u a cs n f k)
 
-fails : (b : Bool) → (b ≡ true → ⊥) → b ≡ false
-fails true h = absurd (h refl)
-fails false h = refl
-
-swap_law : (x y z : ℤ) → (x +ℤ y) +ℤ z ≡ y +ℤ (x +ℤ z)
-swap_law x y z = omega (arith, ints)
-
 module _ (h : List Column) (ss : List Slot) (j : HaveSorts h ss) (d : AreDistinctSlots ss) where
   -- the slots of the coefficients are those of columns
   abbrev pub AreColumns : List (Slot × ℤ) → Type 0
@@ -114,7 +101,7 @@ module _ (h : List Column) (ss : List Slot) (j : HaveSorts h ss) (d : AreDistinc
 
   -- the slot of the first coefficient isn't among those of the others
   first_absent : (c : Slot × ℤ) (cs : List (Slot × ℤ)) → AreCoefs (c ∷ cs) → AreColumns (c ∷ cs) → ArePut cs → has_slot (renamed_coefs ss cs) (renamed (column_pairs 0 ss) c.0) ≡ false
-  first_absent c cs k o r = fails _ (λ e.
+  first_absent c cs k o r = false_from_ne_true _ (λ e.
       let there = r.from (renamed (column_pairs 0 ss) c.0) e in
       let of_rest = subst (IsRead 0 h ss there.0) there.2 (read 0 h ss there.0 j (rest_columns c cs o there.0 there.1)) in
       let same : there.0 ≡ c.0 = read_once 0 h ss there.0 c.0 (renamed (column_pairs 0 ss) c.0) d of_rest (first_read c cs o) in

@@ -1,7 +1,8 @@
 -- Evaluations put together: what is done with the lists of the parts of a plan gives the list of the plan.
-use Rattle.std.proofs.Common.{◌≡◌, ℕ, suc, Vec, Global, Bool, true, false, not, ◌&&◌, ◌||◌, List, [], ◌∷◌, ◌++◌, ◌⊎◌, ⊎_elim, inl, inr, length, arith, refl, sym, ap, ◌∙◌, subst, true≢false, append_assoc, append-nil}
+use Rattle.std.proofs.Common.{◌≡◌, ℕ, suc, Vec, Global, Bool, true, not, ◌&&◌, ◌||◌, List, [], ◌∷◌, ◌++◌, ◌⊎◌, ⊎_elim, inl, inr, length, arith, refl, sym, ap, ◌∙◌, subst, true≢false, append_assoc, append-nil}
 use Rattle.std.specs.Prelude.{◌↔◌, ◌==◌}
 use Rattle.std.proofs.Math.Bool.{or_assoc}
+use Rattle.std.proofs.lemmas.Bool.{and_from, and_parts, not-true, not_from_false, false_from_ne_true}
 use Rattle.std.proofs.lemmas.Bool.Decides.{nat_tests}
 use Rattle.ded_model.specs.declared.slot.Slot.{Slot}
 use Rattle.ded_model.specs.Point.{Key, slot, Point}
@@ -52,23 +53,6 @@ lines-push : {L : Type 0} (of : L → List Line) (fs : List (Logic L)) (f : Logi
 lines-push of [] f = append-nil (lines of f)
 lines-push of (g ∷ fs) f = ap (λ ls. lines of g ++ ls) (lines-push of fs f) ∙ sym (append_assoc (lines of g) (all_lines of (logics fs)) (lines of f))
 
--- ---- tests
-
-both_true : (a b : Bool) → (a && b) ≡ true → (a ≡ true) × (b ≡ true)
-both_true true b h = (refl, h)
-both_true false b h = absurd (true≢false (sym h))
-
-pub true_both : (a b : Bool) → a ≡ true → b ≡ true → (a && b) ≡ true
-true_both a b e f = rw (e, f) refl
-
-not_true : (b : Bool) → not b ≡ true → b ≡ true → ⊥
-not_true true h e = true≢false (sym h)
-not_true false h e = true≢false (sym e)
-
-true_not : (b : Bool) → (b ≡ true → ⊥) → not b ≡ true
-true_not true h = absurd (h refl)
-true_not false h = refl
-
 module _ {A : Type 0} (h : A → Point → Bool) (m : A → Slot → Bool) (l : A → List Line) where
   -- the list is what the plan stands for
   abbrev pub IsListFor : Catalogue → PlanForm → List (List A) → Type 0
@@ -117,8 +101,8 @@ module _ {A : Type 0} (h : A → Point → Bool) (m : A → Slot → Bool) (l : 
   pub joined_more : (c : Catalogue) (fs : List PlanForm) (f : PlanForm) (xs ys out : List (List A)) → IsListFor c (every_of (logics fs)) xs → IsListFor c f ys → IsMeet h m l xs ys out → IsListFor c (every_of (logics (fs ++ f ∷ []))) out
   joined_more c fs f xs ys out a b o = record {
     holds = λ p i. (
-      λ x. (let r = both_true _ _ (sym (o.holds p i) ∙ x) in (every-push (PlanAtomHolds (meaning c)) fs f p).1 ((a.holds p i).0 r.0, (b.holds p i).0 r.1)),
-      λ x. (let r = (every-push (PlanAtomHolds (meaning c)) fs f p).0 x in o.holds p i ∙ true_both _ _ ((a.holds p i).1 r.0) ((b.holds p i).1 r.1)),
+      λ x. (let r = and_parts _ _ (sym (o.holds p i) ∙ x) in (every-push (PlanAtomHolds (meaning c)) fs f p).1 ((a.holds p i).0 r.0, (b.holds p i).0 r.1)),
+      λ x. (let r = (every-push (PlanAtomHolds (meaning c)) fs f p).0 x in o.holds p i ∙ and_from _ _ ((a.holds p i).1 r.0) ((b.holds p i).1 r.1)),
     );
     slots = λ s u. mentions-push in_plan_atom fs f (slot s)
         ∙ ⊎_elim (λ (e : conjs_mention m xs s ≡ true). or_left _ _ (a.slots s e)) (λ e. or_right (any_mentions in_plan_atom (logics fs) (slot s)) _ (b.slots s e)) (or_split _ _ (o.slots s u));
@@ -142,8 +126,8 @@ module _ {A : Type 0} (h : A → Point → Bool) (m : A → Slot → Bool) (l : 
       → IsOperation h m l (λ p. conjs_hold h xs p && not (conjs_hold h ys p)) (λ s. conjs_mention m xs s || conjs_mention m ys s) (conjs_lines l xs ++ conjs_lines l ys) out → IsListFor c (minus f g) out
   minus_for c f g xs ys out a b o = record {
     holds = λ p i. (
-      λ x. (let r = both_true _ _ (sym (o.holds p i) ∙ x) in ((a.holds p i).0 r.0, λ y. not_true _ r.1 ((b.holds p i).1 y))),
-      λ x. o.holds p i ∙ true_both _ _ ((a.holds p i).1 x.0) (true_not _ (λ e. x.1 ((b.holds p i).0 e))),
+      λ x. (let r = and_parts _ _ (sym (o.holds p i) ∙ x) in ((a.holds p i).0 r.0, λ y. true≢false (sym ((b.holds p i).1 y) ∙ not-true _ r.1))),
+      λ x. o.holds p i ∙ and_from _ _ ((a.holds p i).1 x.0) (not_from_false _ (false_from_ne_true _ (λ e. x.1 ((b.holds p i).0 e)))),
     );
     slots = λ s u. ⊎_elim (λ (e : conjs_mention m xs s ≡ true). or_left _ _ (a.slots s e)) (λ e. or_right (plan_mentions f (slot s)) _ (b.slots s e)) (or_split _ _ (o.slots s u));
     lines = subset_trans (conjs_lines l out) (conjs_lines l xs ++ conjs_lines l ys) (plan_lines (measures c) f ++ plan_lines (measures c) g) o.lines
@@ -157,7 +141,7 @@ module _ {A : Type 0} (h : A → Point → Bool) (m : A → Slot → Bool) (l : 
 
   pub complement_for : (c : Catalogue) (f : PlanForm) (xs out : List (List A)) → IsListFor c f xs → IsOperation h m l (λ p. not (conjs_hold h xs p)) (conjs_mention m xs) (conjs_lines l xs) out → IsListFor c (negation f) out
   complement_for c f xs out a o = record {
-    holds = λ p i. (λ x y. not_true _ (sym (o.holds p i) ∙ x) ((a.holds p i).1 y), λ x. o.holds p i ∙ true_not _ (λ e. x ((a.holds p i).0 e)));
+    holds = λ p i. (λ x y. true≢false (sym ((a.holds p i).1 y) ∙ not-true _ (sym (o.holds p i) ∙ x)), λ x. o.holds p i ∙ not_from_false _ (false_from_ne_true _ (λ e. x ((a.holds p i).0 e))));
     slots = λ s u. a.slots s (o.slots s u);
     lines = subset_trans (conjs_lines l out) (conjs_lines l xs) (plan_lines (measures c) f) o.lines a.lines;
   }

@@ -16,10 +16,6 @@ use Rattle.ded_model.specs.Measure.{Measures, with_measure, measures_from, measu
 use Rattle.ded_model.specs.Entries.{entry_of, relation_in}
 use Rattle.ded_algebra.specs.Evaluation.{AreGiven, HaveSorts, IsScannedFrom, given_tuples}
 
--- names that compare as the same are so
-same_names : (m n : List ℕ) → bytes_eq m n ≡ true → m ≡ n
-same_names m n e = (bytes_eq-Decides m n).0 e
-
 -- a name that no entry has
 none_there : (n : List ℕ) (es : List Entry) → list_any (λ e. bytes_eq n (entry_name e)) es ≡ false → entry_of es n ≡ None
 none_there n [] h = refl
@@ -31,7 +27,7 @@ none_there n (e ∷ es) h = go (bytes_eq n (entry_name e)) h (none_there n es)
 
 -- no other entry has the name of the first one
 alone : (n m : List ℕ) (es : List Entry) → bytes_eq n m ≡ true → list_any (λ e. bytes_eq m (entry_name e)) es ≡ false → entry_of es n ≡ None
-alone n m es e h = none_there n es (ap (λ x. list_any (λ e. bytes_eq x (entry_name e)) es) (same_names n m e) ∙ h)
+alone n m es e h = none_there n es (ap (λ x. list_any (λ e. bytes_eq x (entry_name e)) es) ((bytes_eq-Decides n m).0 e) ∙ h)
 
 -- ---- what a name means
 
@@ -40,9 +36,6 @@ abbrev holds_in : Option Entry → Type 0 → ℕ → List Argument → Type 0
 holds_in None P den xs = P
 holds_in (Some (relation n h m ts)) P den xs = IsTrue (tuples_hold (tuples_of ts) (record { den = den; coords = at_slots 0 h xs }))
 holds_in (Some (view n h f)) P den xs = ⊥
-
-iff_trans : (P Q R : Type 0) → P ↔ Q → Q ↔ R → P ↔ R
-iff_trans P Q R a b = (λ x. b.0 (a.0 x), λ x. a.1 (b.1 x))
 
 means_from : (es : List Entry) → AreGiven es → (I : Meaning) (n : List ℕ) (den : ℕ) (xs : List Argument) → meaning_from I es n den xs ↔ holds_in (entry_of es n) (I n den xs) den xs
 means_from [] g I n den xs = (λ x. x, λ x. x)

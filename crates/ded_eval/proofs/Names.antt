@@ -1,7 +1,8 @@
 -- Relations of distinct names.
-use Rattle.std.proofs.Common.{◌≡◌, ℕ, suc, ◌+◌, ◌<◌, ◌≤◌, length, get_or, drop, Bool, true, false, cond, ◌||◌, Option, Some, None, List, [], ◌∷◌, ◌++◌, map, refl, sym, ap, ◌∙◌, subst, true≢false, bytes_eq, drop-cons, add-one}
+use Rattle.std.proofs.Common.{◌≡◌, ℕ, suc, ◌+◌, ◌<◌, ◌≤◌, length, get_or, drop, Bool, true, false, cond, Option, Some, None, List, [], ◌∷◌, ◌++◌, map, refl, sym, ap, ◌∙◌, subst, true≢false, bytes_eq, drop-cons, add-one}
 use Rattle.std.specs.List.{list_any}
 use Rattle.std.specs.Option.{option_map}
+use Rattle.std.proofs.lemmas.Bool.{or_from, or_parts, false_from_ne_true}
 use Rattle.std.proofs.lemmas.Slice.Eq.{bytes_eq-Decides}
 use Rattle.std.proofs.lemmas.List.{drop_all}
 use Rattle.ded_model.specs.Row.{Atom}
@@ -13,32 +14,17 @@ use Rattle.ded_eval.specs.Given.{unnumbered, given_entry, has_name, AreNamedApar
 
 -- names that differ differ the other way round
 other_way : (m n : List ℕ) → bytes_eq m n ≡ false → bytes_eq n m ≡ false
-other_way m n e = go (bytes_eq n m) refl
-  where
-    go : (b : Bool) → bytes_eq n m ≡ b → b ≡ false
-    go true f = absurd (true≢false (sym ((bytes_eq-Decides m n).1 (sym ((bytes_eq-Decides n m).0 f))) ∙ e))
-    go false f = refl
-
-neither : (a b : Bool) → a ≡ false → b ≡ false → (a || b) ≡ false
-neither a b e f = rw (e, f) refl
-
-fails_left : (a b : Bool) → (a || b) ≡ false → a ≡ false
-fails_left true b e = e
-fails_left false b e = refl
-
-fails_right : (a b : Bool) → (a || b) ≡ false → b ≡ false
-fails_right true b e = absurd (true≢false e)
-fails_right false b e = e
+other_way m n e = false_from_ne_true (bytes_eq n m) (λ f. true≢false (sym ((bytes_eq-Decides m n).1 (sym ((bytes_eq-Decides n m).0 f))) ∙ e))
 
 -- ---- one more
 
 has-push : (n : List ℕ) (rs : List GivenRelation) (x : GivenRelation) → has_name n rs ≡ false → bytes_eq n x.name ≡ false → has_name n (rs ++ x ∷ []) ≡ false
-has-push n [] x h e = neither (bytes_eq n x.name) false e refl
-has-push n (r ∷ rs) x h e = neither (bytes_eq n r.name) (has_name n (rs ++ x ∷ [])) (fails_left _ _ h) (has-push n rs x (fails_right (bytes_eq n r.name) _ h) e)
+has-push n [] x h e = or_from (bytes_eq n x.name) false e refl
+has-push n (r ∷ rs) x h e = or_from (bytes_eq n r.name) (has_name n (rs ++ x ∷ [])) (or_parts _ _ h).0 (has-push n rs x (or_parts (bytes_eq n r.name) _ h).1 e)
 
 apart-push : (rs : List GivenRelation) (x : GivenRelation) → has_name x.name rs ≡ false → AreNamedApart rs → AreNamedApart (rs ++ x ∷ [])
 apart-push [] x h k = (refl, tt)
-apart-push (r ∷ rs) x h k = (has-push r.name rs x k.0 (other_way x.name r.name (fails_left _ _ h)), apart-push rs x (fails_right (bytes_eq x.name r.name) _ h) k.1)
+apart-push (r ∷ rs) x h k = (has-push r.name rs x k.0 (other_way x.name r.name (or_parts _ _ h).0), apart-push rs x (or_parts (bytes_eq x.name r.name) _ h).1 k.1)
 
 -- whether or not there is room for it
 pub apart_after : (rs new : List GivenRelation) (x : GivenRelation) (b : Bool) → new ≡ cond b (rs ++ x ∷ []) rs → has_name x.name rs ≡ false → AreNamedApart rs → AreNamedApart new
@@ -50,7 +36,7 @@ apart_after rs new x false e h k = subst AreNamedApart (sym e) k
 -- the entries' names are those of the relations
 names_apart : (n : List ℕ) (rs : List GivenRelation) → has_name n rs ≡ false → list_any (λ e. bytes_eq n (entry_name e)) (map given_entry rs) ≡ false
 names_apart n [] h = refl
-names_apart n (r ∷ rs) h = neither (bytes_eq n r.name) _ (fails_left _ _ h) (names_apart n rs (fails_right (bytes_eq n r.name) _ h))
+names_apart n (r ∷ rs) h = or_from (bytes_eq n r.name) _ (or_parts _ _ h).0 (names_apart n rs (or_parts (bytes_eq n r.name) _ h).1)
 
 pub are_given : (rs : List GivenRelation) → AreNamedApart rs → AreGiven (map given_entry rs)
 are_given [] k = tt

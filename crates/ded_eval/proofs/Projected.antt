@@ -3,6 +3,7 @@
 -- At a rational slot lines go over to what the elimination makes of them. At a text slot nothing is made: lines have rational slots
 -- alone, so none mentions the slot, and none clash.
 use Rattle.std.proofs.Common.{◌≡◌, Bool, true, false, cond, not, ◌&&◌, List, [], ⊎_elim, refl, sym, ap, ◌∙◌, true≢false}
+use Rattle.std.proofs.lemmas.Bool.{and_from}
 use Rattle.ded_model.specs.declared.slot.Slot.{Slot}
 use Rattle.ded_model.specs.declared.slot.Sort.{Sort}
 use Rattle.ded_model.specs.declared.slot.Sort.TheVariants.{Rat, Text}
@@ -21,7 +22,7 @@ use Rattle.ded_algebra.proofs.SamePoints.{extension-point}
 use Rattle.ded_genrel.specs.Lists.{conjs_lines, conjs_elim, conjs_clash}
 use Rattle.ded_genrel.specs.Operations.{IsProjection}
 use Rattle.ded_genrel.proofs.Laws.{conjs_elim-within, conjs_clash-within}
-use Rattle.ded_eval.proofs.Evaluated.{true_both, IsListFor}
+use Rattle.ded_eval.proofs.Evaluated.{IsListFor}
 
 -- the lines have their coefficients in order
 abbrev pub AreInOrder : List Line → Type 0
@@ -75,7 +76,7 @@ module _ {A : Type 0} (h : A → Point → Bool) (m : A → Slot → Bool) (l : 
       λ x. (let q = (o.holds p i).0 x in (q.0, q.1, (a.holds q.0 (extension-point s.sort p q.0 (slot s) i q.1)).0 q.2)),
       λ x. (o.holds p i).1 (x.0, x.1, (a.holds x.0 (extension-point s.sort p x.0 (slot s) i x.1)).1 x.2),
     );
-    slots = λ t u. (let r = o.slots t u in true_both (not (same_slot t s)) (plan_mentions f (slot t)) (ap not r.0) (a.slots t r.1));
+    slots = λ t u. (let r = o.slots t u in and_from (not (same_slot t s)) (plan_mentions f (slot t)) (ap not r.0) (a.slots t r.1));
     lines = subset_trans (conjs_lines l out) (elim_at s (conjs_lines l xs)) (elim_past s.sort (slot s) (plan_lines (measures c) f))
         (subset_trans (conjs_lines l out) (conjs_elim l s xs) (elim_at s (conjs_lines l xs)) o.lines (conjs_elim-within l s xs))
         (past s (conjs_lines l xs) (plan_lines (measures c) f) k a.lines);

@@ -1,5 +1,5 @@
 -- Rows and text atoms as atoms of theories of one kind and of both.
-use Rattle.std.proofs.Common.{◌≡◌, Bool, Option, Some, None, List, [], ◌∷◌, refl, sym, subst}
+use Rattle.std.proofs.Common.{◌≡◌, Bool, Option, Some, None, List, [], refl, sym, subst}
 use Rattle.std.specs.List.{AllByRecursion}
 use Rattle.ded_model.specs.declared.slot.Slot.{Slot}
 use Rattle.ded_model.specs.declared.tuple.ThemeAtom.{ThemeAtom}
@@ -15,6 +15,7 @@ use Rattle.ded_model.specs.Logic.{Logic, atom, always, never, negation, every_of
 use Rattle.ded_model.specs.PlanForm.{PlanAtom, PlanForm, scan, rows}
 use Rattle.ded_model.proofs.Members.{In-left}
 use Rattle.ded_theory.specs.Both.{by_kind}
+use Rattle.ded_genrel.proofs.Items.{all_weaker}
 use Rattle.ded_algebra.specs.Evaluation.{IsScannedFrom, IsScannable, IsEvaluable}
 use Rattle.ded_eval.specs.Reading.{StandsFor}
 
@@ -38,13 +39,8 @@ second_stands h m l l' a t empty e =
 -- ---- plans whose atoms are read
 
 module _ (P Q : Atom → Type 0) (f : (a : Atom) → P a → Q a) where
-  all_read : (t : List Atom) → AllByRecursion P t → AllByRecursion Q t
-  all_read [] k = tt
-  all_read (a ∷ t) k = (f a k.0, all_read t k.1)
-
   tuples_read : (R : List Atom → Type 0) (ts : List (List Atom)) → AllByRecursion (λ t. R t × AllByRecursion P t) ts → AllByRecursion (λ t. R t × AllByRecursion Q t) ts
-  tuples_read R [] k = tt
-  tuples_read R (t ∷ ts) k = ((k.0.0, all_read t k.0.1), tuples_read R ts k.1)
+  tuples_read R ts k = all_weaker (λ t. R t × AllByRecursion P t) (λ t. R t × AllByRecursion Q t) ts (λ t j. (j.0, all_weaker P Q t f j.1)) k
 
   scanned_read : (o : Option Entry) (ss : List Slot) → IsScannedFrom P o ss → IsScannedFrom Q o ss
   scanned_read None ss k = k
@@ -53,26 +49,26 @@ module _ (P Q : Atom → Type 0) (f : (a : Atom) → P a → Q a) where
 
   atom_read : (c : Catalogue) (a : PlanAtom) → IsScannable P c a → IsScannable Q c a
   atom_read c (scan n ss) k = scanned_read (entry_of c.entries n) ss k
-  atom_read c (rows t) k = all_read t k
+  atom_read c (rows t) k = all_weaker P Q t f k
 
 -- what each atom has, it has of another property that follows
 mutual
-  pub all_weaker : {L : Type 0} (P Q : L → Type 0) → ((a : L) → P a → Q a) → (g : Logic L) → AllAtoms P g → AllAtoms Q g
-  all_weaker P Q f (atom a) k = f a k
-  all_weaker P Q f always k = tt
-  all_weaker P Q f never k = tt
-  all_weaker P Q f (negation g) k = all_weaker P Q f g k
-  all_weaker P Q f (every_of gs) k = every_weaker P Q f gs k
-  all_weaker P Q f (some_of gs) k = every_weaker P Q f gs k
-  all_weaker P Q f (implies g h) k = (all_weaker P Q f g k.0, all_weaker P Q f h k.1)
-  all_weaker P Q f (minus g h) k = (all_weaker P Q f g k.0, all_weaker P Q f h k.1)
-  all_weaker P Q f (exists s j g) k = all_weaker P Q f g k
-  all_weaker P Q f (forall s j g) k = all_weaker P Q f g k
+  pub atoms_weaker : {L : Type 0} (P Q : L → Type 0) → ((a : L) → P a → Q a) → (g : Logic L) → AllAtoms P g → AllAtoms Q g
+  atoms_weaker P Q f (atom a) k = f a k
+  atoms_weaker P Q f always k = tt
+  atoms_weaker P Q f never k = tt
+  atoms_weaker P Q f (negation g) k = atoms_weaker P Q f g k
+  atoms_weaker P Q f (every_of gs) k = every_weaker P Q f gs k
+  atoms_weaker P Q f (some_of gs) k = every_weaker P Q f gs k
+  atoms_weaker P Q f (implies g h) k = (atoms_weaker P Q f g k.0, atoms_weaker P Q f h k.1)
+  atoms_weaker P Q f (minus g h) k = (atoms_weaker P Q f g k.0, atoms_weaker P Q f h k.1)
+  atoms_weaker P Q f (exists s j g) k = atoms_weaker P Q f g k
+  atoms_weaker P Q f (forall s j g) k = atoms_weaker P Q f g k
 
   pub every_weaker : {L : Type 0} (P Q : L → Type 0) → ((a : L) → P a → Q a) → (gs : Logics L) → AllAtomsOf P gs → AllAtomsOf Q gs
   every_weaker P Q f none k = tt
-  every_weaker P Q f (also g gs) k = (all_weaker P Q f g k.0, every_weaker P Q f gs k.1)
+  every_weaker P Q f (also g gs) k = (atoms_weaker P Q f g k.0, every_weaker P Q f gs k.1)
 
 -- a plan that can be evaluated where atoms have a property can be where they have one that follows
 pub evaluable_weaker : (P Q : Atom → Type 0) → ((a : Atom) → P a → Q a) → (c : Catalogue) (g : PlanForm) → IsEvaluable P c g → IsEvaluable Q c g
-evaluable_weaker P Q f c g k = all_weaker (IsScannable P c) (IsScannable Q c) (atom_read P Q f c) g k
+evaluable_weaker P Q f c g k = atoms_weaker (IsScannable P c) (IsScannable Q c) (atom_read P Q f c) g k

@@ -44,11 +44,6 @@ mentioned : (y : Line) (s : Slot) → has_slot y.coefs s ≡ true → row_mentio
 unfolding row_mentions
 mentioned y s e = e
 
--- what is said of the atoms of each tuple
-pub each_read : (Reads : Atom → Type 0) (h : List Column) (ts : List (List Atom)) → AllByRecursion (λ t. IsTupleOver h t × AllByRecursion Reads t) ts → AllByRecursion (λ t. AllByRecursion Reads t) ts
-each_read Reads h [] o = tt
-each_read Reads h (t ∷ ts) o = (o.0.1, each_read Reads h ts o.1)
-
 module _ {A : Type 0} (h : A → Point → Bool) (m : A → Slot → Bool) (l : A → List Line) (n : A → Type 0) where
   -- a line of a list is one of an atom's
   lines_of : (P : Line → Type 0) → ((a : A) (x : Line) → n a → In x (l a) → P x) → (cs : List A) → AllByRecursion n cs → (x : Line) → In x (conj_lines l cs) → P x

@@ -60,9 +60,7 @@ fn rationals(alloc: Global, list: &[Slot]) -> Result<Vec<Slot>, NoMemory>
     ensures { IfOk result (λ v. AreRational v.items) }
 {
     let mut slots = Vec::new(alloc);
-    for slot in list {
-        add(&mut slots, *slot)?;
-    }
+    add_all(&mut slots, list)?;
     Ok(slots)
 }
 

@@ -3,11 +3,11 @@
 -- A product of two numbers of at most b digits is below 2^b times 2^b, a difference of two such products below twice that.
 -- With b = 63 all that is below 2^127. Dividing by the greatest common divisor makes no number longer.
 use Rattle.std.proofs.Common.{◌≡◌, ◌≢◌, ℕ, zero, suc, ◌+◌, ◌*◌, ◌^◌, ◌<◌, ◌≤◌, nat_lt, Bool, true, false, not, ◌||◌, ◌&&◌, cond, List, [], ◌∷◌, ◌⊎◌, inl, inr, refl, sym, ◌∙◌, ap, subst, true≢false, arith}
-use Rattle.std.specs.Prelude.{ℤ, pos, ◌+ℤ◌, ◌-ℤ◌, ◌*ℤ◌, int_div, unsigned_abs}
+use Rattle.std.specs.Prelude.{ℤ, pos, negsuc, ◌+ℤ◌, ◌-ℤ◌, ◌*ℤ◌, int_div, unsigned_abs}
 use lib.IntN.{neg_ℤ, +ℤ_idl}
 use lib.Pow.{pow_pos}
 use Rattle.std.proofs.Math.Pow.{pow-add, pow_mono}
-use Rattle.std.proofs.Math.IntN.{*ℤ-zero}
+use Rattle.std.proofs.Math.IntN.{*ℤ-zero, zero-*ℤ}
 use Rattle.std.proofs.lemmas.Int.{ints, unsigned_abs-mul}
 use Rattle.std.proofs.lemmas.Bool.Decides.{nat_tests}
 use Rattle.ded_num.specs.Length.{IsWithin}
@@ -18,8 +18,8 @@ use Rattle.ded_model.specs.Point.{same_slot}
 use Rattle.ded_model.specs.Coefs.{coef_at, mixed, nonzero, cut}
 use Rattle.ded_model.specs.Normal.{coefs_over, divisor_of, normal_row}
 use Rattle.ded_model.specs.Lines.{Line, In, line_with, combination, both_mention, is_long, products_clash, slots_clash, lines_clash, clash_at, elim_at, IsLineWithin, AreWithin}
-use Rattle.ded_model.proofs.Divisors.{DivideWhole, divisor-whole, divisor-nonzero_first, divisor-whole_constant}
-use Rattle.ded_model.proofs.LineCoefs.{AllNonzero, coef_at-mixed, coef_at-cut, coef_at-cut_here, coef_at-nonzero, nonzero-nonzero}
+use Rattle.ded_model.proofs.Divisors.{DivideWhole, divisor-whole, divisor-whole_constant}
+use Rattle.ded_model.proofs.LineCoefs.{coef_at-mixed, coef_at-cut, coef_at-cut_here, coef_at-nonzero}
 use Rattle.ded_model.proofs.Members.{elim-In, clash_of-In, Clash}
 
 -- a product of two numbers below p
@@ -124,24 +124,47 @@ quotient_within k x y b n e h =
     let f : unsigned_abs k * unsigned_abs x ≡ unsigned_abs y = sym (unsigned_abs-mul k x) ∙ ap unsigned_abs e in
     let g = times_more (unsigned_abs k) (unsigned_abs x) (unsigned_abs y) (some_abs k n) f in omega arith
 
+-- 0 has no digits
+pub zero_within : (b : ℕ) → IsWithin b (pos 0)
+zero_within b = omega (arith, pow_pos b)
+
+-- what 0 divides without rest is 0, and so is the quotient
+zero_quotient : (z : ℤ) → pos 0 *ℤ int_div z (pos 0) ≡ z → int_div z (pos 0) ≡ pos 0
+zero_quotient z e = ap (λ x. int_div x (pos 0)) (sym e ∙ zero-*ℤ (int_div z (pos 0)))
+
+-- a quotient is no longer, whatever divides
+number_over : (k z : ℤ) (b : ℕ) → k *ℤ int_div z k ≡ z → IsWithin b z → IsWithin b (int_div z k)
+number_over (pos zero) z b e h = subst (IsWithin b) (sym (zero_quotient z e)) (zero_within b)
+number_over (pos (suc n)) z b e h = quotient_within (pos (suc n)) (int_div z (pos (suc n))) z b (λ n. absurd (omega (arith, ints, n))) e h
+number_over (negsuc n) z b e h = quotient_within (negsuc n) (int_div z (negsuc n)) z b (λ n. absurd (omega (arith, ints, n))) e h
+
+-- a coefficient and the rest, where both are 0
+zero_part : (b : Bool) (q x : ℤ) → q ≡ pos 0 → x ≡ pos 0 → cond b q (pos 0) +ℤ x ≡ pos 0
+zero_part true q x e f = rw (e, f) refl
+zero_part false q x e f = +ℤ_idl x ∙ f
+
+coef_at-over_zero : (cs : List (Slot × ℤ)) (t : Slot) → DivideWhole (pos 0) cs → coef_at (coefs_over (pos 0) cs) t ≡ pos 0
+coef_at-over_zero [] t h = refl
+coef_at-over_zero (c ∷ cs) t h = zero_part (same_slot c.0 t) _ _ (zero_quotient c.1 h.0) (coef_at-over_zero cs t h.1)
+
+coef_over : (k : ℤ) (cs : List (Slot × ℤ)) (t : Slot) (b : ℕ) → DivideWhole k cs → IsWithin b (coef_at cs t) → IsWithin b (coef_at (coefs_over k cs) t)
+coef_over (pos zero) cs t b w h = subst (IsWithin b) (sym (coef_at-over_zero cs t w)) (zero_within b)
+coef_over (pos (suc n)) cs t b w h = quotient_within (pos (suc n)) _ _ b (λ n. absurd (omega (arith, ints, n))) (coef_at-over (pos (suc n)) cs t w) h
+coef_over (negsuc n) cs t b w h = quotient_within (negsuc n) _ _ b (λ n. absurd (omega (arith, ints, n))) (coef_at-over (negsuc n) cs t w) h
+
 -- so the line of numbers is no longer than these
-pub line_with-within : (cs : List (Slot × ℤ)) (constant : ℤ) (b : ℕ) → AllNonzero cs → ((t : Slot) → IsWithin b (coef_at cs t)) → IsWithin b constant → AreWithin b (line_with cs constant)
+pub line_with-within : (cs : List (Slot × ℤ)) (constant : ℤ) (b : ℕ) → ((t : Slot) → IsWithin b (coef_at cs t)) → IsWithin b constant → AreWithin b (line_with cs constant)
 unfolding normal_row
-line_with-within [] constant b n h k l i = absurd i
-line_with-within (c ∷ cs) constant b n h k l (inr i) = absurd i
-line_with-within (c ∷ cs) constant b n h k l (inl e) =
+line_with-within [] constant b h k l i = absurd i
+line_with-within (c ∷ cs) constant b h k l (inr i) = absurd i
+line_with-within (c ∷ cs) constant b h k l (inl e) =
     let d = divisor_of Zero constant (c ∷ cs) in
-    let z = divisor-nonzero_first Zero constant c cs n.0 in
     subst (IsLineWithin b) (sym e) (record {
-      coefs = λ t. quotient_within d _ _ b z (coef_at-over d (c ∷ cs) t (divisor-whole Zero constant (c ∷ cs))) (h t);
-      constant = quotient_within d _ _ b z (divisor-whole_constant Zero constant c cs) k;
+      coefs = λ t. coef_over d (c ∷ cs) t b (divisor-whole Zero constant (c ∷ cs)) (h t);
+      constant = number_over d constant b (divisor-whole_constant Zero constant c cs) k;
     })
 
 -- ---- combinations
-
--- 0 has no digits
-zero_within : (b : ℕ) → IsWithin b (pos 0)
-zero_within b = omega (arith, pow_pos b)
 
 -- a sum with a negative factor
 sum_is_difference : (k x a y : ℤ) → k *ℤ x +ℤ neg_ℤ a *ℤ y ≡ k *ℤ x -ℤ a *ℤ y
@@ -158,7 +181,7 @@ combination-within s l m b h k =
     let x = coef_at l.coefs s in
     let y = coef_at m.coefs s in
     let cs = mixed y l.coefs (neg_ℤ x) m.coefs in
-    line_with-within (nonzero (cut s cs)) (y *ℤ l.constant -ℤ x *ℤ m.constant) (2 * b + 1) (nonzero-nonzero (cut s cs))
+    line_with-within (nonzero (cut s cs)) (y *ℤ l.constant -ℤ x *ℤ m.constant) (2 * b + 1)
     (λ t. cut_within s cs (2 * b + 1) t (same_slot s t) refl
     (subst (IsWithin (2 * b + 1)) (sym (coef_at-mixed y l.coefs (neg_ℤ x) m.coefs t ∙ sum_is_difference y (coef_at l.coefs t) x (coef_at m.coefs t)))
     (difference_within y (coef_at l.coefs t) x (coef_at m.coefs t) b (k.coefs s) (h.coefs t) (h.coefs s) (k.coefs t))))

@@ -9,14 +9,14 @@ use Rattle.ded_model.specs.declared.row.RowOp.TheVariants.{Zero}
 use Rattle.ded_model.specs.Constraint.{LinearConstraint}
 use Rattle.ded_model.specs.Coefs.{AreCoefs, put, cut, nonzero, with_coef}
 use Rattle.ded_model.specs.Normal.{normal_row}
-use Rattle.ded_model.specs.Lines.{Line, line_with, row_lines}
+use Rattle.ded_model.specs.Lines.{line_with, row_lines}
 use Rattle.ded_model.specs.Renaming.{renamed, renamed_onto, mapped_lines}
 use Rattle.ded_model.proofs.LineCoefs.{nonzero-nonzero}
 use Rattle.ded_row.specs.Multiples.{coefs_times}
 use Rattle.ded_row.specs.Renaming.{renamed_row}
 use Rattle.ded_row.proofs.Scaling.{BeginsNonzero}
 use Rattle.ded_row.proofs.Forms.{begins, row_lines-times, row_lines-normal}
-use Rattle.ded_row.proofs.MixedLines.{times-put, times-cut, times-nonzero, nonzero_begins, IsLineOf, line_of}
+use Rattle.ded_row.proofs.MixedLines.{times-put, times-cut, times-nonzero, nonzero_begins, line_of}
 
 -- ---- multiples
 

@@ -2,8 +2,9 @@
 --
 -- Where two slots get two slots, each coefficient is set at a slot that has none, so it is added there: the sum at the new
 -- slots is the sum at the old ones, and the new slots are those that the old ones get.
-use Rattle.std.proofs.Common.{◌≡◌, ◌≢◌, ℕ, zero, suc, ◌+◌, ◌<◌, Bool, true, false, cond, ◌||◌, List, [], ◌∷◌, ◌⊎◌, inl, inr, length, get_or, drop, arith, refl, sym, ap, ap₂, ◌∙◌, subst, true≢false, drop-cons, add-one}
+use Rattle.std.proofs.Common.{◌≡◌, ◌≢◌, ℕ, zero, suc, ◌+◌, ◌<◌, Bool, true, false, cond, ◌||◌, List, [], ◌∷◌, ◌⊎◌, inl, inr, length, drop, arith, refl, sym, ap, ap₂, ◌∙◌, subst, true≢false}
 use Rattle.std.specs.Prelude.{ℤ, pos, ◌+ℤ◌, ◌*ℤ◌}
+use Rattle.std.proofs.lemmas.Bool.{false_from_ne_true}
 use Rattle.std.proofs.lemmas.Int.{ints}
 use lib.IntN.{+ℤ_idl, +ℤ_idr}
 use Rattle.ded_model.specs.declared.slot.Slot.{Slot}
@@ -75,15 +76,10 @@ pub record AreFree (map : List (Slot × Slot)) (out cs : List (Slot × ℤ)) : T
   pub free : (s : Slot) → has_slot cs s ≡ true → has_slot out (renamed map s) ≡ false
   pub apart : (s t : Slot) → has_slot cs s ≡ true → has_slot cs t ≡ true → renamed map s ≡ renamed map t → s ≡ t
 
--- a test that isn't passed
-fails : (b : Bool) → (b ≡ true → ⊥) → b ≡ false
-fails true h = absurd (h refl)
-fails false h = refl
-
 -- so it is after each step
 pub free_step : (map : List (Slot × Slot)) (out : List (Slot × ℤ)) (c : Slot × ℤ) (cs : List (Slot × ℤ)) → AreFree map out (c ∷ cs) → AreCoefs (c ∷ cs) → AreFree map (with_coef (renamed map c.0) c.1 out) cs
 free_step map out c cs h k = record {
-  free = λ s e. fails (has_slot (with_coef (renamed map c.0) c.1 out) (renamed map s)) (λ f. elim (with_coef_slots (renamed map c.0) c.1 out (renamed map s) f) [
+  free = λ s e. false_from_ne_true (has_slot (with_coef (renamed map c.0) c.1 out) (renamed map s)) (λ f. elim (with_coef_slots (renamed map c.0) c.1 out (renamed map s) f) [
     | inl g ↦ (let same = h.apart c.0 s (or_left _ _ (same_slot_refl c.0)) (or_right (same_slot c.0 s) _ e) (same_slot_is (renamed map c.0) (renamed map s) g) in
         true≢false (sym e ∙ ap (has_slot cs) (sym same) ∙ absent-below c.0 cs k.3))
     | inr g ↦ true≢false (sym g ∙ h.free s (or_right (same_slot c.0 s) _ e))
@@ -91,9 +87,9 @@ free_step map out c cs h k = record {
   apart = λ s t e f g. h.apart s t (or_right (same_slot c.0 s) _ e) (or_right (same_slot c.0 t) _ f) g;
 }
 
--- a sum with one more, moved
-move_law : (x y z : ℤ) → (x +ℤ y) +ℤ z ≡ y +ℤ (x +ℤ z)
-move_law x y z = omega (arith, ints)
+-- a sum with one more, in another order
+pub swap_law : (x y z : ℤ) → (x +ℤ y) +ℤ z ≡ y +ℤ (x +ℤ z)
+swap_law x y z = omega (arith, ints)
 
 -- the sum at the new slots
 sum_at-onto : (map : List (Slot × Slot)) (out cs : List (Slot × ℤ)) (p q : Point) → AreFree map out cs → AreCoefs cs → ((s : Slot) → has_slot cs s ≡ true → number_at q (slot (renamed map s)) ≡ number_at p (slot s))
@@ -106,7 +102,7 @@ sum_at-onto map out (c ∷ cs) p q h k n =
     let x = c.1 *ℤ number_at p (slot c.0) in
     sum_at-onto map (with_coef (renamed map c.0) c.1 out) cs p q (free_step map out c cs h k) k.4 (λ s e. n s (or_right (same_slot c.0 s) _ e))
     ∙ ap (λ z. z +ℤ sum_at cs p) (sum_at-with_coef (renamed map c.0) c.1 out q (h.free c.0 (or_left _ _ (same_slot_refl c.0))) ∙ ap (λ m. c.1 *ℤ m +ℤ sum_at out q) (n c.0 (or_left _ _ (same_slot_refl c.0))))
-    ∙ move_law x (sum_at out q) (sum_at cs p)
+    ∙ swap_law x (sum_at out q) (sum_at cs p)
 
 -- at first all are free
 free_first : (map : List (Slot × Slot)) (r : LinearConstraint) → IsOneToOne map (row_mentions r) → AreFree map [] r.coefs
@@ -163,10 +159,6 @@ same_target map t s h = go (same_slot t s) refl (same_slot (renamed map t) (rena
     go true e false f = sym f ∙ ap (λ u. same_slot (renamed map u) (renamed map s)) (same_slot_is t s e) ∙ same_slot_refl (renamed map s)
     go false e true f = sym (same_slot_refl s) ∙ ap (λ u. same_slot u s) (sym (h (same_slot_is (renamed map t) (renamed map s) f))) ∙ e
     go false e false f = refl
-
--- a sum with one more, in another order
-swap_law : (x y z : ℤ) → (x +ℤ y) +ℤ z ≡ y +ℤ (x +ℤ z)
-swap_law x y z = omega (arith, ints)
 
 -- the coefficient of a slot at its new slot
 coef_at-onto : (map : List (Slot × Slot)) (out cs : List (Slot × ℤ)) (s : Slot) → AreFree map out cs → AreCoefs cs → ((t : Slot) → has_slot cs t ≡ true → renamed map t ≡ renamed map s → t ≡ s)

@@ -1,13 +1,12 @@
 -- The negation of a row, in pieces.
-use Rattle.std.specs.Prelude.{ℤ, Bool, false, not, ◌&&◌, ◌||◌, List, [], ◌∷◌}
+use Rattle.std.specs.Prelude.{ℤ, not, List, [], ◌∷◌}
 use Rattle.ded_model.specs.declared.slot.Slot.{Slot}
 use Rattle.ded_model.specs.declared.row.RowOp.{RowOp}
 use Rattle.ded_model.specs.declared.row.RowOp.TheVariants.{Zero, AtMost, Below}
 use Rattle.ded_model.specs.declared.tuple.Negated.{Negated}
 use Rattle.ded_model.specs.declared.tuple.Negated.TheVariants.{One, Two}
 use Rattle.ded_model.specs.Constraint.{LinearConstraint}
-use Rattle.ded_model.specs.Point.{Point}
-use Rattle.ded_model.specs.Row.{sign_meets, row_holds}
+use Rattle.ded_model.specs.Row.{sign_meets}
 use Rattle.ded_model.specs.Normal.{constant_row}
 use Rattle.ded_row.specs.Multiples.{turned, with_op}
 

@@ -1,5 +1,5 @@
 -- What the names accept of a command is what the calls of the catalogue ask for.
-use Rattle.std.proofs.Common.{◌≡◌, ◌<◌, ◌≤◌, ℕ, Bool, true, false, refl, sym, ap, ◌∙◌, subst, true≢false, arith, List, length, not}
+use Rattle.std.proofs.Common.{◌≡◌, ◌≤◌, ℕ, Bool, true, false, refl, sym, ap, ◌∙◌, subst, true≢false, arith, List, length, not}
 use Rattle.std.specs.Prelude.{None, Some, is_some, is_none, ◌==◌, ◌||◌, nat_lt}
 use Rattle.std.specs.List.{list_any}
 use Rattle.std.specs.declared.option.Option.{Option}

@@ -1,7 +1,7 @@
 -- A question is refused as too wide only where it isn't narrow.
 --
 -- An accepted formula that is narrow is tight, and a tight one is no reason for the refusal.
-use Rattle.std.proofs.Common.{◌≡◌, ℕ, Bool, true, false, ◌||◌, List, [], refl, true≢false}
+use Rattle.std.proofs.Common.{◌≡◌, ℕ, false, List, [], refl}
 use Rattle.ded_lex.specs.Pieces.{Statement, Whole}
 use Rattle.ded_lex.specs.Pieces as pieces
 use Rattle.ded_model.specs.declared.command.Language.{Language}
@@ -12,20 +12,12 @@ use Rattle.ded_model.specs.Command.{CommandForm, ask, query, box_of}
 use Rattle.ded_model.specs.Entries.{known}
 use Rattle.ded_model.specs.Form.{Form}
 use Rattle.ded_model.specs.Known.{IsAccepted, IsWellFormed, has_missorted}
+use Rattle.std.proofs.lemmas.Bool.{or_parts, false_from_ne_true}
 use Rattle.ded_sorts.specs.Causes.{has_cause}
 use Rattle.ded_width.proofs.FormulaReaches.{formula_tight}
 use Rattle.ded_session.specs.Replies.{refused}
 use Rattle.ded_session.specs.Steps.{MayBeWide, Accepted, Accepts, Step}
 use Rattle.ded_session.specs.Widths.{IsNotNarrow}
-
-or_left : (a b : Bool) → (a || b) ≡ false → a ≡ false
-or_left false b e = refl
-or_left true b e = absurd (true≢false e)
-
--- a test that would refuse the command fails
-fails : (b : Bool) → (b ≡ true → ⊥) → b ≡ false
-fails true h = absurd (h refl)
-fails false h = refl
 
 -- the causes that a question may have
 record HasNone (c : Catalogue) (x : CommandForm) : Type 0 where
@@ -38,12 +30,12 @@ record HasNone (c : Catalogue) (x : CommandForm) : Type 0 where
 
 none : (language : Language) (bytes : List ℕ) (c : Catalogue) (Fact : CommandForm → Type 0) (a : Accepted language bytes c Fact) → HasNone c a.command
 none language bytes c Fact a = record {
-  many = fails _ (λ e. a.none Many (record { command = a.command; depth = a.depth; spells = a.spells; cause = e }));
-  twice = fails _ (λ e. a.none Twice (record { command = a.command; depth = a.depth; spells = a.spells; cause = e }));
-  unknown = fails _ (λ e. a.none Unknown (record { command = a.command; depth = a.depth; spells = a.spells; cause = e }));
-  arity = fails _ (λ e. a.none Arity (record { command = a.command; depth = a.depth; spells = a.spells; cause = e }));
-  unbound = fails _ (λ e. a.none Unbound (record { command = a.command; depth = a.depth; spells = a.spells; cause = e }));
-  sort = fails _ (λ e. a.none WrongSort (record { command = a.command; depth = a.depth; spells = a.spells; cause = e }));
+  many = false_from_ne_true _ (λ e. a.none Many (record { command = a.command; depth = a.depth; spells = a.spells; cause = e }));
+  twice = false_from_ne_true _ (λ e. a.none Twice (record { command = a.command; depth = a.depth; spells = a.spells; cause = e }));
+  unknown = false_from_ne_true _ (λ e. a.none Unknown (record { command = a.command; depth = a.depth; spells = a.spells; cause = e }));
+  arity = false_from_ne_true _ (λ e. a.none Arity (record { command = a.command; depth = a.depth; spells = a.spells; cause = e }));
+  unbound = false_from_ne_true _ (λ e. a.none Unbound (record { command = a.command; depth = a.depth; spells = a.spells; cause = e }));
+  sort = false_from_ne_true _ (λ e. a.none WrongSort (record { command = a.command; depth = a.depth; spells = a.spells; cause = e }));
 }
 
 asked : (c : Catalogue) (f : Form) → HasNone c (ask f) → IsAccepted (known c) [] f
@@ -53,7 +45,7 @@ asked c f h = record {
   known = h.unknown;
   arity = h.arity;
   bound = h.unbound;
-  sorted = or_left (has_missorted (known c) [] f) false h.sort;
+  sorted = (or_parts (has_missorted (known c) [] f) false h.sort).0;
 }
 
 queried : (c : Catalogue) (k : List Column) (f : Form) → HasNone c (query k f) → IsAccepted (known c) k f
@@ -63,7 +55,7 @@ queried c k f h = record {
   known = h.unknown;
   arity = h.arity;
   bound = h.unbound;
-  sorted = or_left (has_missorted (known c) k f) false h.sort;
+  sorted = (or_parts (has_missorted (known c) k f) false h.sort).0;
 }
 
 not_narrow : (c : Catalogue) (x : CommandForm) → IsWellFormed c → HasNone c x → MayBeWide x c → IsNotNarrow x c

@@ -7,7 +7,6 @@ use Rattle.ded_model.specs.declared.command.Language.{Language}
 use Rattle.ded_model.specs.declared.command.Refusal.{Refusal}
 use Rattle.ded_model.specs.declared.command.Refusal.TheVariants.{Wide, Memory}
 use Rattle.ded_model.specs.declared.name.Column.{Column}
-use Rattle.ded_model.specs.declared.slot.Slot.{Slot}
 use Rattle.ded_model.specs.declared.slot.Sort.{Sort}
 use Rattle.ded_model.specs.declared.slot.Sort.TheVariants.{Rat, Text}
 use Rattle.ded_model.specs.declared.bound.Bound.{Bound}
@@ -32,6 +31,7 @@ use Rattle.ded_model.specs.Form.{uses}
 use Rattle.ded_model.specs.Slotted.{goal_of, tuple_of}
 use Rattle.ded_model.specs.Value.{Argument}
 use Rattle.ded_model.specs.Width.{IsNarrowList, IsBoxNarrow, rational_columns}
+use Rattle.ded_algebra.specs.Evaluation.{HaveSorts}
 use Rattle.ded_syntax.specs.Spelling.{Spells}
 use Rattle.ded_sorts.specs.Changes.{AddsEntry, DropsEntry, Inserts, Deletes}
 use Rattle.ded_sorts.specs.Checks.{forms_of}
@@ -86,15 +86,9 @@ SameHead None (Some k) = ⊥
 SameHead (Some j) None = ⊥
 SameHead (Some j) (Some k) = (j.is_view ≡ k.is_view) × (j.columns ≡ k.columns)
 
-abbrev pub SameSorts : List Column → List Slot → Type 0
-SameSorts [] [] = Unit {0}
-SameSorts [] (s ∷ ss) = ⊥
-SameSorts (c ∷ cs) [] = ⊥
-SameSorts (c ∷ cs) (s ∷ ss) = (c.sort ≡ s.sort) × SameSorts cs ss
-
 -- a scan is of a name that the formula uses, at slots of the sorts of its columns
 abbrev pub IsScanOf : Catalogue → Form → PlanAtom → Type 0
-IsScanOf c f (scan n ss) = (uses n f ≡ true) × SameSorts (columns_in c n) ss
+IsScanOf c f (scan n ss) = (uses n f ≡ true) × HaveSorts (columns_in c n) ss
 IsScanOf c f (rows t) = Unit {0}
 
 -- a pushed plan that holds where the formula does, with lengths and a rank of at most the formula's, over every well

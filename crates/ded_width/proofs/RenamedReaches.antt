@@ -1,8 +1,9 @@
 -- Renamed lines have no more digits.
 --
 -- Of slots that differ, at most one is a given slot. So a coefficient of the renamed line is one of the line, or 0.
-use Rattle.std.proofs.Common.{◌≡◌, ℕ, zero, suc, ◌==◌, ◌&&◌, ◌||◌, Bool, true, false, cond, List, [], ◌∷◌, ◌⊎◌, inl, inr, refl, sym, ap, ap₂, ◌∙◌, subst, true≢false, arith}
+use Rattle.std.proofs.Common.{◌≡◌, ℕ, zero, suc, ◌==◌, ◌&&◌, Bool, true, false, cond, List, [], ◌∷◌, ◌⊎◌, inl, inr, refl, sym, ap, ap₂, ◌∙◌, subst, true≢false, arith}
 use Rattle.std.specs.Prelude.{ℤ, pos, ◌+ℤ◌}
+use Rattle.std.proofs.lemmas.Bool.{and_right, or_parts}
 use Rattle.std.proofs.lemmas.Bool.Decides.{nat_tests}
 use lib.IntN.{+ℤ_idl}
 use Rattle.ded_num.specs.Length.{IsWithin}
@@ -20,7 +21,7 @@ use Rattle.ded_model.proofs.LineSlots.{has_slot, put_slots, line_slots}
 use Rattle.ded_model.proofs.Growth.{renamed-In}
 use Rattle.ded_width.specs.Reach.{AreRationalLines}
 use Rattle.ded_width.proofs.Reaches.{IsInReach}
-use Rattle.ded_width.proofs.LineReaches.{zero_within, line_within}
+use Rattle.ded_model.proofs.LineLengths.{zero_within, line_with-within}
 
 -- ---- where a slot stands
 
@@ -34,18 +35,6 @@ is_at (s ∷ ss) (suc i) t = is_at ss i t
 abbrev HasPlace : List Slot → Slot → Type 0
 HasPlace ss t = ((n : ℕ) × ((i : ℕ) → is_at ss i t ≡ (i == n))) ⊎ ((i : ℕ) → is_at ss i t ≡ false)
 
-fails_left : (a b : Bool) → (a || b) ≡ false → a ≡ false
-fails_left true b e = e
-fails_left false b e = refl
-
-fails_right : (a b : Bool) → (a || b) ≡ false → b ≡ false
-fails_right true b e = absurd (true≢false e)
-fails_right false b e = e
-
-and_fails : (a b : Bool) → b ≡ false → (a && b) ≡ false
-and_fails true b e = e
-and_fails false b e = refl
-
 not_above : (n : ℕ) → (0 == suc n) ≡ false
 not_above n = grind (arith, nat_tests)
 
@@ -58,8 +47,8 @@ one_less i n = grind (arith, nat_tests)
 -- a slot that stands nowhere
 absent : (ss : List Slot) (t : Slot) → stands_in ss t ≡ false → (i : ℕ) → is_at ss i t ≡ false
 absent [] t h i = refl
-absent (s ∷ ss) t h zero = and_fails (same_sort s.sort Rat) (same_slot s t) (fails_left (same_slot s t) _ h)
-absent (s ∷ ss) t h (suc i) = absent ss t (fails_right (same_slot s t) _ h) i
+absent (s ∷ ss) t h zero = and_right (same_sort s.sort Rat) (same_slot s t) (or_parts (same_slot s t) _ h).0
+absent (s ∷ ss) t h (suc i) = absent ss t (or_parts (same_slot s t) _ h).1 i
 
 place : (ss : List Slot) (t : Slot) → AreDistinctSlots ss → HasPlace ss t
 place [] t d = inr (λ i. refl)
@@ -82,12 +71,12 @@ place (s ∷ ss) t d = go (same_slot s t) refl (same_sort s.sort Rat) refl (plac
     go false e r f (inl h) = inl (suc h.0, later)
       where
         later : (i : ℕ) → is_at (s ∷ ss) i t ≡ (i == suc h.0)
-        later zero = and_fails (same_sort s.sort Rat) (same_slot s t) e ∙ sym (not_above h.0)
+        later zero = and_right (same_sort s.sort Rat) (same_slot s t) e ∙ sym (not_above h.0)
         later (suc i) = h.1 i ∙ sym (one_less i h.0)
     go false e r f (inr h) = inr later
       where
         later : (i : ℕ) → is_at (s ∷ ss) i t ≡ false
-        later zero = and_fails (same_sort s.sort Rat) (same_slot s t) e
+        later zero = and_right (same_sort s.sort Rat) (same_slot s t) e
         later (suc i) = h i
 
 -- ---- renamed coefficients
@@ -146,7 +135,7 @@ coefs_of l t h = h
 renamed_within : (ss : List Slot) (ls : List Line) (k : ℕ) → AreDistinctSlots ss → AreRationalLines ls → AreWithin k ls → AreWithin k (renamed_lines ss ls)
 renamed_within ss ls k d r h l i =
     let m = renamed-In ss ls l i in
-    line_within (renamed_coefs ss m.0.coefs) m.0.constant k (λ t. coef m.0 m.1 t (place ss t d)) (h m.0 m.1).constant l m.2
+    line_with-within (renamed_coefs ss m.0.coefs) m.0.constant k (λ t. coef m.0 m.1 t (place ss t d)) (h m.0 m.1).constant l m.2
   where
     coef : (m : Line) → In m ls → (t : Slot) → HasPlace ss t → IsWithin k (coef_at (renamed_coefs ss m.coefs) t)
     coef m j t (inl p) = subst (IsWithin k) (sym (coef_at-place ss m.coefs t p.0 p.1 (all_rational m.coefs (λ u e. r m j u (coefs_of m u e))))) ((h m j).coefs (rational_slot p.0))

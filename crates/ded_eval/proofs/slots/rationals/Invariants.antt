@@ -1,5 +1,0 @@
-use Rattle.ded_join.specs.Rounds.{AreRational}
-use Rattle.ded_eval.proofs.slots.rationals.Given as goal
-
-abbrev pub invariant-loop-slot : goal.invariant-loop-slot
-invariant-loop-slot l = AreRational l.slots.items
