@@ -121,7 +121,7 @@ fn is_outside(side: Side, f: Frac, g: Frac) -> bool
 }
 
 /// The same interval, of whose fractions it is then known that their denominators are above 0.
-pub(crate) fn checked(interval: &(Bound, Bound)) -> (Bound, Bound)
+pub fn checked(interval: &(Bound, Bound)) -> (Bound, Bound)
     ensures same { result ≡ interval.now }
     ensures intervals { IsInterval result }
 {

@@ -14,4 +14,4 @@ mod interval;
 mod tests;
 
 pub use bound_box::{BoundBox, cover, meets};
-pub use interval::{Side, intervals_meet, may_meet, narrower, wider};
+pub use interval::{Side, checked, intervals_meet, may_meet, narrower, wider};

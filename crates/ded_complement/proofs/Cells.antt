@@ -52,7 +52,7 @@ module _ {A : Type 0} (h : A → Point → Bool) (m : A → Slot → Bool) (l : 
   differ (c ∷ conjs) w out made i zero lt le d e = omega (arith, lt)
   differ (c ∷ conjs) w out made zero (suc j) lt le d e =
       let q = get_or (points_of conjs w.1) j d in
-      both_true (conj_holds h c q) (conjs_hold h conjs q) (sym (made.0.cells w.0.0 q e) ∙ w.0.2) (inside conjs w.1 j (omega (arith, le)) d) (out.0 q (positive conjs w.1 j (omega (arith, le)) d))
+      both_true (conj_holds h c q) (conjs_hold h conjs q) (sym (made.0.cells w.0.0 q w.0.1 (positive conjs w.1 j (omega (arith, le)) d) e) ∙ w.0.2) (inside conjs w.1 j (omega (arith, le)) d) (out.0 q (positive conjs w.1 j (omega (arith, le)) d))
   differ (c ∷ conjs) w out made (suc i) (suc j) lt le d e = differ conjs w.1 out.1 made.1 i j (omega (arith, lt)) (omega (arith, le)) d e
 
   pub has_cells : (conjs : List (List A)) → AreInhabited conjs → AreDisjoint h conjs → AllByRecursion (IsMadeOf h m l cell atoms) conjs → HasCells cell atoms (length conjs)

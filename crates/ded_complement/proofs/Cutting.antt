@@ -22,9 +22,9 @@ use Rattle.ded_genrel.specs.Lists.{conjs_of, conjs_hold, conjs_mention, conjs_li
 use Rattle.ded_genrel.specs.Operations.{IsOperation}
 use Rattle.ded_genrel.proofs.Items.{all-push, all-append, all_weaker}
 use Rattle.ded_genrel.proofs.Laws.{conjs_hold-append, conj_lines-append}
-use Rattle.ded_complement.specs.Pieces.{all_atoms, AreDisjoint, IsListForEach, IsAmong, AreAmong, IsMadeOf, ArePieces, IsMore}
+use Rattle.ded_complement.specs.Pieces.{all_atoms, AreDisjoint, IsListForEach, IsAmong, AreAmong, IsMadeOf, IsAlike, ArePieces, IsMore}
 use Rattle.ded_complement.proofs.Cells.{has_cells}
-use Rattle.ded_complement.proofs.PieceLaws.{among_left, among_right, among_self, all_left, all_right, all_atoms-mention, all_atoms-lines, made_none, made_append, made_piece, made_among, made_wide, conj_push, conjs_push, pieces_none, pieces_same, pieces_append, pieces_front, pieces_last, more_none, more_one, more_same, more_trans}
+use Rattle.ded_complement.proofs.PieceLaws.{among_left, among_right, among_self, all_left, all_right, all_atoms-mention, all_atoms-lines, made_none, made_append, made_piece, made_among, made_alike, made_wide, conj_push, conjs_push, pieces_none, pieces_same, pieces_append, pieces_front, pieces_last, more_none, more_one, more_same, more_trans}
 
 -- ---- tests
 
@@ -90,6 +90,12 @@ not_or false x y = refl
 or_not : (x y t : Bool) → ((x && not t) || (y && not t)) ≡ ((x || y) && not t)
 or_not x y t = sym (less_sum x y t)
 
+passed : (x d c : Bool) → (x && c) ≡ false → (x && not (d || c)) ≡ (x && not d)
+passed true true c e = refl
+passed true false true e = sym e
+passed true false false e = refl
+passed false d c e = refl
+
 neither : (a b : Bool) → (a || b) ≡ false → (a ≡ false) × (b ≡ false)
 neither true b e = absurd (true≢false e)
 neither false b e = (refl, e)
@@ -123,14 +129,14 @@ module _ {A : Type 0} (h : A → Point → Bool) (m : A → Slot → Bool) (l : 
 
   -- ---- one more atom
 
-  pub with_more : (rest piece : List A) (last : A) (old new : List (List A)) → piece ≡ rest ++ last ∷ [] → IsMore h m l cell (λ atoms. IsMadeOf h m l cell atoms piece) (conj_holds h piece) old new
+  pub with_more : (rest piece : List A) (last : A) (old new : List (List A)) → IsAlike h m l (rest ++ last ∷ []) piece → IsMore h m l cell (λ atoms. IsMadeOf h m l cell atoms piece) (conj_holds h piece) old new
       → IsMore h m l cell (λ atoms. IsMadeOf h m l cell atoms rest × IsMadeOf h m l cell atoms (last ∷ [])) (λ p. conj_holds h rest p && h last p) old new
   with_more rest piece last old new e a =
-      more_same h m l cell _ _ (conj_holds h piece) (λ p. conj_holds h rest p && h last p) old new a (λ atoms k. subst (IsMadeOf h m l cell atoms) (sym e) (made_append h m l cell atoms rest (last ∷ []) k.0 k.1))
-      (λ p i. sym (ap (λ xs. conj_holds h xs p) e ∙ conj_push h m l cell rest last p))
+      more_same h m l cell _ _ (conj_holds h piece) (λ p. conj_holds h rest p && h last p) old new a (λ atoms k. made_alike h m l cell atoms (rest ++ last ∷ []) piece (made_append h m l cell atoms rest (last ∷ []) k.0 k.1) e)
+      (λ p i. sym (e.holds p i ∙ conj_push h m l cell rest last p))
 
-  pub with_nowhere : (rest piece : List A) (last : A) → piece ≡ rest ++ last ∷ [] → HoldsNowhere (conj_holds h piece) → HoldsNowhere (λ p. conj_holds h rest p && h last p)
-  with_nowhere rest piece last e k = λ p i. sym (ap (λ xs. conj_holds h xs p) e ∙ conj_push h m l cell rest last p) ∙ k p i
+  pub with_nowhere : (rest piece : List A) (last : A) → IsAlike h m l (rest ++ last ∷ []) piece → HoldsNowhere (conj_holds h piece) → HoldsNowhere (λ p. conj_holds h rest p && h last p)
+  with_nowhere rest piece last e k = λ p i. sym (e.holds p i ∙ conj_push h m l cell rest last p) ∙ k p i
 
   -- ---- the negation of an atom
 
@@ -233,12 +239,24 @@ module _ {A : Type 0} (h : A → Point → Bool) (m : A → Slot → Bool) (l : 
   -- ---- a piece and a conjunction
 
   -- they share no point, so the piece stays
-  pub apart_more : (piece conj shared : List A) (old new : List (List A)) → shared ≡ piece ++ conj → new ≡ old ++ piece ∷ [] → HoldsNowhere (conj_holds h shared)
+  pub apart_more : (piece conj : List A) (old new : List (List A)) → new ≡ old ++ piece ∷ [] → HoldsNowhere (λ p. conj_holds h piece p && conj_holds h conj p)
       → IsMore h m l cell (λ atoms. IsMadeOf h m l cell atoms piece × AreAmong atoms conj × ((IsWide m l atoms → ⊥) → HoldsSomewhere (conj_holds h piece))) (λ p. conj_holds h piece p && not (conj_holds h conj p)) old new
-  apart_more piece conj shared old new e f z =
-      more_one h m l cell _ (λ p. conj_holds h piece p && not (conj_holds h conj p)) old new piece f
-      (λ p i. apart (conj_holds h piece p) (conj_holds h conj p) (sym (ap (λ xs. conj_holds h xs p) e ∙ conj_holds-append h piece conj p) ∙ z p i))
-      (λ atoms k. (k.0, k.2))
+  apart_more piece conj old new f z =
+      more_one h m l cell _ (λ p. conj_holds h piece p && not (conj_holds h conj p)) old new piece f (λ p i. apart (conj_holds h piece p) (conj_holds h conj p) (z p i)) (λ atoms k. (k.0, k.2))
+
+  -- what is refuted together is so at each point
+  pub refuted_apart : (piece conj shared : List A) → shared ≡ piece ++ conj → HoldsNowhere (conj_holds h shared) → HoldsNowhere (λ p. conj_holds h piece p && conj_holds h conj p)
+  refuted_apart piece conj shared e z = λ p i. sym (ap (λ xs. conj_holds h xs p) e ∙ conj_holds-append h piece conj p) ∙ z p i
+
+  -- what of the piece is outside of the conjunction was set at the end
+  abbrev pub IsMoreOutside : List A → List A → List (List A) → List (List A) → Type 0
+  IsMoreOutside piece conj old new = IsMore h m l cell (λ atoms. IsMadeOf h m l cell atoms piece × AreAmong atoms conj) (λ p. conj_holds h piece p && not (conj_holds h conj p)) old new
+
+  -- the same pieces at the end of another list
+  pub more_moved : (piece conj : List A) (empty parts old new : List (List A)) → empty ≡ [] → new ≡ old ++ parts
+      → IsMoreOutside piece conj empty parts
+      → IsMore h m l cell (λ atoms. IsMadeOf h m l cell atoms piece × AreAmong atoms conj × ((IsWide m l atoms → ⊥) → HoldsSomewhere (conj_holds h piece))) (λ p. conj_holds h piece p && not (conj_holds h conj p)) old new
+  more_moved piece conj empty parts old new e f a = record { pieces = a.pieces; list = f ∙ ap (λ xs. old ++ xs) (a.list ∙ ap (λ xs. xs ++ a.pieces) e); are = λ atoms k. a.are atoms (k.0, k.1) }
 
   -- ---- all pieces, one after another
 
@@ -289,6 +307,24 @@ module _ {A : Type 0} (h : A → Point → Bool) (m : A → Slot → Bool) (l : 
         pieces_same h m l cell atoms (λ p. conjs_hold h pieces p && not (conj_holds h conj p)) (λ p. conj_holds h piece p && not (conjs_hold h (done ++ c ∷ []) p)) new b
         (λ p j. ap (λ z. conj_holds h piece p && not z) (conjs_push h m l cell done c p) ∙ sym (ap₂ (λ y z. y && not z) (a.holds p j) (ap (λ xs. conj_holds h xs p) f) ∙ not_or (conj_holds h piece p) (conjs_hold h done p) (conj_holds h c p)));
   })
+
+  -- a conjunction that shares no point with the piece is passed over
+  pub outside_passed : (piece : List A) (done next pieces : List (List A)) (c : List A) → next ≡ done ++ c ∷ [] → HoldsNowhere (λ p. conj_holds h piece p && conj_holds h c p) → Outside piece done pieces → Outside piece next pieces
+  outside_passed piece done next pieces c e z o = subst (λ xs. Outside piece xs pieces) (sym e) (record {
+    are = λ atoms g i.
+        let u = subst (AreAmong atoms) (all_atoms-push done c) i in
+        pieces_same h m l cell atoms (λ p. conj_holds h piece p && not (conjs_hold h done p)) (λ p. conj_holds h piece p && not (conjs_hold h (done ++ c ∷ []) p)) pieces
+        (o.are atoms g (all_left (λ y. IsAmong atoms y) (all_atoms done) c u))
+        (λ p j. ap (λ b. conj_holds h piece p && not b) (conjs_push h m l cell done c p) ∙ passed (conj_holds h piece p) (conjs_hold h done p) (conj_holds h c p) (z p j));
+  })
+
+  -- the list is what of the piece is outside of the conjunctions
+  abbrev pub AreOutside : List A → List (List A) → List (List A) → Type 0
+  AreOutside piece taken out = (atoms : List A) → IsMadeOf h m l cell atoms piece → AreAmong atoms (all_atoms taken) → ArePieces h m l cell atoms (λ p. conj_holds h piece p && not (conjs_hold h taken p)) out
+
+  pub outside_end : (piece : List A) (done all pieces out : List (List A)) → done ≡ all → out ≡ pieces → Outside piece done pieces
+      → (atoms : List A) → IsMadeOf h m l cell atoms piece → AreAmong atoms (all_atoms all) → ArePieces h m l cell atoms (λ p. conj_holds h piece p && not (conjs_hold h all p)) out
+  outside_end piece done all pieces out e f o = (subst (λ xs. Outside piece xs out) e (subst (Outside piece done) (sym f) o)).are
 
   -- ---- the results
 

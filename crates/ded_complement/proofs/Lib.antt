@@ -1,3 +1,5 @@
+pub mod Boxes
 pub mod Cells
 pub mod Cutting
+pub mod Implied
 pub mod PieceLaws

@@ -14,7 +14,7 @@ use Rattle.ded_theory.proofs.Parted.{wide_more}
 use Rattle.ded_genrel.specs.Lists.{conjs_hold, conjs_mention, conjs_lines}
 use Rattle.ded_genrel.proofs.Items.{all-append, all_weaker}
 use Rattle.ded_genrel.proofs.Laws.{or_false, and_true, conjs_hold-append, conj_lines-append}
-use Rattle.ded_complement.specs.Pieces.{all_atoms, AreDisjoint, IsAmong, AreAmong, IsMadeOf, ArePieces, IsMore}
+use Rattle.ded_complement.specs.Pieces.{all_atoms, AreDisjoint, IsAmong, AreAmong, IsMadeOf, IsAlike, ArePieces, IsMore}
 
 -- ---- tests
 
@@ -113,12 +113,12 @@ module _ {A : Type 0} (l : A → List Line) where
 module _ {A : Type 0} (h : A → Point → Bool) (m : A → Slot → Bool) (l : A → List Line) (cell : A → Point → ℤ) where
   -- the conjunction of no atom
   pub made_none : (atoms : List A) → IsMadeOf h m l cell atoms []
-  made_none atoms = record { cells = λ p q e. refl; slots = λ s i. absurd (true≢false (sym i)); lines = λ x i. absurd i }
+  made_none atoms = record { cells = λ p q i j e. refl; slots = λ s i. absurd (true≢false (sym i)); lines = λ x i. absurd i }
 
   -- the atoms of two
   pub made_append : (atoms xs ys : List A) → IsMadeOf h m l cell atoms xs → IsMadeOf h m l cell atoms ys → IsMadeOf h m l cell atoms (xs ++ ys)
   made_append atoms xs ys a b = record {
-    cells = λ p q e. conj_holds-append h xs ys p ∙ ap₂ (λ x y. x && y) (a.cells p q e) (b.cells p q e) ∙ sym (conj_holds-append h xs ys q);
+    cells = λ p q i j e. conj_holds-append h xs ys p ∙ ap₂ (λ x y. x && y) (a.cells p q i j e) (b.cells p q i j e) ∙ sym (conj_holds-append h xs ys q);
     slots = λ s i. elim (or_split (conj_mentions m xs s) (conj_mentions m ys s) (sym (conj_mentions-append m xs ys s) ∙ i)) [ inl j ↦ a.slots s j | inr k ↦ b.slots s k ];
     lines = λ x i. elim (In-split x (conj_lines l xs) (conj_lines l ys) (subst (In x) (conj_lines-append l xs ys) i)) [ inl j ↦ a.lines x j | inr k ↦ b.lines x k ];
   }
@@ -126,7 +126,7 @@ module _ {A : Type 0} (h : A → Point → Bool) (m : A → Slot → Bool) (l : 
   -- an atom that holds alike at points of one cell of one of the atoms, has its lines and mentions only its slots
   pub made_piece : (atoms : List A) (a n : A) → IsAmong atoms a → ((p q : Point) → cell a p ≡ cell a q → h n p ≡ h n q) → ((s : Slot) → m n s ≡ true → m a s ≡ true) → l n ≡ l a → IsMadeOf h m l cell atoms (n ∷ [])
   made_piece atoms a n i tell slots same = record {
-    cells = λ p q e. ap (λ b. b && true) (tell p q (among_cell cell atoms a p q i e));
+    cells = λ p q _ _ e. ap (λ b. b && true) (tell p q (among_cell cell atoms a p q i e));
     slots = λ s j. among_slots m atoms a s i (slots s (sym (or_false (m n s)) ∙ j));
     lines = λ x j. among_lines l atoms a i x (subst (In x) (append-nil (l n) ∙ same) j);
   }
@@ -134,6 +134,10 @@ module _ {A : Type 0} (h : A → Point → Bool) (m : A → Slot → Bool) (l : 
   pub made_among : ((a : A) (p q : Point) → cell a p ≡ cell a q → h a p ≡ h a q) → (atoms xs : List A) → AreAmong atoms xs → IsMadeOf h m l cell atoms xs
   made_among tell atoms [] i = made_none atoms
   made_among tell atoms (x ∷ xs) i = made_append atoms (x ∷ []) xs (made_piece atoms x x i.0 (tell x) (λ s j. j) refl) (made_among tell atoms xs i.1)
+
+  -- what is alike is made of the same
+  pub made_alike : (atoms c d : List A) → IsMadeOf h m l cell atoms c → IsAlike h m l c d → IsMadeOf h m l cell atoms d
+  made_alike atoms c d a e = record { cells = λ p q i j k. e.holds p i ∙ a.cells p q i j k ∙ sym (e.holds q j); slots = λ s i. a.slots s (e.slots s i); lines = λ x i. a.lines x (e.lines x i) }
 
   -- wide pieces come of wide atoms
   pub made_wide : (atoms c : List A) → IsMadeOf h m l cell atoms c → IsWide m l c → IsWide m l atoms

@@ -37,9 +37,15 @@ AreAmong atoms c = AllByRecursion (λ a. IsAmong atoms a) c
 -- the conjunction holds alike at points of one cell of the atoms, mentions only slots that they mention, and its lines are among
 -- theirs
 pub record IsMadeOf {A : Type 0} (h : A → Point → Bool) (m : A → Slot → Bool) (l : A → List Line) (cell : A → Point → ℤ) (atoms c : List A) : Type 0 where
-  pub cells : (p q : Point) → cells cell atoms p ≡ cells cell atoms q → conj_holds h c p ≡ conj_holds h c q
+  pub cells : (p q : Point) → IsPoint p → IsPoint q → cells cell atoms p ≡ cells cell atoms q → conj_holds h c p ≡ conj_holds h c q
   pub slots : (s : Slot) → conj_mentions m c s ≡ true → conj_mentions m atoms s ≡ true
   pub lines : IsSubset (conj_lines l c) (conj_lines l atoms)
+
+-- the second conjunction holds where the first one does, mentions only slots that it mentions, and its lines are among its lines
+pub record IsAlike {A : Type 0} (h : A → Point → Bool) (m : A → Slot → Bool) (l : A → List Line) (c d : List A) : Type 0 where
+  pub holds : (p : Point) → IsPoint p → conj_holds h d p ≡ conj_holds h c p
+  pub slots : (s : Slot) → conj_mentions m d s ≡ true → conj_mentions m c s ≡ true
+  pub lines : IsSubset (conj_lines l d) (conj_lines l c)
 
 -- disjoint conjunctions that are made of the atoms and together hold at the points that pass the test; where the atoms aren't
 -- wide, each of them holds somewhere

@@ -5,11 +5,18 @@ ghost use Rattle.ded_model.specs.Cell.{conj_holds, HoldsSomewhere, HasCells};
 ghost use Rattle.ded_theory.specs.Conjunctions.{IsWide};
 ghost use Rattle.ded_genrel.specs.Lists.{conjs_hold, conjs_mention, conjs_lines};
 ghost use Rattle.ded_genrel.specs.Operations.{IsOperation};
+ghost use Rattle.ded_bounds.specs.Rounds.{AreRational};
+ghost use Rattle.ded_complement.specs.Boxed.{conjs_in, AreBoxed};
 ghost use Rattle.ded_complement.specs.Pieces.{all_atoms, AreDisjoint, IsListForEach, AreAmong, IsMadeOf, ArePieces};
 
-use crate::pieces::{push_piece, without};
+use crate::boxed::{Boxed, bounded_slots, boxed_list, unboxed};
+use crate::lessening::without;
+use crate::pieces::push_piece;
+use ded_bounds::box_round;
+use ded_box::meets;
 use ded_genrel::{GenRel, copy_conj};
 use ded_model::memory::NoMemory;
+use ded_model::slot::Slot;
 use ded_theory::Theory;
 use std::alloc::Global;
 
@@ -24,7 +31,9 @@ pub fn complement<T: Theory>(alloc: Global, rel: &GenRel<T>) -> Result<GenRel<T>
     ensures cells { IfOk result (λ out. (IsWide T.mentions T.lines (all_atoms rel.now) → ⊥) → HasCells T.cell (all_atoms rel.now) (length out)) }
     ensures inhabited { IfOk result (λ out. (IsWide T.mentions T.lines (all_atoms rel.now) → ⊥) → AllByRecursion (λ c. HoldsSomewhere (conj_holds T.holds c)) out) }
 {
-    outside(alloc, Vec::new(alloc), rel)
+    let slots = bounded_slots(alloc, rel)?;
+    let boxed = boxed_list::<T>(alloc, rel, &slots)?;
+    outside::<T>(alloc, Vec::new(alloc), &boxed, &slots)
 }
 
 /// A list that holds at a point exactly where the first one does and the second doesn't. Where the atoms of both together aren't
@@ -41,9 +50,11 @@ pub fn minus<T: Theory>(
     ensures is { IfOk result (λ out. IsOperation T.holds T.mentions T.lines (λ p. conjs_hold T.holds from.now p && not (conjs_hold T.holds taken.now p)) (λ s. conjs_mention T.mentions from.now s || conjs_mention T.mentions taken.now s) (conjs_lines T.lines from.now ++ conjs_lines T.lines taken.now) out) }
     ensures cells { IfOk result (λ out. (IsWide T.mentions T.lines (all_atoms from.now ++ all_atoms taken.now) → ⊥) → IsListForEach (λ pieces. HasCells T.cell (all_atoms from.now ++ all_atoms taken.now) (length pieces) × AllByRecursion (λ c. HoldsSomewhere (conj_holds T.holds c)) pieces) from.now out) }
 {
+    let slots = bounded_slots(alloc, taken)?;
+    let boxed = boxed_list::<T>(alloc, taken, &slots)?;
     let mut out = GenRel::new(alloc);
     for conj in from.list() {
-        let pieces = outside(alloc, copy_conj::<T>(alloc, conj)?, taken)?;
+        let pieces = outside::<T>(alloc, copy_conj::<T>(alloc, conj)?, &boxed, &slots)?;
         out.append(pieces)?;
     }
     Ok(out)
@@ -53,15 +64,22 @@ pub fn minus<T: Theory>(
 fn outside<T: Theory>(
     alloc: Global,
     piece: Vec<T::Atom>,
-    taken: &GenRel<T>,
+    taken: &[Boxed<T::Atom>],
+    slots: &[Slot],
 ) -> Result<GenRel<T>, NoMemory>
     requires normal { AllByRecursion T.normal piece.items }
-    ensures { IfOk result (λ out. (atoms : List T.Atom) → IsMadeOf T.holds T.mentions T.lines T.cell atoms piece.items → AreAmong atoms (all_atoms taken.now) → ArePieces T.holds T.mentions T.lines T.cell atoms (λ p. conj_holds T.holds piece.items p && not (conjs_hold T.holds taken.now p)) out) }
+    requires rational { AreRational slots.now }
+    requires boxed { AreBoxed T.holds T.normal slots.now taken.now }
+    ensures { IfOk result (λ out. (atoms : List T.Atom) → IsMadeOf T.holds T.mentions T.lines T.cell atoms piece.items → AreAmong atoms (all_atoms (conjs_in taken.now)) → ArePieces T.holds T.mentions T.lines T.cell atoms (λ p. conj_holds T.holds piece.items p && not (conjs_hold T.holds (conjs_in taken.now) p)) out) }
 {
-    let mut pieces = GenRel::new(alloc);
-    push_piece(&mut pieces, piece)?;
-    for conj in taken.list() {
-        pieces = without(alloc, pieces, conj)?;
+    let bounds = box_round::<T>(alloc, &piece, slots)?;
+    let mut whole = GenRel::new(alloc);
+    push_piece(&mut whole, piece)?;
+    let mut pieces = boxed_list::<T>(alloc, &whole, slots)?;
+    for conj in taken {
+        if meets(&bounds, &conj.bounds) {
+            pieces = without::<T>(alloc, pieces, conj, slots)?;
+        }
     }
-    Ok(pieces)
+    unboxed::<T>(alloc, pieces)
 }

@@ -7,52 +7,16 @@ ghost use Rattle.ded_theory.specs.Verdicts.{HoldsNowhere};
 ghost use Rattle.ded_genrel.specs.Lists.{conjs_hold};
 ghost use Rattle.ded_complement.specs.Pieces.{IsAmong, AreAmong, IsMadeOf, ArePieces, IsMore};
 
+use crate::shortening::with_last;
 use ded_genrel::{GenRel, both_conjs, copy_conj};
 use ded_model::memory::NoMemory;
 use ded_model::tuple::Negated;
 use ded_theory::{Theory, Verdict};
 use std::alloc::Global;
 
-/// The pieces without the points of the conjunction.
-pub(crate) fn without<T: Theory>(
-    alloc: Global,
-    pieces: GenRel<T>,
-    conj: &[T::Atom],
-) -> Result<GenRel<T>, NoMemory>
-    requires normal { AllByRecursion T.normal conj.now }
-    ensures { IfOk result (λ out. (atoms : List T.Atom) → ArePieces T.holds T.mentions T.lines T.cell atoms (conjs_hold T.holds pieces) pieces → AreAmong atoms conj.now → ArePieces T.holds T.mentions T.lines T.cell atoms (λ p. conjs_hold T.holds pieces p && not (conj_holds T.holds conj.now p)) out) }
-{
-    let mut out = GenRel::new(alloc);
-    for piece in pieces.conjs {
-        push_without(&mut out, piece, conj)?;
-    }
-    Ok(out)
-}
-
-/// Sets the piece without the points of the conjunction at the end: the piece itself where they share none.
-fn push_without<T: Theory>(
-    out: &mut GenRel<T>,
-    piece: Vec<T::Atom>,
-    conj: &[T::Atom],
-) -> Result<(), NoMemory>
-    requires normal { AllByRecursion T.normal piece.items }
-    requires normal_conj { AllByRecursion T.normal conj.now }
-    ensures { IfOk result (λ _. IsMore T.holds T.mentions T.lines T.cell (λ atoms. IsMadeOf T.holds T.mentions T.lines T.cell atoms piece.items × AreAmong atoms conj.now × ((IsWide T.mentions T.lines atoms → ⊥) → HoldsSomewhere (conj_holds T.holds piece.items))) (λ p. conj_holds T.holds piece.items p && not (conj_holds T.holds conj.now p)) out.old out.new) }
-{
-    let alloc = *piece.allocator();
-    let shared = both_conjs::<T>(alloc, &piece, conj)?;
-    match T::refute(alloc, &shared)? {
-        Verdict::Empty => {
-            out.push(piece)?;
-            Ok(())
-        }
-        _ => push_outside(out, piece, conj),
-    }
-}
-
 /// Sets pieces of what satisfies the piece and not the conjunction at the end: for each atom what satisfies those before it and
 /// not the atom. An atom that the piece implies gives none, and isn't added to it.
-fn push_outside<T: Theory>(
+pub(crate) fn push_outside<T: Theory>(
     out: &mut GenRel<T>,
     piece: Vec<T::Atom>,
     conj: &[T::Atom],
@@ -100,7 +64,7 @@ fn push_negated<T: Theory>(
 /// Sets the rest with one more atom at the end where it may hold somewhere, and answers whether it did.
 fn push_with<T: Theory>(
     out: &mut GenRel<T>,
-    mut rest: Vec<T::Atom>,
+    rest: Vec<T::Atom>,
     last: T::Atom,
 ) -> Result<bool, NoMemory>
     requires normal { AllByRecursion T.normal rest.items }
@@ -108,8 +72,8 @@ fn push_with<T: Theory>(
     ensures more { IfOk result (λ _. IsMore T.holds T.mentions T.lines T.cell (λ atoms. IsMadeOf T.holds T.mentions T.lines T.cell atoms rest.items × IsMadeOf T.holds T.mentions T.lines T.cell atoms (last ∷ [])) (λ p. conj_holds T.holds rest.items p && T.holds last p) out.old out.new) }
     ensures dropped { IfOk result (λ kept. kept ≡ false → HoldsNowhere (λ p. conj_holds T.holds rest.items p && T.holds last p)) }
 {
-    rest.push(last)?;
-    push_piece(out, rest)
+    let piece = with_last::<T>(rest, last)?;
+    push_piece(out, piece)
 }
 
 /// Sets the piece at the end where it may hold somewhere, and answers whether it did.

@@ -1,7 +1,10 @@
+pub mod Bounded
 pub mod ColumnCoefs
 pub mod ColumnPoints
 pub mod Columns
+pub mod Distinct
 pub mod Evaluated
+pub mod Extending
 pub mod Found
 pub mod Names
 pub mod Pairs
@@ -11,3 +14,4 @@ pub mod RowsRead
 pub mod Scanned
 pub mod TuplesRead
 pub mod TuplesWritten
+pub mod WideTuples

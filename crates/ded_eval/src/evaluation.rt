@@ -14,6 +14,7 @@ ghost use Rattle.ded_algebra.specs.Evaluation.{IsScannable, IsEvaluable, IsEvalu
 ghost use Rattle.ded_eval.specs.Joining.{begun};
 
 use crate::reading::{OfTuples, conjunction};
+use crate::repeated::distinct;
 use crate::scanning::scanned;
 use crate::slots::{add_all, rational_slots, shared};
 use ded_algebra::Relations;
@@ -62,7 +63,8 @@ pub fn evaluate_counted<T: OfTuples, R: Relations>(
             Ok(complement(alloc, &list)?)
         }
         Plan::Project(slot, part) => {
-            evaluate_counted(alloc, part, relations, met)?.project(*slot)
+            let list = evaluate_counted(alloc, part, relations, met)?.project(*slot)?;
+            Ok(distinct(alloc, list)?)
         }
     }
 }
@@ -95,7 +97,7 @@ fn joined<T: OfTuples, R: Relations>(
     Ok(whole(alloc, list)?)
 }
 
-/// The union of the parts.
+/// The union of the parts, without repetitions.
 #[cycle(evaluate)]
 fn united<T: OfTuples, R: Relations>(
     alloc: Global,
@@ -111,7 +113,7 @@ fn united<T: OfTuples, R: Relations>(
     for part in parts {
         list.append(evaluate_counted(alloc, part, relations, met)?)?;
     }
-    Ok(list)
+    Ok(distinct(alloc, list)?)
 }
 
 /// The join of the parts so far with one more, by the slots that they share.

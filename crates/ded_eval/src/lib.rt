@@ -2,20 +2,24 @@
 //!
 //! The evaluation goes from the leaves of a plan to its root with the operations on lists of conjunctions: scans rename stored
 //! tuples, joins go through an index over boxes, differences and complements are cut piece by piece, and projections eliminate.
-//! Conjunctions that no point satisfies are dropped at once. It is written over any theory whose atoms stand for rows and text
-//! atoms ([`OfTuples`]).
+//! Conjunctions that no point satisfies are dropped at once, and of equal ones that a union or a projection makes only the first
+//! is kept. It is written over any theory whose atoms stand for rows and text atoms ([`OfTuples`]).
 //!
 //! It stands on `ded_algebra` for what a plan is evaluated over and what an evaluation promises, and on `ded_join`,
 //! `ded_complement` and `ded_genrel` for the operations. The list that it gives holds exactly where the plan does, mentions only
-//! slots that the plan mentions freely, and has lines among the plan's; it gives up only where the plan clashes.
+//! slots that the plan mentions freely, and has lines among the plan's; it gives up only where the plan clashes. That no two of
+//! its conjunctions are equal is a matter of speed and is promised nowhere.
 #![tactic(auto)]
 
 mod atoms;
 mod engine;
 mod evaluation;
+mod extents;
 mod given;
 mod reading;
+mod repeated;
 mod rows;
+mod sameness;
 mod scanning;
 mod slots;
 #[cfg(test)]
@@ -24,6 +28,7 @@ mod tests;
 pub use atoms::{eval, eval_counted};
 pub use engine::{Engine, tuples};
 pub use evaluation::evaluate_counted;
+pub use extents::{extended, extent};
 pub use given::{Given, GivenRelation};
 pub use reading::OfTuples;
 pub use rows::OfRows;

@@ -12,7 +12,7 @@ use std::alloc::Global;
 
 /// A theory whose atoms stand for rows and text atoms.
 pub trait OfTuples: Theory {
-    ghost use Rattle.std.specs.Prelude.{List};
+    ghost use Rattle.std.specs.Prelude.{◌≡◌, true, List};
     ghost use Rattle.ded_model.specs.Coefs.{AreCoefs};
     ghost use Rattle.ded_model.specs.Lines.{Line, In};
     ghost use Rattle.ded_model.specs.Row.{Atom};
@@ -27,6 +27,13 @@ pub trait OfTuples: Theory {
         requires reads { reads atom.now }
         ensures stands { IfOk result (λ a. StandsFor Self.holds Self.mentions Self.lines a atom.now) }
         ensures normal { IfOk result Self.normal };
+
+    /// Whether the atoms are equal. It takes no memory.
+    fn is_same(a: &Self::Atom, b: &Self::Atom) -> bool
+        ensures { result ≡ true → a.now ≡ b.now };
+
+    /// A hash of the atom: equal atoms have the same one, on which nothing but speed rests. It takes no memory.
+    fn hash(atom: &Self::Atom) -> u64;
 
     /// The lines of an atom in normal form have rational slots in order.
     ghost line_coefs: { (a : Self.Atom) (l : Line) → Self.normal a → In l (Self.lines a) → AreCoefs l.coefs };

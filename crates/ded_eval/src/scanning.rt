@@ -62,7 +62,7 @@ fn column_pairs(alloc: Global, slots: &[Slot]) -> Result<Vec<(Slot, Slot)>, NoMe
 }
 
 /// The next number; the greatest one has none.
-fn following(number: u32) -> Result<u32, NoMemory>
+pub(crate) fn following(number: u32) -> Result<u32, NoMemory>
     ensures { IfOk result (λ n. n ≡ number + 1) }
 {
     number.checked_add(1).ok_or(AllocError)

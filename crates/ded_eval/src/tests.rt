@@ -80,6 +80,17 @@ fn pieces_twice(alloc: Global) -> Result<Plan, NoMemory>
     Ok(Plan::Join(parts))
 }
 
+/// The union of one piece with itself.
+fn piece_twice(alloc: Global) -> Result<Plan, NoMemory>
+    ensures { IfOk result (λ p. (c : Catalogue) → IsEvaluable IsAnyAtom c (plan_form p)) }
+{
+    let mut parts = Vec::new(alloc);
+    for _ in 0..2 {
+        parts.push(piece(alloc, 0)?)?;
+    }
+    Ok(Plan::Union(parts))
+}
+
 /// What a refused evaluation lacked; no plan here clashes.
 fn lack(_refused: Refused) -> NoMemory {
     AllocError
@@ -116,5 +127,14 @@ fn an_empty_union_is_nothing(rt: HostRuntime) -> Result<(), Fail> {
     let nothing = Plan::Union(Vec::new(alloc));
     let list = eval(alloc, &nothing, &Given::new(alloc)).map_err(lack)?;
     assert!(rt; list.list().is_empty());
+    Ok(())
+}
+
+#[test]
+fn a_union_keeps_equal_conjunctions_once(rt: HostRuntime) -> Result<(), Fail> {
+    let alloc = rt.alloc();
+    let plan = piece_twice(alloc)?;
+    let list = eval(alloc, &plan, &Given::new(alloc)).map_err(lack)?;
+    assert_eq!(rt; list.list().len(), 1);
     Ok(())
 }

@@ -1,5 +1,5 @@
 -- Entries under the places of the conjunctions.
-use Rattle.std.proofs.Common.{◌≡◌, ℕ, zero, suc, ◌+◌, ◌<◌, Bool, List, [], ◌∷◌, length, get_or, inl, inr, arith, refl, sym, ap, ◌∙◌, subst}
+use Rattle.std.proofs.Common.{◌≡◌, ℕ, zero, suc, ◌+◌, ◌<◌, Bool, List, [], ◌∷◌, ◌++◌, length, get_or, inl, inr, arith, refl, sym, ap, ◌∙◌, subst}
 use Rattle.std.specs.List.{AllByRecursion, Contains}
 use Rattle.std.specs.List.Sorted.{IsPermutation}
 use Rattle.std.proofs.lemmas.List.Elements.{All-from_recursion, recursion_from_All}
@@ -9,7 +9,8 @@ use Rattle.ded_model.specs.Point.{Point}
 use Rattle.ded_model.specs.Lines.{Line}
 use Rattle.ded_index.specs.declared.entry.Entry.{Entry}
 use Rattle.ded_index.specs.Entries.{Box, SomeEntry, numbered}
-use Rattle.ded_join.specs.Rounds.{IsRound, IsBoxOf, AreBoxesOf, IsIndexOf}
+use Rattle.ded_bounds.specs.Rounds.{IsRound, IsBoxOf}
+use Rattle.ded_join.specs.Picks.{AreBoxesOf, IsIndexOf}
 
 some_at : (P : Entry → Type 0) (es : List Entry) (e : Entry) (k : ℕ) → k < length es → get_or es k e ≡ e → P e → SomeEntry P es
 some_at P [] e k l h p = absurd (omega (arith, l))
@@ -80,3 +81,16 @@ module _ {A : Type 0} (h : A → Point → Bool) (m : A → Slot → Bool) (l : 
     where
       none : (j : ℕ) → 0 + j ≡ j
       none j = omega arith
+
+-- one box more
+pub boxes_push : {A : Type 0} (h : A → Point → Bool) (m : A → Slot → Bool) (l : A → List Line) (ss : List Slot) (cs : List (List A)) (xs : List Box) (c : List A) (x : Box) → AreBoxesOf h m l ss cs xs → IsBoxOf h m l ss c x → AreBoxesOf h m l ss (cs ++ c ∷ []) (xs ++ x ∷ [])
+boxes_push h m l ss [] [] c x r k = (k, tt)
+boxes_push h m l ss [] (y ∷ xs) c x r k = absurd r
+boxes_push h m l ss (d ∷ cs) [] c x r k = absurd r
+boxes_push h m l ss (d ∷ cs) (y ∷ xs) c x r k = (r.0, boxes_push h m l ss cs xs c x r.1 k)
+
+pub boxes_length : {A : Type 0} (h : A → Point → Bool) (m : A → Slot → Bool) (l : A → List Line) (ss : List Slot) (cs : List (List A)) (xs : List Box) → AreBoxesOf h m l ss cs xs → length cs ≡ length xs
+boxes_length h m l ss [] [] r = refl
+boxes_length h m l ss [] (x ∷ xs) r = absurd r
+boxes_length h m l ss (c ∷ cs) [] r = absurd r
+boxes_length h m l ss (c ∷ cs) (x ∷ xs) r = ap suc (boxes_length h m l ss cs xs r.1)

@@ -3,8 +3,6 @@
 -- What a list of some of the pairs mentions, and its lines, are those of all pairs. At a point where a pair holds, the values
 -- at the slots lie in the boxes of both conjunctions, so the boxes share them and the pair was picked.
 use Rattle.std.proofs.Common.{◌≡◌, ℕ, zero, suc, ◌+◌, ◌<◌, Bool, true, false, ◌&&◌, List, [], ◌∷◌, ◌++◌, Vec, Global, length, take, get_or, ◌⊎◌, inl, inr, arith, refl, sym, ap, ◌∙◌, subst, true≢false, add-one}
-use Rattle.std.specs.Prelude.{pos, ◌<ℤ◌}
-use Rattle.std.proofs.lemmas.Int.{ints}
 use Rattle.std.proofs.Math.Seq.{take-suc}
 use Rattle.std.specs.List.{AllByRecursion, Contains, list_any}
 use Rattle.ded_model.specs.declared.slot.Slot.{Slot}
@@ -16,14 +14,16 @@ use Rattle.ded_model.proofs.Points.{and_left, and_right}
 use Rattle.ded_model.proofs.Members.{or_split, In-left, In-right, In-split}
 use Rattle.ded_theory.specs.Conjunctions.{conj_mentions, conj_lines}
 use Rattle.ded_theory.proofs.Conjunctions.{conj_holds-append}
-use Rattle.ded_box.specs.Boxes.{AreValues, Shared}
+use Rattle.ded_box.specs.Boxes.{Shared}
 use Rattle.ded_genrel.specs.Lists.{conjs_hold, conjs_lines, conjs_of, AreNormal, pairs_with, pairs}
 use Rattle.ded_genrel.specs.Operations.{IsMeet}
 use Rattle.ded_genrel.proofs.Items.{all-append, conjs_to, normal-at, pairs-push}
 use Rattle.ded_genrel.proofs.Laws.{meet_is, conjs_hold-append}
 use Rattle.ded_index.specs.declared.entry.Entry.{Entry}
 use Rattle.ded_index.specs.Entries.{Box, SomeEntry, AreFound}
-use Rattle.ded_join.specs.Rounds.{values_at, IsRound, IsBoxOf, IsIndexOf, picked}
+use Rattle.ded_bounds.specs.Rounds.{values_at, IsRound, IsBoxOf}
+use Rattle.ded_bounds.proofs.Apart.{values_positive}
+use Rattle.ded_join.specs.Picks.{IsIndexOf, picked}
 
 -- the conjunction is one of the list
 abbrev Among : {A : Type 0} → List A → List (List A) → Type 0
@@ -123,13 +123,6 @@ holds_at h c (d ∷ cs) p t = elim (or_split (conj_holds h (c ++ d) p) (conjs_ho
   | inl a ↦ record { place = zero; inside = omega arith; holds = a }
   | inr b ↦ later_place h c d cs p (holds_at h c cs p b)
 ]
-
-values_positive : (ss : List Slot) (p : Point) → IsPoint p → AreValues (values_at ss p)
-values_positive [] p i = tt
-values_positive (s ∷ ss) p i = (above p.den i.positive, values_positive ss p i)
-  where
-    above : (n : ℕ) → 0 < n → pos 0 <ℤ pos n
-    above n h = omega (arith, ints)
 
 module _ {A : Type 0} (h : A → Point → Bool) (m : A → Slot → Bool) (l : A → List Line) (ss : List Slot) (c : List A) (cs : List (List A)) (es : List Entry) (x : Box) (js : List ℕ) (index : IsIndexOf h m l ss cs es) (box : IsBoxOf h m l ss c x) (found : AreFound x es js) where
   -- the places that are found are places of conjunctions

@@ -1,2 +1,3 @@
 pub mod Near
-pub mod Rounds
+pub mod Picks
+pub use Rattle.ded_bounds.specs.Rounds

@@ -4,10 +4,11 @@
 //! other: on given rational slots it puts a box of exact bounds round each conjunction, indexes those of the second list, and
 //! pairs each conjunction of the first list with those only whose boxes share values with its own.
 //!
-//! It stands on `ded_genrel` for lists of conjunctions over any theory, and on `ded_index` for the look-ups.
+//! It stands on `ded_genrel` for lists of conjunctions over any theory, on `ded_bounds` for the boxes, and on `ded_index` for the
+//! look-ups.
 #![tactic(auto)]
 
-mod boxes;
+mod indexing;
 mod joining;
 #[cfg(test)]
 mod tests;

@@ -1,4 +1,4 @@
-//! The exact order of fractions, by Euclid's steps: no product of two given numbers is ever taken.
+//! The exact order of fractions: by their cross products where these are short, and else by Euclid's steps.
 
 ghost use Rattle.std.specs.Prelude.{◌≡◌, ◌*◌, ◌<◌, ℤ, pos, ◌<ℤ◌, ◌+ℤ◌, ◌*ℤ◌};
 ghost use Rattle.std.specs.Ordering.{int_cmp, nat_cmp};
@@ -7,6 +7,18 @@ use std::cmp::Ordering;
 
 /// The exact order of `n1 / d1` and `n2 / d2`, for any numerators and any positive denominators.
 pub fn cmp_frac(n1: i128, d1: i128, n2: i128, d2: i128) -> Ordering
+    requires positive_1 { pos 0 <ℤ d1 }
+    requires positive_2 { pos 0 <ℤ d2 }
+    ensures { result ≡ int_cmp (n1 *ℤ d2) (n2 *ℤ d1) }
+{
+    match (n1.checked_mul(d2), n2.checked_mul(d1)) {
+        (Some(left), Some(right)) => left.cmp(&right),
+        _ => cmp_by_parts(n1, d1, n2, d2),
+    }
+}
+
+/// The same, by the whole parts and what they leave.
+fn cmp_by_parts(n1: i128, d1: i128, n2: i128, d2: i128) -> Ordering
     requires positive_1 { pos 0 <ℤ d1 }
     requires positive_2 { pos 0 <ℤ d2 }
     ensures { result ≡ int_cmp (n1 *ℤ d2) (n2 *ℤ d1) }

@@ -1,15 +1,41 @@
+use Rattle.std.proofs.Common.{◌∙◌, ap, subst}
 use Rattle.std.proofs.lemmas.Result.{IfOk-weaker}
-use Rattle.ded_complement.proofs.Cutting.{complement_is}
+use Rattle.ded_complement.specs.Boxed.{conjs_in}
+use Rattle.ded_complement.proofs.Cutting.{AreOutside, complement_is}
 use Rattle.ded_complement.proofs.difference.complement.Goals as goal
 
 pub returns-clause-is : goal.returns-clause-is
-returns-clause-is g c = IfOk-weaker c.outside.result _ _ (λ out k. (complement_is g.T.Theory.holds g.T.Theory.mentions g.T.Theory.lines g.T.Theory.cell c.args.rel.now out c.new.result.items c.new.ensures.items k).is) c.outside.ensures
+returns-clause-is g c =
+    let h = g.T.Theory.holds in
+    let m = g.T.Theory.mentions in
+    let l = g.T.Theory.lines in
+    let cell = g.T.Theory.cell in
+    let all = ap conjs_in c.deref-2.ensures.value ∙ c.in_ok-boxed.ensures.same in
+    IfOk-weaker c.outside.result _ _ (λ out k. (complement_is h m l cell c.args.rel.now out c.new.result.items c.new.ensures.items (subst (λ ts. AreOutside h m l cell c.new.result.items ts out) all k)).is) c.outside.ensures
 
 pub returns-clause-disjoint : goal.returns-clause-disjoint
-returns-clause-disjoint g c = IfOk-weaker c.outside.result _ _ (λ out k. (complement_is g.T.Theory.holds g.T.Theory.mentions g.T.Theory.lines g.T.Theory.cell c.args.rel.now out c.new.result.items c.new.ensures.items k).disjoint) c.outside.ensures
+returns-clause-disjoint g c =
+    let h = g.T.Theory.holds in
+    let m = g.T.Theory.mentions in
+    let l = g.T.Theory.lines in
+    let cell = g.T.Theory.cell in
+    let all = ap conjs_in c.deref-2.ensures.value ∙ c.in_ok-boxed.ensures.same in
+    IfOk-weaker c.outside.result _ _ (λ out k. (complement_is h m l cell c.args.rel.now out c.new.result.items c.new.ensures.items (subst (λ ts. AreOutside h m l cell c.new.result.items ts out) all k)).disjoint) c.outside.ensures
 
 pub returns-clause-cells : goal.returns-clause-cells
-returns-clause-cells g c = IfOk-weaker c.outside.result _ _ (λ out k. (complement_is g.T.Theory.holds g.T.Theory.mentions g.T.Theory.lines g.T.Theory.cell c.args.rel.now out c.new.result.items c.new.ensures.items k).cells) c.outside.ensures
+returns-clause-cells g c =
+    let h = g.T.Theory.holds in
+    let m = g.T.Theory.mentions in
+    let l = g.T.Theory.lines in
+    let cell = g.T.Theory.cell in
+    let all = ap conjs_in c.deref-2.ensures.value ∙ c.in_ok-boxed.ensures.same in
+    IfOk-weaker c.outside.result _ _ (λ out k. (complement_is h m l cell c.args.rel.now out c.new.result.items c.new.ensures.items (subst (λ ts. AreOutside h m l cell c.new.result.items ts out) all k)).cells) c.outside.ensures
 
 pub returns-clause-inhabited : goal.returns-clause-inhabited
-returns-clause-inhabited g c = IfOk-weaker c.outside.result _ _ (λ out k. (complement_is g.T.Theory.holds g.T.Theory.mentions g.T.Theory.lines g.T.Theory.cell c.args.rel.now out c.new.result.items c.new.ensures.items k).inhabited) c.outside.ensures
+returns-clause-inhabited g c =
+    let h = g.T.Theory.holds in
+    let m = g.T.Theory.mentions in
+    let l = g.T.Theory.lines in
+    let cell = g.T.Theory.cell in
+    let all = ap conjs_in c.deref-2.ensures.value ∙ c.in_ok-boxed.ensures.same in
+    IfOk-weaker c.outside.result _ _ (λ out k. (complement_is h m l cell c.args.rel.now out c.new.result.items c.new.ensures.items (subst (λ ts. AreOutside h m l cell c.new.result.items ts out) all k)).inhabited) c.outside.ensures

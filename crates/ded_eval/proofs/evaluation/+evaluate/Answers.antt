@@ -1,6 +1,5 @@
 use Rattle.std.proofs.Common.{rules, ◌≡◌, true, ◌+◌, ◌++◌, ◌∷◌, [], ◌∙◌, sym, ap, subst, take, drop, map}
 use Rattle.std.proofs.lemmas.List.{take_all}
-use Rattle.std.proofs.lemmas.Result.{IfOk-weaker}
 use Rattle.ded_model.specs.declared.plan.Plan.TheFolds.{fold-roll-Plan, fold_out-Plan}
 use Rattle.ded_model.specs.declared.plan.Plan.TheViews.{the_lemmas}
 use Rattle.ded_model.specs.Logic.{atom, negation, every_of, some_of, minus, exists, none, logics, AllAtomsOf}
@@ -14,6 +13,7 @@ use Rattle.ded_join.specs.Rounds.{AreRational}
 use Rattle.ded_algebra.specs.Evaluation.{IsScannable}
 use Rattle.ded_genrel.specs.Lists.{AreNormal, conjs_lines}
 use Rattle.ded_eval.specs.Joining.{begun}
+use Rattle.ded_eval.proofs.Distinct.{distinct_for}
 use Rattle.ded_eval.proofs.Evaluated.{IsListFor, no_conjunction, united_none, united_more, joined_none, joined_more, joined_ends, minus_for, minus_none, complement_for}
 use Rattle.ded_eval.proofs.Parts.{part_clashes, parts_to, parts_split, rest_atoms}
 use Rattle.ded_eval.proofs.Projected.{AreInOrder, projection_for, projection_clash}
@@ -50,19 +50,22 @@ evaluate_counted-returns-in_ok-complement-in-Not-clause-is g t c =
     subst (λ f. IsListFor g.T.Theory.holds g.T.Theory.mentions g.T.Theory.lines cat f c.in_ok-complement-in-Not.field-0) (sym e)
     (complement_for g.T.Theory.holds g.T.Theory.mentions g.T.Theory.lines cat (plan_form c.deref-in-Not.result.now) c.in_ok-list-in-Not.list c.in_ok-complement-in-Not.field-0 c.in_ok-list-in-Not.ensures.is c.in_ok-complement-in-Not.ensures.is)
 
-pub evaluate_counted-returns-in_ok-evaluate_counted-in-Project-clause-is : goal.evaluate_counted-returns-in_ok-evaluate_counted-in-Project-clause-is
-evaluate_counted-returns-in_ok-evaluate_counted-in-Project-clause-is g t c =
+pub evaluate_counted-returns-in_ok-distinct-in-Project-clause-is : goal.evaluate_counted-returns-in_ok-distinct-in-Project-clause-is
+evaluate_counted-returns-in_ok-distinct-in-Project-clause-is g t c =
     let cat = g.R.Relations.catalogue c.args.relations.now in
     let xs = c.in_ok-evaluate_counted-in-Project.field-0 in
+    let ys = c.in_ok-list-in-Project.list in
+    let out = c.in_ok-distinct-in-Project.field-0 in
     let e : plan_form c.args.plan.now ≡ exists c.in-Project.slot.sort (slot c.in-Project.slot) (plan_form c.deref-in-Project.result.now) = search (rules, the_lemmas, fold-roll-Plan, fold_out-Plan) in
     let order : AreInOrder (conjs_lines g.T.Theory.lines xs)
     = lists_lines g.T.Theory.holds g.T.Theory.mentions g.T.Theory.lines g.T.Theory.normal (λ y. AreCoefs y.coefs) g.met.T.OfTuples.line_coefs xs (subst (AreNormal g.T.Theory.normal) c.project.view_is c.project.invariant) in
-    IfOk-weaker c.project-in-Project.result _ _ (λ r k.
-    subst (λ f. IsListFor g.T.Theory.holds g.T.Theory.mentions g.T.Theory.lines cat f r) (sym e)
-    (projection_for g.T.Theory.holds g.T.Theory.mentions g.T.Theory.lines cat (plan_form c.deref-in-Project.result.now) c.in-Project.slot xs r order c.in_ok-evaluate_counted-in-Project.ensures.is k)) c.project-in-Project.ensures.is
+    subst (λ f. IsListFor g.T.Theory.holds g.T.Theory.mentions g.T.Theory.lines cat f out) (sym e)
+    (distinct_for g.T.Theory.holds g.T.Theory.mentions g.T.Theory.lines cat (exists c.in-Project.slot.sort (slot c.in-Project.slot) (plan_form c.deref-in-Project.result.now)) ys out
+    c.in_ok-distinct-in-Project.ensures.holds c.in_ok-distinct-in-Project.ensures.slots c.in_ok-distinct-in-Project.ensures.lines
+    (projection_for g.T.Theory.holds g.T.Theory.mentions g.T.Theory.lines cat (plan_form c.deref-in-Project.result.now) c.in-Project.slot xs ys order c.in_ok-evaluate_counted-in-Project.ensures.is c.in_ok-list-in-Project.ensures.is))
 
-pub evaluate_counted-returns-in_ok-evaluate_counted-in-Project-clause-wide : goal.evaluate_counted-returns-in_ok-evaluate_counted-in-Project-clause-wide
-evaluate_counted-returns-in_ok-evaluate_counted-in-Project-clause-wide g t c w =
+pub evaluate_counted-returns-in_err-list-in-Project-clause-wide : goal.evaluate_counted-returns-in_err-list-in-Project-clause-wide
+evaluate_counted-returns-in_err-list-in-Project-clause-wide g t c w =
     let M = measures (g.R.Relations.catalogue c.args.relations.now) in
     let xs = c.in_ok-evaluate_counted-in-Project.field-0 in
     let e : plan_form c.args.plan.now ≡ exists c.in-Project.slot.sort (slot c.in-Project.slot) (plan_form c.deref-in-Project.result.now) = search (rules, the_lemmas, fold-roll-Plan, fold_out-Plan) in
@@ -70,7 +73,7 @@ evaluate_counted-returns-in_ok-evaluate_counted-in-Project-clause-wide g t c w =
     = lists_lines g.T.Theory.holds g.T.Theory.mentions g.T.Theory.lines g.T.Theory.normal (λ y. AreCoefs y.coefs) g.met.T.OfTuples.line_coefs xs (subst (AreNormal g.T.Theory.normal) c.project.view_is c.project.invariant) in
     ap (plan_clashes M) e ∙ or_right (plan_clashes M (plan_form c.deref-in-Project.result.now)) _
     (projection_clash g.T.Theory.holds g.T.Theory.mentions g.T.Theory.lines (g.R.Relations.catalogue c.args.relations.now) (plan_form c.deref-in-Project.result.now) c.in-Project.slot xs order c.in_ok-evaluate_counted-in-Project.ensures.is
-    (c.project-in-Project.ensures.wide w))
+    (c.in_err-list-in-Project.ensures.wide (search rules)))
 
 pub joined-loop-part-init : goal.joined-loop-part-init
 joined-loop-part-init g t c = (
@@ -143,4 +146,7 @@ pub united-returns-clause-is : goal.united-returns-clause-is
 united-returns-clause-is g t c =
     let cat = g.R.Relations.catalogue c.args.relations.now in
     let items = c.deref-part-items.result.now in
-    subst (λ ps. IsListFor g.T.Theory.holds g.T.Theory.mentions g.T.Theory.lines cat (some_of (plan_forms ps)) c.loop-part.list) (take_all c.loop-part.part-index items c.loop-part-test.false ∙ c.deref-part-items.ensures.value) c.loop-part.invariant.0
+    let all : IsListFor g.T.Theory.holds g.T.Theory.mentions g.T.Theory.lines cat (some_of (plan_forms c.args.parts.now.items)) c.loop-part.list
+    = subst (λ ps. IsListFor g.T.Theory.holds g.T.Theory.mentions g.T.Theory.lines cat (some_of (plan_forms ps)) c.loop-part.list) (take_all c.loop-part.part-index items c.loop-part-test.false ∙ c.deref-part-items.ensures.value) c.loop-part.invariant.0 in
+    distinct_for g.T.Theory.holds g.T.Theory.mentions g.T.Theory.lines cat (some_of (plan_forms c.args.parts.now.items)) c.loop-part.list c.in_ok-distinct.field-0
+    c.in_ok-distinct.ensures.holds c.in_ok-distinct.ensures.slots c.in_ok-distinct.ensures.lines all

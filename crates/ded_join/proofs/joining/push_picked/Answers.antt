@@ -1,7 +1,7 @@
 use Rattle.std.proofs.Common.{◌∙◌, ◌++◌, ◌∷◌, [], ◌<◌, ℕ, get_or, ap, sym, subst, length, take, append_assoc}
 use Rattle.std.specs.List.{AllByRecursion}
 use Rattle.ded_genrel.proofs.Items.{all-append}
-use Rattle.ded_join.specs.Rounds.{picked}
+use Rattle.ded_join.specs.Picks.{picked}
 use Rattle.ded_join.proofs.Joined.{normal_of, items_at, picked_more, place_at, conjs_count}
 use Rattle.ded_join.proofs.joining.push_picked.Goals as goal
 

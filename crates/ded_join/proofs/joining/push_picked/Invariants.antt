@@ -1,5 +1,5 @@
 use Rattle.std.proofs.Common.{◌≡◌, ◌++◌, take}
-use Rattle.ded_join.specs.Rounds.{picked}
+use Rattle.ded_join.specs.Picks.{picked}
 use Rattle.ded_join.proofs.joining.push_picked.Given as goal
 
 abbrev pub invariant-loop-place : goal.invariant-loop-place

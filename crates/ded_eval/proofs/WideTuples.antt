@@ -1,0 +1,99 @@
+-- A tuple over a heading that is wide isn't narrow with all rational columns of the heading.
+use Rattle.std.proofs.Common.{◌≡◌, ℕ, zero, suc, ◌+◌, ◌*◌, ◌^◌, ◌<◌, ◌≤◌, Bool, true, false, cond, List, [], ◌∷◌, length, get_or, arith, refl, sym, ap, ◌∙◌, subst, true≢false, ⊎_elim}
+use Rattle.std.proofs.Math.Nat.{mul-le-mul_right}
+use Rattle.std.specs.List.{AllByRecursion}
+use Rattle.ded_model.specs.declared.name.Column.{Column}
+use Rattle.ded_model.specs.declared.slot.Slot.{Slot}
+use Rattle.ded_model.specs.declared.slot.Sort.{Sort}
+use Rattle.ded_model.specs.declared.slot.Sort.TheVariants.{Rat, Text}
+use Rattle.ded_model.specs.Known.{IsTupleOver, heading_slots}
+use Rattle.ded_model.specs.Lines.{row_lines}
+use Rattle.ded_model.specs.Point.{same_sort, same_slot, stands_in}
+use Rattle.ded_model.specs.Row.{Atom, row_mentions, theme_mentions}
+use Rattle.ded_model.specs.Width.{tuple_length, tuples_length, rational_columns, IsBoxNarrow}
+use Rattle.ded_model.proofs.Members.{or_split}
+use Rattle.ded_model.proofs.Points.{same_slot_is}
+use Rattle.ded_model.proofs.Rows.{or_left, or_right}
+use Rattle.ded_theory.specs.Both.{by_kind}
+use Rattle.ded_theory.specs.Conjunctions.{IsWide}
+use Rattle.ded_atoms.proofs.Conjunctive.{tuple_mentions-is}
+use Rattle.ded_atoms.proofs.Narrowness.{lines_within}
+
+-- ---- the rational columns
+
+-- their slots, of the columns from slot i on
+rational_heading : ℕ → List Column → List Slot
+rational_heading i [] = []
+rational_heading i (c ∷ cs) = cond (same_sort c.sort Rat) (record { number = i; sort = c.sort } ∷ rational_heading (i + 1) cs) (rational_heading (i + 1) cs)
+
+count : (i : ℕ) (cs : List Column) → length (rational_heading i cs) ≡ rational_columns cs
+unfolding rational_heading
+count i [] = refl
+count i (c ∷ cs) = by (same_sort c.sort Rat) (count (i + 1) cs)
+  where
+    by : (b : Bool) → length (rational_heading (i + 1) cs) ≡ rational_columns cs
+        → length (cond b (record { number = i; sort = c.sort } ∷ rational_heading (i + 1) cs) (rational_heading (i + 1) cs)) ≡ cond b 1 0 + rational_columns cs
+    by true e = omega (arith, e)
+    by false e = omega (arith, e)
+
+text_first : (t s : Slot) → t.sort ≡ Text → same_slot t s ≡ true → s.sort ≡ Rat → ⊥
+text_first t s x e r = apart (sym x ∙ ap (λ u. u.sort) (same_slot_is t s e) ∙ r)
+  where
+    is_text : Sort → Bool
+    is_text Rat = false
+    is_text Text = true
+
+    apart : Text ≡ Rat → ⊥
+    apart e = true≢false (ap is_text e)
+
+there : (i : ℕ) (cs : List Column) (s : Slot) → stands_in (heading_slots i cs) s ≡ true → s.sort ≡ Rat → stands_in (rational_heading i cs) s ≡ true
+unfolding rational_heading
+there i [] s h r = absurd (true≢false (sym h))
+there i (c ∷ cs) s h r = ⊎_elim
+    (λ (e : same_slot (record { number = i; sort = c.sort }) s ≡ true). first c.sort e)
+    (λ e. later (same_sort c.sort Rat) (there (i + 1) cs s e r))
+    (or_split (same_slot (record { number = i; sort = c.sort }) s) (stands_in (heading_slots (i + 1) cs) s) h)
+  where
+    first : (t : Sort) → same_slot (record { number = i; sort = t }) s ≡ true → stands_in (cond (same_sort t Rat) (record { number = i; sort = t } ∷ rational_heading (i + 1) cs) (rational_heading (i + 1) cs)) s ≡ true
+    first Rat e = or_left (same_slot (record { number = i; sort = Rat }) s) (stands_in (rational_heading (i + 1) cs) s) e
+    first Text e = absurd (text_first (record { number = i; sort = Text }) s refl e r)
+
+    later : (b : Bool) → stands_in (rational_heading (i + 1) cs) s ≡ true → stands_in (cond b (record { number = i; sort = c.sort } ∷ rational_heading (i + 1) cs) (rational_heading (i + 1) cs)) s ≡ true
+    later true e = or_right (same_slot (record { number = i; sort = c.sort }) s) (stands_in (rational_heading (i + 1) cs) s) e
+    later false e = e
+
+-- ---- one tuple
+
+pub wide_tuple : (h : List Column) (t : List Atom) → IsTupleOver h t → IsWide (by_kind row_mentions theme_mentions) (by_kind row_lines (λ a. [])) t → IsBoxNarrow h (t ∷ []) → ⊥
+unfolding IsBoxNarrow
+wide_tuple h t o w n =
+    let b = tuples_length (t ∷ []) in
+    let above = w.above b (lines_within t b o.normal (omega arith)) (rational_heading 0 h) (λ s m r. there 0 h s (o.slots s (sym (tuple_mentions-is t s) ∙ m)) r) in
+    let more : 128 < (b + 1) * 2 ^ rational_columns h = subst (λ k. 128 < (b + 1) * 2 ^ k) (count 0 h) above in
+    beyond ((b + 1) * 2 ^ rational_columns h) more n
+  where
+    beyond : (n : ℕ) → 128 < n → n ≤ 128 → ⊥
+    beyond n h k = omega (arith, h, k)
+
+-- ---- one of several tuples
+
+length_of-one : (ts : List (List Atom)) (i : ℕ) (t : List Atom) → i < length ts → t ≡ get_or ts i t → tuple_length t ≤ tuples_length ts
+length_of-one [] i t l e = absurd (omega (arith, l))
+length_of-one (u ∷ ts) zero t l e = subst (λ x. tuple_length x ≤ tuples_length (u ∷ ts)) (sym e) (omega arith)
+length_of-one (u ∷ ts) (suc i) t l e = let h = length_of-one ts i t (omega (arith, l)) e in omega (arith, h)
+
+-- where the tuples are narrow each one is
+pub narrow_one : (h : List Column) (ts : List (List Atom)) (i : ℕ) (t : List Atom) → i < length ts → t ≡ get_or ts i t → IsBoxNarrow h ts → IsBoxNarrow h (t ∷ [])
+unfolding IsBoxNarrow
+narrow_one h ts i t l e n =
+    let le = length_of-one ts i t l e in
+    trans ((tuples_length (t ∷ []) + 1) * 2 ^ rational_columns h) _ (mul-le-mul_right {m = tuples_length (t ∷ []) + 1} {n = tuples_length ts + 1} (2 ^ rational_columns h) (omega (arith, le))) n
+  where
+    trans : (a b : ℕ) → a ≤ b → b ≤ 128 → a ≤ 128
+    trans a b h k = omega (arith, h, k)
+
+-- what holds of all tuples holds of each
+pub over_one : (h : List Column) (ts : List (List Atom)) (i : ℕ) (t : List Atom) → i < length ts → t ≡ get_or ts i t → AllByRecursion (IsTupleOver h) ts → IsTupleOver h t
+over_one h [] i t l e a = absurd (omega (arith, l))
+over_one h (u ∷ ts) zero t l e a = subst (IsTupleOver h) (sym e) a.0
+over_one h (u ∷ ts) (suc i) t l e a = over_one h ts i t (omega (arith, l)) e a.1

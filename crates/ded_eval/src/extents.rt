@@ -1,0 +1,171 @@
+//! The exact bounds of the rational columns of a relation.
+ghost use Rattle.std.specs.Prelude.{◌≡◌, ◌||◌, Bool, [], ◌∷◌, IfOk, IsErrOf};
+ghost use Rattle.std.specs.List.{AllByRecursion};
+ghost use Rattle.ded_model.specs.declared.memory.Refused.TheVariants.{Wide};
+ghost use Rattle.ded_model.specs.declared.slot.Sort.TheVariants.{Rat};
+ghost use Rattle.ded_model.specs.Bound as bound;
+ghost use Rattle.ded_model.specs.Cell.{conj_holds, HoldsSomewhere};
+ghost use Rattle.ded_model.specs.Interval.{IsExactBound};
+ghost use Rattle.ded_model.specs.Known.{IsTupleOver};
+ghost use Rattle.ded_model.specs.Point.{Point};
+ghost use Rattle.ded_model.specs.Row.{tuple_holds, tuples_hold};
+ghost use Rattle.ded_model.specs.Width.{IsBoxNarrow};
+ghost use Rattle.ded_theory.specs.Conjunctions.{IsWide};
+ghost use Rattle.ded_box.specs.Intervals.{IsInterval};
+ghost use Rattle.ded_box.specs.Boxes.{hull, hulls};
+ghost use Rattle.ded_box.specs.Extents.{AreBounds, IsBox, covering};
+
+use crate::scanning::following;
+use ded_atoms::Atoms;
+use ded_box::{Side, checked, wider};
+use ded_model::bound::{Bound, BoxReply, Spans};
+use ded_model::memory::{NoMemory, Refused};
+use ded_model::name::{Column, Heading};
+use ded_model::slot::{Slot, Sort};
+use ded_model::tuple::Tuple;
+use ded_theory::{Span, Theory, Verdict};
+use std::alloc::Global;
+
+/// The exact bounds of each rational column of the heading, over all points of the tuples: `Nowhere` where these have none, and
+/// else `NoRational` where no column is rational.
+///
+/// # Errors
+/// `Wide` only where the tuples aren't narrow with all rational columns of the heading, and else want of memory.
+pub fn extent(alloc: Global, heading: &Heading, tuples: &[Tuple]) -> Result<BoxReply, Refused>
+    requires { AllByRecursion (IsTupleOver heading.now) tuples.now }
+    ensures is { IfOk result (λ r. IsBox (tuples_hold tuples.now) heading.now r) }
+    ensures wide { IsErrOf result Wide → IsBoxNarrow heading.now tuples.now → ⊥ }
+{
+    let mut extent = BoxReply::Nowhere;
+    for tuple in tuples {
+        extent = extended(alloc, heading, extent, tuple)?;
+    }
+    Ok(extent)
+}
+
+/// From the bounds over some points those over these and all points of the tuple.
+///
+/// # Errors
+/// `Wide` only where the tuple alone isn't narrow with all rational columns of the heading, and else want of memory.
+pub fn extended(
+    alloc: Global,
+    heading: &Heading,
+    extent: BoxReply,
+    tuple: &Tuple,
+) -> Result<BoxReply, Refused>
+    requires { IsTupleOver heading.now tuple.now }
+    ensures is { IfOk result (λ r. (test : Point → Bool) → IsBox test heading.now extent → IsBox (λ p. test p || tuple_holds tuple.now p) heading.now r) }
+    ensures wide { IsErrOf result Wide → IsBoxNarrow heading.now (tuple.now ∷ []) → ⊥ }
+{
+    let more = conj_extent::<Atoms>(alloc, &heading.columns, &tuple.atoms)?;
+    Ok(covering(alloc, extent, more)?)
+}
+
+/// The least box that contains both.
+fn covering(alloc: Global, extent: BoxReply, more: BoxReply) -> Result<BoxReply, NoMemory>
+    ensures { IfOk result (λ r. r ≡ covering extent more) }
+{
+    match extent {
+        BoxReply::Nowhere => Ok(more),
+        BoxReply::NoRational => Ok(BoxReply::NoRational),
+        BoxReply::Spans(spans) => match more {
+            BoxReply::Spans(others) => Ok(BoxReply::Spans(Spans {
+                list: hulls(alloc, &spans.list, &others.list)?,
+            })),
+            _ => Ok(BoxReply::Spans(spans)),
+        },
+    }
+}
+
+/// At each place the least interval that contains both, as far as both lists go.
+fn hulls(
+    alloc: Global,
+    first: &[(Bound, Bound)],
+    second: &[(Bound, Bound)],
+) -> Result<Vec<(Bound, Bound)>, NoMemory>
+    ensures { IfOk result (λ v. v.items ≡ hulls first.now second.now) }
+{
+    let mut list = Vec::new(alloc);
+    for (i, span) in first.iter().enumerate() {
+        if i < second.len() {
+            list.push(hull(*span, second[i]))?;
+        }
+    }
+    Ok(list)
+}
+
+/// The least interval that contains both, where none of them is empty.
+fn hull(a: (Bound, Bound), b: (Bound, Bound)) -> (Bound, Bound)
+    ensures { result ≡ hull a b }
+{
+    (wider(Side::Lower, a.0, b.0), wider(Side::Upper, a.1, b.1))
+}
+
+/// The exact bounds of each rational column over the points that satisfy all the atoms.
+///
+/// # Errors
+/// `Wide` only where the atoms are wide, and else want of memory.
+fn conj_extent<T: Theory>(
+    alloc: Global,
+    columns: &[Column],
+    atoms: &[T::Atom],
+) -> Result<BoxReply, Refused>
+    requires { AllByRecursion T.normal atoms.now }
+    ensures is { IfOk result (λ r. IsBox (conj_holds T.holds atoms.now) columns.now r) }
+    ensures wide { IsErrOf result Wide → IsWide T.mentions T.lines atoms.now }
+{
+    match T::refute(alloc, atoms)? {
+        Verdict::Empty => Ok(BoxReply::Nowhere),
+        Verdict::Unknown => Err(Refused::Wide),
+        Verdict::Inhabited => {
+            let list = spans::<T>(alloc, columns, atoms)?;
+            if list.is_empty() {
+                Ok(BoxReply::NoRational)
+            } else {
+                Ok(BoxReply::Spans(Spans { list }))
+            }
+        }
+    }
+}
+
+/// The bounds of each rational column, over atoms that some point satisfies.
+fn spans<T: Theory>(
+    alloc: Global,
+    columns: &[Column],
+    atoms: &[T::Atom],
+) -> Result<Vec<(Bound, Bound)>, Refused>
+    requires normal { AllByRecursion T.normal atoms.now }
+    requires inhabited { HoldsSomewhere (conj_holds T.holds atoms.now) }
+    ensures is { IfOk result (λ v. AreBounds (conj_holds T.holds atoms.now) 0 columns.now v.items) }
+    ensures wide { IsErrOf result Wide → IsWide T.mentions T.lines atoms.now }
+{
+    let mut spans = Vec::new(alloc);
+    let mut number = 0;
+    for column in columns {
+        if column.sort == Sort::Rat {
+            spans.push(span::<T>(alloc, atoms, number)?)?;
+        }
+        number = following(number)?;
+    }
+    Ok(spans)
+}
+
+/// The bounds of the rational column of a number, likewise.
+fn span<T: Theory>(alloc: Global, atoms: &[T::Atom], number: u32) -> Result<(Bound, Bound), Refused>
+    requires normal { AllByRecursion T.normal atoms.now }
+    requires inhabited { HoldsSomewhere (conj_holds T.holds atoms.now) }
+    ensures is { IfOk result (λ b. IsInterval b
+        × IsExactBound (conj_holds T.holds atoms.now) (record { number = number; sort = Rat }) bound.lower b.0
+        × IsExactBound (conj_holds T.holds atoms.now) (record { number = number; sort = Rat }) bound.upper b.1) }
+    ensures wide { IsErrOf result Wide → IsWide T.mentions T.lines atoms.now }
+{
+    let slot = Slot {
+        number,
+        sort: Sort::Rat,
+    };
+    match T::bounds(alloc, atoms, slot)? {
+        Span::Exact(lower, upper) => Ok(checked(&(lower, upper))),
+        Span::Around(_, _) => Err(Refused::Wide),
+        Span::Nothing => unreachable!(),
+    }
+}

@@ -1,0 +1,26 @@
+-- Indexes over the boxes round conjunctions, and the pairs that they pick.
+use Rattle.std.specs.Prelude.{◌≡◌, ◌<◌, ℕ, Bool, List, [], ◌∷◌, ◌++◌, length, slice_index_or}
+use Rattle.std.specs.List.{AllByRecursion}
+use Rattle.ded_model.specs.declared.slot.Slot.{Slot}
+use Rattle.ded_model.specs.Point.{Point}
+use Rattle.ded_model.specs.Lines.{Line}
+use Rattle.ded_bounds.specs.Rounds.{IsRound, IsBoxOf}
+use Rattle.ded_index.specs.declared.entry.Entry.{Entry}
+use Rattle.ded_index.specs.Entries.{Box, SomeEntry}
+
+-- such a box of each conjunction, in order
+abbrev pub AreBoxesOf : {A : Type 0} → (A → Point → Bool) → (A → Slot → Bool) → (A → List Line) → List Slot → List (List A) → List Box → Type 0
+AreBoxesOf holds mentions lines ss [] [] = Unit {0}
+AreBoxesOf holds mentions lines ss [] (x ∷ xs) = ⊥
+AreBoxesOf holds mentions lines ss (c ∷ cs) [] = ⊥
+AreBoxesOf holds mentions lines ss (c ∷ cs) (x ∷ xs) = IsBoxOf holds mentions lines ss c x × AreBoxesOf holds mentions lines ss cs xs
+
+-- the entries are such boxes of the conjunctions, under their places
+pub record IsIndexOf {A : Type 0} (holds : A → Point → Bool) (mentions : A → Slot → Bool) (lines : A → List Line) (ss : List Slot) (cs : List (List A)) (es : List Entry) : Type 0 where
+  pub each : (j : ℕ) → j < length cs → SomeEntry (λ e. (e.id ≡ j) × IsRound holds ss (slice_index_or cs j []) e.bounds) es
+  pub own : AllByRecursion (λ e. (e.id < length cs) × IsBoxOf holds mentions lines ss (slice_index_or cs e.id []) e.bounds) es
+
+-- the conjunction with those at the places, in order
+abbrev pub picked : {A : Type 0} → List A → List (List A) → List ℕ → List (List A)
+picked c cs [] = []
+picked c cs (j ∷ js) = (c ++ slice_index_or cs j []) ∷ picked c cs js

@@ -1,0 +1,14 @@
+pub mod BothTests
+pub mod ConjunctivePlans
+pub mod InsideLists
+pub mod Keeps
+pub mod Kept
+pub mod PastSteps
+pub mod PlanLists
+pub mod PushedJoins
+pub mod PushedPlans
+pub mod Rewritten
+pub mod RowLists
+pub mod ScansStay
+pub mod Steps
+pub mod WellSorted
