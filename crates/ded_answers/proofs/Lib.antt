@@ -1,0 +1,6 @@
+pub mod Chains
+pub mod OwnSlots
+pub mod Parts
+pub mod Reducing
+pub mod Sifted
+pub mod Slotless

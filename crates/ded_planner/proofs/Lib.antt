@@ -1,0 +1,4 @@
+pub mod Composed
+pub mod GoalScans
+pub mod PlansOfFormulas
+pub mod ScannedNames

@@ -1,0 +1,63 @@
+//! The names that a plan scans.
+ghost use Rattle.std.specs.Prelude.{◌≡◌, IfOk, OnOk, List, ℕ};
+ghost use Rattle.std.specs.Str.{bytes_eq};
+ghost use Rattle.std.specs.List.{list_any};
+ghost use Rattle.ded_model.specs.PlanForm.{plan_form, plan_forms};
+ghost use Rattle.ded_model.specs.Uses.{plan_uses};
+ghost use Rattle.ded_planner.specs.ScannedNames.{with_name, with_names, with_all_names, AreDistinctNames};
+
+use ded_model::memory::NoMemory;
+use ded_model::name::Name;
+use ded_model::plan::Plan;
+use std::alloc::Global;
+
+/// The names that the plan scans, each once.
+///
+/// # Errors
+/// Want of memory.
+pub fn scanned_names(alloc: Global, plan: &Plan) -> Result<Vec<Name>, NoMemory>
+    ensures all { IfOk result (λ v. (n : List ℕ) → plan_uses n (plan_form plan.now) ≡ list_any (bytes_eq n) v.items) }
+    ensures once { IfOk result (λ v. AreDistinctNames v.items) }
+{
+    let mut names = Vec::new(alloc);
+    add_names(&mut names, plan)?;
+    Ok(names)
+}
+
+/// Adds the names that the plan scans and that aren't there yet.
+#[cycle(add_names)]
+fn add_names(names: &mut Vec<Name>, plan: &Plan) -> Result<(), NoMemory>
+    ensures { OnOk result (names.new.items ≡ with_names names.old.items (plan_form plan.now)) }
+{
+    match plan {
+        Plan::Scan(name, _) => add_name(names, name),
+        Plan::Rows(_) => Ok(()),
+        Plan::Join(parts) | Plan::Union(parts) => add_all_names(names, parts),
+        Plan::Minus(from, taken) => {
+            add_names(names, from)?;
+            add_names(names, taken)
+        }
+        Plan::Not(part) | Plan::Project(_, part) => add_names(names, part),
+    }
+}
+
+/// Adds those of all the plans.
+#[cycle(add_names)]
+fn add_all_names(names: &mut Vec<Name>, plans: &Vec<Plan>) -> Result<(), NoMemory>
+    ensures { OnOk result (names.new.items ≡ with_all_names names.old.items (plan_forms plans.now.items)) }
+{
+    for plan in plans {
+        add_names(names, plan)?;
+    }
+    Ok(())
+}
+
+/// Adds the name, unless it is there already.
+fn add_name(names: &mut Vec<Name>, name: &Name) -> Result<(), NoMemory>
+    ensures { OnOk result (names.new.items ≡ with_name names.old.items name.now) }
+{
+    if !names.contains(name) {
+        names.push(name.copy()?)?;
+    }
+    Ok(())
+}

@@ -1,0 +1,56 @@
+-- What a question is answered.
+use Rattle.std.proofs.Common.{◌≡◌, arith, Bool, true, false, List, [], sym, ap, ◌∙◌, subst, true≢false}
+use Rattle.std.specs.Prelude.{◌↔◌, IsTrue}
+use Rattle.std.specs.List.{AllByRecursion}
+use Rattle.std.proofs.lemmas.Bool.{false_from_ne_true}
+use Rattle.ded_model.specs.declared.slot.Slot.{Slot}
+use Rattle.ded_model.specs.declared.name.Column.{Column}
+use Rattle.ded_model.specs.Catalogue.{Catalogue, IsTruth}
+use Rattle.ded_model.specs.Cell.{IsReduced}
+use Rattle.ded_model.specs.Form.{Form}
+use Rattle.ded_model.specs.Goal.{GoalForm, goal_mentions}
+use Rattle.ded_model.specs.Known.{IsWellFormed}
+use Rattle.ded_model.specs.Lines.{In}
+use Rattle.ded_model.specs.Measure.{measures, goal_lines, goal_clashes, IsTight}
+use Rattle.ded_model.specs.Normal.{IsNormalTuple}
+use Rattle.ded_model.specs.Point.{slot, Point}
+use Rattle.ded_model.specs.Row.{Atom, atom_holds, tuples_hold, tuples_mention}
+use Rattle.ded_model.specs.Width.{IsNarrowList}
+use Rattle.ded_sorts.proofs.Frees.{goal_free}
+use Rattle.ded_views.proofs.Views.{name_level}
+use Rattle.ded_query.specs.Gathering.{IsPosed, IsEvaluated}
+use Rattle.ded_query.specs.Questions.{IsQuestion, IsAnswer}
+use Rattle.ded_query.proofs.Arguments.{byte_arguments}
+use Rattle.ded_query.proofs.Entries.{evaluated_over, evaluated_holds}
+
+-- every level is at most 16
+pub question_posed : (c : Catalogue) (h : List Column) (g : GoalForm) (f : Form) → IsWellFormed c → IsQuestion c h g f → IsPosed c g 16
+question_posed c h g f w q = record { columns = h; formula = f; question = q; levels = λ n u. name_level c w n }
+
+-- the formula isn't tight where its goal clashes
+pub not_tight : (c : Catalogue) (h : List Column) (g : GoalForm) (f : Form) → IsQuestion c h g f → goal_clashes (measures c) g ≡ true → IsTight c h f → ⊥
+unfolding IsTight
+not_tight c h g f q e t = true≢false (sym e ∙ ap (goal_clashes (measures c)) q.goal ∙ t)
+
+-- ---- closed questions
+
+-- their tuples mention no slot
+pub evaluated_closed : (c : Catalogue) (g : GoalForm) (f : Form) (ts : List (List Atom)) → IsQuestion c [] g f → IsEvaluated c g ts → (s : Slot) → tuples_mention ts s ≡ false
+evaluated_closed c g f ts q e s =
+    false_from_ne_true (tuples_mention ts s) (λ u. true≢false (sym (goal_free [] f q.accepted.bound (slot s) (subst (λ x. goal_mentions x (slot s) ≡ true) q.goal (e.slots s u)))))
+
+-- and hold exactly where the formula is true
+pub closed_truth : (c : Catalogue) (g : GoalForm) (f : Form) (ts : List (List Atom)) (b : Bool) → IsQuestion c [] g f → IsEvaluated c g ts → ((p : Point) → tuples_hold ts p ≡ b) → IsTrue b ↔ IsTruth c f
+closed_truth c g f ts b q e all =
+    subst (λ x. IsTrue x ↔ IsTruth c f) (all (record { den = 1; coords = [] })) (evaluated_holds c [] g f ts q e 1 [] (omega arith) tt)
+
+-- ---- answers
+
+pub answer_is : (c : Catalogue) (h : List Column) (g : GoalForm) (f : Form) (ts : List (List Atom)) → IsQuestion c h g f → IsEvaluated c g ts → AllByRecursion IsNormalTuple ts
+    → AllByRecursion (λ t. IsNarrowList t → IsReduced atom_holds t) ts → IsAnswer c h f ts
+answer_is c h g f ts q e k r = record {
+  over = evaluated_over c h g f ts q e k;
+  holds = λ d xs i a. evaluated_holds c h g f ts q e d xs i (byte_arguments h xs a);
+  reduced = r;
+  lines = λ l i. subst (λ x. In l (goal_lines (measures c) x)) q.goal (e.lines l i);
+}

@@ -1,0 +1,165 @@
+-- Relations and views as what is given of them.
+use Rattle.std.proofs.Common.{◌≡◌, ℕ, ◌-◌, ◌<◌, ◌≤◌, arith, true, List, [], ◌∷◌, Option, Some, None, is_some, refl, sym, ap, ◌∙◌, subst, true≢false}
+use Rattle.std.specs.Prelude.{◌↔◌, IsTrue}
+use Rattle.std.specs.List.{AllByRecursion}
+use Rattle.std.specs.Option.{option_map}
+use Rattle.std.proofs.lemmas.Option.{same_Some, none-some}
+use Rattle.ded_model.specs.declared.slot.Slot.{Slot}
+use Rattle.ded_model.specs.declared.name.Column.{Column}
+use Rattle.ded_model.specs.Row.{Atom, tuples_hold, tuple_mentions, tuples_mention}
+use Rattle.ded_model.specs.Catalogue.{Entry, relation, view, Catalogue, tuples_of, at_slots, at_names, meaning, Holds, GoalHolds}
+use Rattle.ded_model.specs.Entries.{known, entry_of, relation_in, view_in, columns_in}
+use Rattle.ded_model.specs.Form.{Form}
+use Rattle.ded_model.specs.Goal.{GoalForm, goal_mentions}
+use Rattle.ded_model.specs.Known.{Known, IsTupleOver, IsWellFormed, heading_slots, known_of, level_with, columns_with}
+use Rattle.ded_model.specs.Lines.{In}
+use Rattle.ded_model.specs.Measure.{Measure, measures, goal_lines, goal_clashes}
+use Rattle.ded_model.specs.Normal.{IsNormalTuple}
+use Rattle.ded_model.specs.Point.{slot, stands_in}
+use Rattle.ded_model.specs.Slotted.{goal_of}
+use Rattle.ded_model.specs.Value.{Argument}
+use Rattle.ded_model.proofs.Rows.{or_left, or_right}
+use Rattle.ded_sorts.proofs.Frees.{goal_free}
+use Rattle.ded_sorts.proofs.Headings.{goals_mean}
+use Rattle.ded_views.specs.Same.{AreByteArguments}
+use Rattle.ded_views.proofs.Placing.{unknown}
+use Rattle.ded_views.proofs.Views.{relation_means, view_means, name_measure, name_known, tuples_over, view_accepted, lesser_level}
+use Rattle.ded_query.specs.Gathering.{IsGivenOf, IsGivenAs, IsPosed, IsEvaluated, IsViewGoal}
+use Rattle.ded_query.specs.Questions.{IsQuestion}
+use Rattle.ded_query.proofs.Arguments.{slots_point}
+
+-- ---- headings
+
+-- the columns of what is known
+known_columns : (h : List Column) (o : Option Known) → Some h ≡ option_map (λ k. k.columns) o → columns_with o ≡ h
+known_columns h None e = absurd (none-some h (sym e))
+known_columns h (Some k) e = sym (same_Some h k.columns e)
+
+pub named_columns : (c : Catalogue) (n : List ℕ) (h : List Column) → Some h ≡ option_map (λ k. k.columns) (known c n) → columns_in c n ≡ h
+named_columns c n h e = known_columns h (known c n) e
+
+-- of tuples that are normal and mention only slots of the heading each is over it
+pub each_over : (h : List Column) (ts : List (List Atom)) → AllByRecursion IsNormalTuple ts → ((s : Slot) → tuples_mention ts s ≡ true → stands_in (heading_slots 0 h) s ≡ true) → AllByRecursion (IsTupleOver h) ts
+unfolding tuples_mention tuple_mentions
+each_over h [] k u = tt
+each_over h (t ∷ ts) k u =
+    (record { normal = k.0; slots = λ s e. u s (or_left (tuple_mentions t s) (tuples_mention ts s) e) }, each_over h ts k.1 (λ s e. u s (or_right (tuple_mentions t s) (tuples_mention ts s) e)))
+
+-- tuples that a goal of an accepted formula is evaluated to are over its heading
+pub evaluated_over : (c : Catalogue) (h : List Column) (g : GoalForm) (f : Form) (ts : List (List Atom)) → IsQuestion c h g f → IsEvaluated c g ts → AllByRecursion IsNormalTuple ts → AllByRecursion (IsTupleOver h) ts
+evaluated_over c h g f ts q e k = each_over h ts k (λ s u. goal_free h f q.accepted.bound (slot s) (subst (λ x. goal_mentions x (slot s) ≡ true) q.goal (e.slots s u)))
+
+-- they hold where the formula does
+pub evaluated_holds : (c : Catalogue) (h : List Column) (g : GoalForm) (f : Form) (ts : List (List Atom)) → IsQuestion c h g f → IsEvaluated c g ts → (d : ℕ) (xs : List Argument) → 0 < d → AreByteArguments xs
+    → IsTrue (tuples_hold ts (record { den = d; coords = at_slots 0 h xs })) ↔ Holds c f (record { den = d; coords = at_names h xs })
+evaluated_holds c h g f ts q e d xs i k =
+    let here = e.holds (record { den = d; coords = at_slots 0 h xs }) (slots_point d h xs i k) in
+    let means = goals_mean (meaning c) (known_of c.entries) h f q.accepted.once q.accepted.bound q.accepted.sorted d xs i in
+    let goal : GoalHolds c g (record { den = d; coords = at_slots 0 h xs }) ↔ GoalHolds c (goal_of h f) (record { den = d; coords = at_slots 0 h xs }) = subst (λ x. GoalHolds c g (record { den = d; coords = at_slots 0 h xs }) ↔ GoalHolds c x (record { den = d; coords = at_slots 0 h xs })) q.goal (λ x. x, λ x. x) in
+    (λ x. means.1 (goal.0 (here.0 x)), λ x. here.1 (goal.1 (means.0 x)))
+
+-- ---- views
+
+-- a name of which there is the goal of a view
+pub view_goal : (c : Catalogue) (n : List ℕ) (g : GoalForm) → Some g ≡ option_map (λ v. goal_of v.0 v.1) (view_in (entry_of c.entries n)) → IsViewGoal c n g
+view_goal c n g e = by (entry_of c.entries n) refl e
+  where
+    by : (o : Option Entry) → entry_of c.entries n ≡ o → Some g ≡ option_map (λ v. goal_of v.0 v.1) (view_in o) → IsViewGoal c n g
+    by None f e = absurd (none-some g (sym e))
+    by (Some (relation m h i ts)) f e = absurd (none-some g (sym e))
+    by (Some (view m h x)) f e = record { own = m; columns = h; formula = x; entry = f; goal = same_Some g (goal_of h x) e }
+
+-- the goal of a view is that of an accepted formula, whose names have lesser levels
+pub view_posed : (c : Catalogue) (n : List ℕ) (g : GoalForm) (level : ℕ) → IsWellFormed c → IsViewGoal c n g → level_with (known c n) ≤ level → IsPosed c g (level - 1)
+view_posed c n g level w v l = record {
+  columns = v.columns;
+  formula = v.formula;
+  question = record { goal = v.goal; accepted = view_accepted c w n v.own v.columns v.formula v.entry };
+  levels = λ k u. let less = lesser_level c w n v.own v.columns v.formula v.entry k u in omega arith;
+}
+
+-- its level is not 0
+pub view_level : (c : Catalogue) (n : List ℕ) (g : GoalForm) (level : ℕ) → IsWellFormed c → IsViewGoal c n g → level_with (known c n) ≤ level → 1 ≤ level
+view_level c n g level w v l =
+    let is : level_with (known c n) ≤ level = l in
+    let more = subst (λ o. level_with o ≤ level) (name_known c w n (view v.own v.columns v.formula) v.entry) is in
+    omega arith
+
+-- what its goal is evaluated to is what is given of it
+pub view_given : (c : Catalogue) (n : List ℕ) (g : GoalForm) (h : List Column) (ts : List (List Atom)) → IsWellFormed c → IsViewGoal c n g → IsEvaluated c g ts → AllByRecursion IsNormalTuple ts
+    → Some h ≡ option_map (λ k. k.columns) (known c n) → IsGivenOf c (record { name = n; heading = h; tuples = ts })
+view_given c n g h ts w v e k i =
+    let q : IsQuestion c v.columns g v.formula = record { goal = v.goal; accepted = view_accepted c w n v.own v.columns v.formula v.entry } in
+    let same : v.columns ≡ h = ap columns_with (sym (name_known c w n (view v.own v.columns v.formula) v.entry)) ∙ named_columns c n h i in
+    subst (λ x. IsGivenOf c (record { name = n; heading = x; tuples = ts })) same
+    (record {
+      columns = named_columns c n h i ∙ sym same;
+      over = evaluated_over c v.columns g v.formula ts q e k;
+      means = λ d xs j b.
+          let holds = evaluated_holds c v.columns g v.formula ts q e d xs j b in
+          let means = view_means c w n v.own v.columns v.formula v.entry d xs in
+          (λ x. holds.1 (means.0 x), λ x. means.1 (holds.0 x));
+      lines = λ l x. subst (λ (m : Measure). In l m.lines) (sym (name_measure c w n (view v.own v.columns v.formula) v.entry)) (subst (λ y. In l (goal_lines (measures c) y)) v.goal (e.lines l x));
+    })
+
+-- a view clashes where its goal does
+pub view_clash : (c : Catalogue) (n : List ℕ) (g : GoalForm) → IsWellFormed c → IsViewGoal c n g → goal_clashes (measures c) g ≡ true → (measures c n).clash ≡ true
+view_clash c n g w v e =
+    ap (λ (m : Measure). m.clash) (name_measure c w n (view v.own v.columns v.formula) v.entry) ∙ ap (goal_clashes (measures c)) (sym v.goal) ∙ e
+
+-- ---- relations
+
+-- a name that is defined and of which there is no goal is a relation
+pub relation_there : (c : Catalogue) (n : List ℕ) → is_some (known c n) ≡ true → None ≡ option_map (λ v. goal_of v.0 v.1) (view_in (entry_of c.entries n)) → is_some (relation_in (entry_of c.entries n)) ≡ true
+relation_there c n k e = by (entry_of c.entries n) refl e
+  where
+    by : (o : Option Entry) → entry_of c.entries n ≡ o → None ≡ option_map (λ v. goal_of v.0 v.1) (view_in o) → is_some (relation_in o) ≡ true
+    by None f e = absurd (true≢false (sym k ∙ ap is_some (unknown c n f)))
+    by (Some (relation m h i ts)) f e = refl
+    by (Some (view m h x)) f e = absurd (none-some (goal_of h x) e)
+
+-- its tuples are what is given of it
+pub relation_given : (c : Catalogue) (n : List ℕ) (h : List Column) (ts : List (ℕ × List Atom)) → IsWellFormed c → Some ts ≡ relation_in (entry_of c.entries n)
+    → Some h ≡ option_map (λ k. k.columns) (known c n) → IsGivenOf c (record { name = n; heading = h; tuples = tuples_of ts })
+relation_given c n h ts w e i = by (entry_of c.entries n) refl e
+  where
+    by : (o : Option Entry) → entry_of c.entries n ≡ o → Some ts ≡ relation_in o → IsGivenOf c (record { name = n; heading = h; tuples = tuples_of ts })
+    by None f e = absurd (none-some ts (sym e))
+    by (Some (view m k x)) f e = absurd (none-some ts (sym e))
+    by (Some (relation m k j us)) f e =
+        let same : k ≡ h = ap columns_with (sym (name_known c w n (relation m k j us) f)) ∙ named_columns c n h i in
+        let stored : us ≡ ts = sym (same_Some ts us e) in
+        subst (λ x. IsGivenOf c (record { name = n; heading = h; tuples = tuples_of x })) stored
+        (subst (λ x. IsGivenOf c (record { name = n; heading = x; tuples = tuples_of us })) same
+        (record {
+          columns = named_columns c n h i ∙ sym same;
+          over = tuples_over c w n m k j us f;
+          means = λ d xs l b. relation_means c w n m k j us f d xs;
+          lines = λ l x. subst (λ (y : Measure). In l y.lines) (sym (name_measure c w n (relation m k j us) f)) x;
+        }))
+
+-- ---- of code
+
+-- with copies of the name and the heading
+pub given_as : (c : Catalogue) (n m : List ℕ) (k : List Column) (ts : List (List Atom)) (h : List Column) → m ≡ n → k ≡ h → IsGivenOf c (record { name = n; heading = h; tuples = ts })
+    → IsGivenAs c n (record { name = m; heading = k; tuples = ts })
+given_as c n m k ts h e f g = record {
+  name = e;
+  of = subst (λ x. IsGivenOf c (record { name = x; heading = k; tuples = ts })) (sym e) (subst (λ x. IsGivenOf c (record { name = n; heading = x; tuples = ts })) (sym f) g);
+}
+
+none_mapped : (o : Option Known) → is_some o ≡ true → None ≡ option_map (λ k. k.columns) o → ⊥
+none_mapped None k e = true≢false (sym k)
+none_mapped (Some x) k e = none-some x.columns e
+
+-- a view has a heading
+pub view_heading : (c : Catalogue) (n : List ℕ) (g : GoalForm) → IsWellFormed c → IsViewGoal c n g → None ≡ option_map (λ k. k.columns) (known c n) → ⊥
+view_heading c n g w v e = none_mapped (known c n) (ap is_some (name_known c w n (view v.own v.columns v.formula) v.entry)) e
+
+-- and so has a relation
+pub relation_heading : (c : Catalogue) (n : List ℕ) → IsWellFormed c → is_some (relation_in (entry_of c.entries n)) ≡ true → None ≡ option_map (λ k. k.columns) (known c n) → ⊥
+relation_heading c n w r e = by (entry_of c.entries n) refl r
+  where
+    by : (o : Option Entry) → entry_of c.entries n ≡ o → is_some (relation_in o) ≡ true → ⊥
+    by None f r = true≢false (sym r)
+    by (Some x) f r = none_mapped (known c n) (ap is_some (name_known c w n x f)) e

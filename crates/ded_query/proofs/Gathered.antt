@@ -1,0 +1,50 @@
+-- What is gathered, name by name.
+use Rattle.std.proofs.Common.{◌≡◌, ℕ, ◌+◌, ◌<◌, ◌≤◌, true, is_some, List, take, length, get_or, sym, ◌∙◌, subst}
+use Rattle.std.specs.List.{AllByRecursion, list_any}
+use Rattle.std.proofs.lemmas.List.{take_more}
+use Rattle.std.specs.Str.{bytes_eq}
+use Rattle.ded_model.specs.Catalogue.{Catalogue}
+use Rattle.ded_model.specs.Entries.{known}
+use Rattle.ded_model.specs.Goal.{GoalForm}
+use Rattle.ded_model.specs.Known.{level_with}
+use Rattle.ded_model.specs.Logic.{AllAtoms}
+use Rattle.ded_model.specs.Measure.{measures, goal_clashes}
+use Rattle.ded_model.specs.PlanForm.{PlanForm}
+use Rattle.ded_model.specs.Uses.{plan_uses}
+use Rattle.ded_genrel.proofs.Items.{all-push, all_weaker}
+use Rattle.ded_planner.specs.Planned.{IsPlanned}
+use Rattle.ded_planner.specs.Plans.{IsScanOf}
+use Rattle.ded_planner.proofs.PlansOfFormulas.{plan_scans}
+use Rattle.ded_eval.specs.declared.given.GivenRelation.{GivenRelation}
+use Rattle.ded_eval.specs.Given.{has_name}
+use Rattle.ded_views.proofs.Clashing.{plan_clashing}
+use Rattle.ded_query.specs.Gathering.{IsGivenOf, IsGathered, IsPosed}
+use Rattle.ded_query.proofs.Names.{scanned_used, used_known, all_named, some_named}
+
+pub gathered_none : (c : Catalogue) (rs : List GivenRelation) → AllByRecursion (IsGivenOf c) rs → IsGathered c rs rs
+gathered_none c rs k = record { of = k; kept = λ n h. h }
+
+pub gathered_more : (c : Catalogue) (old mid new : List GivenRelation) → IsGathered c old mid → IsGathered c mid new → IsGathered c old new
+gathered_more c old mid new g h = record { of = h.of; kept = λ n x. h.kept n (g.kept n x) }
+
+-- one name more
+pub named_more : (c : Catalogue) (names : List (List ℕ)) (i : ℕ) (n : List ℕ) (mid new : List GivenRelation) → i < length names → n ≡ get_or names i n → IsGathered c mid new → has_name n new ≡ true
+    → AllByRecursion (λ m. has_name m mid ≡ true) (take i names) → AllByRecursion (λ m. has_name m new ≡ true) (take (i + 1) names)
+named_more c names i n mid new l e g h k =
+    subst (AllByRecursion (λ m. has_name m new ≡ true)) (sym (take_more names i n l))
+    (all-push (λ m. has_name m new ≡ true) (take i names) (get_or names i n) (all_weaker (λ m. has_name m mid ≡ true) (λ m. has_name m new ≡ true) (take i names) g.kept k) (subst (λ m. has_name m new ≡ true) e h))
+
+module _ (c : Catalogue) (g : GoalForm) (plan : PlanForm) (level : ℕ) (p : IsPosed c g level) (k : IsPlanned g plan) where
+  -- the scans of the plan are of names that the formula uses
+  pub posed_scans : AllAtoms (IsScanOf c p.formula) plan
+  posed_scans = plan_scans c p.columns p.formula plan p.question.accepted (subst (λ x. IsPlanned x plan) p.question.goal k)
+
+  pub posed_known : (names : List (List ℕ)) → ((n : List ℕ) → plan_uses n plan ≡ list_any (bytes_eq n) names) → AllByRecursion (λ n. is_some (known c n) ≡ true) names
+  posed_known names all = all_named (λ n. is_some (known c n) ≡ true) names (λ n e. used_known (known c) p.formula n p.question.accepted.known (scanned_used c p.formula plan n posed_scans (all n ∙ e)))
+
+  pub posed_levels : (names : List (List ℕ)) → ((n : List ℕ) → plan_uses n plan ≡ list_any (bytes_eq n) names) → AllByRecursion (λ n. level_with (known c n) ≤ level) names
+  posed_levels names all = all_named (λ n. level_with (known c n) ≤ level) names (λ n e. p.levels n (scanned_used c p.formula plan n posed_scans (all n ∙ e)))
+
+  -- a name that clashes makes the goal clash
+  pub posed_clash : (names : List (List ℕ)) → ((n : List ℕ) → plan_uses n plan ≡ list_any (bytes_eq n) names) → list_any (λ n. (measures c n).clash) names ≡ true → goal_clashes (measures c) g ≡ true
+  posed_clash names all e = some_named (λ n. (measures c n).clash) names (goal_clashes (measures c) g ≡ true) (λ n i h. k.clashes (measures c) (plan_clashing (measures c) plan n (all n ∙ i) h)) e

@@ -1,0 +1,133 @@
+-- What the names of given relations mean and measure, where these hold what the names do over a catalogue.
+use Rattle.std.proofs.Common.{◌≡◌, ℕ, ◌<◌, Bool, true, false, cond, ◌||◌, ◌⊎◌, inl, inr, List, [], ◌∷◌, ◌++◌, map, Option, Some, None, is_some, refl, sym, ap, ◌∙◌, subst, true≢false, bytes_eq}
+use Rattle.std.specs.Prelude.{◌↔◌, IsTrue, MatchBool}
+use Rattle.std.specs.List.{AllByRecursion}
+use Rattle.std.proofs.lemmas.Slice.Eq.{bytes_eq-Decides}
+use Rattle.ded_model.specs.Row.{Atom, tuples_hold}
+use Rattle.ded_model.specs.Catalogue.{Catalogue, tuples_of, at_slots, with_entry, meaning_from, meaning}
+use Rattle.std.specs.Option.{option_map}
+use Rattle.ded_model.specs.Entries.{entry_of, relation_in}
+use Rattle.ded_model.proofs.Rows.{or_left, or_right}
+use Rattle.ded_algebra.specs.Evaluation.{given_tuples}
+use Rattle.ded_model.specs.Lines.{IsSubset, tuples_lines}
+use Rattle.ded_model.specs.Measure.{Measures, with_measure, measures_from, measures}
+use Rattle.ded_model.specs.Value.{Argument, Meaning}
+use Rattle.ded_eval.specs.declared.given.GivenRelation.{GivenRelation}
+use Rattle.ded_eval.specs.Given.{unnumbered, given_entry, given_catalogue, has_name}
+use Rattle.ded_views.specs.Same.{AreByteArguments, MeansSame}
+use Rattle.ded_query.specs.Gathering.{IsGivenOf}
+
+-- numbers don't count
+unnumbered-tuples : (ts : List (List Atom)) → tuples_of (unnumbered ts) ≡ ts
+unnumbered-tuples [] = refl
+unnumbered-tuples (t ∷ ts) = ap (λ us. t ∷ us) (unnumbered-tuples ts)
+
+same_name : (n m : List ℕ) → bytes_eq n m ≡ true → m ≡ n
+same_name n m e = sym ((bytes_eq-Decides n m).0 e)
+
+-- ---- meanings
+
+module _ (c : Catalogue) (n : List ℕ) (d : ℕ) (xs : List Argument) (i : 0 < d) (k : AreByteArguments xs) where
+  -- of the relation's own name
+  own_means : (r : GivenRelation) → IsGivenOf c r → bytes_eq n r.name ≡ true → (I : Meaning) → meaning c n d xs ↔ with_entry I (given_entry r) n d xs
+  own_means r g e I =
+      subst (λ (b : Bool). meaning c n d xs ↔ MatchBool b (IsTrue (tuples_hold (tuples_of (unnumbered r.tuples)) (record { den = d; coords = at_slots 0 r.heading xs }))) (I n d xs)) (sym e)
+      (subst (λ (ts : List (List Atom)). meaning c n d xs ↔ IsTrue (tuples_hold ts (record { den = d; coords = at_slots 0 r.heading xs }))) (sym (unnumbered-tuples r.tuples))
+      (subst (λ (m : List ℕ). meaning c m d xs ↔ IsTrue (tuples_hold r.tuples (record { den = d; coords = at_slots 0 r.heading xs }))) (same_name n r.name e) (g.means d xs i k)))
+
+  -- of another name
+  other_means : (r : GivenRelation) → bytes_eq n r.name ≡ false → (I : Meaning) → meaning c n d xs ↔ I n d xs → meaning c n d xs ↔ with_entry I (given_entry r) n d xs
+  other_means r e I h =
+      subst (λ (b : Bool). meaning c n d xs ↔ MatchBool b (IsTrue (tuples_hold (tuples_of (unnumbered r.tuples)) (record { den = d; coords = at_slots 0 r.heading xs }))) (I n d xs)) (sym e) h
+
+  -- a name that is given, or that means so already
+  means_from : (rs : List GivenRelation) (I : Meaning) → AllByRecursion (IsGivenOf c) rs → (has_name n rs ≡ true) ⊎ (meaning c n d xs ↔ I n d xs) → meaning c n d xs ↔ meaning_from I (map given_entry rs) n d xs
+  means_from [] I g (inl e) = absurd (true≢false (sym e))
+  means_from [] I g (inr h) = h
+  means_from (r ∷ rs) I g h = means_from rs (with_entry I (given_entry r)) g.1 (by (bytes_eq n r.name) refl h)
+    where
+      by : (b : Bool) → bytes_eq n r.name ≡ b → ((b || has_name n rs) ≡ true) ⊎ (meaning c n d xs ↔ I n d xs) → (has_name n rs ≡ true) ⊎ (meaning c n d xs ↔ with_entry I (given_entry r) n d xs)
+      by true e h = inr (own_means r g.0 e I)
+      by false e (inl f) = inl f
+      by false e (inr f) = inr (other_means r e I f)
+
+-- a name that is given means the same
+pub given_means : (c : Catalogue) (rs : List GivenRelation) (n : List ℕ) → AllByRecursion (IsGivenOf c) rs → has_name n rs ≡ true → MeansSame c (given_catalogue rs) n
+unfolding meaning
+given_means c rs n g e = λ d xs i k. means_from c n d xs i k rs (λ n d xs. ⊥) g (inl e)
+
+-- ---- lines
+
+module _ (c : Catalogue) (n : List ℕ) where
+  own_lines : (r : GivenRelation) (M : Measures) → IsGivenOf c r → IsSubset (M n).lines (measures c n).lines → IsSubset (with_measure M (given_entry r) n).lines (measures c n).lines
+  own_lines r M g h = by (bytes_eq n r.name) refl
+    where
+      by : (b : Bool) → bytes_eq n r.name ≡ b → IsSubset (with_measure M (given_entry r) n).lines (measures c n).lines
+      by true e =
+          rw e (subst (λ ts. IsSubset (tuples_lines ts) (measures c n).lines) (sym (unnumbered-tuples r.tuples)) (subst (λ (m : List ℕ). IsSubset (tuples_lines r.tuples) (measures c m).lines) (same_name n r.name e) g.lines))
+      by false e = rw e h
+
+  own_clash : (r : GivenRelation) (M : Measures) → (M n).clash ≡ false → (with_measure M (given_entry r) n).clash ≡ false
+  own_clash r M h = by (bytes_eq n r.name) refl
+    where
+      by : (b : Bool) → bytes_eq n r.name ≡ b → (with_measure M (given_entry r) n).clash ≡ false
+      by true e = rw e refl
+      by false e = rw e h
+
+  lines_from : (rs : List GivenRelation) (M : Measures) → AllByRecursion (IsGivenOf c) rs → IsSubset (M n).lines (measures c n).lines → IsSubset (measures_from M (map given_entry rs) n).lines (measures c n).lines
+  lines_from [] M g h = h
+  lines_from (r ∷ rs) M g h = lines_from rs (with_measure M (given_entry r)) g.1 (own_lines r M g.0 h)
+
+  clash_from : (rs : List GivenRelation) (M : Measures) → (M n).clash ≡ false → (measures_from M (map given_entry rs) n).clash ≡ false
+  clash_from [] M h = h
+  clash_from (r ∷ rs) M h = clash_from rs (with_measure M (given_entry r)) (own_clash r M h)
+
+-- each name has lines among those that it has over the catalogue
+pub given_lines : (c : Catalogue) (rs : List GivenRelation) → AllByRecursion (IsGivenOf c) rs → (n : List ℕ) → IsSubset (measures (given_catalogue rs) n).lines (measures c n).lines
+unfolding measures
+given_lines c rs g n = lines_from c n rs _ g (λ l i. absurd i)
+
+-- and no clash
+pub given_clash : (rs : List GivenRelation) (n : List ℕ) → (measures (given_catalogue rs) n).clash ≡ false
+unfolding measures
+given_clash rs n = clash_from (given_catalogue rs) n rs _ refl
+
+-- ---- entries
+
+-- a relation of the name, which is found
+pub record IsFoundOf (c : Catalogue) (rs : List GivenRelation) (n : List ℕ) : Type 0 where
+  pub relation : GivenRelation
+  pub of : IsGivenOf c relation
+  pub named : relation.name ≡ n
+  pub entry : entry_of (map given_entry rs) n ≡ Some (given_entry relation)
+
+pub found_of : (c : Catalogue) (rs : List GivenRelation) (n : List ℕ) → AllByRecursion (IsGivenOf c) rs → has_name n rs ≡ true → IsFoundOf c rs n
+found_of c [] n g e = absurd (true≢false (sym e))
+found_of c (r ∷ rs) n g e = by (bytes_eq n r.name) refl e (found_of c rs n g.1)
+  where
+    by : (b : Bool) → bytes_eq n r.name ≡ b → (b || has_name n rs) ≡ true → (has_name n rs ≡ true → IsFoundOf c rs n) → IsFoundOf c (r ∷ rs) n
+    by true f h next = record { relation = r; of = g.0; named = same_name n r.name f; entry = ap (λ b. cond b (Some (given_entry r)) (entry_of (map given_entry rs) n)) f }
+    by false f h next =
+        let found = next h in
+        record { relation = found.relation; of = found.of; named = found.named; entry = ap (λ b. cond b (Some (given_entry r)) (entry_of (map given_entry rs) n)) f ∙ found.entry }
+
+-- ---- of code
+
+pub some_mapped : {A B : Type 0} (f : A → B) (o : Option A) → is_some o ≡ is_some (option_map f o)
+some_mapped f None = refl
+some_mapped f (Some x) = refl
+
+-- tuples stand under a name exactly where it is given
+pub given_has : (n : List ℕ) (rs : List GivenRelation) → is_some (given_tuples (given_catalogue rs) n) ≡ has_name n rs
+given_has n [] = refl
+given_has n (r ∷ rs) = by (bytes_eq n r.name) refl (given_has n rs)
+  where
+    by : (b : Bool) → bytes_eq n r.name ≡ b → is_some (given_tuples (given_catalogue rs) n) ≡ has_name n rs
+        → is_some (option_map tuples_of (relation_in (cond (bytes_eq n r.name) (Some (given_entry r)) (entry_of (map given_entry rs) n)))) ≡ (bytes_eq n r.name || has_name n rs)
+    by true e next = rw e refl
+    by false e next = rw e next
+
+-- the last one of a list is given
+pub has_last : (rs : List GivenRelation) (r : GivenRelation) → has_name r.name (rs ++ r ∷ []) ≡ true
+has_last [] r = or_left (bytes_eq r.name r.name) false ((bytes_eq-Decides r.name r.name).1 refl)
+has_last (x ∷ rs) r = or_right (bytes_eq r.name x.name) (has_name r.name (rs ++ r ∷ [])) (has_last rs r)

@@ -1,0 +1,213 @@
+//! What a plan scans, gathered: the tuples of relations, and views as what their goals are evaluated to.
+ghost use Rattle.std.specs.Prelude.{◌≡◌, ◌≤◌, true, is_some, Some, None, IfOk, IsErrOf, OnOk};
+ghost use Rattle.std.specs.List.{AllByRecursion, list_any};
+ghost use Rattle.std.specs.Option.{option_map};
+ghost use Rattle.ded_model.specs.declared.memory.Refused.TheVariants.{Wide};
+ghost use Rattle.ded_model.specs.Catalogue.{Catalogue, tuples_of};
+ghost use Rattle.ded_model.specs.Entries.{known, entry_of, relation_in};
+ghost use Rattle.ded_model.specs.Goal.{goal_form};
+ghost use Rattle.ded_model.specs.Known.{level_with};
+ghost use Rattle.ded_model.specs.Measure.{measures, goal_clashes};
+ghost use Rattle.ded_catalog.specs.State.{catalogue_of};
+ghost use Rattle.ded_eval.specs.Given.{has_name};
+ghost use Rattle.ded_query.specs.Gathering.{IsGivenOf, IsGathered, IsPosed, IsEvaluated, IsViewGoal, IsViewOf, IsGivenAs};
+
+use ded_algebra::{Evaluate, Relations};
+use ded_answers::reduced;
+use ded_catalog::Catalogue;
+use ded_eval::{Engine, Given, GivenRelation};
+use ded_goals::laws::normal_goals;
+use ded_model::goal::Goal;
+use ded_model::memory::{NoMemory, Refused};
+use ded_model::name::Name;
+use ded_model::tuple::{Tuple, Tuples};
+use ded_planner::{plan, scanned_names};
+use std::alloc::Global;
+use std::collections::BTreeMap;
+
+/// Tuples that hold exactly where the goal of an accepted formula does over the catalogue, whose names have at most the level.
+/// They mention only slots that the goal mentions freely. What it reaches is given first, each name once.
+///
+/// # Errors
+/// `Wide` only where the goal clashes, and else want of memory. More may be given then.
+#[cycle(evaluated)]
+pub(crate) fn evaluated(
+    alloc: Global,
+    catalogue: &Catalogue,
+    goal: &Goal,
+    level: u32,
+    given: &mut Given,
+) -> Result<Tuples, Refused>
+    requires posed { IsPosed (catalogue_of catalogue.now) (goal_form goal.now) level }
+    requires given { AllByRecursion (IsGivenOf (catalogue_of catalogue.now)) given.old }
+    ensures is { IfOk result (λ ts. IsEvaluated (catalogue_of catalogue.now) (goal_form goal.now) ts) }
+    ensures gathered { OnOk result (IsGathered (catalogue_of catalogue.now) given.old given.new) }
+    ensures wide { IsErrOf result Wide → goal_clashes (measures (catalogue_of catalogue.now)) (goal_form goal.now) ≡ true }
+{
+    normal_goals();
+    let plan = plan(alloc, goal)?;
+    let names = scanned_names(alloc, &plan)?;
+    give_all(alloc, catalogue, &names, level, given)?;
+    Engine {}.evaluate(alloc, &plan, &*given)
+}
+
+/// Gives the names, which are defined and have at most the level.
+///
+/// # Errors
+/// `Wide` only where one of the names clashes, and else want of memory. More may be given then.
+#[cycle(evaluated)]
+fn give_all(
+    alloc: Global,
+    catalogue: &Catalogue,
+    names: &[Name],
+    level: u32,
+    given: &mut Given,
+) -> Result<(), Refused>
+    requires defined { AllByRecursion (λ n. is_some (known (catalogue_of catalogue.now) n) ≡ true) names.now }
+    requires levels { AllByRecursion (λ n. level_with (known (catalogue_of catalogue.now) n) ≤ level) names.now }
+    requires given { AllByRecursion (IsGivenOf (catalogue_of catalogue.now)) given.old }
+    ensures gathered { OnOk result (IsGathered (catalogue_of catalogue.now) given.old given.new) }
+    ensures all { OnOk result (AllByRecursion (λ n. has_name n given.new ≡ true) names.now) }
+    ensures wide { IsErrOf result Wide → list_any (λ n. (measures (catalogue_of catalogue.now) n).clash) names.now ≡ true }
+{
+    for name in names {
+        give(alloc, catalogue, name, level, given)?;
+    }
+    Ok(())
+}
+
+/// Gives the name, which is defined and has at most the level, unless it is given already.
+///
+/// # Errors
+/// `Wide` only where the name clashes, and else want of memory. More may be given then.
+#[cycle(evaluated)]
+fn give(
+    alloc: Global,
+    catalogue: &Catalogue,
+    name: &Name,
+    level: u32,
+    given: &mut Given,
+) -> Result<(), Refused>
+    requires defined { is_some (known (catalogue_of catalogue.now) name.now) ≡ true }
+    requires level { level_with (known (catalogue_of catalogue.now) name.now) ≤ level }
+    requires given { AllByRecursion (IsGivenOf (catalogue_of catalogue.now)) given.old }
+    ensures gathered { OnOk result (IsGathered (catalogue_of catalogue.now) given.old given.new) }
+    ensures is { OnOk result (has_name name.now given.new ≡ true) }
+    ensures wide { IsErrOf result Wide → (measures (catalogue_of catalogue.now) name.now).clash ≡ true }
+{
+    if is_given(given, name) {
+        return Ok(());
+    }
+    match catalogue.goal(name) {
+        Some(goal) => give_view(alloc, catalogue, name, goal, level, given),
+        None => {
+            let relation = relation(alloc, catalogue, name)?;
+            Ok(add(catalogue, given, relation)?)
+        }
+    }
+}
+
+/// Gives a view, which has at most the level, by its goal.
+///
+/// # Errors
+/// `Wide` only where the view clashes, and else want of memory. More may be given then.
+#[cycle(evaluated)]
+fn give_view(
+    alloc: Global,
+    catalogue: &Catalogue,
+    name: &Name,
+    goal: &Goal,
+    level: u32,
+    given: &mut Given,
+) -> Result<(), Refused>
+    requires view { IsViewGoal (catalogue_of catalogue.now) name.now (goal_form goal.now) }
+    requires level { level_with (known (catalogue_of catalogue.now) name.now) ≤ level }
+    requires given { AllByRecursion (IsGivenOf (catalogue_of catalogue.now)) given.old }
+    ensures gathered { OnOk result (IsGathered (catalogue_of catalogue.now) given.old given.new) }
+    ensures is { OnOk result (has_name name.now given.new ≡ true) }
+    ensures wide { IsErrOf result Wide → (measures (catalogue_of catalogue.now) name.now).clash ≡ true }
+{
+    catalogue.formed();
+    let tuples = evaluated(alloc, catalogue, goal, level - 1, given)?;
+    let view = view(catalogue, name, reduced(alloc, tuples)?)?;
+    Ok(add(catalogue, given, view)?)
+}
+
+/// Whether the name is given.
+fn is_given(given: &Given, name: &Name) -> bool
+    ensures { result ≡ has_name name.now given.now }
+{
+    given.tuples(name).is_some()
+}
+
+/// Adds the relation, unless one of its name is given.
+///
+/// # Errors
+/// Want of memory; nothing is changed then.
+fn add(catalogue: &Catalogue, given: &mut Given, relation: GivenRelation) -> Result<(), NoMemory>
+    requires given { AllByRecursion (IsGivenOf (catalogue_of catalogue.now)) given.old }
+    requires of { IsGivenOf (catalogue_of catalogue.now) relation }
+    ensures gathered { OnOk result (IsGathered (catalogue_of catalogue.now) given.old given.new) }
+    ensures is { OnOk result (has_name relation.name given.new ≡ true) }
+{
+    let _ = catalogue;
+    if is_given(given, &relation.name) {
+        return Ok(());
+    }
+    given.add(relation)
+}
+
+/// A view under its name, with what its goal was evaluated to.
+///
+/// # Errors
+/// Want of memory.
+fn view(catalogue: &Catalogue, name: &Name, tuples: Tuples) -> Result<GivenRelation, NoMemory>
+    requires { IsViewOf (catalogue_of catalogue.now) name.now tuples }
+    ensures { IfOk result (λ r. IsGivenAs (catalogue_of catalogue.now) name.now r) }
+{
+    catalogue.formed();
+    let Some(heading) = catalogue.heading(name) else {
+        unreachable!()
+    };
+    Ok(GivenRelation {
+        name: name.copy()?,
+        heading: heading.copy()?,
+        tuples,
+    })
+}
+
+/// A relation under its name, with copies of its tuples.
+///
+/// # Errors
+/// Want of memory.
+fn relation(alloc: Global, catalogue: &Catalogue, name: &Name) -> Result<GivenRelation, NoMemory>
+    requires { is_some (relation_in (entry_of (catalogue_of catalogue.now).entries name.now)) ≡ true }
+    ensures { IfOk result (λ r. IsGivenAs (catalogue_of catalogue.now) name.now r) }
+{
+    catalogue.formed();
+    let Some(heading) = catalogue.heading(name) else {
+        unreachable!()
+    };
+    let Some(stored) = catalogue.stored(name) else {
+        unreachable!()
+    };
+    Ok(GivenRelation {
+        name: name.copy()?,
+        heading: heading.copy()?,
+        tuples: copies(alloc, stored)?,
+    })
+}
+
+/// Copies of the tuples, in order.
+///
+/// # Errors
+/// Want of memory.
+fn copies(alloc: Global, stored: &BTreeMap<u32, Tuple>) -> Result<Tuples, NoMemory>
+    ensures { IfOk result (λ ts. ts ≡ tuples_of stored.now.entries) }
+{
+    let mut list = Vec::with_capacity(alloc, stored.len())?;
+    for (_, tuple) in stored {
+        list.push(tuple.copy()?)?;
+    }
+    Ok(Tuples { list })
+}

@@ -1,0 +1,9 @@
+pub mod PointsAlike
+pub mod PlansAlike
+pub mod Clashing
+pub mod Placing
+pub mod Atoms
+pub mod Measuring
+pub mod ViewNames
+pub mod GoalNames
+pub mod Views

@@ -1,0 +1,51 @@
+-- A plan holds alike where the names that it scans mean the same of byte strings.
+--
+-- At a point, what a scan reads from the slots are byte strings, over a denominator above 0.
+use Rattle.std.proofs.Common.{◌≡◌, ℕ, ◌<◌, true, List, [], ◌∷◌, map, arith, refl, mul-pos}
+use Rattle.std.specs.Prelude.{◌↔◌, ℤ}
+use Rattle.std.proofs.lemmas.Slice.Eq.{bytes_eq-Decides}
+use Rattle.ded_model.specs.declared.slot.Slot.{Slot}
+use Rattle.ded_model.specs.declared.slot.Sort.{Sort}
+use Rattle.ded_model.specs.declared.slot.Sort.TheVariants.{Rat, Text}
+use Rattle.ded_model.specs.Point.{slot, AllBytes, Point, IsPoint, number_at, text_at}
+use Rattle.ded_model.specs.Value.{sorted_value, slot_value, Argument, overs, argument_times, arguments}
+use Rattle.ded_model.specs.Catalogue.{Catalogue, meaning, PlanHolds}
+use Rattle.ded_model.specs.PlanForm.{PlanForm, PlanAtom, scan, rows, PlanAtomHolds}
+use Rattle.ded_model.specs.Uses.{plan_atom_uses, plan_uses}
+use Rattle.ded_model.proofs.Alike.{all_atoms}
+use Rattle.ded_model.proofs.Values.{overs-positive}
+use Rattle.ded_algebra.proofs.SamePoints.{point-bytes}
+use Rattle.ded_views.specs.Same.{AreByteArguments, MeansSame}
+use Rattle.ded_views.proofs.PointsAlike.{IsAlikeAtPoints, alike}
+
+-- ---- what a scan reads
+
+times_bytes : (m : ℕ) (xs : List Argument) → AreByteArguments xs → AreByteArguments (map (argument_times m) xs)
+times_bytes m [] h = tt
+times_bytes m (x ∷ xs) h = (h.0, times_bytes m xs h.1)
+
+sorted_bytes : (s : Sort) (n : ℤ) (t : List ℕ) → AllBytes t → AllBytes (sorted_value s n t).text
+sorted_bytes Rat n t h = tt
+sorted_bytes Text n t h = h
+
+sorted_positive : (s : Sort) (n : ℤ) (t : List ℕ) → 0 < (sorted_value s n t).over
+sorted_positive Rat n t = omega arith
+sorted_positive Text n t = omega arith
+
+arguments_bytes : (p : Point) → IsPoint p → (ss : List Slot) → AreByteArguments (arguments (map (slot_value p) ss))
+arguments_bytes p i [] = tt
+arguments_bytes p i (s ∷ ss) =
+    (sorted_bytes s.sort (number_at p (slot s)) (text_at p (slot s)) (point-bytes p (slot s) i), times_bytes (slot_value p s).over (arguments (map (slot_value p) ss)) (arguments_bytes p i ss))
+
+slots_positive : (p : Point) (ss : List Slot) → 0 < overs (map (slot_value p) ss)
+slots_positive p ss = overs-positive (slot_value p) (λ s. sorted_positive s.sort (number_at p (slot s)) (text_at p (slot s))) ss
+
+-- ---- the law
+
+step : (c d : Catalogue) (a : PlanAtom) → ((n : List ℕ) → plan_atom_uses n a ≡ true → MeansSame c d n) → IsAlikeAtPoints (PlanAtomHolds (meaning c)) (PlanAtomHolds (meaning d)) a
+step c d (scan n ss) h p i = h n ((bytes_eq-Decides n n).1 refl) _ _ (mul-pos i.positive (slots_positive p ss)) (arguments_bytes p i ss)
+step c d (rows t) h p i = (λ s. s, λ s. s)
+
+pub plans_alike : (c d : Catalogue) (f : PlanForm) (p : Point) → IsPoint p → ((n : List ℕ) → plan_uses n f ≡ true → MeansSame c d n) → PlanHolds c f p ↔ PlanHolds d f p
+plans_alike c d f p i h =
+    alike (PlanAtomHolds (meaning c)) (PlanAtomHolds (meaning d)) f (all_atoms plan_atom_uses (MeansSame c d) (IsAlikeAtPoints (PlanAtomHolds (meaning c)) (PlanAtomHolds (meaning d))) (step c d) f h) p i
