@@ -1,9 +1,15 @@
 pub mod Answers
 pub mod Columns
+pub mod Counts
 pub mod Decimals
 pub mod Examples
 pub mod Gathering
 pub mod LineReplies
+pub mod Plans
+pub mod QuotedLines
+pub mod QuotedTexts
 pub mod Refusals
+pub mod RefusalsApart
+pub mod SpanLines
 pub mod Telling
 pub mod Terms

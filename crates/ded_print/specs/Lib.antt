@@ -1,7 +1,11 @@
 pub mod Boxes
+pub mod Counts
+pub mod Depths
 pub mod Gathering
 pub mod Lines
 pub mod Naming
+pub mod Nodes
 pub mod Numbers
 pub mod Plans
+pub mod Quiet
 pub mod Tuples

@@ -1,9 +1,15 @@
 //! Laws on the texts of replies, as contracts of functions that do nothing.
-ghost use Rattle.std.specs.Prelude.{◌≡◌, ◌++◌, true, List, ℕ};
+ghost use Rattle.std.specs.Prelude.{◌≡◌, ◌<◌, ◌++◌, codes, length, true, List, ℕ};
+ghost use Rattle.ded_model.specs.declared.bound.Bound.{Bound};
+ghost use Rattle.ded_model.specs.declared.command.Refusal.{Refusal};
 ghost use Rattle.ded_model.specs.declared.name.Column.{Column};
+ghost use Rattle.ded_model.specs.PlanForm.{PlanForm};
 ghost use Rattle.ded_model.specs.Row.{Atom};
-ghost use Rattle.ded_print.specs.Lines.{LineReply, IsPrintable, reply_line, reply_text, is_one_line};
-ghost use Rattle.ded_print.specs.Tuples.{stored_text};
+ghost use Rattle.ded_print.specs.Boxes.{rational_names, spans_text};
+ghost use Rattle.ded_print.specs.Lines.{LineReply, IsPrintable, line_text, refusal_text, reply_line, reply_text, is_one_line};
+ghost use Rattle.ded_print.specs.Plans.{plan_text};
+ghost use Rattle.ded_print.specs.Quiet.{AreQuiet, IsQuietPlan};
+ghost use Rattle.ded_print.specs.Tuples.{answer_text, stored_text};
 
 /// The text of a reply of one line has no line feed before its end.
 pub fn one_line()
@@ -22,4 +28,37 @@ pub fn one_reply()
 pub fn no_line_of_tuples()
     ensures { (columns : List Column) (stored : List (ℕ × List Atom)) (reply : LineReply) (xs ys : List ℕ) →
         stored_text columns stored ++ xs ≡ reply_text reply ++ ys → ⊥ }
+{}
+
+/// Of two answers over one heading no text is a proper front of the other's, where no name has a blank, a line feed or a quote.
+/// Texts in tuples may have any bytes.
+pub fn one_answer()
+    ensures { (columns : List Column) (ts us : List (List Atom)) (xs ys : List ℕ) → AreQuiet columns →
+        answer_text columns ts ++ xs ≡ answer_text columns us ++ ys →
+        (answer_text columns ts ≡ answer_text columns us) × (xs ≡ ys) }
+{}
+
+/// Nor of two plans.
+pub fn one_plan()
+    ensures { (f g : PlanForm) (xs ys : List ℕ) → IsQuietPlan f → IsQuietPlan g →
+        plan_text f ++ xs ≡ plan_text g ++ ys → (plan_text f ≡ plan_text g) × (xs ≡ ys) }
+{}
+
+/// Nor of the bounds of one heading's columns.
+pub fn one_box()
+    ensures { (columns : List Column) (bs cs : List (Bound × Bound)) (xs ys : List ℕ) → AreQuiet columns →
+        length bs ≡ length cs → spans_text columns bs ++ xs ≡ spans_text columns cs ++ ys →
+        (spans_text columns bs ≡ spans_text columns cs) × (xs ≡ ys) }
+{}
+
+/// No text begins as a refusal's and as that of an answer, a plan or a box.
+pub fn refusals_apart()
+    ensures answers { (columns : List Column) (ts : List (List Atom)) (r : Refusal) (xs ys : List ℕ) →
+        answer_text columns ts ++ xs ≡ refusal_text r ++ ys → ⊥ }
+    ensures plans { (f : PlanForm) (r : Refusal) (xs ys : List ℕ) → plan_text f ++ xs ≡ refusal_text r ++ ys → ⊥ }
+    ensures nowhere { (r : Refusal) (xs ys : List ℕ) → line_text (codes "empty") ++ xs ≡ refusal_text r ++ ys → ⊥ }
+    ensures no_rational { (r : Refusal) (xs ys : List ℕ) →
+        line_text (codes "no rational column") ++ xs ≡ refusal_text r ++ ys → ⊥ }
+    ensures boxes { (columns : List Column) (bs : List (Bound × Bound)) (r : Refusal) (xs ys : List ℕ) → AreQuiet columns →
+        0 < length (rational_names columns) → 0 < length bs → spans_text columns bs ++ xs ≡ refusal_text r ++ ys → ⊥ }
 {}

@@ -8,11 +8,15 @@
 #![tactic(auto)]
 
 mod answer;
+mod bounds;
+mod count;
+mod depth;
 mod gathered;
 pub mod laws;
 mod line;
 mod naming;
 mod number;
+mod plan;
 mod row;
 mod stored;
 #[cfg(test)]
@@ -21,6 +25,8 @@ mod theme;
 mod tuple;
 
 pub use answer::print_answer;
+pub use bounds::print_box;
 pub use line::{print_done, print_number, print_refusal, print_truth};
+pub use plan::print_plan;
 pub use stored::print_stored;
 pub use tuple::print_tuple;

@@ -4,6 +4,7 @@ ghost use Rattle.ded_print.specs.Gathering.{output, Puts};
 ghost use Rattle.ded_print.specs.Tuples.{Names, column_at};
 
 use crate::gathered::Gathered;
+use crate::number::put_natural;
 use ded_io::Sink;
 use ded_model::name::{Column, Name};
 use ded_model::slot::Slot;
@@ -42,6 +43,21 @@ impl SlotNames for ColumnNames<'_> {
 
     fn put_name<K: Sink>(&self, slot: Slot, gathered: &mut Gathered, sink: &mut K) {
         gathered.put(sink, column_name(self.columns, slot.number));
+    }
+}
+
+/// Slot number i is called `v` and i.
+#[derive(Clone, Copy)]
+pub(crate) struct SlotNumbers;
+
+impl SlotNames for SlotNumbers {
+    ghost use Rattle.ded_print.specs.Naming.{numbers_of};
+
+    ghost names = { numbers_of };
+
+    fn put_name<K: Sink>(&self, slot: Slot, gathered: &mut Gathered, sink: &mut K) {
+        gathered.put(sink, b"v");
+        put_natural(u64::from(slot.number), gathered, sink);
     }
 }
 

@@ -1,0 +1,12 @@
+pub mod AnswersRead
+pub mod CoefsRead
+pub mod Digits
+pub mod Loops
+pub mod Names
+pub mod Overs
+pub mod Prefixes
+pub mod RowsRead
+pub mod Signs
+pub mod TermsRead
+pub mod ThemesRead
+pub mod TuplesRead

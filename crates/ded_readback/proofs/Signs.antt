@@ -1,0 +1,51 @@
+-- Signs that are printed and read back.
+use Rattle.std.proofs.Common.{◌≡◌, ℕ, zero, suc, Bool, true, false, not, refl, ap, ◌∙◌, arith}
+use Rattle.std.specs.Prelude.{ℤ, pos, negsuc, int_lt, unsigned_abs}
+use lib.IntN.{neg_ℤ}
+use Rattle.std.proofs.lemmas.Bool.Decides.{nat_tests}
+use Rattle.ded_print.specs.Tuples.{signed}
+use Rattle.ded_readback.specs.Reading.{number_of}
+
+pub plus : (n : ℕ) → int_lt (pos n) (pos 0) ≡ false
+plus n = grind (arith, nat_tests)
+
+neg_twice : (z : ℤ) → neg_ℤ (neg_ℤ z) ≡ z
+neg_twice (pos zero) = refl
+neg_twice (pos (suc n)) = refl
+neg_twice (negsuc n) = refl
+
+turned_twice : (t : Bool) (z : ℤ) → signed t (signed t z) ≡ z
+turned_twice true z = neg_twice z
+turned_twice false z = refl
+
+-- a number by its sign and its magnitude
+sign_back : (z : ℤ) → signed (int_lt z (pos 0)) (pos (unsigned_abs z)) ≡ z
+sign_back (pos n) = ap (λ (b : Bool). signed b (pos n)) (plus n)
+sign_back (negsuc n) = refl
+
+neg_abs : (z : ℤ) → unsigned_abs (neg_ℤ z) ≡ unsigned_abs z
+neg_abs (pos zero) = refl
+neg_abs (pos (suc n)) = refl
+neg_abs (negsuc n) = refl
+
+pub turned_abs : (t : Bool) (z : ℤ) → unsigned_abs (signed t z) ≡ unsigned_abs z
+turned_abs true z = neg_abs z
+turned_abs false z = refl
+
+pub number_back : (t : Bool) (z : ℤ) → number_of t (int_lt (signed t z) (pos 0)) (unsigned_abs (signed t z)) ≡ z
+number_back t z = ap (signed t) (sign_back (signed t z)) ∙ turned_twice t z
+
+back_over : (t : Bool) (z : ℤ) → signed (not t) (neg_ℤ (signed t z)) ≡ z
+back_over true z = neg_twice z
+back_over false z = neg_twice z
+
+pub constant_back : (t : Bool) (z : ℤ) → number_of (not t) (int_lt (neg_ℤ (signed t z)) (pos 0)) (unsigned_abs (neg_ℤ (signed t z))) ≡ z
+constant_back t z = ap (signed (not t)) (sign_back (neg_ℤ (signed t z))) ∙ back_over t z
+
+pub constant_abs : (t : Bool) (z : ℤ) → unsigned_abs (neg_ℤ (signed t z)) ≡ unsigned_abs z
+constant_abs t z = neg_abs (signed t z) ∙ turned_abs t z
+
+-- where all signs are turned exactly if the first number is negative, that number is printed as a positive one
+pub first_plus : (z : ℤ) → int_lt (signed (int_lt z (pos 0)) z) (pos 0) ≡ false
+first_plus (pos n) = ap (λ (b : Bool). int_lt (signed b (pos n)) (pos 0)) (plus n) ∙ plus n
+first_plus (negsuc n) = plus (suc n)

@@ -1,0 +1,10 @@
+-- What contracts see of the sink that keeps a text.
+use Rattle.std.specs.Prelude.{ℕ, List}
+use Rattle.ded_readback.specs.declared.printed.Text.{Text}
+
+abbrev pub text_bytes : Text → List ℕ
+text_bytes t = t.bytes.items
+
+-- how many faults it has counted
+abbrev pub text_faults : Text → ℕ
+text_faults t = t.faults
