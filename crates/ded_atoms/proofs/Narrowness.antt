@@ -43,7 +43,7 @@ coef_within (x ∷ cs) s k c h = go (same_slot x.0 s) refl (coef_within cs s k c
 row_within : (r : LinearConstraint) (k : ℕ) → AreCoefs r.coefs → row_length r ≤ k → AreWithin k (row_lines r)
 row_within r k c h = line_with-within r.coefs r.constant k (λ t. coef_within r.coefs t k c (omega (arith, h))) (within_from_length r.constant k (omega (arith, h)))
 
-lines_within : (t : List Atom) (k : ℕ) → IsNormalTuple t → tuple_length t ≤ k → AreWithin k (conj_lines (by_kind row_lines (λ a. [])) t)
+pub lines_within : (t : List Atom) (k : ℕ) → IsNormalTuple t → tuple_length t ≤ k → AreWithin k (conj_lines (by_kind row_lines (λ a. [])) t)
 lines_within [] k n h l i = absurd i
 lines_within (First r ∷ t) k n h l i = ⊎_elim
     (λ (j : In l (row_lines r)). row_within r k n.0.0 (omega (arith, h)) l j)

@@ -6,7 +6,10 @@ ghost use Rattle.ded_session.specs.Answered.{reply_form};
 ghost use Rattle.ded_run.specs.Texts.{text_of};
 
 use ded_io::{Failed, Sink};
-use ded_print::{print_done, print_number, print_refusal, print_stored, print_truth};
+use ded_print::{
+    print_answer, print_box, print_done, print_number, print_plan, print_refusal, print_stored,
+    print_truth,
+};
 use ded_session::Reply;
 
 /// Writes the text of a reply, or a front of it where the sink fails. Takes no memory.
@@ -21,7 +24,10 @@ pub fn write_reply<K: Sink>(reply: &Reply, sink: &mut K) -> Result<(), Failed>
         Reply::Done => print_done(sink),
         Reply::Number(number) => print_number(u64::from(*number), sink),
         Reply::Truth(holds) => print_truth(*holds, sink),
+        Reply::Tuples(answer) => print_answer(answer, sink),
         Reply::Stored(heading, tuples) => print_stored(heading, tuples.list.as_slice(), sink),
+        Reply::Boxes(heading, bounds) => print_box(heading, bounds, sink),
+        Reply::Steps(plan) => print_plan(plan, sink),
         Reply::Refused(refusal) => print_refusal(refusal, sink),
     }
 }

@@ -5,16 +5,14 @@ use Rattle.std.specs.List.{list_any}
 use Rattle.std.specs.declared.option.Option.{Option}
 use Rattle.std.proofs.lemmas.Bool.Decides.{nat_tests}
 use Rattle.ded_model.specs.declared.command.Refusal.TheVariants.{Many, Twice, Unknown, Taken, Kind, Arity, Unbound, WrongSort, Used, NoTuple, Level}
-use Rattle.ded_model.specs.declared.command.Command.{Command}
-use Rattle.ded_model.specs.declared.command.Command.TheVariants as program
 use Rattle.ded_model.specs.declared.formula.Formula.{Formula}
 use Rattle.ded_model.specs.declared.goal.Goal.{Goal}
 use Rattle.ded_model.specs.declared.name.Column.{Column}
 use Rattle.ded_model.specs.Catalogue.{Catalogue}
-use Rattle.ded_model.specs.Command.{CommandForm, command_form, relation, insert, delete, drop, view, keep, ask, query, show, box_of, explain}
+use Rattle.ded_model.specs.Command.{CommandForm, relation, insert, delete, drop, view, keep, show, box_of}
 use Rattle.ded_model.specs.Form.{Form, FormAtom, form}
 use Rattle.ded_model.specs.Goal.{goal_form}
-use Rattle.ded_model.specs.Known.{Known, IsAccepted, IsTupleOver, level_of, has_missorted}
+use Rattle.ded_model.specs.Known.{Known, IsAccepted, IsTupleOver, level_of, is_many, has_twice, uses_unknown, has_other_arity, has_unbound, has_missorted}
 use Rattle.ded_model.specs.Logic.{Logics}
 use Rattle.ded_model.specs.Row.{Atom}
 use Rattle.ded_model.specs.Slotted.{goal_of, tuple_of}
@@ -25,7 +23,7 @@ use Rattle.ded_sorts.specs.Causes.{is_relation_with, is_view_with}
 use Rattle.ded_sorts.specs.Checks.{IsResolved, HasNoCause, forms_of}
 use Rattle.ded_model.specs.Entries.{known, tuples_in, columns_in, entry_uses}
 use Rattle.ded_syntax.specs.Answered.{is_answered}
-use Rattle.ded_session.specs.Carrying.{IsReady, is_served, Carries}
+use Rattle.ded_session.specs.Carrying.{IsReady, Carries}
 use Rattle.ded_session.specs.Replies.{ReplyForm}
 
 -- ---- tests
@@ -65,17 +63,21 @@ module _ (c : Catalogue) where
   of_relation : (n : List ℕ) → HasNoCause c (show n) → is_relation_with (known c n) ≡ true
   of_relation n a = relation_of (known c n) (a Unknown refl) (a Kind refl)
 
+  of_box : (n : List ℕ) → HasNoCause c (box_of n) → is_relation_with (known c n) ≡ true
+  of_box n a = relation_of (known c n) (a Unknown refl) (a Kind refl)
+
   present : (n : List ℕ) (k : ℕ) → HasNoCause c (delete n k) → list_any (λ t. t.0 == k) (tuples_in c n) ≡ true
   present n k a = true_of (list_any (λ t. t.0 == k) (tuples_in c n)) (a NoTuple refl)
 
-  accepted : (n : List ℕ) (h : List Column) (f : Form) → HasNoCause c (view n h f) → IsAccepted (known c) h f
-  accepted n h f a = record {
-    few = a Many refl;
-    once = a Twice refl;
-    known = a Unknown refl;
-    arity = a Arity refl;
-    bound = a Unbound refl;
-    sorted = or_left (has_missorted (known c) h f) false (a WrongSort refl);
+  pub accepted : (h : List Column) (f : Form) → is_many h f ≡ false → has_twice h ≡ false → uses_unknown (known c) f ≡ false → has_other_arity (known c) f ≡ false
+      → has_unbound h f ≡ false → (has_missorted (known c) h f || false) ≡ false → IsAccepted (known c) h f
+  accepted h f many twice unknown arity unbound sort = record {
+    few = many;
+    once = twice;
+    known = unknown;
+    arity = arity;
+    bound = unbound;
+    sorted = or_left (has_missorted (known c) h f) false sort;
   }
 
   -- ---- by slots
@@ -109,6 +111,10 @@ module _ (c : Catalogue) where
   show_is : (x : CommandForm) (n : List ℕ) → IsResolved c x (checked.Show n) → x ≡ show n
   show_is (show m) n r = ap show (sym r)
   show_is _ n r = absurd r
+
+  box_is : (x : CommandForm) (n : List ℕ) → IsResolved c x (checked.BoxOf n) → x ≡ box_of n
+  box_is (box_of m) n r = ap box_of (sym r)
+  box_is _ n r = absurd r
 
   view_is : (x : CommandForm) (n : List ℕ) (h : List Column) (f : Formula) (g : Goal) → IsResolved c x (checked.View n h f g) → (x ≡ view n h (form f)) × (goal_form g ≡ goal_of h (form f))
   view_is (view m k e) n h f g r = (
@@ -147,13 +153,18 @@ module _ (c : Catalogue) where
         let r = subst (IsReady c) e ready in
         of_relation n (subst (HasNoCause c) (show_is r.written n r.resolved) r.accepted)
 
+    pub ready_box : (n : List ℕ) → k ≡ checked.BoxOf n → is_relation_with (known c n) ≡ true
+    ready_box n e =
+        let r = subst (IsReady c) e ready in
+        of_box n (subst (HasNoCause c) (box_is r.written n r.resolved) r.accepted)
+
     pub ready_view : (n : List ℕ) (h : List Column) (f : Formula) (g : Goal) → k ≡ checked.View n h f g
         → (known c n ≡ None) × IsAccepted (known c) h (form f) × (level_of (known c) (form f) ≤ 16) × (goal_form g ≡ goal_of h (form f))
     ready_view n h f g e =
         let r = subst (IsReady c) e ready in
         let v = view_is r.written n h f g r.resolved in
         let a = subst (HasNoCause c) v.0 r.accepted in
-        (none_of (known c n) (a Taken refl), accepted n h (form f) a, at_most (level_of (known c) (form f)) (a Level refl), v.1)
+        (none_of (known c n) (a Taken refl), accepted h (form f) (a Many refl) (a Twice refl) (a Unknown refl) (a Arity refl) (a Unbound refl) (a WrongSort refl), at_most (level_of (known c) (form f)) (a Level refl), v.1)
 
     -- what such a command says, as it is written
     pub written_relation : (n : List ℕ) (h : List Column) → k ≡ checked.Relation n h → (x : CommandForm) → IsResolved c x k → x ≡ relation n h
@@ -168,6 +179,9 @@ module _ (c : Catalogue) where
     pub written_show : (n : List ℕ) → k ≡ checked.Show n → (x : CommandForm) → IsResolved c x k → x ≡ show n
     written_show n e x r = show_is x n (subst (IsResolved c x) e r)
 
+    pub written_box : (n : List ℕ) → k ≡ checked.BoxOf n → (x : CommandForm) → IsResolved c x k → x ≡ box_of n
+    written_box n e x r = box_is x n (subst (IsResolved c x) e r)
+
     pub written_view : (n : List ℕ) (h : List Column) (f : Formula) (g : Goal) → k ≡ checked.View n h f g → (x : CommandForm) → IsResolved c x k → x ≡ view n h (form f)
     written_view n h f g e x r = (view_is x n h f g (subst (IsResolved c x) e r)).0
 
@@ -179,55 +193,9 @@ module _ (c : Catalogue) where
       let i = insert_is x n t (subst (IsResolved c x) e r) in
       subst (λ (y : CommandForm). Carries y c reply d) (sym i.is) (does i.comparisons i.tuple)
 
-  -- ---- the other commands aren't served
-
-  no_keep : (x : CommandForm) (n : List ℕ) → is_served x ≡ true → IsResolved c x (checked.Keep n) → ⊥
+  no_keep : (x : CommandForm) (n : List ℕ) → is_answered x ≡ true → IsResolved c x (checked.Keep n) → ⊥
   no_keep (keep m) n s r = true≢false (sym s)
   no_keep _ n s r = r
 
-  no_ask : (x : CommandForm) (g : Goal) → is_served x ≡ true → IsResolved c x (checked.Ask g) → ⊥
-  no_ask (ask f) g s r = true≢false (sym s)
-  no_ask _ g s r = r
-
-  no_query : (x : CommandForm) (h : List Column) (g : Goal) → is_served x ≡ true → IsResolved c x (checked.Query h g) → ⊥
-  no_query (query k f) h g s r = true≢false (sym s)
-  no_query _ h g s r = r
-
-  no_box : (x : CommandForm) (n : List ℕ) → is_served x ≡ true → IsResolved c x (checked.BoxOf n) → ⊥
-  no_box (box_of m) n s r = true≢false (sym s)
-  no_box _ n s r = r
-
-  no_explain : (x : CommandForm) (h : List Column) (g : Goal) → is_served x ≡ true → IsResolved c x (checked.Explain h g) → ⊥
-  no_explain (explain k f) h g s r = true≢false (sym s)
-  no_explain _ h g s r = r
-
-  pub nothing_else : (k : Checked) → IsReady c k
-      → ((n : List ℕ) (h : List Column) → k ≡ checked.Relation n h → ⊥) → ((n : List ℕ) (t : List Atom) → k ≡ checked.Insert n t → ⊥)
-      → ((n : List ℕ) (i : ℕ) → k ≡ checked.Delete n i → ⊥) → ((n : List ℕ) → k ≡ checked.Drop n → ⊥)
-      → ((n : List ℕ) (h : List Column) (f : Formula) (g : Goal) → k ≡ checked.View n h f g → ⊥) → ((n : List ℕ) → k ≡ checked.Show n → ⊥) → ⊥
-  nothing_else (checked.Relation n h) r p1 p2 p3 p4 p5 p6 = p1 n h refl
-  nothing_else (checked.Insert n t) r p1 p2 p3 p4 p5 p6 = p2 n t refl
-  nothing_else (checked.Delete n i) r p1 p2 p3 p4 p5 p6 = p3 n i refl
-  nothing_else (checked.Drop n) r p1 p2 p3 p4 p5 p6 = p4 n refl
-  nothing_else (checked.View n h f g) r p1 p2 p3 p4 p5 p6 = p5 n h f g refl
-  nothing_else (checked.Show n) r p1 p2 p3 p4 p5 p6 = p6 n refl
-  nothing_else (checked.Keep n) r p1 p2 p3 p4 p5 p6 = no_keep r.written n r.served r.resolved
-  nothing_else (checked.Ask g) r p1 p2 p3 p4 p5 p6 = no_ask r.written g r.served r.resolved
-  nothing_else (checked.Query h g) r p1 p2 p3 p4 p5 p6 = no_query r.written h g r.served r.resolved
-  nothing_else (checked.BoxOf n) r p1 p2 p3 p4 p5 p6 = no_box r.written n r.served r.resolved
-  nothing_else (checked.Explain h g) r p1 p2 p3 p4 p5 p6 = no_explain r.written h g r.served r.resolved
-
--- ---- which commands are served
-
-pub serves : (k : Command) → is_answered (command_form k) ≡ true → ((f : Formula) → k ≡ program.Ask f → ⊥) → is_served (command_form k) ≡ true
-serves (program.Relation n h) e other = refl
-serves (program.Insert n fs) e other = refl
-serves (program.Delete n i) e other = refl
-serves (program.Drop n) e other = refl
-serves (program.View n h f) e other = refl
-serves (program.Show n) e other = refl
-serves (program.Ask f) e other = absurd (other f refl)
-serves (program.Keep n) e other = absurd (true≢false (sym e))
-serves (program.Query h f) e other = absurd (true≢false (sym e))
-serves (program.BoxOf n) e other = absurd (true≢false (sym e))
-serves (program.Explain h f) e other = absurd (true≢false (sym e))
+  pub ready_keep : (k : Checked) → IsReady c k → (n : List ℕ) → k ≡ checked.Keep n → ⊥
+  ready_keep k ready n e = let r = subst (IsReady c) e ready in no_keep r.written n r.answered r.resolved

@@ -9,14 +9,15 @@ use Rattle.std.specs.Option.{unwrap_or}
 use Rattle.ded_model.specs.declared.command.Refusal.{Refusal}
 use Rattle.ded_model.specs.declared.command.Refusal.TheVariants.{LongStatement, Unfinished, Syntax, LongName, LongNumber, Deep, Many, Twice, Unknown, Taken, Kind, Arity, Unbound, WrongSort, Used, NoTuple, Full, Spent, Level, Wide, Memory}
 use Rattle.ded_model.specs.Catalogue.{Catalogue}
-use Rattle.ded_model.specs.Command.{CommandForm, insert, view}
+use Rattle.ded_model.specs.Command.{CommandForm, relation, insert, delete, drop, view, keep, ask, query, show, box_of, explain}
 use Rattle.ded_model.specs.Form.{FormAtom}
 use Rattle.ded_model.specs.Logic.{Logics}
 use Rattle.ded_model.specs.Refusals.{refusal_number}
 use Rattle.ded_sorts.specs.Causes.{has_cause, is_full, is_spent, is_too_high}
 use Rattle.ded_sorts.specs.Checks.{HasNoCause, IsLeastCause, is_checked}
-use Rattle.ded_session.specs.Carrying.{refusal_left, Carries, IsFirstCause, NoCause, Answers}
+use Rattle.ded_session.specs.Carrying.{refusal_left, MayStillRefuse, Carries, IsFirstCause, NoCause, MayRefuseFor, Answers}
 use Rattle.ded_session.specs.Replies.{ReplyForm, done, number, truth, tuples, stored, boxes, steps, refused}
+use Rattle.ded_session.specs.Steps.{Does, MayBeWide}
 
 -- a refusal is decided by the names, or it is one of the two, or it has never a cause in a command
 kinds : (q : Refusal) → (is_checked q ≡ true) ⊎ ((q ≡ Full) ⊎ ((q ≡ Spent) ⊎ ((c : Catalogue) (x : CommandForm) → has_cause q c x ≡ false)))
@@ -87,6 +88,11 @@ first_of r c x h = record { applies = h.applies; least = λ q less. by_kind c x 
     high : (q : Refusal) → refusal_number q < refusal_number r → 16 < refusal_number q → (has_cause Full c x ≡ false) × (has_cause Spent c x ≡ false)
     high q less above = no_insert c x (sym (ap (λ (p : Refusal). has_cause p c x) (level_alone r h.checked (omega arith))) ∙ h.applies)
 
+pub named : (r : Refusal) (c : Catalogue) (x : CommandForm) → (r ≢ Memory → IsLeastCause r c x) → MayRefuseFor r x c
+named Memory c x h = tt
+named Wide c x h = absurd (true≢false (sym (h (λ e. cc)).checked))
+named _ c x h = first_of _ c x (h (λ e. cc))
+
 -- ---- accepted by the names
 
 -- an insert has room and numbers, or is refused for the lesser of both
@@ -132,8 +138,18 @@ refused_left : (c : Catalogue) (x : CommandForm) (r : Refusal) → HasNoCause c 
 refused_left c (insert n fs) r h e other = refused_insert c n fs r h e other
 refused_left c _ r h e other = absurd (other e)
 
+-- what may be too wide is no insert
+none_wide : (c : Catalogue) (x : CommandForm) → MayBeWide x c → refusal_left c x ≡ None
+none_wide c (insert n fs) w = absurd w
+none_wide c _ w = refl
+
+still : (c : Catalogue) (x : CommandForm) (r : Refusal) → HasNoCause c x → MayStillRefuse r x c → MayRefuseFor r x c
+still c x Wide h k = (none_left c x h (none_wide c x k), k)
+still c x Memory h k = tt
+still c x _ h k = refused_left c x _ h k (λ e. cc)
+
 pub carried : (c d : Catalogue) (x : CommandForm) (reply : ReplyForm) → HasNoCause c x → Carries x c reply d → Answers x c reply d
-carried c d x (refused r) h k = (refused_left c x r h k.0, k.1)
+carried c d x (refused r) h k = (still c x r h k.0, k.1)
 carried c d x done h k = (none_left c x h k.0, k.1)
 carried c d x (number n) h k = (none_left c x h k.0, k.1)
 carried c d x (truth b) h k = (none_left c x h k.0, k.1)
@@ -141,3 +157,39 @@ carried c d x (tuples columns ts) h k = (none_left c x h k.0, k.1)
 carried c d x (stored columns ts) h k = (none_left c x h k.0, k.1)
 carried c d x (boxes columns b) h k = (none_left c x h k.0, k.1)
 carried c d x (steps plan) h k = (none_left c x h k.0, k.1)
+
+-- ---- the replies of calls
+
+-- an insert is refused for what the catalogue says
+pub insert_refused : (r : Refusal) (c : Catalogue) (n : List ℕ) (fs : Logics FormAtom) → r ≡ unwrap_or (refusal_left c (insert n fs)) Memory → MayStillRefuse r (insert n fs) c
+insert_refused Wide c n fs e = by (is_full c n) (is_spent c n) e
+  where
+    by : (b d : Bool) → Wide ≡ unwrap_or (if b then Some Full else if d then Some Spent else None) Memory → ⊥
+    by true d e = cc
+    by false true e = cc
+    by false false e = cc
+insert_refused _ c n fs e = e
+
+no_refusal : (x : CommandForm) (c d : Catalogue) (r : Refusal) → Does x c (refused r) d → ⊥
+no_refusal (relation n h) c d r k = k
+no_refusal (insert n fs) c d r k = k
+no_refusal (delete n i) c d r k = k
+no_refusal (drop n) c d r k = k
+no_refusal (view n h f) c d r k = k
+no_refusal (keep n) c d r k = k
+no_refusal (ask f) c d r k = k
+no_refusal (query h f) c d r k = k
+no_refusal (show n) c d r k = k
+no_refusal (box_of n) c d r k = k
+no_refusal (explain h f) c d r k = k
+
+-- a command to which no refusal is left is carried out by what it does
+pub carries : (x : CommandForm) (c d : Catalogue) (reply : ReplyForm) → refusal_left c x ≡ None → Does x c reply d → Carries x c reply d
+carries x c d (refused r) left k = absurd (no_refusal x c d r k)
+carries x c d done left k = (left, k)
+carries x c d (number n) left k = (left, k)
+carries x c d (truth b) left k = (left, k)
+carries x c d (tuples columns ts) left k = (left, k)
+carries x c d (stored columns ts) left k = (left, k)
+carries x c d (boxes columns b) left k = (left, k)
+carries x c d (steps plan) left k = (left, k)

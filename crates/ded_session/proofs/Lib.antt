@@ -1,8 +1,11 @@
 mod Accepted
+mod Asking
+mod Bounding
 mod Carried
 mod Calls
-mod GroundLemmas
-mod Questions
+pub mod Pairs
+pub mod PlainNames
+pub mod PlainSpelling
 pub mod OneList
 mod StepLemmas
 mod WideQuestions

@@ -14,7 +14,7 @@ use Rattle.ded_syntax.specs.Answered.{is_answered}
 use Rattle.ded_syntax.specs.Spelling.{Spells, AppliesIn, IsRead, IsLeastIn}
 use Rattle.ded_syntax.proofs.One.{one_command}
 use Rattle.ded_syntax.proofs.PlainSums.{spelled_plain}
-use Rattle.ded_session.specs.Carrying.{Answers, IsFirstCause, NoCause}
+use Rattle.ded_session.specs.Carrying.{Answers, IsFirstCause, MayRefuseFor, NoCause}
 use Rattle.ded_session.specs.Causes.{Commands, Applies, NoneApplies}
 use Rattle.ded_session.specs.Replies.{ReplyForm, done, number, truth, tuples, stored, boxes, steps, refused}
 use Rattle.ded_session.specs.Steps.{Step, MayRefuse}
@@ -129,12 +129,13 @@ module _ (l : Language) (bytes : List ℕ) (c : Catalogue) (short : length bytes
         go Memory a least e = absurd (true≢false (sym e))
         go _ a least e = record { applies = a; least = least }
 
-    refusal_step : (r : Refusal) → (r ≢ Memory → IsFirstCause r c x) → MayRefuse r l (Whole bytes) c
-    refusal_step Memory k = short
-    refusal_step _ k = first_applies _ (k (λ e. cc))
-
     none_applies : NoCause c x → NoneApplies l (Whole bytes) c
     none_applies none q = neither x h.depth h.spells q (h.accepted q) (none q)
+
+    refusal_step : (r : Refusal) → MayRefuseFor r x c → MayRefuse r l (Whole bytes) c
+    refusal_step Memory k = short
+    refusal_step Wide k = record { none = none_applies k.0; command = x; depth = h.depth; spells = h.spells; so = k.1 }
+    refusal_step _ k = first_applies _ k
 
     pub step_read : (reply : ReplyForm) (d : Catalogue) → Answers x c reply d → Step l c (Whole bytes) reply d
     step_read (refused r) d k = (refusal_step r k.0, k.1)

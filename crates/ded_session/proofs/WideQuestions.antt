@@ -6,15 +6,13 @@ use Rattle.ded_lex.specs.Pieces.{Statement, Whole}
 use Rattle.ded_lex.specs.Pieces as pieces
 use Rattle.ded_model.specs.declared.command.Language.{Language}
 use Rattle.ded_model.specs.declared.command.Refusal.TheVariants.{Many, Twice, Unknown, Arity, Unbound, WrongSort, Wide}
-use Rattle.ded_model.specs.declared.name.Column.{Column}
 use Rattle.ded_model.specs.Catalogue.{Catalogue}
 use Rattle.ded_model.specs.Command.{CommandForm, ask, query, box_of}
-use Rattle.ded_model.specs.Entries.{known}
-use Rattle.ded_model.specs.Form.{Form}
-use Rattle.ded_model.specs.Known.{IsAccepted, IsWellFormed, has_missorted}
-use Rattle.std.proofs.lemmas.Bool.{or_parts, false_from_ne_true}
+use Rattle.ded_model.specs.Known.{IsWellFormed}
+use Rattle.std.proofs.lemmas.Bool.{false_from_ne_true}
 use Rattle.ded_sorts.specs.Causes.{has_cause}
 use Rattle.ded_width.proofs.FormulaReaches.{formula_tight}
+use Rattle.ded_session.proofs.Accepted.{accepted}
 use Rattle.ded_session.specs.Replies.{refused}
 use Rattle.ded_session.specs.Steps.{MayBeWide, Accepted, Accepts, Step}
 use Rattle.ded_session.specs.Widths.{IsNotNarrow}
@@ -38,29 +36,9 @@ none language bytes c Fact a = record {
   sort = false_from_ne_true _ (λ e. a.none WrongSort (record { command = a.command; depth = a.depth; spells = a.spells; cause = e }));
 }
 
-asked : (c : Catalogue) (f : Form) → HasNone c (ask f) → IsAccepted (known c) [] f
-asked c f h = record {
-  few = h.many;
-  once = refl;
-  known = h.unknown;
-  arity = h.arity;
-  bound = h.unbound;
-  sorted = (or_parts (has_missorted (known c) [] f) false h.sort).0;
-}
-
-queried : (c : Catalogue) (k : List Column) (f : Form) → HasNone c (query k f) → IsAccepted (known c) k f
-queried c k f h = record {
-  few = h.many;
-  once = h.twice;
-  known = h.unknown;
-  arity = h.arity;
-  bound = h.unbound;
-  sorted = (or_parts (has_missorted (known c) k f) false h.sort).0;
-}
-
 not_narrow : (c : Catalogue) (x : CommandForm) → IsWellFormed c → HasNone c x → MayBeWide x c → IsNotNarrow x c
-not_narrow c (ask f) w h m = λ n. m (formula_tight c w [] f (asked c f h) n)
-not_narrow c (query k f) w h m = λ n. m (formula_tight c w k f (queried c k f h) n)
+not_narrow c (ask f) w h m = λ n. m (formula_tight c w [] f (accepted c [] f h.many refl h.unknown h.arity h.unbound h.sort) n)
+not_narrow c (query k f) w h m = λ n. m (formula_tight c w k f (accepted c k f h.many h.twice h.unknown h.arity h.unbound h.sort) n)
 not_narrow c (box_of n) w h m = m
 not_narrow c _ w h m = absurd m
 

@@ -1,34 +1,25 @@
 -- What a command that is read may be answered, and what it then makes of a catalogue.
-use Rattle.std.specs.Prelude.{◌≡◌, ◌≢◌, ◌<◌, Bool, true, false, Option, None}
+use Rattle.std.specs.Prelude.{◌≡◌, ◌<◌, true, false, Option, None}
 use Rattle.std.specs.Option.{unwrap_or}
 use Rattle.ded_model.specs.declared.command.Refusal.{Refusal}
-use Rattle.ded_model.specs.declared.command.Refusal.TheVariants.{Memory}
+use Rattle.ded_model.specs.declared.command.Refusal.TheVariants.{Memory, Wide}
 use Rattle.ded_model.specs.Catalogue.{Catalogue}
-use Rattle.ded_model.specs.Command.{CommandForm, relation, insert, delete, drop, view, show}
+use Rattle.ded_model.specs.Command.{CommandForm, insert}
 use Rattle.ded_model.specs.Refusals.{refusal_number}
 use Rattle.ded_sorts.specs.declared.checked.Checked.{Checked}
 use Rattle.ded_sorts.specs.Causes.{has_cause, insert_refusal}
 use Rattle.ded_sorts.specs.Checks.{HasNoCause, IsResolved}
 use Rattle.ded_resolve.specs.Storing.{IsStorable}
+use Rattle.ded_syntax.specs.Answered.{is_answered}
 use Rattle.ded_session.specs.Replies.{ReplyForm, refused}
-use Rattle.ded_session.specs.Steps.{Does}
+use Rattle.ded_session.specs.Steps.{Does, MayBeWide}
 
 -- ---- of a command that the names accept
 
--- the commands that change the catalogue or show what it stores
-abbrev pub is_served : CommandForm → Bool
-is_served (relation n h) = true
-is_served (insert n fs) = true
-is_served (delete n k) = true
-is_served (drop n) = true
-is_served (view n h f) = true
-is_served (show n) = true
-is_served _ = false
-
--- some such command is this one by slots, and is accepted
+-- some command that the program answers is this one by slots, and is accepted
 pub record IsReady (c : Catalogue) (k : Checked) : Type 0 where
   pub written : CommandForm
-  pub served : is_served written ≡ true
+  pub answered : is_answered written ≡ true
   pub resolved : IsResolved c written k
   pub accepted : HasNoCause c written
   pub storable : IsStorable c k
@@ -38,9 +29,14 @@ abbrev pub refusal_left : Catalogue → CommandForm → Option Refusal
 refusal_left c (insert n fs) = insert_refusal c n
 refusal_left c _ = None
 
--- it is refused for that, or else for want of memory, and then changes nothing; or it is done
+-- it may be refused for that, or else for want of memory; or as too wide, where numbers may become too long
+abbrev pub MayStillRefuse : Refusal → CommandForm → Catalogue → Type 0
+MayStillRefuse Wide x c = MayBeWide x c
+MayStillRefuse r x c = r ≡ unwrap_or (refusal_left c x) Memory
+
+-- it is refused so, and then changes nothing; or it is done
 abbrev pub Carries : CommandForm → Catalogue → ReplyForm → Catalogue → Type 0
-Carries x c (refused r) d = (r ≡ unwrap_or (refusal_left c x) Memory) × (d ≡ c)
+Carries x c (refused r) d = MayStillRefuse r x c × (d ≡ c)
 Carries x c reply d = (refusal_left c x ≡ None) × Does x c reply d
 
 -- ---- of any command
@@ -54,8 +50,14 @@ pub record IsFirstCause (r : Refusal) (c : Catalogue) (x : CommandForm) : Type 0
 abbrev pub NoCause : Catalogue → CommandForm → Type 0
 NoCause c x = (q : Refusal) → has_cause q c x ≡ false
 
--- it is refused for the least of the causes, or for want of memory, and then changes nothing; or it is done, and no
--- refusal has a cause
+-- it may be refused for the least of the causes; for want of memory; or as too wide, where no refusal has a cause and numbers
+-- may become too long
+abbrev pub MayRefuseFor : Refusal → CommandForm → Catalogue → Type 0
+MayRefuseFor Wide x c = NoCause c x × MayBeWide x c
+MayRefuseFor Memory x c = Unit {0}
+MayRefuseFor r x c = IsFirstCause r c x
+
+-- it is refused so, and then changes nothing; or it is done, and no refusal has a cause
 abbrev pub Answers : CommandForm → Catalogue → ReplyForm → Catalogue → Type 0
-Answers x c (refused r) d = (r ≢ Memory → IsFirstCause r c x) × (d ≡ c)
+Answers x c (refused r) d = MayRefuseFor r x c × (d ≡ c)
 Answers x c reply d = NoCause c x × Does x c reply d

@@ -1,8 +1,9 @@
 pub mod Answered
 pub mod Carrying
 pub mod Causes
-pub mod Ground
+pub mod Pairs
 pub mod Pieces
+pub mod PlainNames
 pub mod Replies
 pub mod Runs
 pub mod State

@@ -4,13 +4,15 @@ ghost use Rattle.ded_model.specs.Command.{CommandForm, command_form};
 ghost use Rattle.ded_model.specs.LongRows.{has_long_row};
 ghost use Rattle.ded_model.specs.Plain.{IsPlainCommand};
 ghost use Rattle.ded_catalog.specs.State.{catalogue_of};
-ghost use Rattle.ded_sorts.specs.Checks.{IsResolved};
+ghost use Rattle.ded_sorts.specs.Checks.{HasNoCause, IsResolved};
 ghost use Rattle.ded_syntax.specs.Answered.{is_answered};
 ghost use Rattle.ded_session.specs.Answered.{reply_form};
 ghost use Rattle.ded_session.specs.Carrying.{Answers, Carries, IsReady};
 
+use crate::boxes::bounds;
 use crate::changes::{define, define_view, delete, drop_name, insert};
-use crate::ground::is_so;
+use crate::outcome::reply_of;
+use crate::questions::{steps, truth, tuples};
 use crate::reply::Reply;
 use crate::shown::show;
 use ded_catalog::Catalogue;
@@ -26,9 +28,6 @@ pub(crate) fn answer(alloc: Global, command: Command, catalogue: &mut Catalogue)
     requires short { has_long_row (command_form command) ≡ false }
     ensures { Answers (command_form command) (catalogue_of catalogue.old) (reply_form result) (catalogue_of catalogue.new) }
 {
-    if let Command::Ask(formula) = &command {
-        return Reply::Truth(is_so(formula));
-    }
     match resolve(alloc, command, &*catalogue) {
         Ok(checked) => carry_out(alloc, checked, catalogue),
         Err(refusal) => Reply::Refused(refusal),
@@ -38,7 +37,7 @@ pub(crate) fn answer(alloc: Global, command: Command, catalogue: &mut Catalogue)
 /// Answers a command that the names accept.
 fn carry_out(alloc: Global, command: Checked, catalogue: &mut Catalogue) -> Reply
     requires { IsReady (catalogue_of catalogue.old) command }
-    ensures { (written : CommandForm) → IsResolved (catalogue_of catalogue.old) written command →
+    ensures { (written : CommandForm) → IsResolved (catalogue_of catalogue.old) written command → HasNoCause (catalogue_of catalogue.old) written →
         Carries written (catalogue_of catalogue.old) (reply_form result) (catalogue_of catalogue.new) }
 {
     match command {
@@ -49,7 +48,11 @@ fn carry_out(alloc: Global, command: Checked, catalogue: &mut Catalogue) -> Repl
         Checked::View(name, heading, formula, goal) => {
             define_view(catalogue, name, heading, formula, goal)
         }
+        Checked::Ask(goal) => reply_of(truth(alloc, catalogue, &goal)),
+        Checked::Query(heading, goal) => reply_of(tuples(alloc, catalogue, heading, &goal)),
         Checked::Show(name) => show(alloc, catalogue, &name),
-        _ => unreachable!(),
+        Checked::BoxOf(name) => reply_of(bounds(alloc, catalogue, &name)),
+        Checked::Explain(_, goal) => reply_of(steps(alloc, &goal)),
+        Checked::Keep(_) => unreachable!(),
     }
 }

@@ -1,15 +1,18 @@
 //! Laws of the rules. Each is the contract of a function that does nothing.
-ghost use Rattle.std.specs.Prelude.{◌≡◌, List, ℕ};
+ghost use Rattle.std.specs.Prelude.{◌≡◌, Bool, List, ℕ};
 ghost use Rattle.ded_lex.specs.Pieces.{Statement};
-ghost use Rattle.ded_model.specs.declared.bound.BoxReply.{BoxReply};
 ghost use Rattle.ded_model.specs.declared.command.Language.{Language};
 ghost use Rattle.ded_model.specs.declared.name.Column.{Column};
 ghost use Rattle.ded_model.specs.declared.command.Refusal.TheVariants.{Wide};
 ghost use Rattle.ded_model.specs.Catalogue.{Catalogue};
+ghost use Rattle.ded_model.specs.Command.{CommandForm};
 ghost use Rattle.ded_model.specs.Known.{IsWellFormed};
-ghost use Rattle.ded_model.specs.PlanForm.{PlanForm};
 ghost use Rattle.ded_model.specs.Row.{Atom};
-ghost use Rattle.ded_session.specs.Replies.{boxes, refused, steps, stored, tuples};
+ghost use Rattle.ded_syntax.specs.Spelling.{SpellsBy};
+ghost use Rattle.ded_session.specs.Pairs.{AreOfOne, SpeaksPlainly};
+ghost use Rattle.ded_session.specs.PlainNames.{HasPlainNames, NamesPlainly};
+ghost use Rattle.ded_session.specs.Replies.{ReplyForm, refused, stored};
+ghost use Rattle.ded_session.specs.Runs.{Run, Steps};
 ghost use Rattle.ded_session.specs.Steps.{Accepts, Step};
 ghost use Rattle.ded_session.specs.Widths.{IsNotNarrow};
 
@@ -19,14 +22,29 @@ pub fn one_list()
         Step language c s (stored h ts) d → Step language c s (stored k us) e → (h ≡ k) × (ts ≡ us) }
 {}
 
-/// As yet no statement is answered by a list of tuples without numbers, a box or a plan.
-pub fn no_other_replies()
-    ensures tuples { (language : Language) (c d : Catalogue) (s : Statement) (h : List Column) (ts : List (List Atom)) →
-        Step language c s (tuples h ts) d → ⊥ }
-    ensures boxes { (language : Language) (c d : Catalogue) (s : Statement) (h : List Column) (b : BoxReply) →
-        Step language c s (boxes h b) d → ⊥ }
-    ensures steps { (language : Language) (c d : Catalogue) (s : Statement) (plan : PlanForm) →
-        Step language c s (steps plan) d → ⊥ }
+/// Each name that a command has is a word of the grammar.
+pub fn spelled_names()
+    ensures { (test : CommandForm → Bool) (language : Language) (bytes : List ℕ) (command : CommandForm) (depth : ℕ) →
+        SpellsBy test language bytes command depth → NamesPlainly command }
+{}
+
+/// So each catalogue that a step leads to from one whose names are such words has such names too, and each that a run leads to.
+pub fn plain_names()
+    ensures step { (language : Language) (c d : Catalogue) (s : Statement) (reply : ReplyForm) → HasPlainNames c →
+        Step language c s reply d → HasPlainNames d }
+    ensures steps { (language : Language) (c d : Catalogue) (ss : List Statement) (replies : List ReplyForm) → HasPlainNames c →
+        Steps language c ss replies d → HasPlainNames d }
+    ensures run { (limit : ℕ) (script : List ℕ) (replies : List ReplyForm) (last : Catalogue) →
+        Run limit script replies last → HasPlainNames last }
+{}
+
+/// Of two replies that a statement may get over a catalogue of such names: the names in each are such words, and both are of one
+/// kind where none is a refusal.
+pub fn two_replies()
+    ensures plain { (language : Language) (c d : Catalogue) (s : Statement) (reply : ReplyForm) → HasPlainNames c →
+        Step language c s reply d → SpeaksPlainly reply }
+    ensures pair { (language : Language) (c d e : Catalogue) (s : Statement) (reply other : ReplyForm) →
+        Step language c s reply d → Step language c s other e → AreOfOne reply other }
 {}
 
 /// A statement over a well formed catalogue is refused as too wide only where it is accepted, and what it asks isn't narrow.

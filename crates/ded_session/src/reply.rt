@@ -5,8 +5,11 @@ ghost use Rattle.ded_session.specs.Answered.{reply_form};
 ghost use Rattle.ded_session.specs.Replies.{is_refusal};
 
 use crate::stored::StoredTuples;
+use ded_model::answer::Answer;
+use ded_model::bound::BoxReply;
 use ded_model::command::Refusal;
 use ded_model::name::Heading;
+use ded_model::plan::Plan;
 
 /// The reply to a statement.
 #[derive(Drop)]
@@ -17,8 +20,14 @@ pub enum Reply {
     Number(u32),
     /// Whether what was asked is so.
     Truth(bool),
+    /// The tuples that hold where a formula does.
+    Tuples(Answer),
     /// The heading of a relation, and its tuples with their numbers.
     Stored(Heading, StoredTuples),
+    /// The heading of a relation, and the exact bounds of its rational columns.
+    Boxes(Heading, BoxReply),
+    /// The plan of a formula.
+    Steps(Plan),
     /// The statement changed nothing.
     Refused(Refusal),
 }

@@ -1,6 +1,7 @@
 //! That statements are answered and refused with ample memory.
 
 use crate::{Piece, Reply, Session};
+use ded_model::bound::BoxReply;
 use ded_model::command::Refusal;
 use std::process::Abort;
 use std::test::Fail;
@@ -11,7 +12,12 @@ enum Kind {
     Done,
     Number(u32),
     Truth(bool),
+    Tuples(usize),
     Stored(usize),
+    Nowhere,
+    NoRational,
+    Spans(usize),
+    Steps,
     Refused(Refusal),
 }
 
@@ -20,7 +26,12 @@ fn kind_of(reply: &Reply) -> Kind {
         Reply::Done => Kind::Done,
         Reply::Number(number) => Kind::Number(*number),
         Reply::Truth(holds) => Kind::Truth(*holds),
+        Reply::Tuples(answer) => Kind::Tuples(answer.tuples.list.len()),
         Reply::Stored(_, tuples) => Kind::Stored(tuples.list.len()),
+        Reply::Boxes(_, BoxReply::Nowhere) => Kind::Nowhere,
+        Reply::Boxes(_, BoxReply::NoRational) => Kind::NoRational,
+        Reply::Boxes(_, BoxReply::Spans(spans)) => Kind::Spans(spans.list.len()),
+        Reply::Steps(_) => Kind::Steps,
         Reply::Refused(refusal) => Kind::Refused(*refusal),
     }
 }
@@ -74,6 +85,82 @@ fn relations_and_views_are_defined_and_dropped(rt: HostRuntime) -> Result<(), Fa
             ("drop P", Kind::Refused(Refusal::Used)),
             ("show P", Kind::Stored(2)),
             ("drop V", Kind::Done),
+        ],
+    );
+    Ok(())
+}
+
+#[test]
+fn formulas_are_asked(rt: HostRuntime) -> Result<(), Fail> {
+    let mut session = Session::new(rt.alloc(), 2)?;
+    check(
+        &rt,
+        &mut session,
+        &[
+            ("relation P(x)", Kind::Done),
+            ("insert P { x >= 1, x < 2 }", Kind::Number(1)),
+            ("view V(x) := P(2*x)", Kind::Done),
+            ("ask exists x (V(x) and x < 1)", Kind::Truth(true)),
+            ("ask V(1)", Kind::Truth(false)),
+            ("ask forall x (P(x) implies x >= 1)", Kind::Truth(true)),
+            ("ask P(x)", Kind::Refused(Refusal::Unbound)),
+        ],
+    );
+    Ok(())
+}
+
+#[test]
+fn queries_are_answered_by_tuples(rt: HostRuntime) -> Result<(), Fail> {
+    let mut session = Session::new(rt.alloc(), 2)?;
+    check(
+        &rt,
+        &mut session,
+        &[
+            ("relation P(x, t text)", Kind::Done),
+            ("insert P { x > 1, t = 'a' }", Kind::Number(1)),
+            ("query (x) : P(x, 'a') and x < 3", Kind::Tuples(1)),
+            ("query (x) : P(x, 'b')", Kind::Tuples(0)),
+            ("query (x, x) : P(x, 'a')", Kind::Refused(Refusal::Twice)),
+        ],
+    );
+    Ok(())
+}
+
+#[test]
+fn relations_have_bounds(rt: HostRuntime) -> Result<(), Fail> {
+    let mut session = Session::new(rt.alloc(), 2)?;
+    check(
+        &rt,
+        &mut session,
+        &[
+            ("relation P(x, t text, y)", Kind::Done),
+            ("box P", Kind::Nowhere),
+            ("insert P { x < 1, x > 1 }", Kind::Number(1)),
+            ("box P", Kind::Nowhere),
+            ("insert P { x = 1, t = 'a' }", Kind::Number(2)),
+            ("box P", Kind::Spans(2)),
+            ("relation T(t text)", Kind::Done),
+            ("insert T { }", Kind::Number(1)),
+            ("box T", Kind::NoRational),
+            ("view V(x) := x < 0", Kind::Done),
+            ("box V", Kind::Refused(Refusal::Kind)),
+            ("box N", Kind::Refused(Refusal::Unknown)),
+        ],
+    );
+    Ok(())
+}
+
+#[test]
+fn plans_are_shown(rt: HostRuntime) -> Result<(), Fail> {
+    let mut session = Session::new(rt.alloc(), 2)?;
+    check(
+        &rt,
+        &mut session,
+        &[
+            ("relation P(x)", Kind::Done),
+            ("explain (x) : P(x) and x < 3", Kind::Steps),
+            ("explain (x) : N(x)", Kind::Refused(Refusal::Unknown)),
+            ("keep P", Kind::Refused(Refusal::Syntax)),
         ],
     );
     Ok(())

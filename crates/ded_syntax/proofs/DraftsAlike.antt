@@ -5,7 +5,7 @@ use Rattle.std.specs.List.{list_any}
 use Rattle.ded_model.specs.Command.{CommandForm}
 use Rattle.ded_model.specs.Form.{Form}
 use Rattle.ded_grammar.specs.declared.scan.Spot.TheVariants.{Start}
-use Rattle.ded_grammar.specs.Trees.{PieceForm, piece_atom, meaning, nesting}
+use Rattle.ded_grammar.specs.Trees.{piece_atom, meaning, nesting}
 use Rattle.ded_grammar.proofs.Sound.{spelled}
 use Rattle.ded_grammar.proofs.Told.{one_spelled}
 use Rattle.ded_grammar.proofs.Leaves.{spelled_atoms}
@@ -15,13 +15,12 @@ use Rattle.ded_syntax.specs.Commands.{Plain, defines, inserts_none, inserts, del
 use Rattle.ded_model.specs.LongRows.{is_long_atom, has_long_row}
 use Rattle.ded_syntax.specs.Answered.{is_answered}
 use Rattle.ded_syntax.specs.CommandReading.{Head, view_head, ask_head, query_head, explain_head, head_form, Draft, plain, formed, draft_at, scans}
-use Rattle.ded_syntax.specs.Drafts.{answers_draft, answers_pieces, test_of, passes_draft, long_draft}
+use Rattle.ded_syntax.specs.Drafts.{answers_draft, test_of, passes_draft, long_draft}
 use Rattle.ded_syntax.specs.Meaning.{Means}
 use Rattle.ded_syntax.proofs.PiecesRead.{pieces_read, spelled_scans}
 use Rattle.ded_syntax.proofs.CommandsRead.{plain_read, prefix_read, head_of}
 use Rattle.ded_syntax.proofs.CommandsSound.{IsDraft, draft_sound}
 use Rattle.ded_syntax.proofs.AnyValue.{reshapes}
-use Rattle.ded_syntax.proofs.AnsweredPieces.{draft_answers}
 
 -- ---- what a draft stands for
 
@@ -54,6 +53,16 @@ pub draft_rows : (d : Draft) (c : CommandForm) (depth : ℕ) → Means d c depth
 draft_rows (plain k) c depth (e, flat) = ap has_long_row (sym e)
 draft_rows (formed h ps) c depth (f, sp, e) = head_rows h f (list_any (piece_atom is_long_atom) ps) (spelled_atoms is_long_atom ps f depth sp) ∙ ap has_long_row (sym e)
 
+draft_answers : (d : Draft) (c : CommandForm) (depth : ℕ) → Means d c depth → answers_draft d ≡ is_answered c
+draft_answers (plain k) c depth (e, flat) = ap is_answered (sym e)
+draft_answers (formed h ps) c depth (f, sp, e) = head_answers h f ∙ ap is_answered (sym e)
+  where
+    head_answers : (h : Head) (f : Form) → true ≡ is_answered (head_form h f)
+    head_answers (view_head n h) f = refl
+    head_answers ask_head f = refl
+    head_answers (query_head h) f = refl
+    head_answers (explain_head h) f = refl
+
 pub draft_passes : (all : Bool) (d : Draft) (c : CommandForm) (depth : ℕ) → Means d c depth → passes_draft all d ≡ test_of all c
 draft_passes true d c depth m = refl
 draft_passes false d c depth m = draft_answers d c depth m
@@ -70,15 +79,6 @@ plain_answers value other (keeps n) = refl
 plain_answers value other (shows n) = refl
 plain_answers value other (boxes n) = refl
 
-head_answers : (h k : Head) (qs ps : List PieceForm) → h ≡ k → answers_pieces qs ≡ answers_pieces ps → answers_draft (formed h qs) ≡ answers_draft (formed k ps)
-head_answers h k qs ps e f = ap (λ (g : Head). answers_draft (formed g qs)) e ∙ by k f
-  where
-    by : (k : Head) → answers_pieces qs ≡ answers_pieces ps → answers_draft (formed k qs) ≡ answers_draft (formed k ps)
-    by (view_head n h) f = refl
-    by ask_head f = f
-    by (query_head h) f = refl
-    by (explain_head h) f = refl
-
 -- a draft of the same symbols, which scans and is answered alike
 abbrev pub OtherDraft : Reader → List Symbol → Draft → Type 0
 OtherDraft other ts d = (e : Draft) × (draft_at other ts ≡ Some e) × (scans e ≡ true) × (answers_draft e ≡ answers_draft d)
@@ -88,11 +88,11 @@ other_of value other ts (plain c) (p, e, m) s =
     (plain (plain_form other p), ap (draft_at other) e ∙ plain_read other p, refl, plain_answers other value p ∙ ap is_answered (sym m))
 other_of value other ts (formed h ps) (p, rest, e, are, same) s =
     let q = reshapes value other ps rest are in
-    let scanned = q.2.0 Start 0 ∙ s in (
+    let scanned = q.2 Start 0 ∙ s in (
       formed (head_of p) q.0,
       ap (draft_at other) e ∙ prefix_read other p rest q.0 (pieces_read other rest q.0 scanned q.1),
       scanned,
-      head_answers (head_of p) h q.0 ps (sym same) q.2.1,
+      refl,
     )
 
 pub other_draft : (value other : Reader) (ts : List Symbol) (d : Draft) → draft_at value ts ≡ Some d → scans d ≡ true → OtherDraft other ts d

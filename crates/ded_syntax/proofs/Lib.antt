@@ -10,7 +10,6 @@ pub mod CommandsRead
 pub mod CommandsSound
 pub mod Agrees
 pub mod AnyValue
-pub mod AnsweredPieces
 pub mod Seen
 pub mod LongSymbols
 pub mod DraftsAlike

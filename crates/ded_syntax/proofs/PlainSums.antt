@@ -3,9 +3,8 @@
 -- A sum is made by adding up the products one by one: a product with a name adds to the coefficient of that name where it
 -- has one, and else stands at the end. So no name comes twice.
 use Rattle.std.proofs.Common.{◌≡◌, ℕ, Bool, true, false, cond, List, [], ◌∷◌, map, refl, ap₂, subst, sym, true≢false, inl, inr, bytes_eq}
-use Rattle.std.specs.Prelude.{ℤ, pos, ◌+ℤ◌, ◌||◌, Option, Some, None}
+use Rattle.std.specs.Prelude.{ℤ, ◌+ℤ◌, ◌||◌, Option, Some, None}
 use Rattle.std.specs.List.{list_any}
-use Rattle.ded_model.specs.declared.name.Column.{Column}
 use Rattle.ded_model.specs.declared.command.Language.{Language}
 use Rattle.ded_model.specs.Command.{CommandForm}
 use Rattle.ded_model.specs.Form.{Form}
@@ -14,7 +13,7 @@ use Rattle.ded_model.specs.Plain.{AreOnce, IsPlainOperand, ArePlainOperands, IsP
 use Rattle.ded_grammar.specs.Trees.{PieceForm, nay, conjunct, disjunct, arrow, opening, closing, binder, leaf}
 use Rattle.ded_grammar.proofs.Carried.{PieceHas, PiecesHave, spelled_has}
 use Rattle.ded_syntax.specs.Symbols.{Symbol, number_of}
-use Rattle.ded_syntax.specs.Operands.{Reader, Product, scaled, constant, lone, Side, text, sum, Sums, signed, put, Factor, factor, add_factor, add_all, no_sums, as_operand, single, operand_of}
+use Rattle.ded_syntax.specs.Operands.{Reader, Product, Side, text, sum, Sums, signed, put, Factor, factor, add_factor, add_all, no_sums, as_operand, single, operand_of}
 use Rattle.ded_syntax.specs.Atoms.{Comparison, comparison_form, Atom, truth, relates, belongs, atom_form, IsPiece, ArePieces, SpellsFormula}
 use Rattle.ded_syntax.specs.Commands.{Plain, defines, inserts_none, inserts, deletes, drops, keeps, shows, boxes, plain_form, Prefix, views, asks, queries, explains, prefix_form, SpellsCommand}
 use Rattle.ded_syntax.specs.Spelling.{SpellsBy}

@@ -1,29 +1,17 @@
 -- What is told of a command before the tree of its formula is built: whether the program can answer it, and whether it has
 -- a long row.
-use Rattle.std.specs.Prelude.{Bool, true, false, ◌&&◌, List, [], ◌∷◌}
+use Rattle.std.specs.Prelude.{Bool, true, false}
 use Rattle.std.specs.List.{list_any}
 use Rattle.ded_model.specs.Command.{CommandForm}
-use Rattle.ded_grammar.specs.Trees.{PieceForm, opening, closing, leaf, piece_atom}
-use Rattle.ded_syntax.specs.Answered.{compares_wholes, is_answered, any_command}
+use Rattle.ded_grammar.specs.Trees.{piece_atom}
+use Rattle.ded_syntax.specs.Answered.{is_answered, any_command}
 use Rattle.ded_model.specs.LongRows.{is_long_atom, has_long_row}
-use Rattle.ded_syntax.specs.CommandReading.{view_head, ask_head, Draft, plain, formed}
+use Rattle.ded_syntax.specs.CommandReading.{Draft, plain, formed}
 
--- a parenthesis, or a comparison of whole numbers
-abbrev pub answers_piece : PieceForm → Bool
-answers_piece opening = true
-answers_piece closing = true
-answers_piece (leaf f) = compares_wholes f
-answers_piece p = false
-
-abbrev pub answers_pieces : List PieceForm → Bool
-answers_pieces [] = true
-answers_pieces (p ∷ ps) = answers_piece p && answers_pieces ps
-
+-- each command with a formula is answered
 abbrev pub answers_draft : Draft → Bool
 answers_draft (plain c) = is_answered c
-answers_draft (formed (view_head n h) ps) = true
-answers_draft (formed ask_head ps) = answers_pieces ps
-answers_draft (formed h ps) = false
+answers_draft (formed h ps) = true
 
 -- the commands that there are: all of the grammar, or those that the program answers
 abbrev pub test_of : Bool → CommandForm → Bool

@@ -117,10 +117,12 @@ fn answered_bytes_are_read(rt: HostRuntime) -> Result<(), Fail> {
         ("", syntax),
         ("ask 1 = 1 = 1", syntax),
         ("ask - - 1 = 1", syntax),
-        ("ask x = 1", syntax),
-        ("ask 'a' = 'a'", syntax),
-        ("ask 1 = 1 and 1 = 1", syntax),
-        ("ask x = 9223372036854775808", syntax),
+        ("ask x = 'a'", Outcome::Ask(Shape::Compare)),
+        ("ask 1 = 1 and 1 = 1", Outcome::Ask(Shape::And(2))),
+        (
+            "ask x = 9223372036854775808",
+            Outcome::Refused(Refusal::LongNumber),
+        ),
         ("show N", Outcome::Show),
         ("drop N", Outcome::Drop),
         ("delete N 1", Outcome::Delete(1)),
@@ -128,9 +130,9 @@ fn answered_bytes_are_read(rt: HostRuntime) -> Result<(), Fail> {
         ("insert N { x = 1 }", Outcome::Insert(1)),
         ("view V(x) := N(x)", Outcome::View(Shape::Member(1))),
         ("keep N", syntax),
-        ("box N", syntax),
-        ("query (x) : N(x)", syntax),
-        ("explain (x) : N(x)", syntax),
+        ("box N", Outcome::BoxOf),
+        ("query (x) : N(x)", Outcome::Query(1, Shape::Member(1))),
+        ("explain (x) : N(x)", Outcome::Explain(1, Shape::Member(1))),
     ] {
         for language in [Language::One, Language::Two, Language::Opening] {
             let outcome = answered_of(&rt, rt.alloc(), text.as_bytes(), language);

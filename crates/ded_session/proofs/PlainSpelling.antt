@@ -1,0 +1,196 @@
+-- The names of a command that bytes spell are words of the grammar.
+--
+-- A name is the symbol of a word that isn't reserved, and a word among lexemes begins with a letter and goes on with letters
+-- and digits. So each name among the symbols of a command is plain, and a command has no other names.
+use Rattle.std.proofs.Common.{ℕ, Bool, true, false, List, [], ◌∷◌, ◌++◌, map, sym, subst, inl, inr}
+use Rattle.std.specs.Prelude.{if◌then◌else◌, codes}
+use Rattle.std.specs.Str.{bytes_eq}
+use Rattle.std.specs.List.{AllByRecursion}
+use Rattle.ded_lex.specs.Lexemes.{Lexeme, IsLexeme}
+use Rattle.ded_lex.specs.Lexemes as lexeme
+use Rattle.ded_lex.specs.Tokens.{Cell, GapCell, LexemeCell, AreCells, lexemes_of}
+use Rattle.ded_model.specs.declared.name.Column.{Column}
+use Rattle.ded_model.specs.declared.command.Language.{Language}
+use Rattle.ded_model.specs.declared.formula.CompareOp.TheVariants as op
+use Rattle.ded_model.specs.Command.{CommandForm}
+use Rattle.ded_model.specs.Form.{Form}
+use Rattle.ded_grammar.specs.Trees.{PieceForm, nay, conjunct, disjunct, arrow, opening, closing, binder, leaf}
+use Rattle.ded_grammar.proofs.Carried.{PieceHas, PiecesHave, spelled_has}
+use Rattle.ded_syntax.specs.declared.item.Keyword.{Keyword}
+use Rattle.ded_syntax.specs.declared.item.Keyword.TheVariants as words
+use Rattle.ded_syntax.specs.Symbols.{Symbol, Word, Name, Plus, Minus, Times, Open, Close, OpenBrace, CloseBrace, Comma, Colon, Define, Relation, formula_word, command_word, is_unused, unused_word, word_symbol, sum_sign, other_sign, symbol, number_of}
+use Rattle.ded_syntax.specs.Operands.{Reader}
+use Rattle.ded_syntax.specs.Atoms.{spell_rest, Atom, truth, relates, belongs, spell_atom, atom_form, spell_column, sort_symbols, IsPiece, ArePieces, SpellsFormula}
+use Rattle.ded_syntax.specs.Commands.{Columns, spell_heading, heading, Plain, defines, inserts_none, inserts, deletes, drops, keeps, shows, boxes, spell_plain, plain_form, Prefix, views, asks, queries, explains, spell_prefix, prefix_form, SpellsCommand}
+use Rattle.ded_syntax.specs.Spelling.{SpellsBy}
+use Rattle.ded_session.specs.PlainNames.{IsPlainName, ArePlainColumns, IsPlainUse, UsesPlainNames, NamesPlainly}
+
+abbrev IsPlainSymbol : Symbol → Type 0
+IsPlainSymbol (Name n) = IsPlainName n
+IsPlainSymbol _ = Unit {0}
+
+abbrev ArePlainSymbols : List Symbol → Type 0
+ArePlainSymbols = AllByRecursion IsPlainSymbol
+
+-- ---- symbols of lexemes
+
+-- one more reserved word
+reserved : (w k : List ℕ) (kw : Keyword) (other : Symbol) → IsPlainSymbol other → IsPlainSymbol (if bytes_eq w k then Word kw else other)
+reserved w k kw other h = either (bytes_eq w k)
+  where
+    either : (b : Bool) → IsPlainSymbol (if b then Word kw else other)
+    either true = tt
+    either false = h
+
+formula_plain : (w : List ℕ) (other : Symbol) → IsPlainSymbol other → IsPlainSymbol (formula_word other w)
+formula_plain w other h =
+    reserved w (codes "and") words.And _
+    (reserved w (codes "or") words.Or _
+    (reserved w (codes "not") words.Not _
+    (reserved w (codes "implies") words.Implies _
+    (reserved w (codes "exists") words.Exists _
+    (reserved w (codes "forall") words.Forall _
+    (reserved w (codes "true") words.True _
+    (reserved w (codes "false") words.False _
+    (reserved w (codes "text") words.Text _ h))))))))
+
+command_plain : (w : List ℕ) (other : Symbol) → IsPlainSymbol other → IsPlainSymbol (command_word other w)
+command_plain w other h =
+    reserved w (codes "relation") words.Relation _
+    (reserved w (codes "insert") words.Insert _
+    (reserved w (codes "delete") words.Delete _
+    (reserved w (codes "drop") words.Drop _
+    (reserved w (codes "view") words.View _
+    (reserved w (codes "keep") words.Keep _
+    (reserved w (codes "ask") words.Ask _
+    (reserved w (codes "query") words.Query _
+    (reserved w (codes "show") words.Show _
+    (reserved w (codes "box") words.BoxOf _
+    (reserved w (codes "explain") words.Explain _ h))))))))))
+
+unused_plain : (w : List ℕ) (other : Symbol) → IsPlainSymbol other → IsPlainSymbol (unused_word other w)
+unused_plain w other h = either (is_unused w)
+  where
+    either : (b : Bool) → IsPlainSymbol (if b then Word words.Unused else other)
+    either true = tt
+    either false = h
+
+word_plain : (w : List ℕ) → IsPlainName w → IsPlainSymbol (word_symbol w)
+word_plain w h = formula_plain w (command_word (unused_word (Name w) w) w) (command_plain w (unused_word (Name w) w) (unused_plain w (Name w) h))
+
+-- one more sign
+sign : (s k : List ℕ) (t other : Symbol) → IsPlainSymbol t → IsPlainSymbol other → IsPlainSymbol (if bytes_eq s k then t else other)
+sign s k t other p h = either (bytes_eq s k)
+  where
+    either : (b : Bool) → IsPlainSymbol (if b then t else other)
+    either true = p
+    either false = h
+
+sum_plain : (s : List ℕ) (other : Symbol) → IsPlainSymbol other → IsPlainSymbol (sum_sign other s)
+sum_plain s other h =
+    sign s (codes "+") Plus _ tt
+    (sign s (codes "-") Minus _ tt
+    (sign s (codes "*") Times _ tt
+    (sign s (codes "<") (Relation op.Less) _ tt
+    (sign s (codes "<=") (Relation op.LessEq) _ tt
+    (sign s (codes "=") (Relation op.Equal) _ tt
+    (sign s (codes "!=") (Relation op.NotEqual) _ tt
+    (sign s (codes ">=") (Relation op.GreaterEq) _ tt
+    (sign s (codes ">") (Relation op.Greater) _ tt h))))))))
+
+other_plain : (s : List ℕ) → IsPlainSymbol (other_sign s)
+other_plain s =
+    sign s (codes "(") Open _ tt
+    (sign s (codes ")") Close _ tt
+    (sign s (codes "{") OpenBrace _ tt
+    (sign s (codes "}") CloseBrace _ tt
+    (sign s (codes ",") Comma _ tt
+    (sign s (codes ":") Colon _ tt
+    (sign s (codes ":=") Define (Word words.Unused) tt tt))))))
+
+symbol_plain : (l : Lexeme) (next : List ℕ) → IsLexeme l next → IsPlainSymbol (symbol l)
+symbol_plain (lexeme.Word w) next p = word_plain w (p.0, p.1)
+symbol_plain (lexeme.Number ds) next p = tt
+symbol_plain (lexeme.Quoted t) next p = tt
+symbol_plain (lexeme.Sign s) next p = sum_plain s (other_sign s) (other_plain s)
+
+symbols_plain : (cells : List Cell) → AreCells cells → ArePlainSymbols (map symbol (lexemes_of cells))
+symbols_plain [] p = tt
+symbols_plain (GapCell gap ∷ cells) p = symbols_plain cells p.1
+symbols_plain (LexemeCell l ∷ cells) p = (symbol_plain l _ p.0, symbols_plain cells p.1)
+
+-- ---- parts of symbols
+
+front : (ts us : List Symbol) → ArePlainSymbols (ts ++ us) → ArePlainSymbols ts
+front [] us h = tt
+front (t ∷ ts) us h = (h.0, front ts us h.1)
+
+back : (ts us : List Symbol) → ArePlainSymbols (ts ++ us) → ArePlainSymbols us
+back [] us h = h
+back (t ∷ ts) us h = back ts us h.1
+
+columns_plain : (cs : List Column) → ArePlainSymbols (spell_rest spell_column cs) → ArePlainColumns cs
+columns_plain [] h = tt
+columns_plain (c ∷ cs) h = (h.1.0, columns_plain cs (back (sort_symbols c.sort) (spell_rest spell_column cs) h.1.1))
+
+heading_plain : (h : Columns) → ArePlainSymbols (spell_heading h) → ArePlainColumns (heading h)
+heading_plain h p =
+    (p.1.0, columns_plain h.rest (front (spell_rest spell_column h.rest) (Close ∷ []) (back (sort_symbols h.first.sort) (spell_rest spell_column h.rest ++ Close ∷ []) p.1.1)))
+
+-- ---- formulas
+
+atom_plain : (value : Reader) (a : Atom) → ArePlainSymbols (spell_atom a) → UsesPlainNames (atom_form value a)
+atom_plain value (truth true) h = tt
+atom_plain value (truth false) h = tt
+atom_plain value (relates c) h = tt
+atom_plain value (belongs n s ss) h = h.0
+
+piece_plain : (value : Reader) (ts : List Symbol) (p : PieceForm) → ArePlainSymbols ts → IsPiece value ts p → PieceHas IsPlainUse p
+piece_plain value ts nay q h = tt
+piece_plain value ts conjunct q h = tt
+piece_plain value ts disjunct q h = tt
+piece_plain value ts arrow q h = tt
+piece_plain value ts opening q h = tt
+piece_plain value ts closing q h = tt
+piece_plain value ts (binder b c) q h = tt
+piece_plain value ts (leaf f) q h = subst UsesPlainNames h.2 (atom_plain value h.0 (subst ArePlainSymbols h.1 q))
+
+pieces_plain : (value : Reader) (ts : List Symbol) (ps : List PieceForm) → ArePlainSymbols ts → ArePieces value ts ps → PiecesHave IsPlainUse ps
+pieces_plain value ts [] q h = tt
+pieces_plain value ts (p ∷ ps) q h =
+    let both = subst ArePlainSymbols h.2 q in
+    (piece_plain value h.0 p (front h.0 h.1 both) h.3, pieces_plain value h.1 ps (back h.0 h.1 both) h.4)
+
+formula_uses : (value : Reader) (ts : List Symbol) (f : Form) (depth : ℕ) → ArePlainSymbols ts → SpellsFormula value ts f depth → UsesPlainNames f
+formula_uses value ts f depth q s = spelled_has IsPlainUse s.pieces f depth s.spells (pieces_plain value ts s.pieces q s.are)
+
+-- ---- commands
+
+flat_plain : (value : Reader) (p : Plain) → ArePlainSymbols (spell_plain p) → NamesPlainly (plain_form value p)
+flat_plain value (defines n h) q = (q.1.0, heading_plain h q.1.1)
+flat_plain value (inserts_none n) q = q.1.0
+flat_plain value (inserts n c cs) q = q.1.0
+flat_plain value (deletes n d) q = q.1.0
+flat_plain value (drops n) q = q.1.0
+flat_plain value (keeps n) q = q.1.0
+flat_plain value (shows n) q = q.1.0
+flat_plain value (boxes n) q = q.1.0
+
+before_plain : (p : Prefix) (f : Form) → ArePlainSymbols (spell_prefix p) → UsesPlainNames f → NamesPlainly (prefix_form p f)
+before_plain (views n h) f q u = (q.1.0, heading_plain h (front (spell_heading h) (Define ∷ []) q.1.1), u)
+before_plain asks f q u = u
+before_plain (queries h) f q u = (heading_plain h (front (spell_heading h) (Colon ∷ []) q.1), u)
+before_plain (explains h) f q u = (heading_plain h (front (spell_heading h) (Colon ∷ []) q.1), u)
+
+command_names : (value : Reader) (ts : List Symbol) (c : CommandForm) (depth : ℕ) → ArePlainSymbols ts → SpellsCommand value ts c depth → NamesPlainly c
+command_names value ts c depth q (inl s) = subst NamesPlainly (sym s.means) (flat_plain value s.plain (subst ArePlainSymbols s.spelled q))
+command_names value ts c depth q (inr s) =
+    let both = subst ArePlainSymbols s.spelled q in
+    subst NamesPlainly (sym s.means)
+    (before_plain s.before s.formula (front (spell_prefix s.before) s.rest both) (formula_uses value s.rest s.formula depth (back (spell_prefix s.before) s.rest both) s.spells))
+
+-- a command that bytes spell
+pub spelled_names : (test : CommandForm → Bool) (language : Language) (bytes : List ℕ) (c : CommandForm) (depth : ℕ) → SpellsBy test language bytes c depth → NamesPlainly c
+spelled_names test language bytes c depth s =
+    command_names number_of (map symbol s.lexemes) c depth
+    (subst (λ (ls : List Lexeme). ArePlainSymbols (map symbol ls)) s.are.lexemes_are (symbols_plain s.are.cells s.are.each)) s.command
