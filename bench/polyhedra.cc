@@ -1,0 +1,223 @@
+// What bench/queries asks of Dedale, over the polyhedra of the Parma Polyhedra Library: it reads the data of one problem, as
+// query_scripts.py makes it, and writes the count of answers. Pairs whose bounding boxes don't meet are told apart by them.
+#include <ppl.hh>
+
+#include <iostream>
+#include <string>
+#include <vector>
+
+using namespace Parma_Polyhedra_Library;
+using std::cin;
+using std::vector;
+typedef NNC_Polyhedron Poly;
+typedef Pointset_Powerset<Poly> Pieces;
+
+struct Row {
+  vector<long> coefs;
+  long constant;
+  std::string sign;
+};
+typedef vector<Row> Rows;
+
+vector<Rows> read_list(size_t variables) {
+  size_t count, rows;
+  cin >> count;
+  vector<Rows> list(count);
+  for (Rows &conjunction : list) {
+    cin >> rows;
+    conjunction.resize(rows);
+    for (Row &row : conjunction) {
+      row.coefs.resize(variables);
+      for (long &coef : row.coefs) cin >> coef;
+      cin >> row.constant >> row.sign;
+    }
+  }
+  return list;
+}
+
+// The conjunction's points among those of `poly`, its k-th variable being that of number `places[k]`.
+void restrict_to(Poly &poly, const Rows &rows, const vector<size_t> &places) {
+  for (const Row &row : rows) {
+    Linear_Expression sum(row.constant);
+    for (size_t k = 0; k < row.coefs.size(); ++k) sum += row.coefs[k] * Variable(places[k]);
+    if (row.sign == "=") poly.add_constraint(sum == 0);
+    else if (row.sign == "<=") poly.add_constraint(sum <= 0);
+    else poly.add_constraint(sum < 0);
+  }
+}
+
+vector<size_t> first_places(size_t count) {
+  vector<size_t> places(count);
+  for (size_t k = 0; k < count; ++k) places[k] = k;
+  return places;
+}
+
+Poly poly_of(const Rows &rows, size_t variables) {
+  Poly poly(variables);
+  restrict_to(poly, rows, first_places(variables));
+  return poly;
+}
+
+// A bounding bounds in floating point, a little too large.
+struct Bounds {
+  vector<double> low, high;
+
+  explicit Bounds(const Poly &poly) {
+    Coefficient over, under;
+    bool attained;
+    for (size_t k = 0; k < poly.space_dimension(); ++k) {
+      bool below = poly.minimize(Variable(k), over, under, attained);
+      low.push_back(below ? over.get_d() / under.get_d() - 1e-6 : -1e300);
+      bool above = poly.maximize(Variable(k), over, under, attained);
+      high.push_back(above ? over.get_d() / under.get_d() + 1e-6 : 1e300);
+    }
+  }
+
+  bool meets(const Bounds &other) const {
+    for (size_t k = 0; k < low.size(); ++k)
+      if (low[k] > other.high[k] || other.low[k] > high[k]) return false;
+    return true;
+  }
+
+  bool has(double x, double y) const { return low[0] <= x && x <= high[0] && low[1] <= y && y <= high[1]; }
+};
+
+struct Region {
+  Poly poly;
+  Bounds bounds;
+  explicit Region(const Poly &points) : poly(points), bounds(points) {}
+};
+
+vector<Region> regions_of(const vector<Rows> &list) {
+  vector<Region> regions;
+  for (const Rows &rows : list) regions.emplace_back(poly_of(rows, 2));
+  return regions;
+}
+
+// All points within a distance of the points of a road.
+Poly around(const Rows &road, long distance) {
+  Poly poly(4);
+  restrict_to(poly, road, {2, 3});
+  for (size_t k = 0; k < 2; ++k) {
+    poly.add_constraint(Variable(k) - Variable(k + 2) <= distance);
+    poly.add_constraint(Variable(k + 2) - Variable(k) <= distance);
+  }
+  poly.remove_higher_space_dimensions(2);
+  return poly;
+}
+
+void near() {
+  long distance;
+  cin >> distance;
+  vector<Region> land = regions_of(read_list(2)), strips;
+  for (const Rows &road : read_list(2)) strips.emplace_back(around(road, distance));
+  size_t parts = 0;
+  for (const Region &region : land)
+    for (const Region &strip : strips)
+      if (region.bounds.meets(strip.bounds)) {
+        Poly part(region.poly);
+        part.intersection_assign(strip.poly);
+        if (!part.is_empty()) {
+          part.minimized_constraints();
+          ++parts;
+        }
+      }
+  std::cout << parts << " tuples\n";
+}
+
+void look_ups() {
+  size_t count, hits = 0;
+  cin >> count;
+  vector<Region> zones = regions_of(read_list(2));
+  for (size_t k = 0; k < count; ++k) {
+    long x, y;
+    cin >> x >> y;
+    Generator at = point(x * Variable(0) + y * Variable(1));
+    for (const Region &zone : zones)
+      if (zone.bounds.has(x, y) && zone.poly.relation_with(at) == Poly_Gen_Relation::subsumes()) {
+        ++hits;
+        break;
+      }
+  }
+  std::cout << hits << " yes\n";
+}
+
+void changes() {
+  long wait;
+  cin >> wait;
+  vector<Rows> trains = read_list(2);
+  vector<Bounds> boxes;
+  for (const Rows &train : trains) boxes.emplace_back(poly_of(train, 2));
+  size_t pairs = 0;
+  for (size_t a = 0; a < trains.size(); ++a)
+    for (size_t b = 0; b < trains.size(); ++b) {
+      Bounds waiting = boxes[a];
+      waiting.high[0] += wait;
+      if (a == b || !waiting.meets(boxes[b])) continue;
+      Poly change(3);
+      restrict_to(change, trains[a], {0, 2});
+      restrict_to(change, trains[b], {1, 2});
+      change.add_constraint(Variable(0) <= Variable(1));
+      change.add_constraint(Variable(1) <= Variable(0) + wait);
+      if (!change.is_empty()) ++pairs;
+    }
+  std::cout << pairs << " tuples\n";
+}
+
+// What one zone after another leaves of the district.
+void coverage() {
+  vector<Region> left = regions_of(read_list(2));
+  for (const Region &zone : regions_of(read_list(2))) {
+    vector<Region> next;
+    for (const Region &piece : left) {
+      if (!piece.bounds.meets(zone.bounds)) {
+        next.push_back(piece);
+        continue;
+      }
+      Pieces rest = linear_partition(zone.poly, piece.poly).second;
+      for (const auto &part : rest)
+        if (!part.pointset().is_empty()) next.emplace_back(part.pointset());
+    }
+    left.swap(next);
+  }
+  std::cout << (left.empty() ? 1 : 0) << " yes\n";
+}
+
+Pieces complement(const Pieces &pieces, size_t variables) {
+  Pieces all(variables, UNIVERSE);
+  all.difference_assign(pieces);
+  return all;
+}
+
+Pieces some_value(Pieces pieces, size_t variable, const Poly &domain) {
+  pieces.intersection_assign(Pieces(domain));
+  pieces.unconstrain(Variable(variable));
+  pieces.omega_reduce();
+  return pieces;
+}
+
+// The variables in turn: for all values of the first one in its domain there is a value of the second one, and so on.
+void game() {
+  size_t depth;
+  cin >> depth;
+  vector<Rows> domains = read_list(depth);
+  Pieces won(depth, EMPTY);
+  for (const Rows &rows : read_list(depth)) won.add_disjunct(poly_of(rows, depth));
+  for (size_t k = depth; k-- > 0;) {
+    Poly domain = poly_of(domains[k], depth);
+    if (k % 2 == 1) won = some_value(won, k, domain);
+    else won = complement(some_value(complement(won, depth), k, domain), depth);
+  }
+  std::cout << (won.is_empty() ? 0 : 1) << " yes\n";
+}
+
+int main() {
+  std::string problem;
+  cin >> problem;
+  if (problem == "near") near();
+  else if (problem == "look_ups") look_ups();
+  else if (problem == "changes") changes();
+  else if (problem == "coverage") coverage();
+  else if (problem == "game") game();
+  else return 2;
+}
