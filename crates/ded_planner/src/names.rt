@@ -1,11 +1,13 @@
-//! The names that a plan scans.
+//! The names that a plan scans and that a goal uses.
 ghost use Rattle.std.specs.Prelude.{◌≡◌, IfOk, OnOk, List, ℕ};
 ghost use Rattle.std.specs.Str.{bytes_eq};
 ghost use Rattle.std.specs.List.{list_any};
+ghost use Rattle.ded_model.specs.Goal.{goal_form, goal_forms};
 ghost use Rattle.ded_model.specs.PlanForm.{plan_form, plan_forms};
-ghost use Rattle.ded_model.specs.Uses.{plan_uses};
-ghost use Rattle.ded_planner.specs.ScannedNames.{with_name, with_names, with_all_names, AreDistinctNames};
+ghost use Rattle.ded_model.specs.Uses.{goal_uses, plan_uses};
+ghost use Rattle.ded_planner.specs.ScannedNames.{with_name, with_names, with_all_names, scanned_name, used_name, AreDistinctNames};
 
+use ded_model::goal::Goal;
 use ded_model::memory::NoMemory;
 use ded_model::name::Name;
 use ded_model::plan::Plan;
@@ -24,10 +26,23 @@ pub fn scanned_names(alloc: Global, plan: &Plan) -> Result<Vec<Name>, NoMemory>
     Ok(names)
 }
 
+/// The names that the goal uses, each once.
+///
+/// # Errors
+/// Want of memory.
+pub fn used_names(alloc: Global, goal: &Goal) -> Result<Vec<Name>, NoMemory>
+    ensures all { IfOk result (λ v. (n : List ℕ) → goal_uses n (goal_form goal.now) ≡ list_any (bytes_eq n) v.items) }
+    ensures once { IfOk result (λ v. AreDistinctNames v.items) }
+{
+    let mut names = Vec::new(alloc);
+    add_used_names(&mut names, goal)?;
+    Ok(names)
+}
+
 /// Adds the names that the plan scans and that aren't there yet.
 #[cycle(add_names)]
 fn add_names(names: &mut Vec<Name>, plan: &Plan) -> Result<(), NoMemory>
-    ensures { OnOk result (names.new.items ≡ with_names names.old.items (plan_form plan.now)) }
+    ensures { OnOk result (names.new.items ≡ with_names scanned_name names.old.items (plan_form plan.now)) }
 {
     match plan {
         Plan::Scan(name, _) => add_name(names, name),
@@ -44,10 +59,39 @@ fn add_names(names: &mut Vec<Name>, plan: &Plan) -> Result<(), NoMemory>
 /// Adds those of all the plans.
 #[cycle(add_names)]
 fn add_all_names(names: &mut Vec<Name>, plans: &Vec<Plan>) -> Result<(), NoMemory>
-    ensures { OnOk result (names.new.items ≡ with_all_names names.old.items (plan_forms plans.now.items)) }
+    ensures { OnOk result (names.new.items ≡ with_all_names scanned_name names.old.items (plan_forms plans.now.items)) }
 {
     for plan in plans {
         add_names(names, plan)?;
+    }
+    Ok(())
+}
+
+/// Adds the names that the goal uses and that aren't there yet.
+#[cycle(add_used_names)]
+fn add_used_names(names: &mut Vec<Name>, goal: &Goal) -> Result<(), NoMemory>
+    ensures { OnOk result (names.new.items ≡ with_names used_name names.old.items (goal_form goal.now)) }
+{
+    match goal {
+        Goal::True | Goal::False | Goal::Linear(_) | Goal::Theme(_) => Ok(()),
+        Goal::Member(name, _) => add_name(names, name),
+        Goal::Not(part) => add_used_names(names, part),
+        Goal::And(parts) | Goal::Or(parts) => add_all_used_names(names, parts),
+        Goal::Implies(left, right) => {
+            add_used_names(names, left)?;
+            add_used_names(names, right)
+        }
+        Goal::Exists(_, part) | Goal::Forall(_, part) => add_used_names(names, part),
+    }
+}
+
+/// Adds those of all the goals.
+#[cycle(add_used_names)]
+fn add_all_used_names(names: &mut Vec<Name>, goals: &Vec<Goal>) -> Result<(), NoMemory>
+    ensures { OnOk result (names.new.items ≡ with_all_names used_name names.old.items (goal_forms goals.now.items)) }
+{
+    for goal in goals {
+        add_used_names(names, goal)?;
     }
     Ok(())
 }

@@ -1,10 +1,10 @@
-//! A plan of a goal worked out by hand, over text slots, and the names of plans.
+//! A plan of a goal worked out by hand, over text slots, and the names of plans and goals.
 ghost use Rattle.std.specs.Prelude.{◌≡◌, IfOk};
 ghost use Rattle.ded_model.specs.declared.slot.Sort.TheVariants.{Text};
 ghost use Rattle.ded_model.specs.Goal.{goal_form};
 ghost use Rattle.ded_model.specs.NormalGoal.{IsNormalGoal};
 
-use crate::{plan, scanned_names};
+use crate::{plan, scanned_names, used_names};
 use ded_model::goal::{Goal, Place, Places};
 use ded_model::memory::NoMemory;
 use ded_model::name::Name;
@@ -81,6 +81,15 @@ fn names_of_difference(alloc: Global, from: &[u8], taken: &[u8]) -> Result<usize
     Ok(scanned_names(alloc, &plan)?.len())
 }
 
+/// How many names `T(x, y) implies R(x)` uses, with a second name in place of `R`.
+fn names_of_implication(alloc: Global, second: &[u8]) -> Result<usize, NoMemory> {
+    let mut list = Vec::new(alloc);
+    list.push(Place::At(text_slot(0)))?;
+    let right = Box::new(alloc, Goal::Member(name(alloc, second)?, Places { list }))?;
+    let goal = Goal::Implies(Box::new(alloc, member(alloc)?)?, right);
+    Ok(used_names(alloc, &goal)?.len())
+}
+
 #[test]
 fn union_of_projections(rt: HostRuntime) -> Result<(), Fail> {
     let alloc = rt.alloc();
@@ -94,5 +103,13 @@ fn names_once(rt: HostRuntime) -> Result<(), Fail> {
     let alloc = rt.alloc();
     assert!(rt; names_of_difference(alloc, b"T", b"T")? == 1);
     assert!(rt; names_of_difference(alloc, b"T", b"R")? == 2);
+    Ok(())
+}
+
+#[test]
+fn used_once(rt: HostRuntime) -> Result<(), Fail> {
+    let alloc = rt.alloc();
+    assert!(rt; names_of_implication(alloc, b"T")? == 1);
+    assert!(rt; names_of_implication(alloc, b"R")? == 2);
     Ok(())
 }

@@ -1,9 +1,10 @@
 -- What follows of the atoms of a formula from a test of them.
-use Rattle.std.proofs.Common.{◌≡◌, ℕ, ◌≤◌, max, Bool, true, false, ◌||◌, inl, inr, ◌∷◌, refl, sym, true≢false, le_trans}
+use Rattle.std.proofs.Common.{◌≡◌, ℕ, ◌≤◌, max, Bool, true, false, ◌||◌, inl, inr, [], ◌∷◌, refl, sym, ◌∙◌, true≢false, le_trans}
 use Rattle.std.proofs.Math.Nat.{le-max_left, le-max_right}
 use Rattle.ded_model.specs.Logic.{Logic, atom, always, never, negation, every_of, some_of, implies, minus, exists, forall, Logics, none, also, AllAtoms, AllAtomsOf, Scope, some_atom, some_atom_of, some_below, some_below_of, greatest, greatest_of}
 use Rattle.ded_model.proofs.Members.{or_split}
 use Rattle.ded_sorts.proofs.Meanings.{or_fails_left, or_fails_right}
+use Rattle.ded_sorts.proofs.Unscoped.{some_below-unscoped}
 
 -- what follows of each atom that doesn't pass a test holds of all, where none of the formula passes
 module _ {L : Type 0} (test : L → Bool) (P : L → Type 0) (step : (a : L) → test a ≡ false → P a) where
@@ -24,6 +25,35 @@ module _ {L : Type 0} (test : L → Bool) (P : L → Type 0) (step : (a : L) →
     all_where_none_of : (fs : Logics L) → some_atom_of test fs ≡ false → AllAtomsOf P fs
     all_where_none_of none h = tt
     all_where_none_of (also f fs) h = (all_where_none f (or_fails_left _ _ h), all_where_none_of fs (or_fails_right (some_atom test f) _ h))
+
+-- what follows of an atom that has a property and passes a test, where all have the property and some atom passes
+module _ {L : Type 0} (test : L → Bool) (P : L → Type 0) (X : Type 0) (step : (a : L) → P a → test a ≡ true → X) where
+  mutual
+    pub some_with : (f : Logic L) → AllAtoms P f → some_atom test f ≡ true → X
+    some_with (atom a) k h = step a k h
+    some_with always k h = absurd (true≢false (sym h))
+    some_with never k h = absurd (true≢false (sym h))
+    some_with (negation f) k h = some_with f k h
+    some_with (every_of fs) k h = some_with_of fs k h
+    some_with (some_of fs) k h = some_with_of fs k h
+    some_with (implies f g) k h = elim (or_split (some_atom test f) (some_atom test g) h) [ inl e ↦ some_with f k.0 e | inr e ↦ some_with g k.1 e ]
+    some_with (minus f g) k h = elim (or_split (some_atom test f) (some_atom test g) h) [ inl e ↦ some_with f k.0 e | inr e ↦ some_with g k.1 e ]
+    some_with (exists s k' f) k h = some_with f k h
+    some_with (forall s k' f) k h = some_with f k h
+
+    -- of a list
+    some_with_of : (fs : Logics L) → AllAtomsOf P fs → some_atom_of test fs ≡ true → X
+    some_with_of none k h = absurd (true≢false (sym h))
+    some_with_of (also f fs) k h = elim (or_split (some_atom test f) (some_atom_of test fs) h) [ inl e ↦ some_with f k.0 e | inr e ↦ some_with_of fs k.1 e ]
+
+-- a test that each atom passes that passes another
+pub some_passes : {L : Type 0} (test test' : L → Bool) → ((a : L) → test a ≡ true → test' a ≡ true) → (f : Logic L) → some_atom test f ≡ true → some_atom test' f ≡ true
+some_passes {L} test test' step f h = by (some_atom test' f) refl
+  where
+    by : (b : Bool) → some_atom test' f ≡ b → b ≡ true
+    by true e = refl
+    by false e =
+        absurd (some_with test (λ a. test' a ≡ false) ⊥ (λ a n t. true≢false (sym (step a t) ∙ n)) f (all_where_none test' (λ a. test' a ≡ false) (λ a n. n) f e) h)
 
 -- two tests that are the same of an atom below each scope
 abbrev pub SameTests : {L : Type 0} → (Scope → L → Bool) → (Scope → L → Bool) → L → Type 0
@@ -48,6 +78,10 @@ module _ {L : Type 0} (t t' : Scope → L → Bool) where
     some_below_of-same : (fs : Logics L) → AllAtomsOf (SameTests t t') fs → (scope : Scope) → some_below_of t scope fs ≡ some_below_of t' scope fs
     some_below_of-same none h scope = refl
     some_below_of-same (also f fs) h scope = λ i. some_below-same f h.0 scope i || some_below_of-same fs h.1 scope i
+
+-- of tests alone
+pub some_atom-same : {L : Type 0} (t t' : L → Bool) (f : Logic L) → AllAtoms (SameTests (λ s. t) (λ s. t')) f → some_atom t f ≡ some_atom t' f
+some_atom-same t t' f h = sym (some_below-unscoped t [] f) ∙ some_below-same (λ s. t) (λ s. t') f h [] ∙ some_below-unscoped t' [] f
 
 -- the measure of an atom that passes a test is at most the greatest
 module _ {L : Type 0} (of_atom : L → ℕ) (test : L → Bool) (x : ℕ) (step : (a : L) → test a ≡ true → x ≤ of_atom a) where

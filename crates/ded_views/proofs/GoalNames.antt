@@ -1,89 +1,94 @@
--- What is measured of the goal of a formula depends on the names of the formula alone.
-use Rattle.std.proofs.Common.{◌≡◌, ℕ, ◌+◌, nat_lt, Bool, true, false, ◌||◌, cond, List, ◌∷◌, is_some, refl, ap, bytes_eq}
+-- The goal of a formula uses the names of the formula, so what is measured of it depends on these alone.
+use Rattle.std.proofs.Common.{◌≡◌, ℕ, ◌+◌, nat_lt, Bool, true, false, ◌||◌, cond, List, ◌∷◌, is_some, refl, sym, ap, ap₂, ◌∙◌, bytes_eq}
+use Rattle.std.proofs.lemmas.Slice.Eq.{bytes_eq-Decides}
 use Rattle.ded_model.specs.declared.name.Column.{Column}
 use Rattle.ded_model.specs.declared.formula.CompareOp.{CompareOp}
 use Rattle.ded_model.specs.declared.formula.CompareOp.TheVariants.{Less, LessEq, Equal, NotEqual, GreaterEq, Greater}
 use Rattle.ded_model.specs.declared.formula.Operand.{Operand}
-use Rattle.ded_model.specs.declared.goal.Place.{Place}
-use Rattle.ded_model.specs.declared.tuple.ThemeAtom.{ThemeAtom}
 use Rattle.ded_model.specs.declared.tuple.ThemeAtom.TheVariants.{EqSlot, NeSlot}
-use Rattle.ded_model.specs.Constraint.{LinearConstraint}
 use Rattle.ded_model.specs.Sum.{SlotSum}
 use Rattle.ded_model.specs.Point.{same_slot}
-use Rattle.ded_model.specs.Logic.{atom, always, never, negation, every_of, some_of, implies, minus, exists, forall, Logics, none, also, AllAtoms, AllAtomsOf, some_atom, some_atom_of, quantifiers}
-use Rattle.ded_model.specs.Form.{Form, FormAtom, compare, member}
+use Rattle.ded_model.specs.Logic.{atom, always, never, negation, every_of, some_of, implies, minus, exists, forall, Logics, none, also, some_atom_of, quantifiers}
+use Rattle.ded_model.specs.Form.{Form, FormAtom, compare, member, atom_uses, uses}
 use Rattle.ded_model.specs.Goal.{GoalForm, GoalAtom, linear, theme}
 use Rattle.ded_model.specs.Goal as goal
-use Rattle.ded_model.specs.Known.{KnownNames, is_unknown_atom, uses_unknown}
+use Rattle.ded_model.specs.Known.{KnownNames, uses_unknown}
 use Rattle.ded_model.specs.Measure.{Measure, Measures, goal_atom_b, goal_atom_rank, goal_atom_lines, goal_atom_clash, goal_b, goal_rank, goal_lines, goal_clashes}
-use Rattle.ded_model.specs.Slotted.{SlotScope, slot_sum, sums_goal, TextSide, at, word, text_side, same_text_goal, other_text_goal, texts_goal, is_text_operand, atom_goal, goal_below, goals_below, goal_of}
-use Rattle.ded_sorts.proofs.Meanings.{or_fails_left, or_fails_right}
+use Rattle.ded_model.specs.Slotted.{SlotScope, slot_sum, sums_goal, TextSide, at, word, text_side, same_text_goal, other_text_goal, texts_goal, is_text_operand, compare_goal, goal_below, goals_below, goal_of}
+use Rattle.ded_model.specs.Uses.{goal_atom_uses, goal_uses}
+use Rattle.ded_model.proofs.Alike.{all_atoms}
 use Rattle.ded_views.proofs.Measuring.{measured-same}
-use Rattle.ded_views.proofs.ViewNames.{is_known}
+use Rattle.ded_views.proofs.ViewNames.{used_known}
 
--- a property of rows, of text atoms, and of the names that a test of the formula's atoms lets through
-module _ (test : FormAtom → Bool) (P : GoalAtom → Type 0) (row : (r : LinearConstraint) → P (linear r)) (text : (a : ThemeAtom) → P (theme a)) (named : (m : List ℕ) (ts : List Operand) (places : List Place) → test (member m ts) ≡ false → P (goal.member m places)) where
+-- ---- names
+
+module _ (n : List ℕ) where
   -- a choice of goals
-  either : (b : Bool) (g g' : GoalForm) → AllAtoms P g → AllAtoms P g' → AllAtoms P (cond b g g')
+  either : (b : Bool) (g g' : GoalForm) → goal_uses n g ≡ false → goal_uses n g' ≡ false → goal_uses n (cond b g g') ≡ false
   either true g g' h k = h
   either false g g' h k = k
 
-  sums : (l r : SlotSum) (op : CompareOp) → AllAtoms P (sums_goal l op r)
-  sums l r Less = row _
-  sums l r LessEq = row _
-  sums l r Equal = row _
-  sums l r NotEqual = row _
-  sums l r GreaterEq = row _
-  sums l r Greater = row _
+  sums : (l r : SlotSum) (op : CompareOp) → goal_uses n (sums_goal l op r) ≡ false
+  sums l r Less = refl
+  sums l r LessEq = refl
+  sums l r Equal = refl
+  sums l r NotEqual = refl
+  sums l r GreaterEq = refl
+  sums l r Greater = refl
 
-  same_texts : (l r : TextSide) → AllAtoms P (same_text_goal l r)
+  same_texts : (l r : TextSide) → goal_uses n (same_text_goal l r) ≡ false
   same_texts (at s) (at t) =
       let in_order = cond (nat_lt s.number t.number) (atom (theme (EqSlot s t))) (atom (theme (EqSlot t s))) in
-      either (same_slot s t) always in_order tt (either (nat_lt s.number t.number) (atom (theme (EqSlot s t))) (atom (theme (EqSlot t s))) (text _) (text _))
-  same_texts (at s) (word t) = text _
-  same_texts (word t) (at s) = text _
-  same_texts (word t) (word u) = either (bytes_eq t u) always never tt tt
+      either (same_slot s t) always in_order refl (either (nat_lt s.number t.number) (atom (theme (EqSlot s t))) (atom (theme (EqSlot t s))) refl refl)
+  same_texts (at s) (word t) = refl
+  same_texts (word t) (at s) = refl
+  same_texts (word t) (word u) = either (bytes_eq t u) always never refl refl
 
-  other_texts : (l r : TextSide) → AllAtoms P (other_text_goal l r)
+  other_texts : (l r : TextSide) → goal_uses n (other_text_goal l r) ≡ false
   other_texts (at s) (at t) =
       let in_order = cond (nat_lt s.number t.number) (atom (theme (NeSlot s t))) (atom (theme (NeSlot t s))) in
-      either (same_slot s t) never in_order tt (either (nat_lt s.number t.number) (atom (theme (NeSlot s t))) (atom (theme (NeSlot t s))) (text _) (text _))
-  other_texts (at s) (word t) = text _
-  other_texts (word t) (at s) = text _
-  other_texts (word t) (word u) = either (bytes_eq t u) never always tt tt
+      either (same_slot s t) never in_order refl (either (nat_lt s.number t.number) (atom (theme (NeSlot s t))) (atom (theme (NeSlot t s))) refl refl)
+  other_texts (at s) (word t) = refl
+  other_texts (word t) (at s) = refl
+  other_texts (word t) (word u) = either (bytes_eq t u) never always refl refl
 
-  texts : (l r : TextSide) (op : CompareOp) → AllAtoms P (texts_goal l op r)
-  texts l r Less = tt
-  texts l r LessEq = tt
+  texts : (l r : TextSide) (op : CompareOp) → goal_uses n (texts_goal l op r) ≡ false
+  texts l r Less = refl
+  texts l r LessEq = refl
   texts l r Equal = same_texts l r
   texts l r NotEqual = other_texts l r
-  texts l r GreaterEq = tt
-  texts l r Greater = tt
+  texts l r GreaterEq = refl
+  texts l r Greater = refl
 
-  atoms : (slots : SlotScope) (a : FormAtom) → test a ≡ false → AllAtoms P (atom_goal slots a)
-  atoms slots (compare l op r) h =
+  -- a comparison uses no name
+  comparison : (slots : SlotScope) (l r : Operand) (op : CompareOp) → goal_uses n (compare_goal slots l op r) ≡ false
+  comparison slots l r op =
       either (is_text_operand slots l || is_text_operand slots r) (texts_goal (text_side slots l) op (text_side slots r)) (sums_goal (slot_sum slots l) op (slot_sum slots r))
       (texts (text_side slots l) (text_side slots r) op) (sums (slot_sum slots l) (slot_sum slots r) op)
-  atoms slots (member m ts) h = named m ts _ h
 
   mutual
-    -- all atoms of the goal have it
-    pub goal_atoms_all : (slots : SlotScope) (n : ℕ) (f : Form) → some_atom test f ≡ false → AllAtoms P (goal_below slots n f)
-    goal_atoms_all slots n (atom a) h = atoms slots a h
-    goal_atoms_all slots n always h = tt
-    goal_atoms_all slots n never h = tt
-    goal_atoms_all slots n (negation f) h = goal_atoms_all slots n f h
-    goal_atoms_all slots n (every_of fs) h = goals_atoms_all slots n fs h
-    goal_atoms_all slots n (some_of fs) h = goals_atoms_all slots n fs h
-    goal_atoms_all slots n (implies f g) h = (goal_atoms_all slots n f (or_fails_left _ _ h), goal_atoms_all slots (n + quantifiers f) g (or_fails_right (some_atom test f) _ h))
-    goal_atoms_all slots n (minus f g) h = (goal_atoms_all slots n f (or_fails_left _ _ h), goal_atoms_all slots (n + quantifiers f) g (or_fails_right (some_atom test f) _ h))
-    goal_atoms_all slots n (exists s k f) h = goal_atoms_all ((k, record { number = n; sort = s }) ∷ slots) (n + 1) f h
-    goal_atoms_all slots n (forall s k f) h = goal_atoms_all ((k, record { number = n; sort = s }) ∷ slots) (n + 1) f h
+    -- a goal uses the names of its formula
+    used_below : (slots : SlotScope) (i : ℕ) (f : Form) → goal_uses n (goal_below slots i f) ≡ uses n f
+    used_below slots i (atom (compare l op r)) = comparison slots l r op
+    used_below slots i (atom (member m ts)) = refl
+    used_below slots i always = refl
+    used_below slots i never = refl
+    used_below slots i (negation f) = used_below slots i f
+    used_below slots i (every_of fs) = all_used_below slots i fs
+    used_below slots i (some_of fs) = all_used_below slots i fs
+    used_below slots i (implies f g) = ap₂ (◌||◌) (used_below slots i f) (used_below slots (i + quantifiers f) g)
+    used_below slots i (minus f g) = ap₂ (◌||◌) (used_below slots i f) (used_below slots (i + quantifiers f) g)
+    used_below slots i (exists s k f) = used_below ((k, record { number = i; sort = s }) ∷ slots) (i + 1) f
+    used_below slots i (forall s k f) = used_below ((k, record { number = i; sort = s }) ∷ slots) (i + 1) f
 
     -- of a list
-    goals_atoms_all : (slots : SlotScope) (n : ℕ) (fs : Logics FormAtom) → some_atom_of test fs ≡ false → AllAtomsOf P (goals_below slots n fs)
-    goals_atoms_all slots n none h = tt
-    goals_atoms_all slots n (also f fs) h = (goal_atoms_all slots n f (or_fails_left _ _ h), goals_atoms_all slots (n + quantifiers f) fs (or_fails_right (some_atom test f) _ h))
+    all_used_below : (slots : SlotScope) (i : ℕ) (fs : Logics FormAtom) → some_atom_of (goal_atom_uses n) (goals_below slots i fs) ≡ some_atom_of (atom_uses n) fs
+    all_used_below slots i none = refl
+    all_used_below slots i (also f fs) = ap₂ (◌||◌) (used_below slots i f) (all_used_below slots (i + quantifiers f) fs)
+
+pub goal_names : (h : List Column) (f : Form) (n : List ℕ) → goal_uses n (goal_of h f) ≡ uses n f
+unfolding goal_of
+goal_names h f n = used_below n _ _ f
 
 -- ---- measures
 
@@ -94,10 +99,19 @@ atom_measure M a = record { b = goal_atom_b M a; rank = goal_atom_rank M a; line
 abbrev pub goal_measure : Measures → GoalForm → Measure
 goal_measure M g = record { b = goal_b M g; rank = goal_rank M g; lines = goal_lines M g; clash = goal_clashes M g }
 
+-- names that it uses are measured alike
+module _ (M N : Measures) where
+  step : (a : GoalAtom) → ((n : List ℕ) → goal_atom_uses n a ≡ true → N n ≡ M n) → atom_measure N a ≡ atom_measure M a
+  step (linear r) h = refl
+  step (theme a) h = refl
+  step (goal.member m places) h = ap (λ (x : Measure). atom_measure (λ k. x) (goal.member m places)) (h m ((bytes_eq-Decides m m).1 refl))
+
+  pub measure_of_used : (h : List Column) (f : Form) → ((n : List ℕ) → uses n f ≡ true → N n ≡ M n) → goal_measure N (goal_of h f) ≡ goal_measure M (goal_of h f)
+  measure_of_used h f same =
+      measured-same (atom_measure N) (atom_measure M) (goal_of h f)
+      (all_atoms goal_atom_uses (λ n. N n ≡ M n) (λ a. atom_measure N a ≡ atom_measure M a) step (goal_of h f) (λ n e. same n (sym (goal_names h f n) ∙ e)))
+
+-- known names are measured alike
 module _ (K : KnownNames) (M N : Measures) (kept : (m : List ℕ) → is_some (K m) ≡ true → N m ≡ M m) where
   pub measure_same : (h : List Column) (f : Form) → uses_unknown K f ≡ false → goal_measure N (goal_of h f) ≡ goal_measure M (goal_of h f)
-  unfolding goal_of
-  measure_same h f u =
-      measured-same (atom_measure N) (atom_measure M) (goal_of h f)
-      (goal_atoms_all (is_unknown_atom K) (λ a. atom_measure N a ≡ atom_measure M a) (λ r. refl) (λ a. refl)
-      (λ m ts places e. ap (λ (x : Measure). atom_measure (λ k. x) (goal.member m places)) (kept m (is_known (K m) e))) _ _ f u)
+  measure_same h f u = measure_of_used M N h f (λ n e. kept n (used_known K f n u e))

@@ -1,9 +1,15 @@
 pub mod PointsAlike
 pub mod PlansAlike
 pub mod Clashing
+pub mod Folds
 pub mod Placing
 pub mod Atoms
 pub mod Measuring
 pub mod ViewNames
 pub mod GoalNames
 pub mod Views
+pub mod Unaffected
+pub mod Changing
+pub mod OneChange
+pub mod Named
+pub mod ViewGoals

@@ -1,6 +1,6 @@
 -- What a catalogue says of a name, from its entry and the entries before it.
 --
--- Meanings, measures and what is known of names are folds over the entries in order. Each entry has a new name, so those after an entry
+-- Meanings, measures, what is known of names and what they reach are folds over the entries in order. Each entry has a new name, so those after an entry
 -- change nothing of its own name, nor of a name that is known before it.
 use Rattle.std.proofs.Common.{◌≡◌, ℕ, Bool, true, false, cond, List, [], ◌∷◌, ◌++◌, Some, None, is_some, refl, sym, ap, ◌∙◌, subst, true≢false, bytes_eq}
 use Rattle.std.proofs.lemmas.Option.{same_Some, none-some}
@@ -11,19 +11,24 @@ use Rattle.ded_model.specs.Catalogue.{Entry, Catalogue, entry_name, entry_meanin
 use Rattle.ded_model.specs.Entries.{known, entry_of}
 use Rattle.ded_model.specs.Known.{KnownNames, IsEntryOver, AreEntriesOver, IsWellFormed, entry_known, with_known, known_from, known_of}
 use Rattle.ded_model.specs.Measure.{Measures, entry_measure, with_measure, measures_from, measures}
+use Rattle.ded_views.specs.Reaching.{entry_reaches, with_reach, reach_from, reaches}
+use Rattle.ded_views.proofs.Folds.{there, kept}
 
 -- ---- before any entry
 
-abbrev none_known : KnownNames
+abbrev pub none_known : KnownNames
 none_known n = None
 
-abbrev none_means : Meaning
+abbrev pub none_means : Meaning
 none_means n den xs = ⊥
 
-abbrev none_measured : Measures
+abbrev pub none_measured : Measures
 none_measured n = record { b = 0; rank = 0; lines = []; clash = false }
 
-known-is : (c : Catalogue) → known c ≡ known_from none_known c.entries
+abbrev pub none_reached : List ℕ → List ℕ → Bool
+none_reached n m = false
+
+pub known-is : (c : Catalogue) → known c ≡ known_from none_known c.entries
 unfolding known_of
 known-is c = refl
 
@@ -35,65 +40,72 @@ measures-is : (c : Catalogue) → measures c ≡ measures_from none_measured c.e
 unfolding measures
 measures-is c = refl
 
--- ---- entries in two parts
-
-known_from-parts : (ds es : List Entry) (K : KnownNames) → known_from K (ds ++ es) ≡ known_from (known_from K ds) es
-known_from-parts [] es K = refl
-known_from-parts (d ∷ ds) es K = known_from-parts ds es (with_known K d)
-
-meaning_from-parts : (ds es : List Entry) (I : Meaning) → meaning_from I (ds ++ es) ≡ meaning_from (meaning_from I ds) es
-meaning_from-parts [] es I = refl
-meaning_from-parts (d ∷ ds) es I = meaning_from-parts ds es (with_entry I d)
-
-measures_from-parts : (ds es : List Entry) (M : Measures) → measures_from M (ds ++ es) ≡ measures_from (measures_from M ds) es
-measures_from-parts [] es M = refl
-measures_from-parts (d ∷ ds) es M = measures_from-parts ds es (with_measure M d)
+pub reaches-is : (c : Catalogue) → reaches c ≡ reach_from none_reached c.entries
+unfolding reaches
+reaches-is c = refl
 
 -- ---- one entry more
 
 -- its own name means what the entry does
-means_own : (I : Meaning) (e : Entry) (n : List ℕ) → bytes_eq n (entry_name e) ≡ true → with_entry I e n ≡ entry_meaning I e
+pub means_own : (I : Meaning) (e : Entry) (n : List ℕ) → bytes_eq n (entry_name e) ≡ true → with_entry I e n ≡ entry_meaning I e
 means_own I e n h = λ i den xs. MatchBool (h i) (entry_meaning I e den xs) (I n den xs)
 
--- another name means what it did
-means_other : (I : Meaning) (e : Entry) (n : List ℕ) → bytes_eq n (entry_name e) ≡ false → with_entry I e n ≡ I n
+-- and reaches what the entry does
+reaches_own : (R : List ℕ → List ℕ → Bool) (e : Entry) (n : List ℕ) → bytes_eq n (entry_name e) ≡ true → with_reach R e n ≡ entry_reaches R e
+reaches_own R e n h = λ i m. cond (h i) (entry_reaches R e m) (R n m)
+
+-- of another name all stays
+pub means_other : (I : Meaning) (e : Entry) (n : List ℕ) → bytes_eq n (entry_name e) ≡ false → with_entry I e n ≡ I n
 means_other I e n h = λ i den xs. MatchBool (h i) (entry_meaning I e den xs) (I n den xs)
+
+pub reaches_other : (R : List ℕ → List ℕ → Bool) (e : Entry) (n : List ℕ) → bytes_eq n (entry_name e) ≡ false → with_reach R e n ≡ R n
+reaches_other R e n h = λ i m. cond (h i) (entry_reaches R e m) (R n m)
+
+pub known_other : (K : KnownNames) (e : Entry) (n : List ℕ) → bytes_eq n (entry_name e) ≡ false → with_known K e n ≡ K n
+known_other K e n h = ap (λ c. cond c (Some (entry_known K e)) (K n)) h
+
+measures_other : (M : Measures) (e : Entry) (n : List ℕ) → bytes_eq n (entry_name e) ≡ false → with_measure M e n ≡ M n
+measures_other M e n h = ap (λ c. cond c (entry_measure M e) (M n)) h
+
+-- ---- a name that no entry after this one has
+
+known_there : (c : Catalogue) (before after : List Entry) (e : Entry) (n : List ℕ) → c.entries ≡ before ++ e ∷ after → entry_of after n ≡ None
+    → known c n ≡ with_known (known_from none_known before) e n
+known_there c before after e n p l =
+    ap (λ J. J n) (known-is c) ∙ there with_known known_from (λ J. refl) (λ J d es. refl) known_other before after c.entries e none_known n p l
+
+meaning_there : (c : Catalogue) (before after : List Entry) (e : Entry) (n : List ℕ) → c.entries ≡ before ++ e ∷ after → entry_of after n ≡ None
+    → meaning c n ≡ with_entry (meaning_from none_means before) e n
+meaning_there c before after e n p l =
+    ap (λ J. J n) (meaning-is c) ∙ there with_entry meaning_from (λ J. refl) (λ J d es. refl) means_other before after c.entries e none_means n p l
+
+measure_there : (c : Catalogue) (before after : List Entry) (e : Entry) (n : List ℕ) → c.entries ≡ before ++ e ∷ after → entry_of after n ≡ None
+    → measures c n ≡ with_measure (measures_from none_measured before) e n
+measure_there c before after e n p l =
+    ap (λ J. J n) (measures-is c) ∙ there with_measure measures_from (λ J. refl) (λ J d es. refl) measures_other before after c.entries e none_measured n p l
+
+reach_there : (c : Catalogue) (before after : List Entry) (e : Entry) (n : List ℕ) → c.entries ≡ before ++ e ∷ after → entry_of after n ≡ None
+    → reaches c n ≡ with_reach (reach_from none_reached before) e n
+reach_there c before after e n p l =
+    ap (λ J. J n) (reaches-is c) ∙ there with_reach reach_from (λ J. refl) (λ J d es. refl) reaches_other before after c.entries e none_reached n p l
 
 -- ---- a name of no entry
 
--- what was known of it stays
-known_from-kept : (es : List Entry) (K : KnownNames) (n : List ℕ) → entry_of es n ≡ None → known_from K es n ≡ K n
-known_from-kept [] K n h = refl
-known_from-kept (e ∷ es) K n h = by (bytes_eq n (entry_name e)) refl h (known_from-kept es (with_known K e) n)
-  where
-    by : (b : Bool) → bytes_eq n (entry_name e) ≡ b → cond b (Some e) (entry_of es n) ≡ None → (entry_of es n ≡ None → known_from (with_known K e) es n ≡ with_known K e n)
-        → known_from (with_known K e) es n ≡ K n
-    by true b h next = absurd (none-some e (sym h))
-    by false b h next = next h ∙ ap (λ c. cond c (Some (entry_known K e)) (K n)) b
-
--- what it means
-meaning_from-kept : (es : List Entry) (I : Meaning) (n : List ℕ) → entry_of es n ≡ None → meaning_from I es n ≡ I n
-meaning_from-kept [] I n h = refl
-meaning_from-kept (e ∷ es) I n h = by (bytes_eq n (entry_name e)) refl h (meaning_from-kept es (with_entry I e) n)
-  where
-    by : (b : Bool) → bytes_eq n (entry_name e) ≡ b → cond b (Some e) (entry_of es n) ≡ None → (entry_of es n ≡ None → meaning_from (with_entry I e) es n ≡ with_entry I e n)
-        → meaning_from (with_entry I e) es n ≡ I n
-    by true b h next = absurd (none-some e (sym h))
-    by false b h next = next h ∙ means_other I e n b
-
--- what is measured of it
-measures_from-kept : (es : List Entry) (M : Measures) (n : List ℕ) → entry_of es n ≡ None → measures_from M es n ≡ M n
-measures_from-kept [] M n h = refl
-measures_from-kept (e ∷ es) M n h = by (bytes_eq n (entry_name e)) refl h (measures_from-kept es (with_measure M e) n)
-  where
-    by : (b : Bool) → bytes_eq n (entry_name e) ≡ b → cond b (Some e) (entry_of es n) ≡ None → (entry_of es n ≡ None → measures_from (with_measure M e) es n ≡ with_measure M e n)
-        → measures_from (with_measure M e) es n ≡ M n
-    by true b h next = absurd (none-some e (sym h))
-    by false b h next = next h ∙ ap (λ c. cond c (entry_measure M e) (M n)) b
-
 -- nothing is known of a name that no entry has
 pub unknown : (c : Catalogue) (n : List ℕ) → entry_of c.entries n ≡ None → known c n ≡ None
-unknown c n h = ap (λ K. K n) (known-is c) ∙ known_from-kept c.entries none_known n h
+unknown c n h = ap (λ K. K n) (known-is c) ∙ kept with_known known_from (λ J. refl) (λ J e es. refl) known_other c.entries none_known n h
+
+-- it holds nowhere
+pub meaningless : (c : Catalogue) (n : List ℕ) → entry_of c.entries n ≡ None → meaning c n ≡ none_means n
+meaningless c n h = ap (λ I. I n) (meaning-is c) ∙ kept with_entry meaning_from (λ J. refl) (λ J e es. refl) means_other c.entries none_means n h
+
+-- has no rows
+pub unmeasured : (c : Catalogue) (n : List ℕ) → entry_of c.entries n ≡ None → measures c n ≡ none_measured n
+unmeasured c n h = ap (λ M. M n) (measures-is c) ∙ kept with_measure measures_from (λ J. refl) (λ J e es. refl) measures_other c.entries none_measured n h
+
+-- and reaches none
+pub unreached : (c : Catalogue) (n : List ℕ) → entry_of c.entries n ≡ None → reaches c n ≡ none_reached n
+unreached c n h = ap (λ R. R n) (reaches-is c) ∙ kept with_reach reach_from (λ J. refl) (λ J e es. refl) reaches_other c.entries none_reached n h
 
 -- ---- known names
 
@@ -106,7 +118,7 @@ not_new K n m new k = by (bytes_eq n m) refl
     by false b = refl
 
 -- the entries over it have other names
-no_later : (limit : ℕ) (K : KnownNames) (es : List Entry) (n : List ℕ) → AreEntriesOver limit K es → is_some (K n) ≡ true → entry_of es n ≡ None
+pub no_later : (limit : ℕ) (K : KnownNames) (es : List Entry) (n : List ℕ) → AreEntriesOver limit K es → is_some (K n) ≡ true → entry_of es n ≡ None
 no_later limit K [] n w k = refl
 no_later limit K (e ∷ es) n w k =
     let other : bytes_eq n (entry_name e) ≡ false = not_new K n (entry_name e) w.0 k in
@@ -148,13 +160,17 @@ pub record IsRead (c : Catalogue) (n : List ℕ) (e : Entry) : Type 1 where
   pub K : KnownNames
   pub I : Meaning
   pub M : Measures
+  pub R : List ℕ → List ℕ → Bool
+  pub named : n ≡ entry_name e
   pub over : IsEntryOver c.limit K e
   pub own_known : known c n ≡ Some (entry_known K e)
   pub own_meaning : meaning c n ≡ entry_meaning I e
   pub own_measure : measures c n ≡ entry_measure M e
+  pub own_reach : reaches c n ≡ entry_reaches R e
   pub kept_known : (m : List ℕ) → is_some (K m) ≡ true → known c m ≡ K m
   pub kept_meaning : (m : List ℕ) → is_some (K m) ≡ true → meaning c m ≡ I m
   pub kept_measure : (m : List ℕ) → is_some (K m) ≡ true → measures c m ≡ M m
+  pub kept_reach : (m : List ℕ) → is_some (K m) ≡ true → reaches c m ≡ R m
 
 pub entry_read : (c : Catalogue) → IsWellFormed c → (n : List ℕ) (e : Entry) → entry_of c.entries n ≡ Some e → IsRead c n e
 entry_read c w n e h = by (placed c.limit none_known c.entries n e w h)
@@ -164,13 +180,17 @@ entry_read c w n e h = by (placed c.limit none_known c.entries n e w h)
       K = K;
       I = I;
       M = M;
+      R = R;
+      named = p.named;
       over = p.over;
-      own_known = known_there n own_later ∙ own_added;
-      own_meaning = meaning_there n own_later ∙ means_own I e n own;
-      own_measure = measure_there n own_later ∙ ap (λ c. cond c (entry_measure M e) (M n)) own;
-      kept_known = λ m k. known_there m (later m k) ∙ ap (λ c. cond c (Some (entry_known K e)) (K m)) (other m k);
-      kept_meaning = λ m k. meaning_there m (later m k) ∙ means_other I e m (other m k);
-      kept_measure = λ m k. measure_there m (later m k) ∙ ap (λ c. cond c (entry_measure M e) (M m)) (other m k);
+      own_known = known_there c p.before p.after e n p.parts own_later ∙ own_added;
+      own_meaning = meaning_there c p.before p.after e n p.parts own_later ∙ means_own I e n own;
+      own_measure = measure_there c p.before p.after e n p.parts own_later ∙ ap (λ c. cond c (entry_measure M e) (M n)) own;
+      own_reach = reach_there c p.before p.after e n p.parts own_later ∙ reaches_own R e n own;
+      kept_known = λ m k. known_there c p.before p.after e m p.parts (later m k) ∙ known_other K e m (other m k);
+      kept_meaning = λ m k. meaning_there c p.before p.after e m p.parts (later m k) ∙ means_other I e m (other m k);
+      kept_measure = λ m k. measure_there c p.before p.after e m p.parts (later m k) ∙ measures_other M e m (other m k);
+      kept_reach = λ m k. reach_there c p.before p.after e m p.parts (later m k) ∙ reaches_other R e m (other m k);
     }
       where
         K : KnownNames
@@ -181,6 +201,9 @@ entry_read c w n e h = by (placed c.limit none_known c.entries n e w h)
 
         M : Measures
         M = measures_from none_measured p.before
+
+        R : List ℕ → List ℕ → Bool
+        R = reach_from none_reached p.before
 
         own : bytes_eq n (entry_name e) ≡ true
         own = (bytes_eq-Decides n (entry_name e)).1 p.named
@@ -196,16 +219,3 @@ entry_read c w n e h = by (placed c.limit none_known c.entries n e w h)
 
         later : (m : List ℕ) → is_some (K m) ≡ true → entry_of p.after m ≡ None
         later m k = no_later c.limit (with_known K e) p.after m p.rest (ap (λ c. is_some (cond c (Some (entry_known K e)) (K m))) (other m k) ∙ k)
-
-        known_there : (m : List ℕ) → entry_of p.after m ≡ None → known c m ≡ with_known K e m
-        known_there m l =
-            ap (λ J. J m) (known-is c ∙ ap (known_from none_known) p.parts ∙ known_from-parts p.before (e ∷ p.after) none_known) ∙ known_from-kept p.after (with_known K e) m l
-
-        meaning_there : (m : List ℕ) → entry_of p.after m ≡ None → meaning c m ≡ with_entry I e m
-        meaning_there m l =
-            ap (λ J. J m) (meaning-is c ∙ ap (meaning_from none_means) p.parts ∙ meaning_from-parts p.before (e ∷ p.after) none_means) ∙ meaning_from-kept p.after (with_entry I e) m l
-
-        measure_there : (m : List ℕ) → entry_of p.after m ≡ None → measures c m ≡ with_measure M e m
-        measure_there m l =
-            ap (λ J. J m) (measures-is c ∙ ap (measures_from none_measured) p.parts ∙ measures_from-parts p.before (e ∷ p.after) none_measured)
-            ∙ measures_from-kept p.after (with_measure M e) m l

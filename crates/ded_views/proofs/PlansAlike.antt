@@ -32,12 +32,12 @@ sorted_positive : (s : Sort) (n : ℤ) (t : List ℕ) → 0 < (sorted_value s n 
 sorted_positive Rat n t = omega arith
 sorted_positive Text n t = omega arith
 
-arguments_bytes : (p : Point) → IsPoint p → (ss : List Slot) → AreByteArguments (arguments (map (slot_value p) ss))
+pub arguments_bytes : (p : Point) → IsPoint p → (ss : List Slot) → AreByteArguments (arguments (map (slot_value p) ss))
 arguments_bytes p i [] = tt
 arguments_bytes p i (s ∷ ss) =
     (sorted_bytes s.sort (number_at p (slot s)) (text_at p (slot s)) (point-bytes p (slot s) i), times_bytes (slot_value p s).over (arguments (map (slot_value p) ss)) (arguments_bytes p i ss))
 
-slots_positive : (p : Point) (ss : List Slot) → 0 < overs (map (slot_value p) ss)
+pub slots_positive : (p : Point) (ss : List Slot) → 0 < overs (map (slot_value p) ss)
 slots_positive p ss = overs-positive (slot_value p) (λ s. sorted_positive s.sort (number_at p (slot s)) (text_at p (slot s))) ss
 
 -- ---- the law

@@ -1,5 +1,5 @@
 -- What a catalogue has of a name is that of its entry, read over the whole catalogue.
-use Rattle.std.proofs.Common.{◌≡◌, ℕ, suc, ◌≤◌, ◌<◌, arith, true, true≢false, List, [], ◌∷◌, Option, Some, None, refl, sym, ap, ◌∙◌, subst}
+use Rattle.std.proofs.Common.{◌≡◌, ℕ, suc, ◌≤◌, ◌<◌, arith, true, ◌||◌, bytes_eq, true≢false, List, [], ◌∷◌, Option, Some, None, refl, sym, ap, ap₂, ◌∙◌, subst}
 use Rattle.std.specs.Prelude.{◌↔◌, IsTrue}
 use Rattle.std.specs.List.{AllByRecursion}
 use Rattle.std.proofs.lemmas.Slice.Eq.{bytes_eq-Decides}
@@ -11,10 +11,13 @@ use Rattle.ded_model.specs.Catalogue.{Entry, relation, view, Catalogue, tuples_o
 use Rattle.ded_model.specs.Entries.{known, entry_of}
 use Rattle.ded_model.specs.Form.{Form, FormAtom, compare, member, uses, atom_uses}
 use Rattle.ded_model.specs.Known.{KnownNames, IsAccepted, IsTupleOver, AreStored, IsEntryOver, IsWellFormed, entry_known, atom_level, level_with}
+use Rattle.ded_model.specs.Logic.{some_atom}
 use Rattle.ded_model.specs.Measure.{measures, entry_measure}
+use Rattle.ded_model.proofs.Rows.{or_right}
+use Rattle.ded_views.specs.Reaching.{atom_reaches, reaches}
 use Rattle.ded_views.proofs.Placing.{entry_read, unknown}
-use Rattle.ded_views.proofs.Atoms.{at_most_greatest}
-use Rattle.ded_views.proofs.ViewNames.{holds_alike, accepted, level_same}
+use Rattle.ded_views.proofs.Atoms.{at_most_greatest, some_passes}
+use Rattle.ded_views.proofs.ViewNames.{holds_alike, accepted, used_known, level_same, reach_of_used}
 use Rattle.ded_views.proofs.GoalNames.{measure_same}
 
 -- ---- what it means
@@ -45,6 +48,28 @@ name_known c w n (relation m h i ts) e = (entry_read c w n (relation m h i ts) e
 name_known c w n (view m h f) e =
     let r = entry_read c w n (view m h f) e in
     r.own_known ∙ ap (λ l. Some (record { is_view = true; columns = h; level = l })) (sym (level_same r.K (known c) r.kept_known f r.over.0.known))
+
+-- ---- what it reaches
+
+pub relation_reaches : (c : Catalogue) → IsWellFormed c → (n m : List ℕ) (h : List Column) (i : ℕ) (ts : List (ℕ × List Atom)) → entry_of c.entries n ≡ Some (relation m h i ts)
+    → (r : List ℕ) → reaches c n r ≡ bytes_eq n r
+relation_reaches c w n m h i ts e r = let read = entry_read c w n (relation m h i ts) e in ap (λ t. t r) read.own_reach ∙ ap (λ k. bytes_eq k r) (sym read.named)
+
+pub view_reaches : (c : Catalogue) → IsWellFormed c → (n m : List ℕ) (h : List Column) (f : Form) → entry_of c.entries n ≡ Some (view m h f)
+    → (r : List ℕ) → reaches c n r ≡ (bytes_eq n r || some_atom (atom_reaches (reaches c) r) f)
+view_reaches c w n m h f e r =
+    let read = entry_read c w n (view m h f) e in
+    let over = reach_of_used read.R (reaches c) r f (λ k u. ap (λ t. t r) (read.kept_reach k (used_known read.K f k read.over.0.known u))) in
+    ap (λ t. t r) read.own_reach ∙ ap₂ (λ k b. bytes_eq k r || b) (sym read.named) (sym over)
+
+-- a view reaches what the names do that its formula uses
+pub used_reaches : (c : Catalogue) → IsWellFormed c → (n m : List ℕ) (h : List Column) (f : Form) → entry_of c.entries n ≡ Some (view m h f)
+    → (k r : List ℕ) → uses k f ≡ true → reaches c k r ≡ true → reaches c n r ≡ true
+used_reaches c w n m h f e k r u t = view_reaches c w n m h f e r ∙ or_right (bytes_eq n r) _ (some_passes (atom_uses k) (atom_reaches (reaches c) r) step f u)
+  where
+    step : (a : FormAtom) → atom_uses k a ≡ true → atom_reaches (reaches c) r a ≡ true
+    step (compare l op r') h = absurd (true≢false (sym h))
+    step (member j ts) h = subst (λ x. reaches c x r ≡ true) ((bytes_eq-Decides k j).0 h) t
 
 -- ---- well formed entries
 

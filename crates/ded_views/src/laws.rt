@@ -1,19 +1,26 @@
 //! What names mean over a whole catalogue.
-ghost use Rattle.std.specs.Prelude.{◌≡◌, ◌↔◌, ◌<◌, ◌≤◌, ℕ, true, IsTrue, Some, None, List};
-ghost use Rattle.std.specs.List.{AllByRecursion};
+ghost use Rattle.std.specs.Prelude.{◌≡◌, ◌↔◌, ◌⊎◌, ◌<◌, ◌≤◌, ℕ, Bool, true, false, not, ◌||◌, IsTrue, Some, None, is_some, List};
+ghost use Rattle.std.specs.Str.{bytes_eq};
+ghost use Rattle.std.specs.List.{AllByRecursion, list_any};
 ghost use Rattle.ded_model.specs.declared.name.Column.{Column};
 ghost use Rattle.ded_model.specs.Catalogue.{Entry, relation, view, Catalogue, tuples_of, at_slots, at_names, meaning, Holds, PlanHolds};
-ghost use Rattle.ded_model.specs.Entries.{known, entry_of};
+ghost use Rattle.ded_model.specs.Entries.{known, entry_of, entry_uses, columns_in};
 ghost use Rattle.ded_model.specs.Form.{Form, uses};
 ghost use Rattle.ded_model.specs.Goal.{GoalForm};
+ghost use Rattle.ded_model.specs.Grown.{HaveMoreLines};
 ghost use Rattle.ded_model.specs.Known.{IsAccepted, IsTupleOver, IsWellFormed, entry_known, level_of, level_with};
+ghost use Rattle.ded_model.specs.Logic.{some_atom};
 ghost use Rattle.ded_model.specs.Measure.{Measures, measures, entry_measure, goal_clashes, plan_clashes};
 ghost use Rattle.ded_model.specs.PlanForm.{PlanForm};
 ghost use Rattle.ded_model.specs.Point.{Point, IsPoint};
-ghost use Rattle.ded_model.specs.Row.{Atom, tuples_hold};
-ghost use Rattle.ded_model.specs.Uses.{goal_uses, plan_uses};
+ghost use Rattle.ded_model.specs.Row.{Atom, tuple_holds, tuples_hold};
+ghost use Rattle.ded_model.specs.Slotted.{goal_of};
+ghost use Rattle.ded_model.specs.Uses.{MeansAlike, goal_uses, plan_uses};
 ghost use Rattle.ded_model.specs.Value.{Argument};
+ghost use Rattle.ded_sorts.specs.Changes.{AddsEntry, ChangesEntry, DropsEntry, Inserts, Deletes};
+ghost use Rattle.ded_views.specs.Reaching.{atom_reaches, reaches};
 ghost use Rattle.ded_views.specs.Same.{MeansSame};
+ghost use Rattle.ded_views.specs.Unaffected.{AreUnaffected};
 
 /// What a name of a well formed catalogue means: a relation holds where one of its tuples does, its columns at the slots from 0 on; a
 /// view holds where its formula does over the whole catalogue, its columns at their names.
@@ -51,4 +58,60 @@ pub fn plans_alike()
 pub fn clashing_names()
     ensures goal { (M : Measures) (g : GoalForm) (n : List ℕ) → goal_uses n g ≡ true → (M n).clash ≡ true → goal_clashes M g ≡ true }
     ensures plan { (M : Measures) (f : PlanForm) (n : List ℕ) → plan_uses n f ≡ true → (M n).clash ≡ true → plan_clashes M f ≡ true }
+{}
+
+/// The goal of a formula uses the names of the formula.
+pub fn goal_names()
+    ensures { (h : List Column) (f : Form) (n : List ℕ) → goal_uses n (goal_of h f) ≡ uses n f }
+{}
+
+/// What a name of a well formed catalogue reaches: a relation itself, and a view itself and what a name in its formula reaches. A name that
+/// isn't defined reaches none.
+pub fn reached()
+    ensures relation { (c : Catalogue) → IsWellFormed c → (n m : List ℕ) (h : List Column) (i : ℕ) (ts : List (ℕ × List Atom)) → entry_of c.entries n ≡ Some (relation m h i ts)
+        → (r : List ℕ) → reaches c n r ≡ bytes_eq n r }
+    ensures view { (c : Catalogue) → IsWellFormed c → (n m : List ℕ) (h : List Column) (f : Form) → entry_of c.entries n ≡ Some (view m h f)
+        → (r : List ℕ) → reaches c n r ≡ (bytes_eq n r || some_atom (atom_reaches (reaches c) r) f) }
+    ensures used { (c : Catalogue) → IsWellFormed c → (n m : List ℕ) (h : List Column) (f : Form) → entry_of c.entries n ≡ Some (view m h f)
+        → (k r : List ℕ) → uses k f ≡ true → reaches c k r ≡ true → reaches c n r ≡ true }
+    ensures undefined { (c : Catalogue) (n : List ℕ) → entry_of c.entries n ≡ None → (r : List ℕ) → reaches c n r ≡ false }
+{}
+
+/// Names that a change doesn't touch mean the same, have the same measures, are known alike and reach the same.
+pub fn unaffected()
+    ensures meaning { (c d : Catalogue) → IsWellFormed c → IsWellFormed d → (among : List ℕ → Bool) → AreUnaffected c d among
+        → (n : List ℕ) → among n ≡ true → MeansAlike c d n }
+    ensures measure { (c d : Catalogue) → IsWellFormed c → IsWellFormed d → (among : List ℕ → Bool) → AreUnaffected c d among
+        → (n : List ℕ) → among n ≡ true → measures d n ≡ measures c n }
+    ensures known { (c d : Catalogue) → IsWellFormed c → IsWellFormed d → (among : List ℕ → Bool) → AreUnaffected c d among
+        → (n : List ℕ) → among n ≡ true → known d n ≡ known c n }
+    ensures reach { (c d : Catalogue) → IsWellFormed c → IsWellFormed d → (among : List ℕ → Bool) → AreUnaffected c d among
+        → (n : List ℕ) → among n ≡ true → (m : List ℕ) → reaches d n m ≡ reaches c n m }
+{}
+
+/// What a change of a catalogue doesn't touch: a new entry the names that are defined; an entry that is dropped, where no view uses its name,
+/// all other names; and other tuples of a relation the names that don't reach it. Other tuples change nothing of what is known of any name
+/// and of what it reaches.
+pub fn changes()
+    ensures added { (c d : Catalogue) (e : Entry) → IsWellFormed c → AddsEntry c d e → AreUnaffected c d (λ n. is_some (entry_of c.entries n)) }
+    ensures dropped { (c d : Catalogue) (n : List ℕ) → DropsEntry c d n → list_any (entry_uses n) c.entries ≡ false → AreUnaffected c d (λ m. not (bytes_eq m n)) }
+    ensures changed { (c d : Catalogue) (n : List ℕ) (h : List Column) (i j : ℕ) (ts us : List (ℕ × List Atom)) → IsWellFormed c
+        → ChangesEntry c d n (relation n h i ts) (relation n h j us) → AreUnaffected c d (λ m. not (reaches c m n)) }
+    ensures kinds { (c d : Catalogue) (n : List ℕ) (h : List Column) (i j : ℕ) (ts us : List (ℕ × List Atom))
+        → ChangesEntry c d n (relation n h i ts) (relation n h j us) → (m : List ℕ) → known d m ≡ known c m }
+    ensures reach { (c d : Catalogue) (n : List ℕ) (h : List Column) (i j : ℕ) (ts us : List (ℕ × List Atom))
+        → ChangesEntry c d n (relation n h i ts) (relation n h j us) → (m r : List ℕ) → reaches d m r ≡ reaches c m r }
+{}
+
+/// After an insert the relation holds where it did and where the new tuple does, and each relation has at least the lines that it had.
+pub fn inserts()
+    ensures own { (c d : Catalogue) (n : List ℕ) (t : List Atom) (k : ℕ) → IsWellFormed c → IsWellFormed d → Inserts c d n t k → (den : ℕ) (xs : List Argument)
+        → meaning d n den xs ↔ (meaning c n den xs ⊎ IsTrue (tuple_holds t (record { den = den; coords = at_slots 0 (columns_in c n) xs }))) }
+    ensures lines { (c d : Catalogue) (n : List ℕ) (t : List Atom) (k : ℕ) → Inserts c d n t k → HaveMoreLines c.entries d.entries }
+{}
+
+/// An insert of a tuple, and a delete of a number, make one catalogue of a well formed one.
+pub fn one_change()
+    ensures insert { (c d e : Catalogue) (n : List ℕ) (t : List Atom) (k l : ℕ) → IsWellFormed c → Inserts c d n t k → Inserts c e n t l → (d ≡ e) × (k ≡ l) }
+    ensures delete { (c d e : Catalogue) (n : List ℕ) (k : ℕ) → IsWellFormed c → Deletes c d n k → Deletes c e n k → d ≡ e }
 {}

@@ -1,0 +1,5 @@
+use Rattle.ded_views.proofs.GoalNames.{goal_names}
+use Rattle.ded_views.proofs.laws.goal_names.Goals as goal
+
+pub returns : goal.returns
+returns c = goal_names
