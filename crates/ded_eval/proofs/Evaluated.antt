@@ -58,14 +58,6 @@ module _ {A : Type 0} (h : A → Point → Bool) (m : A → Slot → Bool) (l : 
   abbrev pub IsListFor : Catalogue → PlanForm → List (List A) → Type 0
   IsListFor c f xs = IsEvaluation c f (conjs_hold h xs) (conjs_mention m xs) (conjs_lines l xs)
 
-  -- without conjunctions that no point satisfies, an operation gives the same
-  pub operation_inhabited : (test : Point → Bool) (used : Slot → Bool) (given : List Line) (out part : List (List A)) → IsOperation h m l test used given out → IsInhabitedPart h m l out part → IsOperation h m l test used given part
-  operation_inhabited test used given out part o k = record {
-    holds = λ p i. k.is.holds p i ∙ o.holds p i;
-    slots = λ s u. o.slots s (k.is.slots s u);
-    lines = subset_trans (conjs_lines l part) (conjs_lines l out) given k.is.lines o.lines;
-  }
-
   -- ---- rows
 
   pub rows_for : (c : Catalogue) (t : List Atom) (atoms : List A) (list out : List (List A)) → list ≡ atoms ∷ [] → IsConjunctionOf h m l atoms t → IsInhabitedPart h m l list out → IsListFor c (atom (rows t)) out

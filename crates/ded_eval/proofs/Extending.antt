@@ -1,10 +1,10 @@
 -- The extent of tuples, one tuple after another.
-use Rattle.std.proofs.Common.{◌≡◌, ◌∙◌, Bool, false, ◌||◌, List, [], ◌∷◌, ◌++◌, refl, sym, ap, subst}
+use Rattle.std.proofs.Common.{◌≡◌, Bool, ◌||◌, List, [], ◌∷◌, ◌++◌, refl, sym, subst}
 use Rattle.ded_model.specs.declared.name.Column.{Column}
 use Rattle.ded_model.specs.declared.bound.BoxReply.{BoxReply}
 use Rattle.ded_model.specs.declared.bound.BoxReply.TheVariants.{Nowhere}
 use Rattle.ded_model.specs.Cell.{conj_holds}
-use Rattle.ded_model.specs.Point.{Point, IsPoint}
+use Rattle.ded_model.specs.Point.{Point}
 use Rattle.ded_model.specs.Row.{Atom, row_holds, theme_holds, tuple_holds, tuples_hold}
 use Rattle.ded_theory.specs.Both.{by_kind}
 use Rattle.ded_atoms.proofs.Conjunctive.{tuple_holds-is}

@@ -12,6 +12,7 @@ pub mod Parts
 pub mod Projected
 pub mod RowsRead
 pub mod Scanned
+pub mod Taken
 pub mod TuplesRead
 pub mod TuplesWritten
 pub mod WideTuples

@@ -13,12 +13,12 @@ use Rattle.ded_eval.specs.declared.given.GivenRelation.{GivenRelation}
 use Rattle.ded_eval.specs.Given.{unnumbered, given_entry, has_name, AreNamedApart}
 
 -- names that differ differ the other way round
-other_way : (m n : List ℕ) → bytes_eq m n ≡ false → bytes_eq n m ≡ false
+pub other_way : (m n : List ℕ) → bytes_eq m n ≡ false → bytes_eq n m ≡ false
 other_way m n e = false_from_ne_true (bytes_eq n m) (λ f. true≢false (sym ((bytes_eq-Decides m n).1 (sym ((bytes_eq-Decides n m).0 f))) ∙ e))
 
 -- ---- one more
 
-has-push : (n : List ℕ) (rs : List GivenRelation) (x : GivenRelation) → has_name n rs ≡ false → bytes_eq n x.name ≡ false → has_name n (rs ++ x ∷ []) ≡ false
+pub has-push : (n : List ℕ) (rs : List GivenRelation) (x : GivenRelation) → has_name n rs ≡ false → bytes_eq n x.name ≡ false → has_name n (rs ++ x ∷ []) ≡ false
 has-push n [] x h e = or_from (bytes_eq n x.name) false e refl
 has-push n (r ∷ rs) x h e = or_from (bytes_eq n r.name) (has_name n (rs ++ x ∷ [])) (or_parts _ _ h).0 (has-push n rs x (or_parts (bytes_eq n r.name) _ h).1 e)
 

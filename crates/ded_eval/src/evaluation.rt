@@ -20,7 +20,7 @@ use crate::slots::{add_all, rational_slots, shared};
 use ded_algebra::Relations;
 use ded_complement::{complement, minus};
 use ded_genrel::GenRel;
-use ded_join::join_counted;
+use ded_join::join_inhabited;
 use ded_model::memory::{NoMemory, Refused};
 use ded_model::plan::Plan;
 use ded_model::slot::Slot;
@@ -128,7 +128,7 @@ fn joined_with<T: Theory>(
     ensures { IfOk result (λ r. IsMeet T.holds T.mentions T.lines (begun before) part r) }
 {
     match before {
-        Some(list) => join_counted(alloc, &list, &part, slots, met)?.inhabited(),
+        Some(list) => join_inhabited(alloc, &list, &part, slots, met),
         None => Ok(part),
     }
 }

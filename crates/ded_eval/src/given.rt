@@ -1,5 +1,5 @@
 //! Relations that are given by name.
-ghost use Rattle.std.specs.Prelude.{◌≡◌, ◌++◌, ◌∷◌, [], false, OnOk, OnErr};
+ghost use Rattle.std.specs.Prelude.{◌≡◌, ◌++◌, ◌∷◌, [], false, length, take, OnOk, OnErr};
 
 use ded_algebra::Relations;
 use ded_model::memory::NoMemory;
@@ -36,7 +36,7 @@ impl Model for Given {
 }
 
 impl Given {
-    ghost use Rattle.ded_eval.specs.Given.{has_name};
+    ghost use Rattle.ded_eval.specs.Given.{has_name, given_under, without_name, IsPlace};
 
     /// No relations. It takes no memory.
     pub fn new(alloc: Global) -> Given
@@ -58,6 +58,43 @@ impl Given {
     {
         self.relations.push(relation)?;
         Ok(())
+    }
+
+    /// How many relations there are.
+    pub fn count(&self) -> usize
+        ensures { result ≡ length self.now }
+    {
+        self.relations.len()
+    }
+
+    /// Keeps the first `count` relations alone. It takes no memory.
+    pub fn keep_first(&mut self, count: usize)
+        ensures { self.new ≡ take count self.old }
+    {
+        self.relations.truncate(count);
+    }
+
+    /// Takes the relation of the name out. The others keep their order. It takes no memory.
+    pub fn take(&mut self, name: &Name) -> Option<GivenRelation>
+        ensures taken { result ≡ given_under name.now self.old }
+        ensures left { self.new ≡ without_name name.now self.old }
+    {
+        match self.place(name) {
+            Some(place) => Some(self.relations.remove(place)),
+            None => None,
+        }
+    }
+
+    /// The place of the relation of the name.
+    fn place(&self, name: &Name) -> Option<usize>
+        ensures { IsPlace name.now self.now result }
+    {
+        for i in 0..self.relations.len() {
+            if self.relations[i].name == *name {
+                return Some(i);
+            }
+        }
+        None
     }
 }
 

@@ -74,7 +74,7 @@ all_more : {A : Type 0} (xs ys zs : List (List A)) → ((c : List A) → Among c
 all_more xs ys [] f h = tt
 all_more xs ys (z ∷ zs) f h = (f z h.0, all_more xs ys zs f h.1)
 
-part-append : {A : Type 0} (h : A → Point → Bool) (all more out added : List (List A)) → IsPart h all out → IsPart h more added → IsPart h (all ++ more) (out ++ added)
+pub part-append : {A : Type 0} (h : A → Point → Bool) (all more out added : List (List A)) → IsPart h all out → IsPart h more added → IsPart h (all ++ more) (out ++ added)
 part-append h all more out added x y = record {
   among = all-append (λ c. Among c (all ++ more)) out added (all_more all (all ++ more) out (λ c k. among-left c all more k) x.among) (all_more more (all ++ more) added (λ c k. among-right c all more k) y.among);
   holds = λ p i t. elim (or_split (conjs_hold h all p) (conjs_hold h more p) (sym (conjs_hold-append h all more p) ∙ t)) [

@@ -1,4 +1,5 @@
 pub mod Indexed
 pub mod Joined
+pub mod Kept
 pub mod Nearness
 mod Truths

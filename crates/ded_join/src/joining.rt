@@ -15,7 +15,7 @@ use ded_theory::Theory;
 use std::alloc::Global;
 
 /// More conjunctions than an index has numbers for.
-const TOO_MANY: usize = 1 << 32;
+pub(crate) const TOO_MANY: usize = 1 << 32;
 
 /// A list that holds where both do. It pairs conjunctions whose bounds on the slots share values, in the order of
 /// `GenRel::meet`; where no slots are given, or the second list has 2^32 conjunctions or more, it is `meet`. Else, of conjunctions

@@ -2,15 +2,18 @@
 //!
 //! [`join`] holds where both lists do, as `GenRel::meet` does. But it doesn't pair each conjunction of the one with each of the
 //! other: on given rational slots it puts a box of exact bounds round each conjunction, indexes those of the second list, and
-//! pairs each conjunction of the first list with those only whose boxes share values with its own.
+//! pairs each conjunction of the first list with those only whose boxes share values with its own. [`join_inhabited`] keeps of
+//! these pairs only what some point may satisfy.
 //!
 //! It stands on `ded_genrel` for lists of conjunctions over any theory, on `ded_bounds` for the boxes, and on `ded_index` for the
 //! look-ups.
 #![tactic(auto)]
 
 mod indexing;
+mod inhabited;
 mod joining;
 #[cfg(test)]
 mod tests;
 
+pub use inhabited::join_inhabited;
 pub use joining::{join, join_counted};

@@ -2,7 +2,7 @@
 ghost use Rattle.std.specs.Prelude.{◌≡◌, false, pos, [], refl};
 ghost use Rattle.std.specs.List.{list_all};
 
-use crate::{join, join_counted};
+use crate::{join, join_counted, join_inhabited};
 use ded_genrel::GenRel;
 use ded_model::bound::Bound;
 use ded_model::memory::{NoMemory, Refused};
@@ -144,5 +144,20 @@ fn counts(rt: HostRuntime) -> Result<(), Fail> {
     let near = join_counted(alloc, &one, &other, &[SLOT], &mut met)?;
     assert_eq!(rt; near.list().len(), 2);
     assert_eq!(rt; met, 7);
+    Ok(())
+}
+
+#[test]
+fn keeps_what_holds_somewhere(rt: HostRuntime) -> Result<(), Fail> {
+    let alloc = rt.alloc();
+    let one = read(alloc, b"1|0|")?;
+    let other = read(alloc, b"1|01|11|")?;
+    let mut met = 5;
+    let near = join_inhabited(alloc, &one, &other, &[SLOT], &mut met)?;
+    assert!(rt; text(alloc, &near)?.as_slice() == b"11|111|".as_slice());
+    assert_eq!(rt; met, 7);
+    let all = join_inhabited(alloc, &one, &other, &[], &mut met)?;
+    assert!(rt; text(alloc, &all)?.as_slice() == b"11|111|".as_slice());
+    assert_eq!(rt; met, 13);
     Ok(())
 }

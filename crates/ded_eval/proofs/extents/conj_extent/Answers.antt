@@ -1,4 +1,4 @@
-use Rattle.std.proofs.Common.{◌≡◌, ◌∙◌, sym, subst, length}
+use Rattle.std.proofs.Common.{◌∙◌, sym, subst, length}
 use Rattle.ded_model.specs.Cell.{conj_holds}
 use Rattle.ded_model.specs.Width.{rational_columns}
 use Rattle.ded_theory.specs.Verdicts.{IsVerdict}

@@ -1,4 +1,4 @@
-use Rattle.std.proofs.Common.{◌≡◌, ◌∙◌, sym, ap, subst, List, [], rules}
+use Rattle.std.proofs.Common.{◌∙◌, sym, subst, List, [], rules}
 use Rattle.std.specs.List.{AllByRecursion}
 use Rattle.ded_model.specs.declared.name.Column.{Column}
 use Rattle.ded_model.specs.Cell.{conj_holds}

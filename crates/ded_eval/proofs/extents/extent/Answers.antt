@@ -1,8 +1,6 @@
-use Rattle.std.proofs.Common.{◌+◌, take, subst, rules}
-use Rattle.std.proofs.lemmas.List.{take_all}
-use Rattle.ded_model.specs.Row.{Atom, tuples_hold}
+use Rattle.std.proofs.Common.{◌+◌, take, rules}
+use Rattle.ded_model.specs.Row.{tuples_hold}
 use Rattle.ded_genrel.proofs.Items.{done_to}
-use Rattle.ded_box.specs.Extents.{IsBox}
 use Rattle.ded_eval.proofs.Extending.{extent_none, extent_more}
 use Rattle.ded_eval.proofs.WideTuples.{narrow_one, over_one}
 use Rattle.ded_eval.proofs.extents.extent.Goals as goal

@@ -1,6 +1,5 @@
 use Rattle.std.proofs.Common.{◌∙◌, sym, ap, ap₂, ◌++◌, ◌∷◌, [], List, Vec, Global}
 use Rattle.ded_model.specs.declared.bound.Bound.{Bound}
-use Rattle.ded_box.specs.Boxes.{hull, hulls}
 use Rattle.ded_eval.proofs.Bounded.{hulls_at, hulls_past}
 use Rattle.ded_eval.proofs.extents.hulls.Goals as goal
 use Rattle.ded_eval.proofs.extents.hulls.Goals.{then-i-second+in_ok-push, else-i-second}

@@ -3,7 +3,7 @@ use Rattle.ded_model.specs.declared.plan.Plan.{Plan, Join}
 use Rattle.ded_model.specs.declared.plan.Plan.TheFolds.{fold-roll-Plan, fold_out-Plan}
 use Rattle.ded_model.specs.declared.plan.Plan.TheViews.{the_lemmas}
 use Rattle.ded_model.specs.Logic.{AllAtomsOf, every_of}
-use Rattle.ded_model.specs.PlanForm.{PlanForm, plan_form, plan_forms}
+use Rattle.ded_model.specs.PlanForm.{plan_form, plan_forms}
 use Rattle.ded_algebra.specs.Evaluation.{IsAnyAtom, IsScannable, IsEvaluable}
 use Rattle.ded_eval.proofs.Parts.{atoms-push}
 use Rattle.ded_eval.proofs.tests.pieces_twice.Goals as goal

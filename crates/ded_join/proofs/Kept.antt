@@ -1,0 +1,219 @@
+-- What is left of pairs without those that no point satisfies.
+--
+-- It is an operation like the pairs themselves, and pairs that are near stay so when some of them are left out.
+use Rattle.std.proofs.Common.{◌≡◌, ℕ, zero, suc, ◌+◌, ◌-◌, ◌<◌, ◌^◌, Bool, ◌&&◌, ◌||◌, List, [], ◌∷◌, ◌++◌, Vec, Global, length, min, take, get_or, inl, inr, arith, refl, sym, ap, ◌∙◌, subst, append_assoc, append-nil}
+use Rattle.std.specs.List.{AllPairs, AllByRecursion}
+use Rattle.std.specs.List.Sorted.{IsStrictlyIncreasing}
+use Rattle.std.proofs.lemmas.List.Elements.{All-from_recursion, recursion_from_All}
+use Rattle.std.proofs.lemmas.List.Kept.{AllPairs-cons, AllPairs-from_increasing}
+use Rattle.ded_model.specs.declared.slot.Slot.{Slot}
+use Rattle.ded_model.specs.Point.{Point}
+use Rattle.ded_model.specs.Cell.{conj_holds, HoldsSomewhere}
+use Rattle.ded_model.specs.Lines.{Line}
+use Rattle.ded_model.proofs.Members.{subset_trans}
+use Rattle.ded_theory.specs.Conjunctions.{IsWide}
+use Rattle.ded_genrel.specs.Lists.{conjs_hold, conjs_mention, conjs_lines, conjs_of, pairs_with, pairs}
+use Rattle.ded_genrel.specs.Operations.{IsOperation, IsMeet, IsInhabitedPart}
+use Rattle.ded_genrel.proofs.Items.{pairs-push, pairs_with-append, conjs_to}
+use Rattle.ded_genrel.proofs.Laws.{meet_is}
+use Rattle.ded_genrel.proofs.Inhabited.{inhabited_none, inhabited_kept, inhabited_dropped}
+use Rattle.ded_join.specs.Near.{AreNear, ArePicked, AreNearPairs}
+use Rattle.ded_join.specs.Picks.{picked}
+use Rattle.ded_join.specs.Kept.{AreKept, AreKeptAfter, IsCount, IsKeptMeet}
+use Rattle.ded_join.proofs.Joined.{IsPart, part_none, part-append, part_meets, picked_more}
+use Rattle.ded_join.proofs.Nearness.{near-push}
+
+-- the counts of two lists
+pub count-append : {A : Type 0} (xs ys : List (List A)) (a b c : ℕ) → IsCount xs a b → IsCount ys b c → IsCount (xs ++ ys) a c
+count-append xs ys a b c e k = k ∙ ap (λ n. min (n + length ys) (2 ^ 64 - 1)) e ∙ sum (length xs) (length ys) a ∙ ap (λ n. min (a + n) (2 ^ 64 - 1)) (sym (long xs ys))
+  where
+    long : {A : Type 0} (xs ys : List (List A)) → length (xs ++ ys) ≡ length xs + length ys
+    long [] ys = omega arith
+    long (x ∷ xs) ys = omega (arith, long xs ys)
+
+    sum : (n m a : ℕ) → min (min (a + n) (2 ^ 64 - 1) + m) (2 ^ 64 - 1) ≡ min (a + (n + m)) (2 ^ 64 - 1)
+    sum n m a = omega arith
+
+pub count_none : {A : Type 0} (cs : List (List A)) (n : ℕ) → cs ≡ [] → n < 2 ^ 64 → IsCount cs n n
+count_none cs n e h = none n h ∙ ap (λ xs. min (n + length xs) (2 ^ 64 - 1)) (sym e)
+  where
+    none : (n : ℕ) → n < 2 ^ 64 → n ≡ min (n + 0) (2 ^ 64 - 1)
+    none n h = omega (arith, h)
+
+pub count_with : {A : Type 0} (c : List A) (cs : List (List A)) (old new : ℕ) → new ≡ min (old + length cs) (2 ^ 64 - 1) → IsCount (pairs_with c cs) old new
+count_with c cs old new e = e ∙ ap (λ n. min (old + n) (2 ^ 64 - 1)) (sym (long cs))
+  where
+    long : (cs : List (List _)) → length (pairs_with c cs) ≡ length cs
+    long [] = refl
+    long (d ∷ cs) = ap suc (long cs)
+
+pub count_picked : {A : Type 0} (c : List A) (cs : List (List A)) (js : List ℕ) (old new : ℕ) → new ≡ min (old + length js) (2 ^ 64 - 1) → IsCount (picked c cs js) old new
+count_picked c cs js old new e = e ∙ ap (λ n. min (old + n) (2 ^ 64 - 1)) (sym (long js))
+  where
+    long : (js : List ℕ) → length (picked c cs js) ≡ length js
+    long [] = refl
+    long (j ∷ js) = ap suc (long js)
+
+module _ {A : Type 0} (h : A → Point → Bool) (m : A → Slot → Bool) (l : A → List Line) where
+  -- what is kept of two lists
+  pub kept-append : (xs ys out more : List (List A)) → AreKept h m l xs out → AreKept h m l ys more → AreKept h m l (xs ++ ys) (out ++ more)
+  kept-append [] ys out more e k = subst (λ zs. AreKept h m l ys (zs ++ more)) (sym e) k
+  kept-append (c ∷ xs) ys out more (inl (n, r)) k = inl (n, kept-append xs ys out more r k)
+  kept-append (c ∷ xs) ys out more (inr (rest, e, w, r)) k = inr (rest ++ more, ap (λ zs. zs ++ more) e, w, kept-append xs ys rest more r k)
+
+  -- the part that is kept of each of two lists
+  record Split (xs ys out : List (List A)) : Type 0 where
+    front : List (List A)
+    rest : List (List A)
+    list : out ≡ front ++ rest
+    first : AreKept h m l xs front
+    second : AreKept h m l ys rest
+
+  kept_split : (xs ys out : List (List A)) → AreKept h m l (xs ++ ys) out → Split xs ys out
+  kept_split [] ys out k = record { front = []; rest = out; list = refl; first = refl; second = k }
+  kept_split (c ∷ xs) ys out (inl (n, r)) = let s = kept_split xs ys out r in record { front = s.front; rest = s.rest; list = s.list; first = inl (n, s.first); second = s.second }
+  kept_split (c ∷ xs) ys out (inr (more, e, w, r)) =
+      let s = kept_split xs ys more r in
+      record { front = c ∷ s.front; rest = s.rest; list = e ∙ ap (λ zs. c ∷ zs) s.list; first = inr (s.front, refl, w, s.first); second = s.second }
+
+  -- ---- at the end of a list
+
+  pub kept_none : (out : List (List A)) → AreKeptAfter h m l [] out out
+  kept_none out = record { kept = []; are = refl; list = sym (append-nil out) }
+
+  pub kept_more : (xs ys old mid new : List (List A)) → AreKeptAfter h m l xs old mid → AreKeptAfter h m l ys mid new → AreKeptAfter h m l (xs ++ ys) old new
+  kept_more xs ys old mid new a b = record {
+    kept = a.kept ++ b.kept;
+    are = kept-append xs ys a.kept b.kept a.are b.are;
+    list = b.list ∙ ap (λ zs. zs ++ b.kept) a.list ∙ append_assoc old a.kept b.kept;
+  }
+
+  -- the next conjunction of a list, and the next place
+  pub kept_to : (c : List A) (xs : List (Vec A Global)) (i : ℕ) (x : Vec A Global) (both old mid new : List (List A)) → i < length xs → x ≡ get_or xs i x → both ≡ (c ++ x.items) ∷ [] → AreKeptAfter h m l (pairs_with c (conjs_of (take i xs))) old mid
+      → AreKeptAfter h m l both mid new → AreKeptAfter h m l (pairs_with c (conjs_of (take (i + 1) xs))) old new
+  kept_to c xs i x both old mid new lt is e a b =
+      subst (λ all. AreKeptAfter h m l all old new) (sym (ap (pairs_with c) (conjs_to xs i x lt is) ∙ pairs_with-append c (conjs_of (take i xs)) (x.items ∷ [])))
+      (kept_more (pairs_with c (conjs_of (take i xs))) ((c ++ x.items) ∷ []) old mid new a (subst (λ one. AreKeptAfter h m l one mid new) e b))
+
+  pub kept_at : (c : List A) (cs : List (List A)) (js : List ℕ) (i d : ℕ) (both old mid new : List (List A)) → i < length js → both ≡ (c ++ get_or cs (get_or js i d) []) ∷ [] → AreKeptAfter h m l (picked c cs (take i js)) old mid → AreKeptAfter h m l both mid new
+      → AreKeptAfter h m l (picked c cs (take (i + 1) js)) old new
+  kept_at c cs js i d both old mid new lt e a b =
+      subst (λ all. AreKeptAfter h m l all old new) (sym (picked_more c cs js i d lt))
+      (kept_more (picked c cs (take i js)) ((c ++ get_or cs (get_or js i d) []) ∷ []) old mid new a (subst (λ one. AreKeptAfter h m l one mid new) e b))
+
+  -- after what is kept of other conjunctions
+  pub kept_next : (xs ys out new : List (List A)) → AreKept h m l xs out → AreKeptAfter h m l ys out new → AreKept h m l (xs ++ ys) new
+  kept_next xs ys out new k a = subst (AreKept h m l (xs ++ ys)) (sym a.list) (kept-append xs ys out a.kept k a.are)
+
+  -- ---- what is kept is an operation
+
+  kept_part : (done more out rest : List (List A)) → IsInhabitedPart h m l done out → AreKept h m l more rest → IsInhabitedPart h m l (done ++ more) (out ++ rest)
+  kept_part done [] out rest p e = subst (IsInhabitedPart h m l (done ++ [])) (ap (λ zs. out ++ zs) (sym e)) (subst (λ xs. IsInhabitedPart h m l xs (out ++ [])) (sym (append-nil done)) (subst (IsInhabitedPart h m l done) (sym (append-nil out)) p))
+  kept_part done (c ∷ more) out rest p (inl (n, r)) =
+      subst (λ xs. IsInhabitedPart h m l xs (out ++ rest)) (append_assoc done (c ∷ []) more) (kept_part (done ++ c ∷ []) more out rest (inhabited_dropped h m l done out c n p) r)
+  kept_part done (c ∷ more) out rest p (inr (zs, e, w, r)) =
+      subst (IsInhabitedPart h m l (done ++ c ∷ more)) (append_assoc out (c ∷ []) zs ∙ ap (λ ys. out ++ ys) (sym e))
+      (subst (λ xs. IsInhabitedPart h m l xs ((out ++ c ∷ []) ++ zs)) (append_assoc done (c ∷ []) more) (kept_part (done ++ c ∷ []) more (out ++ c ∷ []) zs (inhabited_kept h m l done out c w p) r))
+
+  pub kept_inhabited : (all out : List (List A)) → AreKept h m l all out → IsInhabitedPart h m l all out
+  kept_inhabited all out k = kept_part [] all [] out (inhabited_none h m l) k
+
+  -- without conjunctions that no point satisfies, an operation gives the same
+  pub operation_inhabited : (test : Point → Bool) (used : Slot → Bool) (given : List Line) (out part : List (List A)) → IsOperation h m l test used given out → IsInhabitedPart h m l out part → IsOperation h m l test used given part
+  operation_inhabited test used given out part o k = record {
+    holds = λ p i. k.is.holds p i ∙ o.holds p i;
+    slots = λ s u. o.slots s (k.is.slots s u);
+    lines = subset_trans (conjs_lines l part) (conjs_lines l out) given k.is.lines o.lines;
+  }
+
+  -- ---- pairs that are near
+
+  module _ (ss : List Slot) (c : List A) (cs : List (List A)) where
+    abbrev Near : ℕ → Type 0
+    Near j = (IsWide m l c → ⊥) → (IsWide m l (get_or cs j []) → ⊥) → AreNear h ss c (get_or cs j [])
+
+    -- the places of what is kept
+    record Left (js : List ℕ) (out : List (List A)) : Type 0 where
+      places : List ℕ
+      above : (i : ℕ) → AllByRecursion (λ j. i < j) js → AllByRecursion (λ j. i < j) places
+      ascending : AllPairs (λ i j. i < j) places
+      inside : AllByRecursion (λ j. j < length cs) places
+      near : AllByRecursion Near places
+      list : out ≡ picked c cs places
+
+    left_tail : (j : ℕ) (js : List ℕ) → AllPairs (λ a b. a < b) (j ∷ js) → AllPairs (λ a b. a < b) js
+    left_tail j js p = λ a b d lt within. p (suc a) (suc b) d (omega (arith, lt)) (omega (arith, within))
+
+    left_head : (j : ℕ) (js : List ℕ) → AllPairs (λ a b. a < b) (j ∷ js) → AllByRecursion (λ b. j < b) js
+    left_head j js p = recursion_from_All (λ b. j < b) js (λ k d within. p zero (suc k) d (omega arith) (omega (arith, within)))
+
+    left : (js : List ℕ) (out : List (List A)) → AllPairs (λ i j. i < j) js → AllByRecursion (λ j. j < length cs) js → AllByRecursion Near js → AreKept h m l (picked c cs js) out → Left js out
+    left [] out p i n e = record { places = []; above = λ a b. tt; ascending = p; inside = tt; near = tt; list = e }
+    left (j ∷ js) out p i n (inl (w, k)) =
+        let r = left js out (left_tail j js p) i.1 n.1 k in
+        record { places = r.places; above = λ a b. r.above a b.1; ascending = r.ascending; inside = r.inside; near = r.near; list = r.list }
+    left (j ∷ js) out p i n (inr (rest, e, w, k)) =
+        let r = left js rest (left_tail j js p) i.1 n.1 k in
+        record {
+          places = j ∷ r.places;
+          above = λ a b. (b.0, r.above a b.1);
+          ascending = AllPairs-cons (λ a b. a < b) j r.places (All-from_recursion (λ b. j < b) r.places (r.above j (left_head j js p))) r.ascending;
+          inside = (i.0, r.inside);
+          near = (n.0, r.near);
+          list = e ∙ ap (λ zs. (c ++ get_or cs j []) ∷ zs) r.list;
+        }
+
+    increasing : (js : List ℕ) → AllPairs (λ i j. i < j) js → IsStrictlyIncreasing js
+    increasing js p = λ k within. p k (k + 1) 0 (omega arith) within
+
+    picked_kept : (all out : List (List A)) → ArePicked h m l ss c cs all → AreKept h m l all out → ArePicked h m l ss c cs out
+    picked_kept all out p k =
+        let r = left p.places out (AllPairs-from_increasing p.places p.ascending) p.inside p.near (subst (λ xs. AreKept h m l xs out) p.list k) in
+        record { places = r.places; ascending = increasing r.places r.ascending; inside = r.inside; near = r.near; list = r.list }
+
+  pub near_kept : (ss : List Slot) (bs cs all out : List (List A)) → AreNearPairs h m l ss bs cs all → AreKept h m l all out → AreNearPairs h m l ss bs cs out
+  near_kept ss [] cs all out e k = subst (λ xs. AreKept h m l xs out) e k
+  near_kept ss (b ∷ bs) cs all out (front, rest, e, p, n) k =
+      let s = kept_split front rest out (subst (λ xs. AreKept h m l xs out) e k) in
+      (s.front, s.rest, s.list, picked_kept ss b cs front s.front p s.first, near_kept ss bs cs rest s.rest n s.second)
+
+  -- ---- joins
+
+  -- what is kept of the pairs of the conjunctions so far
+  pub record IsKeptSoFar (ss : List Slot) (xs ys out : List (List A)) (old new : ℕ) : Type 0 where
+    pub met : List (List A)
+    pub part : IsPart h (pairs xs ys) met
+    pub near : AreNearPairs h m l ss xs ys met
+    pub kept : AreKept h m l met out
+    pub count : IsCount met old new
+
+  pub so_far_none : (ss : List Slot) (ys out : List (List A)) (n : ℕ) → out ≡ [] → n < 2 ^ 64 → IsKeptSoFar ss [] ys out n n
+  so_far_none ss ys out n e k = let none : List (List A) = [] in record { met = none; part = part_none h; near = refl; kept = e; count = count_none none n refl k }
+
+  pub so_far_more : (ss : List Slot) (xs ys out next : List (List A)) (c : List A) (added : List (List A)) (old mid new : ℕ) → IsKeptSoFar ss xs ys out old mid → IsPart h (pairs_with c ys) added → ArePicked h m l ss c ys added
+      → AreKeptAfter h m l added out next → IsCount added mid new → IsKeptSoFar ss (xs ++ c ∷ []) ys next old new
+  so_far_more ss xs ys out next c added old mid new r p q k n = record {
+    met = r.met ++ added;
+    part = subst (λ all. IsPart h all (r.met ++ added)) (sym (pairs-push xs ys c)) (part-append h (pairs xs ys) (pairs_with c ys) r.met added r.part p);
+    near = near-push h m l ss xs ys r.met c added r.near q;
+    kept = kept_next r.met added out next r.kept k;
+    count = count-append r.met added old mid new r.count n;
+  }
+
+  pub so_far_done : (ss : List Slot) (xs ys out : List (List A)) (old new : ℕ) → IsKeptSoFar ss xs ys out old new → IsKeptMeet h m l ss xs ys out old new
+  so_far_done ss xs ys out old new r = record { met = r.met; is = part_meets h m l xs ys r.met r.part; near = λ _ _. r.near; kept = r.kept; count = r.count }
+
+  -- all pairs, where no slots are given or the list is too long
+  pub all_kept : (ss : List Slot) (xs ys out : List (List A)) (old new : ℕ) → (0 < length ss → length ys < 2 ^ 32 → ⊥) → AreKept h m l (pairs xs ys) out → IsCount (pairs xs ys) old new → IsKeptMeet h m l ss xs ys out old new
+  all_kept ss xs ys out old new not_both k n = record { met = pairs xs ys; is = meet_is h m l xs ys (pairs xs ys) refl; near = λ s f. absurd (not_both s f); kept = k; count = n }
+
+  -- what is kept is a meet
+  pub kept_is : (ss : List Slot) (xs ys out : List (List A)) (old new : ℕ) → IsKeptMeet h m l ss xs ys out old new → IsMeet h m l xs ys out
+  kept_is ss xs ys out old new r =
+      operation_inhabited (λ p. conjs_hold h xs p && conjs_hold h ys p) (λ s. conjs_mention m xs s || conjs_mention m ys s) (conjs_lines l xs ++ conjs_lines l ys) r.met out r.is (kept_inhabited r.met out r.kept)
+
+  pub kept_near : (ss : List Slot) (xs ys out : List (List A)) (old new : ℕ) → IsKeptMeet h m l ss xs ys out old new → 0 < length ss → length ys < 2 ^ 32 → AreNearPairs h m l ss xs ys out
+  kept_near ss xs ys out old new r s f = near_kept ss xs ys r.met out (r.near s f) r.kept
+
+  pub kept_hold : (ss : List Slot) (xs ys out : List (List A)) (old new : ℕ) → IsKeptMeet h m l ss xs ys out old new → AllByRecursion (λ c. (IsWide m l c → ⊥) → HoldsSomewhere (conj_holds h c)) out
+  kept_hold ss xs ys out old new r = (kept_inhabited r.met out r.kept).kept
