@@ -1,5 +1,5 @@
 -- What a question is answered.
-use Rattle.std.proofs.Common.{◌≡◌, arith, Bool, true, false, List, [], sym, ap, ◌∙◌, subst, true≢false}
+use Rattle.std.proofs.Common.{◌≡◌, ℕ, ◌≤◌, arith, Bool, true, false, List, [], ◌∷◌, sym, ap, ◌∙◌, subst, true≢false}
 use Rattle.std.specs.Prelude.{◌↔◌, IsTrue}
 use Rattle.std.specs.List.{AllByRecursion}
 use Rattle.std.proofs.lemmas.Bool.{false_from_ne_true}
@@ -9,7 +9,8 @@ use Rattle.ded_model.specs.Catalogue.{Catalogue, IsTruth}
 use Rattle.ded_model.specs.Cell.{IsReduced}
 use Rattle.ded_model.specs.Form.{Form}
 use Rattle.ded_model.specs.Goal.{GoalForm, goal_mentions}
-use Rattle.ded_model.specs.Known.{IsWellFormed}
+use Rattle.ded_model.specs.Entries.{known}
+use Rattle.ded_model.specs.Known.{IsWellFormed, level_with}
 use Rattle.ded_model.specs.Lines.{In}
 use Rattle.ded_model.specs.Measure.{measures, goal_lines, goal_clashes, IsTight}
 use Rattle.ded_model.specs.Normal.{IsNormalTuple}
@@ -17,8 +18,8 @@ use Rattle.ded_model.specs.Point.{slot, Point}
 use Rattle.ded_model.specs.Row.{Atom, atom_holds, tuples_hold, tuples_mention}
 use Rattle.ded_model.specs.Width.{IsNarrowList}
 use Rattle.ded_sorts.proofs.Frees.{goal_free}
-use Rattle.ded_views.proofs.Views.{name_level}
-use Rattle.ded_query.specs.Gathering.{IsPosed, IsEvaluated}
+use Rattle.ded_views.proofs.Views.{name_level, view_accepted}
+use Rattle.ded_query.specs.Gathering.{IsPosed, IsEvaluated, IsViewGoal}
 use Rattle.ded_query.specs.Questions.{IsQuestion, IsAnswer}
 use Rattle.ded_query.proofs.Arguments.{byte_arguments}
 use Rattle.ded_query.proofs.Entries.{evaluated_over, evaluated_holds}
@@ -26,6 +27,14 @@ use Rattle.ded_query.proofs.Entries.{evaluated_over, evaluated_holds}
 -- every level is at most 16
 pub question_posed : (c : Catalogue) (h : List Column) (g : GoalForm) (f : Form) → IsWellFormed c → IsQuestion c h g f → IsPosed c g 16
 question_posed c h g f w q = record { columns = h; formula = f; question = q; levels = λ n u. name_level c w n }
+
+-- nor is that of a name that a view uses, so the goal of a view is posed as a question is
+pub view_is_posed : (c : Catalogue) (n : List ℕ) (g : GoalForm) → IsWellFormed c → IsViewGoal c n g → IsPosed c g 16
+view_is_posed c n g w v = question_posed c v.columns g v.formula w (record { goal = v.goal; accepted = view_accepted c w n v.own v.columns v.formula v.entry })
+
+pub names_low : (c : Catalogue) (names : List (List ℕ)) → IsWellFormed c → AllByRecursion (λ n. level_with (known c n) ≤ 16) names
+names_low c [] w = tt
+names_low c (n ∷ ns) w = (name_level c w n, names_low c ns w)
 
 -- the formula isn't tight where its goal clashes
 pub not_tight : (c : Catalogue) (h : List Column) (g : GoalForm) (f : Form) → IsQuestion c h g f → goal_clashes (measures c) g ≡ true → IsTight c h f → ⊥

@@ -119,17 +119,17 @@ relation_there c n k e = by (entry_of c.entries n) refl e
     by (Some (view m h x)) f e = absurd (none-some (goal_of h x) e)
 
 -- its tuples are what is given of it
-pub relation_given : (c : Catalogue) (n : List ℕ) (h : List Column) (ts : List (ℕ × List Atom)) → IsWellFormed c → Some ts ≡ relation_in (entry_of c.entries n)
-    → Some h ≡ option_map (λ k. k.columns) (known c n) → IsGivenOf c (record { name = n; heading = h; tuples = tuples_of ts })
+pub relation_given : (c : Catalogue) (n : List ℕ) (h : List Column) (ts : List (List Atom)) → IsWellFormed c → Some ts ≡ option_map tuples_of (relation_in (entry_of c.entries n))
+    → Some h ≡ option_map (λ k. k.columns) (known c n) → IsGivenOf c (record { name = n; heading = h; tuples = ts })
 relation_given c n h ts w e i = by (entry_of c.entries n) refl e
   where
-    by : (o : Option Entry) → entry_of c.entries n ≡ o → Some ts ≡ relation_in o → IsGivenOf c (record { name = n; heading = h; tuples = tuples_of ts })
+    by : (o : Option Entry) → entry_of c.entries n ≡ o → Some ts ≡ option_map tuples_of (relation_in o) → IsGivenOf c (record { name = n; heading = h; tuples = ts })
     by None f e = absurd (none-some ts (sym e))
     by (Some (view m k x)) f e = absurd (none-some ts (sym e))
     by (Some (relation m k j us)) f e =
         let same : k ≡ h = ap columns_with (sym (name_known c w n (relation m k j us) f)) ∙ named_columns c n h i in
-        let stored : us ≡ ts = sym (same_Some ts us e) in
-        subst (λ x. IsGivenOf c (record { name = n; heading = h; tuples = tuples_of x })) stored
+        let stored : tuples_of us ≡ ts = sym (same_Some ts (tuples_of us) e) in
+        subst (λ x. IsGivenOf c (record { name = n; heading = h; tuples = x })) stored
         (subst (λ x. IsGivenOf c (record { name = n; heading = x; tuples = tuples_of us })) same
         (record {
           columns = named_columns c n h i ∙ sym same;
@@ -163,3 +163,13 @@ relation_heading c n w r e = by (entry_of c.entries n) refl r
     by : (o : Option Entry) → entry_of c.entries n ≡ o → is_some (relation_in o) ≡ true → ⊥
     by None f r = true≢false (sym r)
     by (Some x) f r = none_mapped (known c n) (ap is_some (name_known c w n x f)) e
+
+-- and tuples
+pub relation_tuples : (o : Option (List (ℕ × List Atom))) → is_some o ≡ true → None ≡ option_map tuples_of o → ⊥
+relation_tuples None r e = true≢false (sym r)
+relation_tuples (Some ts) r e = none-some (tuples_of ts) e
+
+-- a view has a goal
+pub view_missing : (o : Option (List Column × Form)) → is_some o ≡ true → None ≡ option_map (λ v. goal_of v.0 v.1) o → ⊥
+view_missing None r e = true≢false (sym r)
+view_missing (Some v) r e = none-some (goal_of v.0 v.1) e

@@ -5,7 +5,7 @@ use Rattle.std.specs.List.{AllByRecursion}
 use Rattle.ded_model.specs.declared.slot.Slot.{Slot}
 use Rattle.ded_model.specs.Point.{slot, Point, IsPoint}
 use Rattle.ded_model.specs.Row.{Atom, tuples_hold, tuples_mention}
-use Rattle.ded_model.specs.Catalogue.{Catalogue, GoalHolds}
+use Rattle.ded_model.specs.Catalogue.{Catalogue, GoalHolds, PlanHolds}
 use Rattle.ded_model.specs.Goal.{GoalForm}
 use Rattle.ded_model.specs.Lines.{IsSubset, tuples_lines}
 use Rattle.ded_model.specs.Measure.{measures, goal_clashes, plan_clashes}
@@ -44,6 +44,16 @@ pub evaluated_part : (c : Catalogue) (g : GoalForm) (ts us : List (List Atom)) �
     → ((s : Slot) → tuples_mention us s ≡ true → tuples_mention ts s ≡ true) → IsSubset (tuples_lines us) (tuples_lines ts) → IsEvaluated c g us
 evaluated_part c g ts us e same slots lines = record {
   holds = λ p i. subst (λ b. IsTrue b ↔ GoalHolds c g p) (sym (same p i)) (e.holds p i);
+  slots = λ s h. e.slots s (slots s h);
+  lines = λ l i. e.lines l (lines l i);
+}
+
+-- the same of what a plan is evaluated to
+pub evaluation_part : (c : Catalogue) (plan : PlanForm) (ts us : List (List Atom)) → IsEvaluation c plan (tuples_hold ts) (tuples_mention ts) (tuples_lines ts)
+    → ((p : Point) → IsPoint p → tuples_hold us p ≡ tuples_hold ts p) → ((s : Slot) → tuples_mention us s ≡ true → tuples_mention ts s ≡ true) → IsSubset (tuples_lines us) (tuples_lines ts)
+    → IsEvaluation c plan (tuples_hold us) (tuples_mention us) (tuples_lines us)
+evaluation_part c plan ts us e same slots lines = record {
+  holds = λ p i. subst (λ b. IsTrue b ↔ PlanHolds c plan p) (sym (same p i)) (e.holds p i);
   slots = λ s h. e.slots s (slots s h);
   lines = λ l i. e.lines l (lines l i);
 }

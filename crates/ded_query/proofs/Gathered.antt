@@ -1,6 +1,8 @@
 -- What is gathered, name by name.
-use Rattle.std.proofs.Common.{◌≡◌, ℕ, ◌+◌, ◌<◌, ◌≤◌, true, is_some, List, take, length, get_or, sym, ◌∙◌, subst}
+use Rattle.std.proofs.Common.{◌≡◌, ℕ, ◌+◌, ◌<◌, ◌≤◌, true, is_some, List, [], ◌∷◌, ◌++◌, Result, Ok, Err, take, length, get_or, sym, ap, ◌∙◌, subst, append_assoc, append-nil}
+use Rattle.std.specs.Prelude.{OnOk, OnErr}
 use Rattle.std.specs.List.{AllByRecursion, list_any}
+use Rattle.std.proofs.Math.Seq.{take-append_seam}
 use Rattle.std.proofs.lemmas.List.{take_more}
 use Rattle.std.specs.Str.{bytes_eq}
 use Rattle.ded_model.specs.Catalogue.{Catalogue}
@@ -18,7 +20,7 @@ use Rattle.ded_planner.proofs.PlansOfFormulas.{plan_scans}
 use Rattle.ded_eval.specs.declared.given.GivenRelation.{GivenRelation}
 use Rattle.ded_eval.specs.Given.{has_name}
 use Rattle.ded_views.proofs.Clashing.{plan_clashing}
-use Rattle.ded_query.specs.Gathering.{IsGivenOf, IsGathered, IsPosed}
+use Rattle.ded_query.specs.Gathering.{IsGivenOf, IsGathered, IsFront, IsPosed}
 use Rattle.ded_query.proofs.Names.{scanned_used, used_known, all_named, some_named}
 
 pub gathered_none : (c : Catalogue) (rs : List GivenRelation) → AllByRecursion (IsGivenOf c) rs → IsGathered c rs rs
@@ -26,6 +28,28 @@ gathered_none c rs k = record { of = k; kept = λ n h. h }
 
 pub gathered_more : (c : Catalogue) (old mid new : List GivenRelation) → IsGathered c old mid → IsGathered c mid new → IsGathered c old new
 gathered_more c old mid new g h = record { of = h.of; kept = λ n x. h.kept n (g.kept n x) }
+
+-- ---- the front
+
+pub front_none : (rs : List GivenRelation) → IsFront rs rs
+front_none rs = record { more = []; is = sym (append-nil rs) }
+
+pub front_same : (old new : List GivenRelation) → new ≡ old → IsFront old new
+front_same old new e = record { more = []; is = e ∙ sym (append-nil old) }
+
+pub front_more : (old mid new : List GivenRelation) → IsFront old mid → IsFront mid new → IsFront old new
+front_more old mid new f g = record { more = f.more ++ g.more; is = g.is ∙ ap (λ l. l ++ g.more) f.is ∙ append_assoc old f.more g.more }
+
+-- after a relation was added or not
+pub front_added : {A E : Type 0} (r : Result A E) (old new : List GivenRelation) (x : GivenRelation) → OnOk r (new ≡ old ++ x ∷ []) → OnErr r (new ≡ old) → IsFront old new
+front_added (Ok a) old new x ok err = record { more = x ∷ []; is = ok }
+front_added (Err e) old new x ok err = front_same old new err
+
+-- the first ones are those that were given before
+pub front_kept : (old new : List GivenRelation) → IsFront old new → take (length old) new ≡ old
+front_kept old new f = ap (take (length old)) f.is ∙ take-append_seam old f.more
+
+-- ---- names
 
 -- one name more
 pub named_more : (c : Catalogue) (names : List (List ℕ)) (i : ℕ) (n : List ℕ) (mid new : List GivenRelation) → i < length names → n ≡ get_or names i n → IsGathered c mid new → has_name n new ≡ true

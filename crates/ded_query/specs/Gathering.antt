@@ -1,5 +1,5 @@
 -- What is gathered for the evaluation of a plan.
-use Rattle.std.specs.Prelude.{◌≡◌, ◌↔◌, ◌<◌, ◌≤◌, ℕ, true, IsTrue, Some, List}
+use Rattle.std.specs.Prelude.{◌≡◌, ◌↔◌, ◌<◌, ◌≤◌, ℕ, true, IsTrue, Some, List, ◌++◌}
 use Rattle.std.specs.List.{AllByRecursion}
 use Rattle.ded_model.specs.declared.name.Column.{Column}
 use Rattle.ded_model.specs.declared.slot.Slot.{Slot}
@@ -35,6 +35,11 @@ pub record IsGivenOf (c : Catalogue) (r : GivenRelation) : Type 0 where
 pub record IsGathered (c : Catalogue) (old new : List GivenRelation) : Type 0 where
   pub of : AllByRecursion (IsGivenOf c) new
   pub kept : (n : List ℕ) → has_name n old ≡ true → has_name n new ≡ true
+
+-- those that were given before stand at the front
+pub record IsFront (old new : List GivenRelation) : Type 0 where
+  pub more : List GivenRelation
+  pub is : new ≡ old ++ more
 
 -- ---- goals
 

@@ -1,74 +1,148 @@
-//! Answers of questions.
-ghost use Rattle.std.specs.Prelude.{◌≡◌, ◌↔◌, IsTrue, [], IfOk, IsErrOf};
+//! Answers of questions and of views.
+ghost use Rattle.std.specs.Prelude.{◌≡◌, ◌↔◌, IsTrue, true, is_some, [], IfOk, IsErrOf, OnOk};
+ghost use Rattle.std.specs.List.{AllByRecursion, list_any};
 ghost use Rattle.ded_model.specs.declared.memory.Refused.TheVariants.{Wide};
 ghost use Rattle.ded_model.specs.Catalogue.{IsTruth};
+ghost use Rattle.ded_model.specs.Cell.{IsReduced};
+ghost use Rattle.ded_model.specs.Entries.{known, entry_of, view_in};
 ghost use Rattle.ded_model.specs.Form.{Form};
 ghost use Rattle.ded_model.specs.Goal.{goal_form};
-ghost use Rattle.ded_model.specs.Measure.{IsTight};
-ghost use Rattle.ded_catalog.specs.State.{catalogue_of};
-ghost use Rattle.ded_query.specs.Gathering.{IsEvaluated};
+ghost use Rattle.ded_model.specs.Measure.{measures, goal_clashes, IsTight};
+ghost use Rattle.ded_model.specs.Row.{atom_holds};
+ghost use Rattle.ded_model.specs.Width.{IsNarrowList};
+ghost use Rattle.ded_eval.specs.Given.{has_name};
+ghost use Rattle.ded_snapshot.specs.State.{snapshot_of};
+ghost use Rattle.ded_query.specs.Gathering.{IsGivenOf, IsGathered, IsFront, IsPosed, IsEvaluated, IsViewOf};
 ghost use Rattle.ded_query.specs.Questions.{IsQuestion, IsAnswer};
 
-use crate::gathering::evaluated;
+use crate::gathering::{evaluated, give_all};
 use ded_answers::{holds_everywhere, reduced};
-use ded_catalog::Catalogue;
 use ded_eval::Given;
 use ded_model::goal::Goal;
 use ded_model::memory::Refused;
-use ded_model::name::Heading;
+use ded_model::name::{Heading, Name};
 use ded_model::tuple::Tuples;
+use ded_snapshot::Snapshot;
 use std::alloc::Global;
 
 /// The greatest level of a view.
 const GREATEST_LEVEL: u32 = 16;
 
-/// Whether a closed formula, given as its goal, is true over the catalogue.
+/// Whether a closed formula, given as its goal, is true over the catalogue. What is held of views is read in their place, and is
+/// the same after it.
 ///
 /// # Errors
 /// `Wide` only where the formula isn't tight, and else want of memory.
-pub fn is_true(alloc: Global, catalogue: &Catalogue, goal: &Goal) -> Result<bool, Refused>
-    requires question { (f : Form) × IsQuestion (catalogue_of catalogue.now) [] (goal_form goal.now) f }
-    ensures truth { (f : Form) → IsQuestion (catalogue_of catalogue.now) [] (goal_form goal.now) f
-        → IfOk result (λ b. IsTrue b ↔ IsTruth (catalogue_of catalogue.now) f) }
-    ensures wide { IsErrOf result Wide → (f : Form) → IsQuestion (catalogue_of catalogue.now) [] (goal_form goal.now) f
-        → IsTight (catalogue_of catalogue.now) [] f → ⊥ }
+pub fn is_true(
+    alloc: Global,
+    snapshot: &Snapshot<'_>,
+    goal: &Goal,
+    held: &mut Given,
+) -> Result<bool, Refused>
+    requires question { (f : Form) × IsQuestion (snapshot_of snapshot.now) [] (goal_form goal.now) f }
+    requires held { AllByRecursion (IsGivenOf (snapshot_of snapshot.now)) held.old }
+    ensures truth { (f : Form) → IsQuestion (snapshot_of snapshot.now) [] (goal_form goal.now) f
+        → IfOk result (λ b. IsTrue b ↔ IsTruth (snapshot_of snapshot.now) f) }
+    ensures held { held.new ≡ held.old }
+    ensures wide { IsErrOf result Wide → (f : Form) → IsQuestion (snapshot_of snapshot.now) [] (goal_form goal.now) f
+        → IsTight (snapshot_of snapshot.now) [] f → ⊥ }
 {
-    catalogue.formed();
-    let tuples = evaluated(
-        alloc,
-        catalogue,
-        goal,
-        GREATEST_LEVEL,
-        &mut Given::new(alloc),
-    )?;
+    snapshot.formed();
+    let tuples = evaluated_over(alloc, snapshot, goal, held)?;
     Ok(holds_everywhere(&tuples.list))
 }
 
 /// Normal tuples over the heading that hold exactly where a formula does, given as its goal. Each narrow one has nothing
-/// superfluous.
+/// superfluous. What is held of views is read in their place, and is the same after it.
 ///
 /// # Errors
 /// `Wide` only where the formula isn't tight, and else want of memory.
 pub fn answer(
     alloc: Global,
-    catalogue: &Catalogue,
+    snapshot: &Snapshot<'_>,
     heading: &Heading,
     goal: &Goal,
+    held: &mut Given,
 ) -> Result<Tuples, Refused>
-    requires question { (f : Form) × IsQuestion (catalogue_of catalogue.now) heading.now (goal_form goal.now) f }
-    ensures is { (f : Form) → IsQuestion (catalogue_of catalogue.now) heading.now (goal_form goal.now) f
-        → IfOk result (λ ts. IsAnswer (catalogue_of catalogue.now) heading.now f ts) }
-    ensures wide { IsErrOf result Wide → (f : Form) → IsQuestion (catalogue_of catalogue.now) heading.now (goal_form goal.now) f
-        → IsTight (catalogue_of catalogue.now) heading.now f → ⊥ }
+    requires question { (f : Form) × IsQuestion (snapshot_of snapshot.now) heading.now (goal_form goal.now) f }
+    requires held { AllByRecursion (IsGivenOf (snapshot_of snapshot.now)) held.old }
+    ensures is { (f : Form) → IsQuestion (snapshot_of snapshot.now) heading.now (goal_form goal.now) f
+        → IfOk result (λ ts. IsAnswer (snapshot_of snapshot.now) heading.now f ts) }
+    ensures held { held.new ≡ held.old }
+    ensures wide { IsErrOf result Wide → (f : Form) → IsQuestion (snapshot_of snapshot.now) heading.now (goal_form goal.now) f
+        → IsTight (snapshot_of snapshot.now) heading.now f → ⊥ }
 {
-    catalogue.formed();
+    snapshot.formed();
     let _ = &heading.columns;
-    let tuples = evaluated(
-        alloc,
-        catalogue,
-        goal,
-        GREATEST_LEVEL,
-        &mut Given::new(alloc),
-    )?;
+    let tuples = evaluated_over(alloc, snapshot, goal, held)?;
     Ok(reduced(alloc, tuples)?)
+}
+
+/// The answer to a view's formula, as normal tuples in which narrow ones have nothing superfluous. What is held of views is read in
+/// their place, and is the same after it.
+///
+/// # Errors
+/// `Wide` only where the view clashes, and else want of memory.
+pub fn view_tuples(
+    alloc: Global,
+    snapshot: &Snapshot<'_>,
+    name: &Name,
+    held: &mut Given,
+) -> Result<Tuples, Refused>
+    requires view { is_some (view_in (entry_of (snapshot_of snapshot.now).entries name.now)) ≡ true }
+    requires held { AllByRecursion (IsGivenOf (snapshot_of snapshot.now)) held.old }
+    ensures is { IfOk result (IsViewOf (snapshot_of snapshot.now) name.now) }
+    ensures reduced { IfOk result (λ ts. AllByRecursion (λ t. IsNarrowList t → IsReduced atom_holds t) ts) }
+    ensures held { held.new ≡ held.old }
+    ensures wide { IsErrOf result Wide → (measures (snapshot_of snapshot.now) name.now).clash ≡ true }
+{
+    snapshot.formed();
+    let Some(goal) = snapshot.goal(name) else {
+        unreachable!()
+    };
+    let tuples = evaluated_over(alloc, snapshot, goal, held)?;
+    Ok(reduced(alloc, tuples)?)
+}
+
+/// Gives the names as well, which are defined. What was given stays at the front.
+///
+/// # Errors
+/// `Wide` only where one of the names clashes, and else want of memory. More may be given then.
+pub fn give_names(
+    alloc: Global,
+    snapshot: &Snapshot<'_>,
+    names: &[Name],
+    held: &mut Given,
+) -> Result<(), Refused>
+    requires defined { AllByRecursion (λ n. is_some (known (snapshot_of snapshot.now) n) ≡ true) names.now }
+    requires held { AllByRecursion (IsGivenOf (snapshot_of snapshot.now)) held.old }
+    ensures gathered { OnOk result (IsGathered (snapshot_of snapshot.now) held.old held.new) }
+    ensures all { OnOk result (AllByRecursion (λ n. has_name n held.new ≡ true) names.now) }
+    ensures front { IsFront held.old held.new }
+    ensures wide { IsErrOf result Wide → list_any (λ n. (measures (snapshot_of snapshot.now) n).clash) names.now ≡ true }
+{
+    snapshot.formed();
+    give_all(alloc, snapshot, names, GREATEST_LEVEL, held)
+}
+
+/// What the goal of an accepted formula is evaluated to. What is held is the same after it.
+///
+/// # Errors
+/// `Wide` only where the goal clashes, and else want of memory.
+fn evaluated_over(
+    alloc: Global,
+    snapshot: &Snapshot<'_>,
+    goal: &Goal,
+    held: &mut Given,
+) -> Result<Tuples, Refused>
+    requires posed { IsPosed (snapshot_of snapshot.now) (goal_form goal.now) 16 }
+    requires held { AllByRecursion (IsGivenOf (snapshot_of snapshot.now)) held.old }
+    ensures is { IfOk result (λ ts. IsEvaluated (snapshot_of snapshot.now) (goal_form goal.now) ts) }
+    ensures held { held.new ≡ held.old }
+    ensures wide { IsErrOf result Wide → goal_clashes (measures (snapshot_of snapshot.now)) (goal_form goal.now) ≡ true }
+{
+    let count = held.count();
+    let tuples = evaluated(alloc, snapshot, goal, GREATEST_LEVEL, held);
+    held.keep_first(count);
+    tuples
 }

@@ -3,51 +3,52 @@ ghost use Rattle.std.specs.Prelude.{◌≡◌, ◌≤◌, true, is_some, Some, N
 ghost use Rattle.std.specs.List.{AllByRecursion, list_any};
 ghost use Rattle.std.specs.Option.{option_map};
 ghost use Rattle.ded_model.specs.declared.memory.Refused.TheVariants.{Wide};
-ghost use Rattle.ded_model.specs.Catalogue.{Catalogue, tuples_of};
+ghost use Rattle.ded_model.specs.Catalogue.{Catalogue};
 ghost use Rattle.ded_model.specs.Entries.{known, entry_of, relation_in};
 ghost use Rattle.ded_model.specs.Goal.{goal_form};
 ghost use Rattle.ded_model.specs.Known.{level_with};
 ghost use Rattle.ded_model.specs.Measure.{measures, goal_clashes};
-ghost use Rattle.ded_catalog.specs.State.{catalogue_of};
+ghost use Rattle.ded_snapshot.specs.State.{snapshot_of};
 ghost use Rattle.ded_eval.specs.Given.{has_name};
-ghost use Rattle.ded_query.specs.Gathering.{IsGivenOf, IsGathered, IsPosed, IsEvaluated, IsViewGoal, IsViewOf, IsGivenAs};
+ghost use Rattle.ded_query.specs.Gathering.{IsGivenOf, IsGathered, IsFront, IsPosed, IsEvaluated, IsViewGoal, IsViewOf, IsGivenAs};
 
 use ded_algebra::{Evaluate, Relations};
 use ded_answers::reduced;
-use ded_catalog::Catalogue;
 use ded_eval::{Engine, Given, GivenRelation};
 use ded_goals::laws::normal_goals;
 use ded_model::goal::Goal;
 use ded_model::memory::{NoMemory, Refused};
 use ded_model::name::Name;
-use ded_model::tuple::{Tuple, Tuples};
+use ded_model::tuple::Tuples;
 use ded_planner::{plan, scanned_names};
+use ded_snapshot::Snapshot;
 use std::alloc::Global;
-use std::collections::BTreeMap;
 
 /// Tuples that hold exactly where the goal of an accepted formula does over the catalogue, whose names have at most the level.
-/// They mention only slots that the goal mentions freely. What it reaches is given first, each name once.
+/// They mention only slots that the goal mentions freely. What it reaches is given first, each name once. What was given stays at
+/// the front.
 ///
 /// # Errors
 /// `Wide` only where the goal clashes, and else want of memory. More may be given then.
 #[cycle(evaluated)]
 pub(crate) fn evaluated(
     alloc: Global,
-    catalogue: &Catalogue,
+    snapshot: &Snapshot<'_>,
     goal: &Goal,
     level: u32,
     given: &mut Given,
 ) -> Result<Tuples, Refused>
-    requires posed { IsPosed (catalogue_of catalogue.now) (goal_form goal.now) level }
-    requires given { AllByRecursion (IsGivenOf (catalogue_of catalogue.now)) given.old }
-    ensures is { IfOk result (λ ts. IsEvaluated (catalogue_of catalogue.now) (goal_form goal.now) ts) }
-    ensures gathered { OnOk result (IsGathered (catalogue_of catalogue.now) given.old given.new) }
-    ensures wide { IsErrOf result Wide → goal_clashes (measures (catalogue_of catalogue.now)) (goal_form goal.now) ≡ true }
+    requires posed { IsPosed (snapshot_of snapshot.now) (goal_form goal.now) level }
+    requires given { AllByRecursion (IsGivenOf (snapshot_of snapshot.now)) given.old }
+    ensures is { IfOk result (λ ts. IsEvaluated (snapshot_of snapshot.now) (goal_form goal.now) ts) }
+    ensures gathered { OnOk result (IsGathered (snapshot_of snapshot.now) given.old given.new) }
+    ensures front { IsFront given.old given.new }
+    ensures wide { IsErrOf result Wide → goal_clashes (measures (snapshot_of snapshot.now)) (goal_form goal.now) ≡ true }
 {
     normal_goals();
     let plan = plan(alloc, goal)?;
     let names = scanned_names(alloc, &plan)?;
-    give_all(alloc, catalogue, &names, level, given)?;
+    give_all(alloc, snapshot, &names, level, given)?;
     Engine {}.evaluate(alloc, &plan, &*given)
 }
 
@@ -56,22 +57,23 @@ pub(crate) fn evaluated(
 /// # Errors
 /// `Wide` only where one of the names clashes, and else want of memory. More may be given then.
 #[cycle(evaluated)]
-fn give_all(
+pub(crate) fn give_all(
     alloc: Global,
-    catalogue: &Catalogue,
+    snapshot: &Snapshot<'_>,
     names: &[Name],
     level: u32,
     given: &mut Given,
 ) -> Result<(), Refused>
-    requires defined { AllByRecursion (λ n. is_some (known (catalogue_of catalogue.now) n) ≡ true) names.now }
-    requires levels { AllByRecursion (λ n. level_with (known (catalogue_of catalogue.now) n) ≤ level) names.now }
-    requires given { AllByRecursion (IsGivenOf (catalogue_of catalogue.now)) given.old }
-    ensures gathered { OnOk result (IsGathered (catalogue_of catalogue.now) given.old given.new) }
+    requires defined { AllByRecursion (λ n. is_some (known (snapshot_of snapshot.now) n) ≡ true) names.now }
+    requires levels { AllByRecursion (λ n. level_with (known (snapshot_of snapshot.now) n) ≤ level) names.now }
+    requires given { AllByRecursion (IsGivenOf (snapshot_of snapshot.now)) given.old }
+    ensures gathered { OnOk result (IsGathered (snapshot_of snapshot.now) given.old given.new) }
     ensures all { OnOk result (AllByRecursion (λ n. has_name n given.new ≡ true) names.now) }
-    ensures wide { IsErrOf result Wide → list_any (λ n. (measures (catalogue_of catalogue.now) n).clash) names.now ≡ true }
+    ensures front { IsFront given.old given.new }
+    ensures wide { IsErrOf result Wide → list_any (λ n. (measures (snapshot_of snapshot.now) n).clash) names.now ≡ true }
 {
     for name in names {
-        give(alloc, catalogue, name, level, given)?;
+        give(alloc, snapshot, name, level, given)?;
     }
     Ok(())
 }
@@ -83,26 +85,27 @@ fn give_all(
 #[cycle(evaluated)]
 fn give(
     alloc: Global,
-    catalogue: &Catalogue,
+    snapshot: &Snapshot<'_>,
     name: &Name,
     level: u32,
     given: &mut Given,
 ) -> Result<(), Refused>
-    requires defined { is_some (known (catalogue_of catalogue.now) name.now) ≡ true }
-    requires level { level_with (known (catalogue_of catalogue.now) name.now) ≤ level }
-    requires given { AllByRecursion (IsGivenOf (catalogue_of catalogue.now)) given.old }
-    ensures gathered { OnOk result (IsGathered (catalogue_of catalogue.now) given.old given.new) }
+    requires defined { is_some (known (snapshot_of snapshot.now) name.now) ≡ true }
+    requires level { level_with (known (snapshot_of snapshot.now) name.now) ≤ level }
+    requires given { AllByRecursion (IsGivenOf (snapshot_of snapshot.now)) given.old }
+    ensures gathered { OnOk result (IsGathered (snapshot_of snapshot.now) given.old given.new) }
     ensures is { OnOk result (has_name name.now given.new ≡ true) }
-    ensures wide { IsErrOf result Wide → (measures (catalogue_of catalogue.now) name.now).clash ≡ true }
+    ensures front { IsFront given.old given.new }
+    ensures wide { IsErrOf result Wide → (measures (snapshot_of snapshot.now) name.now).clash ≡ true }
 {
     if is_given(given, name) {
         return Ok(());
     }
-    match catalogue.goal(name) {
-        Some(goal) => give_view(alloc, catalogue, name, goal, level, given),
+    match snapshot.goal(name) {
+        Some(goal) => give_view(alloc, snapshot, name, goal, level, given),
         None => {
-            let relation = relation(alloc, catalogue, name)?;
-            Ok(add(catalogue, given, relation)?)
+            let relation = relation(alloc, snapshot, name)?;
+            Ok(add(snapshot, given, relation)?)
         }
     }
 }
@@ -114,23 +117,24 @@ fn give(
 #[cycle(evaluated)]
 fn give_view(
     alloc: Global,
-    catalogue: &Catalogue,
+    snapshot: &Snapshot<'_>,
     name: &Name,
     goal: &Goal,
     level: u32,
     given: &mut Given,
 ) -> Result<(), Refused>
-    requires view { IsViewGoal (catalogue_of catalogue.now) name.now (goal_form goal.now) }
-    requires level { level_with (known (catalogue_of catalogue.now) name.now) ≤ level }
-    requires given { AllByRecursion (IsGivenOf (catalogue_of catalogue.now)) given.old }
-    ensures gathered { OnOk result (IsGathered (catalogue_of catalogue.now) given.old given.new) }
+    requires view { IsViewGoal (snapshot_of snapshot.now) name.now (goal_form goal.now) }
+    requires level { level_with (known (snapshot_of snapshot.now) name.now) ≤ level }
+    requires given { AllByRecursion (IsGivenOf (snapshot_of snapshot.now)) given.old }
+    ensures gathered { OnOk result (IsGathered (snapshot_of snapshot.now) given.old given.new) }
     ensures is { OnOk result (has_name name.now given.new ≡ true) }
-    ensures wide { IsErrOf result Wide → (measures (catalogue_of catalogue.now) name.now).clash ≡ true }
+    ensures front { IsFront given.old given.new }
+    ensures wide { IsErrOf result Wide → (measures (snapshot_of snapshot.now) name.now).clash ≡ true }
 {
-    catalogue.formed();
-    let tuples = evaluated(alloc, catalogue, goal, level - 1, given)?;
-    let view = view(catalogue, name, reduced(alloc, tuples)?)?;
-    Ok(add(catalogue, given, view)?)
+    snapshot.formed();
+    let tuples = evaluated(alloc, snapshot, goal, level - 1, given)?;
+    let view = held_view(snapshot, name, reduced(alloc, tuples)?)?;
+    Ok(add(snapshot, given, view)?)
 }
 
 /// Whether the name is given.
@@ -144,29 +148,34 @@ fn is_given(given: &Given, name: &Name) -> bool
 ///
 /// # Errors
 /// Want of memory; nothing is changed then.
-fn add(catalogue: &Catalogue, given: &mut Given, relation: GivenRelation) -> Result<(), NoMemory>
-    requires given { AllByRecursion (IsGivenOf (catalogue_of catalogue.now)) given.old }
-    requires of { IsGivenOf (catalogue_of catalogue.now) relation }
-    ensures gathered { OnOk result (IsGathered (catalogue_of catalogue.now) given.old given.new) }
+fn add(snapshot: &Snapshot<'_>, given: &mut Given, relation: GivenRelation) -> Result<(), NoMemory>
+    requires given { AllByRecursion (IsGivenOf (snapshot_of snapshot.now)) given.old }
+    requires of { IsGivenOf (snapshot_of snapshot.now) relation }
+    ensures gathered { OnOk result (IsGathered (snapshot_of snapshot.now) given.old given.new) }
     ensures is { OnOk result (has_name relation.name given.new ≡ true) }
+    ensures front { IsFront given.old given.new }
 {
-    let _ = catalogue;
+    let _ = snapshot;
     if is_given(given, &relation.name) {
         return Ok(());
     }
     given.add(relation)
 }
 
-/// A view under its name, with what its goal was evaluated to.
+/// A view as a relation under its name, with tuples that its goal is evaluated to.
 ///
 /// # Errors
 /// Want of memory.
-fn view(catalogue: &Catalogue, name: &Name, tuples: Tuples) -> Result<GivenRelation, NoMemory>
-    requires { IsViewOf (catalogue_of catalogue.now) name.now tuples }
-    ensures { IfOk result (λ r. IsGivenAs (catalogue_of catalogue.now) name.now r) }
+pub fn held_view(
+    snapshot: &Snapshot<'_>,
+    name: &Name,
+    tuples: Tuples,
+) -> Result<GivenRelation, NoMemory>
+    requires { IsViewOf (snapshot_of snapshot.now) name.now tuples }
+    ensures { IfOk result (λ r. IsGivenAs (snapshot_of snapshot.now) name.now r × (r.tuples ≡ tuples)) }
 {
-    catalogue.formed();
-    let Some(heading) = catalogue.heading(name) else {
+    snapshot.formed();
+    let Some(heading) = snapshot.heading(name) else {
         unreachable!()
     };
     Ok(GivenRelation {
@@ -180,34 +189,20 @@ fn view(catalogue: &Catalogue, name: &Name, tuples: Tuples) -> Result<GivenRelat
 ///
 /// # Errors
 /// Want of memory.
-fn relation(alloc: Global, catalogue: &Catalogue, name: &Name) -> Result<GivenRelation, NoMemory>
-    requires { is_some (relation_in (entry_of (catalogue_of catalogue.now).entries name.now)) ≡ true }
-    ensures { IfOk result (λ r. IsGivenAs (catalogue_of catalogue.now) name.now r) }
+fn relation(alloc: Global, snapshot: &Snapshot<'_>, name: &Name) -> Result<GivenRelation, NoMemory>
+    requires { is_some (relation_in (entry_of (snapshot_of snapshot.now).entries name.now)) ≡ true }
+    ensures { IfOk result (λ r. IsGivenAs (snapshot_of snapshot.now) name.now r) }
 {
-    catalogue.formed();
-    let Some(heading) = catalogue.heading(name) else {
+    snapshot.formed();
+    let Some(heading) = snapshot.heading(name) else {
         unreachable!()
     };
-    let Some(stored) = catalogue.stored(name) else {
+    let Some(tuples) = snapshot.tuples(alloc, name)? else {
         unreachable!()
     };
     Ok(GivenRelation {
         name: name.copy()?,
         heading: heading.copy()?,
-        tuples: copies(alloc, stored)?,
+        tuples,
     })
-}
-
-/// Copies of the tuples, in order.
-///
-/// # Errors
-/// Want of memory.
-fn copies(alloc: Global, stored: &BTreeMap<u32, Tuple>) -> Result<Tuples, NoMemory>
-    ensures { IfOk result (λ ts. ts ≡ tuples_of stored.now.entries) }
-{
-    let mut list = Vec::with_capacity(alloc, stored.len())?;
-    for (_, tuple) in stored {
-        list.push(tuple.copy()?)?;
-    }
-    Ok(Tuples { list })
 }

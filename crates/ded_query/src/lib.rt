@@ -1,14 +1,23 @@
 //! Questions over a catalogue, and their answers.
 //!
-//! [`is_true`] answers a closed question, [`answer`] one over a heading by normal tuples. Both plan the goal of the formula, gather
-//! what the plan scans (the tuples of relations, and views as their answers, each evaluated once), evaluate the plan over it, and
-//! reduce what comes out. Numbers get too long only where the formula isn't tight.
+//! [`is_true`] answers a closed question, [`answer`] one over a heading by normal tuples, and [`view_tuples`] a view. Each plans the
+//! goal of the formula, gathers what the plan scans (the tuples of relations, and views as their answers, each evaluated once),
+//! evaluates the plan over it, and reduces what comes out. Numbers get too long only where the formula isn't tight.
 //!
-//! It stands on `ded_planner` for plans, on `ded_eval` for their evaluation, on `ded_answers` for reduced tuples, on `ded_catalog`
+//! The catalogue is read as a `Snapshot`: as it is, or as a change will make it. Answers of views that are held already are handed
+//! in as relations under the views' names ([`held_view`]). They are read in place of the views, without a copy, and are the same
+//! afterwards. [`give_names`] gathers names alone, and [`ReducingEngine`] reduces what a plan is evaluated to.
+//!
+//! It stands on `ded_planner` for plans, on `ded_eval` for their evaluation, on `ded_answers` for reduced tuples, on `ded_snapshot`
 //! for what names stand for, and on `ded_views` for laws on views.
 #![tactic(auto)]
 
 mod answering;
+mod engine;
 mod gathering;
+#[cfg(test)]
+mod tests;
 
-pub use answering::{answer, is_true};
+pub use answering::{answer, give_names, is_true, view_tuples};
+pub use engine::ReducingEngine;
+pub use gathering::held_view;

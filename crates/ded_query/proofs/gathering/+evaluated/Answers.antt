@@ -10,13 +10,13 @@ use Rattle.ded_model.specs.Known.{level_with}
 use Rattle.ded_model.specs.NormalGoal.{IsNormalGoal}
 use Rattle.ded_model.specs.PlanForm.{plan_form}
 use Rattle.ded_model.specs.Uses.{plan_uses}
-use Rattle.ded_catalog.specs.State.{catalogue_of}
+use Rattle.ded_snapshot.specs.State.{snapshot_of}
 use Rattle.ded_complement.proofs.Cutting.{all-at}
 use Rattle.ded_eval.specs.Given.{has_name}
 use Rattle.ded_query.proofs.Entries.{view_goal, view_posed, view_level, view_clash, relation_there}
 use Rattle.ded_query.proofs.Evaluable.{evaluable}
 use Rattle.ded_query.proofs.Evaluations.{evaluated_of, evaluated_part, clash_of_goal}
-use Rattle.ded_query.proofs.Gathered.{gathered_none, gathered_more, named_more, posed_scans, posed_known, posed_levels, posed_clash}
+use Rattle.ded_query.proofs.Gathered.{gathered_none, gathered_more, front_none, front_more, named_more, posed_scans, posed_known, posed_levels, posed_clash}
 use Rattle.ded_query.proofs.Names.{of_named}
 use Rattle.ded_query.proofs.gathering.+evaluated.Goals as goal
 
@@ -25,11 +25,11 @@ use Rattle.ded_query.proofs.gathering.+evaluated.Goals as goal
 pub evaluated-plan-requires : goal.evaluated-plan-requires
 evaluated-plan-requires t c =
     let p = c.requires.posed in
-    record { normal = subst IsNormalGoal (sym p.question.goal) (c.normal_goals.ensures.accepted (known (catalogue_of c.args.catalogue.now)) p.columns p.formula p.question.accepted) }
+    record { normal = subst IsNormalGoal (sym p.question.goal) (c.normal_goals.ensures.accepted (known (snapshot_of c.args.snapshot.now)) p.columns p.formula p.question.accepted) }
 
 pub evaluated-give_all-requires : goal.evaluated-give_all-requires
 evaluated-give_all-requires t c =
-    let cat = catalogue_of c.args.catalogue.now in
+    let cat = snapshot_of c.args.snapshot.now in
     let plan = plan_form c.in_ok-plan.plan in
     let ns = c.deref.result.now in
     let all : (n : List ℕ) → plan_uses n plan ≡ list_any (bytes_eq n) ns = λ n. c.in_ok-names.ensures.all n ∙ ap (list_any (bytes_eq n)) (sym c.deref.ensures.value) in (
@@ -47,14 +47,14 @@ pub evaluated-returns-in_err-give_all-clause-wide : goal.evaluated-returns-in_er
 evaluated-returns-in_err-give_all-clause-wide t c = λ i.
     let p = err_from_is_err_and c.from_residual-in_err-give_all.result c.from_residual-in_err-give_all.ensures.1 in
     let is : c.in_err-give_all.field-0.0 ≡ Wide = cc (p.1, p.2, i) in
-    let cat = catalogue_of c.args.catalogue.now in
+    let cat = snapshot_of c.args.snapshot.now in
     let plan = plan_form c.in_ok-plan.plan in
     let ns = c.deref.result.now in
     posed_clash cat (goal_form c.args.goal.now) plan c.args.level c.requires.posed c.in_ok-plan.ensures ns (λ n. c.in_ok-names.ensures.all n ∙ ap (list_any (bytes_eq n)) (sym c.deref.ensures.value)) (c.in_err-give_all.ensures.wide (ap Err is))
 
 pub evaluated-evaluate-requires : goal.evaluated-evaluate-requires
 evaluated-evaluate-requires t c =
-    let cat = catalogue_of c.args.catalogue.now in
+    let cat = snapshot_of c.args.snapshot.now in
     let plan = plan_form c.in_ok-plan.plan in
     let ns = c.deref.result.now in
     let rs = c.give_all.new.given in
@@ -64,7 +64,7 @@ evaluated-evaluate-requires t c =
 
 pub evaluated-returns-clause-is : goal.evaluated-returns-clause-is
 evaluated-returns-clause-is t c =
-    let cat = catalogue_of c.args.catalogue.now in
+    let cat = snapshot_of c.args.snapshot.now in
     let plan = plan_form c.in_ok-plan.plan in
     let ns = c.deref.result.now in
     let rs = c.give_all.new.given in
@@ -74,25 +74,25 @@ evaluated-returns-clause-is t c =
 
 pub evaluated-returns-clause-wide : goal.evaluated-returns-clause-wide
 evaluated-returns-clause-wide t c = λ i.
-    clash_of_goal (catalogue_of c.args.catalogue.now) (goal_form c.args.goal.now) (plan_form c.in_ok-plan.plan) c.give_all.new.given c.in_ok-give_all.ensures.gathered.of c.in_ok-plan.ensures (c.evaluate.ensures.wide i)
+    clash_of_goal (snapshot_of c.args.snapshot.now) (goal_form c.args.goal.now) (plan_form c.in_ok-plan.plan) c.give_all.new.given c.in_ok-give_all.ensures.gathered.of c.in_ok-plan.ensures (c.evaluate.ensures.wide i)
 
 -- ---- give
 
 pub give-give_view-requires : goal.give-give_view-requires
 give-give_view-requires t c =
-    (search rules, (view_goal (catalogue_of c.args.catalogue.now) c.args.name.now (goal_form c.in-Some.goal.now) c.in-Some.ensures, (c.requires.level, c.requires.given)))
+    (search rules, (view_goal (snapshot_of c.args.snapshot.now) c.args.name.now (goal_form c.in-Some.goal.now) c.in-Some.ensures, (c.requires.level, c.requires.given)))
 
 pub give-relation-requires : goal.give-relation-requires
-give-relation-requires t c = relation_there (catalogue_of c.args.catalogue.now) c.args.name.now c.requires.defined c.in-None.ensures
+give-relation-requires t c = relation_there (snapshot_of c.args.snapshot.now) c.args.name.now c.requires.defined c.in-None.ensures
 
 -- ---- give_all
 
 pub give_all-loop-name-init : goal.give_all-loop-name-init
-give_all-loop-name-init t c = (gathered_none (catalogue_of c.args.catalogue.now) c.args.given.now c.requires.given, tt)
+give_all-loop-name-init t c = (gathered_none (snapshot_of c.args.snapshot.now) c.args.given.now c.requires.given, tt, front_none c.args.given.now)
 
 pub give_all-give-requires : goal.give_all-give-requires
 give_all-give-requires t c =
-    let k = known (catalogue_of c.args.catalogue.now) in (
+    let k = known (snapshot_of c.args.snapshot.now) in (
       search rules,
       (
         all-at (λ n. is_some (k n) ≡ true) c.args.names.now c.loop-name.name-index c.name-item.result c.loop-name-test.true c.name-item.is c.requires.defined,
@@ -105,9 +105,10 @@ give_all-give-requires t c =
 
 pub give_all-loop-name-preserved : goal.give_all-loop-name-preserved
 give_all-loop-name-preserved t c =
-    let cat = catalogue_of c.args.catalogue.now in (
+    let cat = snapshot_of c.args.snapshot.now in (
       gathered_more cat c.args.given.now c.loop-name.given c.give.new.given c.loop-name.invariant.0 c.in_ok-give.ensures.gathered,
       named_more cat c.args.names.now c.loop-name.name-index c.name-item.result c.loop-name.given c.give.new.given c.loop-name-test.true c.name-item.is c.in_ok-give.ensures.gathered c.in_ok-give.ensures.is c.loop-name.invariant.1,
+      front_more c.args.given.now c.loop-name.given c.give.new.given c.loop-name.invariant.2 c.give.ensures.front,
     )
 
 pub give_all-returns-clause-gathered : goal.give_all-returns-clause-gathered
@@ -117,14 +118,20 @@ pub give_all-returns-clause-all : goal.give_all-returns-clause-all
 give_all-returns-clause-all t c =
     subst (AllByRecursion (λ n. has_name n c.loop-name.given ≡ true)) (take_all c.loop-name.name-index c.args.names.now c.loop-name-test.false) c.loop-name.invariant.1
 
+pub give_all-returns-clause-front : goal.give_all-returns-clause-front
+give_all-returns-clause-front t c = c.loop-name.invariant.2
+
+pub give_all-returns-in_err-give-clause-front : goal.give_all-returns-in_err-give-clause-front
+give_all-returns-in_err-give-clause-front t c = front_more c.args.given.now c.loop-name.given c.give.new.given c.loop-name.invariant.2 c.give.ensures.front
+
 -- ---- give_view
 
 pub give_view-overflow_sub-level : goal.give_view-overflow_sub-level
-give_view-overflow_sub-level t c = view_level (catalogue_of c.args.catalogue.now) c.args.name.now (goal_form c.args.goal.now) c.args.level c.formed.ensures c.requires.view c.requires.level
+give_view-overflow_sub-level t c = view_level (snapshot_of c.args.snapshot.now) c.args.name.now (goal_form c.args.goal.now) c.args.level c.formed.ensures c.requires.view c.requires.level
 
 pub give_view-evaluated-requires : goal.give_view-evaluated-requires
 give_view-evaluated-requires t c =
-    let cat = catalogue_of c.args.catalogue.now in
+    let cat = snapshot_of c.args.snapshot.now in
     let above : 1 ≤ c.args.level = view_level cat c.args.name.now (goal_form c.args.goal.now) c.args.level c.formed.ensures c.requires.view c.requires.level in (
       search rules,
       (
@@ -137,12 +144,12 @@ pub give_view-returns-in_err-tuples-clause-wide : goal.give_view-returns-in_err-
 give_view-returns-in_err-tuples-clause-wide t c = λ i.
     let p = err_from_is_err_and c.from_residual.result c.from_residual.ensures.1 in
     let is : c.in_err-tuples.field-0.0 ≡ Wide = cc (p.1, p.2, i) in
-    view_clash (catalogue_of c.args.catalogue.now) c.args.name.now (goal_form c.args.goal.now) c.formed.ensures c.requires.view (c.in_err-tuples.ensures.wide (ap Err is))
+    view_clash (snapshot_of c.args.snapshot.now) c.args.name.now (goal_form c.args.goal.now) c.formed.ensures c.requires.view (c.in_err-tuples.ensures.wide (ap Err is))
 
-pub give_view-view-requires : goal.give_view-view-requires
-give_view-view-requires t c = record {
+pub give_view-held_view-requires : goal.give_view-held_view-requires
+give_view-held_view-requires t c = record {
   goal = goal_form c.args.goal.now;
   view = c.requires.view;
-  evaluated = evaluated_part (catalogue_of c.args.catalogue.now) (goal_form c.args.goal.now) c.in_ok-tuples.tuples c.in_ok-reduced.field-0 c.in_ok-tuples.ensures.is c.in_ok-reduced.ensures.holds c.in_ok-reduced.ensures.slots c.in_ok-reduced.ensures.lines;
+  evaluated = evaluated_part (snapshot_of c.args.snapshot.now) (goal_form c.args.goal.now) c.in_ok-tuples.tuples c.in_ok-reduced.field-0 c.in_ok-tuples.ensures.is c.in_ok-reduced.ensures.holds c.in_ok-reduced.ensures.slots c.in_ok-reduced.ensures.lines;
   normal = c.in_ok-reduced.ensures.normal;
 }

@@ -1,0 +1,6 @@
+pub mod Counting
+pub mod ScanCounts
+pub mod AdditivePlans
+pub mod AloneMeanings
+pub mod Appended
+pub mod RowsEvaluated

@@ -1,0 +1,37 @@
+-- One tuple more in a relation, and what it adds to the tuples of a plan.
+use Rattle.std.specs.Prelude.{◌≡◌, ◌↔◌, ◌⊎◌, ◌<◌, ℕ, true, false, IsTrue, List, [], ◌∷◌, ◌++◌, map}
+use Rattle.std.specs.Str.{bytes_eq}
+use Rattle.ded_model.specs.declared.name.Column.{Column}
+use Rattle.ded_model.specs.declared.slot.Slot.{Slot}
+use Rattle.ded_model.specs.Catalogue.{relation, Catalogue, at_slots, meaning, PlanHolds}
+use Rattle.ded_model.specs.Lines.{IsSubset, tuples_lines}
+use Rattle.ded_model.specs.Measure.{measures, plan_lines}
+use Rattle.ded_model.specs.PlanForm.{PlanForm, plan_mentions}
+use Rattle.ded_model.specs.Point.{slot, Point, IsPoint}
+use Rattle.ded_model.specs.Row.{Atom, tuple_holds, tuples_hold, tuples_mention}
+use Rattle.ded_model.specs.Uses.{plan_uses}
+use Rattle.ded_model.specs.Value.{Argument}
+use Rattle.ded_views.specs.Same.{AreByteArguments, MeansSame}
+
+-- the given relations, and the name as a relation of the tuples alone, under numbers that don't count
+abbrev pub with_tuples : Catalogue → List ℕ → List Column → List (List Atom) → Catalogue
+with_tuples c n h ts = record { limit = 0; entries = relation n h 0 (map (λ t. (0, t)) ts) ∷ c.entries }
+
+-- the given relations, and the name as a relation of the tuple alone
+abbrev pub with_alone : Catalogue → List ℕ → List Column → List Atom → Catalogue
+with_alone c n h t = with_tuples c n h (t ∷ [])
+
+-- the kept tuples and more behind them: they hold exactly where the kept ones or the plan do, mention only slots that one of both
+-- mentions, and have lines among those of both
+pub record IsExtended (c : Catalogue) (f : PlanForm) (kept ts : List (List Atom)) : Type 0 where
+  pub more : List (List Atom)
+  pub is : ts ≡ kept ++ more
+  pub holds : (p : Point) → IsPoint p → IsTrue (tuples_hold ts p) ↔ (IsTrue (tuples_hold kept p) ⊎ PlanHolds c f p)
+  pub slots : (s : Slot) → tuples_mention ts s ≡ true → (tuples_mention kept s ≡ true) ⊎ (plan_mentions f (slot s) ≡ true)
+  pub lines : IsSubset (tuples_lines ts) (tuples_lines kept ++ plan_lines (measures c) f)
+
+-- from the one catalogue to the next the name gains the tuple, and each other name that the plan scans means what is given of it
+pub record IsAddition (given before after : Catalogue) (n : List ℕ) (h : List Column) (t : List Atom) (f : PlanForm) : Type 0 where
+  pub others : (m : List ℕ) → plan_uses m f ≡ true → bytes_eq m n ≡ false → MeansSame given before m × MeansSame given after m
+  pub adds : (den : ℕ) (xs : List Argument) → 0 < den → AreByteArguments xs
+      → meaning after n den xs ↔ (meaning before n den xs ⊎ IsTrue (tuple_holds t (record { den = den; coords = at_slots 0 h xs })))

@@ -1,0 +1,94 @@
+//! Kept tuples, computed anew and extended.
+ghost use Rattle.std.specs.Prelude.{◌≡◌, ◌↔◌, ◌++◌, true, IsTrue, None, IfOk, IsErrOf};
+ghost use Rattle.ded_model.specs.declared.memory.Refused.TheVariants.{Wide};
+ghost use Rattle.ded_model.specs.Catalogue.{Catalogue, PlanHolds};
+ghost use Rattle.ded_model.specs.Entries.{entry_of};
+ghost use Rattle.ded_model.specs.Lines.{tuples_lines};
+ghost use Rattle.ded_model.specs.Measure.{measures, plan_clashes};
+ghost use Rattle.ded_model.specs.PlanForm.{plan_form};
+ghost use Rattle.ded_model.specs.Point.{Point, IsPoint};
+ghost use Rattle.ded_model.specs.Row.{tuples_hold, tuples_mention};
+ghost use Rattle.ded_algebra.specs.Evaluation.{IsAnyAtom, IsEvaluable, IsEvaluation};
+ghost use Rattle.ded_keep.specs.Additive.{is_additive};
+ghost use Rattle.ded_keep.specs.Adding.{with_alone, IsExtended, IsAddition};
+
+use crate::alone::Alone;
+use ded_algebra::{Evaluate, Relations};
+use ded_model::memory::{NoMemory, Refused};
+use ded_model::name::{Heading, Name};
+use ded_model::plan::Plan;
+use ded_model::tuple::{Tuple, Tuples};
+use std::alloc::Global;
+
+/// Tuples that hold exactly where the plan does over the given relations. They mention only slots that the plan mentions freely, and
+/// have lines among those of the plan. Each name that the plan scans is given, with tuples over columns of the sorts of the scan's
+/// slots.
+///
+/// # Errors
+/// `Wide` only where the plan clashes over the given relations, and else want of memory.
+pub fn refresh<E: Evaluate, R: Relations>(
+    alloc: Global,
+    engine: &E,
+    plan: &Plan,
+    relations: &R,
+) -> Result<Tuples, Refused>
+    requires { IsEvaluable IsAnyAtom (R.catalogue relations.now) (plan_form plan.now) }
+    ensures is { IfOk result (λ ts. IsEvaluation (R.catalogue relations.now) (plan_form plan.now) (tuples_hold ts) (tuples_mention ts) (tuples_lines ts)) }
+    ensures wide { IsErrOf result Wide → plan_clashes (measures (R.catalogue relations.now)) (plan_form plan.now) ≡ true }
+{
+    engine.evaluate(alloc, plan, relations)
+}
+
+/// Tuples that hold where `kept` does or where the plan does with `added` alone as the tuples of `changed`: `kept`, and more behind it.
+/// So where `kept` held exactly where the plan did, and `added` is inserted into `changed`, they hold exactly where the plan does then.
+/// The plan is additive in `changed`, whose heading is `heading`. The other relations don't give `changed`, and give each other name
+/// that the plan scans, with tuples over columns of the sorts of the scan's slots.
+///
+/// # Errors
+/// `Wide` only where the plan clashes with `added` alone as the tuples of `changed`, and else want of memory. `kept` is given up then.
+pub fn add_tuple<E: Evaluate, R: Relations>(
+    alloc: Global,
+    engine: &E,
+    plan: &Plan,
+    changed: &Name,
+    heading: &Heading,
+    kept: Tuples,
+    added: &Tuple,
+    others: &R,
+) -> Result<Tuples, Refused>
+    requires additive { is_additive changed.now (plan_form plan.now) ≡ true }
+    requires apart { entry_of (R.catalogue others.now).entries changed.now ≡ None }
+    requires evaluable { IsEvaluable IsAnyAtom (with_alone (R.catalogue others.now) changed.now heading.now added.now) (plan_form plan.now) }
+    ensures is { IfOk result (IsExtended (with_alone (R.catalogue others.now) changed.now heading.now added.now) (plan_form plan.now) kept) }
+    ensures adds { IfOk result (λ ts. (b d : Catalogue) → IsAddition (R.catalogue others.now) b d changed.now heading.now added.now (plan_form plan.now)
+        → ((p : Point) → IsPoint p → IsTrue (tuples_hold kept p) ↔ PlanHolds b (plan_form plan.now) p)
+        → (p : Point) → IsPoint p → IsTrue (tuples_hold ts p) ↔ PlanHolds d (plan_form plan.now) p) }
+    ensures wide { IsErrOf result Wide → plan_clashes (measures (with_alone (R.catalogue others.now) changed.now heading.now added.now)) (plan_form plan.now) ≡ true }
+{
+    // asked for what it ensures: only relations are given, each with a name of its own
+    let _ = others.tuples(changed);
+    let mut tuples = Vec::with_capacity(alloc, 1)?;
+    tuples.push(added.copy()?)?;
+    let relations = Alone {
+        name: changed,
+        heading,
+        tuples: &tuples,
+        others,
+    };
+    let more = engine.evaluate(alloc, plan, &relations)?;
+    Ok(extended(kept, more)?)
+}
+
+/// The tuples of the one list, and behind them those of the other.
+///
+/// # Errors
+/// Want of memory.
+fn extended(kept: Tuples, more: Tuples) -> Result<Tuples, NoMemory>
+    ensures { IfOk result (λ ts. ts ≡ kept ++ more) }
+{
+    let mut list = kept.list;
+    for tuple in more.list {
+        list.push(tuple)?;
+    }
+    Ok(Tuples { list })
+}

@@ -1,0 +1,20 @@
+//! Kept views: an answer that is held as a list of tuples, and extended when a tuple is inserted.
+//!
+//! Where a plan scans the changed relation exactly once, under no complement and not in what a difference takes away
+//! ([`is_additive`]), a kept answer only has to be extended by what the plan gives for the new tuple alone ([`add_tuple`]). So an
+//! insert costs nothing of the size of the changed relation. Every other change computes the answer anew ([`refresh`]). `laws` says
+//! why this is right: an additive plan holds, where the name gains tuples, exactly where it did or where it does for these alone.
+//!
+//! It stands on `ded_algebra` for what evaluates plans, and on `ded_views` for plans over catalogues that agree. What evaluates is
+//! passed by the caller.
+#![tactic(auto)]
+
+mod additive;
+mod alone;
+mod keeping;
+pub mod laws;
+#[cfg(test)]
+mod tests;
+
+pub use additive::is_additive;
+pub use keeping::{add_tuple, refresh};

@@ -1,0 +1,4 @@
+pub mod Closing
+pub mod ReachedNames
+pub mod UsedNames
+pub mod Marked

@@ -1,0 +1,3 @@
+pub mod Changing
+pub mod Forms
+pub mod State
