@@ -9,7 +9,7 @@ use Rattle.ded_model.specs.declared.formula.Formula.{Formula}
 use Rattle.ded_model.specs.declared.goal.Goal.{Goal}
 use Rattle.ded_model.specs.declared.name.Column.{Column}
 use Rattle.ded_model.specs.Catalogue.{Catalogue}
-use Rattle.ded_model.specs.Command.{CommandForm, relation, insert, delete, drop, view, keep, show, box_of}
+use Rattle.ded_model.specs.Command.{CommandForm, relation, insert, delete, drop, view, show, box_of}
 use Rattle.ded_model.specs.Form.{Form, FormAtom, form}
 use Rattle.ded_model.specs.Goal.{goal_form}
 use Rattle.ded_model.specs.Known.{Known, IsAccepted, IsTupleOver, level_of, is_many, has_twice, uses_unknown, has_other_arity, has_unbound, has_missorted}
@@ -22,7 +22,6 @@ use Rattle.ded_sorts.specs.declared.checked.Checked.TheVariants as checked
 use Rattle.ded_sorts.specs.Causes.{is_relation_with, is_view_with}
 use Rattle.ded_sorts.specs.Checks.{IsResolved, HasNoCause, forms_of}
 use Rattle.ded_model.specs.Entries.{known, tuples_in, columns_in, entry_uses}
-use Rattle.ded_syntax.specs.Answered.{is_answered}
 use Rattle.ded_session.specs.Carrying.{IsReady, Carries}
 use Rattle.ded_session.specs.Replies.{ReplyForm}
 
@@ -192,10 +191,3 @@ module _ (c : Catalogue) where
   written_insert d reply k n t e does x r =
       let i = insert_is x n t (subst (IsResolved c x) e r) in
       subst (λ (y : CommandForm). Carries y c reply d) (sym i.is) (does i.comparisons i.tuple)
-
-  no_keep : (x : CommandForm) (n : List ℕ) → is_answered x ≡ true → IsResolved c x (checked.Keep n) → ⊥
-  no_keep (keep m) n s r = true≢false (sym s)
-  no_keep _ n s r = r
-
-  pub ready_keep : (k : Checked) → IsReady c k → (n : List ℕ) → k ≡ checked.Keep n → ⊥
-  ready_keep k ready n e = let r = subst (IsReady c) e ready in no_keep r.written n r.answered r.resolved

@@ -1,8 +1,10 @@
 mod Accepted
+mod AcceptedRuns
 mod Asking
 mod Bounding
 mod Carried
 mod Calls
+mod Languages
 pub mod Pairs
 pub mod PlainNames
 pub mod PlainSpelling

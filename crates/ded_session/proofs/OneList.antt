@@ -8,7 +8,6 @@ use Rattle.ded_model.specs.Catalogue.{Catalogue}
 use Rattle.ded_model.specs.Command.{CommandForm, show}
 use Rattle.ded_model.specs.Row.{Atom}
 use Rattle.ded_model.specs.Entries.{columns_in, tuples_in}
-use Rattle.ded_syntax.specs.Answered.{is_answered}
 use Rattle.ded_syntax.proofs.One.{one_command}
 use Rattle.ded_session.specs.Replies.{stored}
 use Rattle.ded_session.specs.Steps.{Does, Step}
@@ -31,6 +30,6 @@ pub one_list : (l : Language) (c d e : Catalogue) (s : Statement) (h k : List Co
 one_list l c d e (Whole bytes) h k ts us p q =
     let a = shows p.command c d h ts p.so in
     let b = shows q.command c e k us q.so in
-    let same : a.shown ≡ b.shown = same_name a.shown b.shown (sym a.is ∙ (one_command is_answered l bytes p.command q.command p.depth q.depth p.spells q.spells).0 ∙ b.is) in
+    let same : a.shown ≡ b.shown = same_name a.shown b.shown (sym a.is ∙ (one_command l bytes p.command q.command p.depth q.depth p.spells q.spells).0 ∙ b.is) in
     (a.heading ∙ ap (columns_in c) same ∙ sym b.heading, a.list ∙ ap (tuples_in c) same ∙ sym b.list)
 one_list l c d e (pieces.Unfinished rest) h k ts us p q = absurd p

@@ -29,7 +29,6 @@ use Rattle.ded_model.specs.Row.{Atom, tuples_hold}
 use Rattle.ded_model.specs.Width.{rational_columns}
 use Rattle.ded_model.proofs.Members.{or_split}
 use Rattle.ded_planner.specs.Plans.{IsScanOf}
-use Rattle.ded_syntax.specs.Answered.{is_answered}
 use Rattle.ded_syntax.proofs.One.{one_command}
 use Rattle.ded_session.specs.Pairs.{FitsHeading, IsSlotKey, IsPlainScan, IsPlainPlan, ArePlainPlans, SpeaksPlainly, AreOfOneBox, AreOfOne}
 use Rattle.ded_session.specs.PlainNames.{IsPlainName, ArePlainColumns, HasPlainNames, IsPlainUse, UsesPlainNames, NamesPlainly}
@@ -183,7 +182,7 @@ module _ (c d : Catalogue) (h : HasPlainNames c) where
   speaks_plainly x (refused r) p k = tt
 
   accepted_plainly : (l : Language) (s : Statement) (reply : ReplyForm) → Accepts l s c (λ x. Does x c reply d) → SpeaksPlainly reply
-  accepted_plainly l (Whole bytes) reply a = speaks_plainly a.command reply (spelled_names is_answered l bytes a.command a.depth a.spells) a.so
+  accepted_plainly l (Whole bytes) reply a = speaks_plainly a.command reply (spelled_names l bytes a.command a.depth a.spells) a.so
   accepted_plainly l (pieces.Unfinished rest) reply a = absurd a
 
 -- a reply is a refusal, or one to an accepted command
@@ -261,7 +260,7 @@ module _ (c d e : Catalogue) where
 
   both_accepted : (l : Language) (s : Statement) (reply other : ReplyForm) → Accepts l s c (λ x. Does x c reply d) → Accepts l s c (λ x. Does x c other e) → AreOfOne reply other
   both_accepted l (Whole bytes) reply other a b =
-      let same = (one_command is_answered l bytes b.command a.command b.depth a.depth b.spells a.spells).0 in
+      let same = (one_command l bytes b.command a.command b.depth a.depth b.spells a.spells).0 in
       of_one_command a.command reply other a.so (subst (λ x. Does x c other e) same b.so)
   both_accepted l (pieces.Unfinished rest) reply other a b = absurd a
 

@@ -13,7 +13,6 @@ use Rattle.ded_model.specs.Command.{CommandForm, relation, insert, delete, drop,
 use Rattle.ded_model.specs.Entries.{columns_in}
 use Rattle.ded_model.specs.Known.{KnownNames, Known, columns_with, entry_known, with_known, known_from, known_of}
 use Rattle.ded_sorts.specs.Changes.{AddsEntry, ChangesEntry, DropsEntry}
-use Rattle.ded_syntax.specs.Answered.{is_answered}
 use Rattle.ded_session.specs.PlainNames.{ArePlainColumns, HasPlainEntry, HasPlainNames, NamesPlainly}
 use Rattle.ded_session.specs.Replies.{ReplyForm, done, number, truth, tuples, stored, boxes, steps, refused}
 use Rattle.ded_session.specs.Runs.{Steps, Run, empty_catalogue, next_language}
@@ -105,7 +104,7 @@ module _ (c d : Catalogue) (h : HasPlainNames c) where
       go _ k = absurd k
 
   accepted : (l : Language) (s : Statement) (reply : ReplyForm) → Accepts l s c (λ x. Does x c reply d) → HasPlainNames d
-  accepted l (Whole bytes) reply a = unchanged a.command reply (spelled_names is_answered l bytes a.command a.depth a.spells) a.so
+  accepted l (Whole bytes) reply a = unchanged a.command reply (spelled_names l bytes a.command a.depth a.spells) a.so
   accepted l (pieces.Unfinished rest) reply a = absurd a
 
 pub plain_step : (l : Language) (c d : Catalogue) (s : Statement) (reply : ReplyForm) → HasPlainNames c → Step l c s reply d → HasPlainNames d

@@ -22,7 +22,7 @@ use Rattle.ded_syntax.specs.Symbols.{Symbol, Word, Name, Plus, Minus, Times, Ope
 use Rattle.ded_syntax.specs.Operands.{Reader}
 use Rattle.ded_syntax.specs.Atoms.{spell_rest, Atom, truth, relates, belongs, spell_atom, atom_form, spell_column, sort_symbols, IsPiece, ArePieces, SpellsFormula}
 use Rattle.ded_syntax.specs.Commands.{Columns, spell_heading, heading, Plain, defines, inserts_none, inserts, deletes, drops, keeps, shows, boxes, spell_plain, plain_form, Prefix, views, asks, queries, explains, spell_prefix, prefix_form, SpellsCommand}
-use Rattle.ded_syntax.specs.Spelling.{SpellsBy}
+use Rattle.ded_syntax.specs.Spelling.{Spells}
 use Rattle.ded_session.specs.PlainNames.{IsPlainName, ArePlainColumns, IsPlainUse, UsesPlainNames, NamesPlainly}
 
 abbrev IsPlainSymbol : Symbol → Type 0
@@ -190,7 +190,7 @@ command_names value ts c depth q (inr s) =
     (before_plain s.before s.formula (front (spell_prefix s.before) s.rest both) (formula_uses value s.rest s.formula depth (back (spell_prefix s.before) s.rest both) s.spells))
 
 -- a command that bytes spell
-pub spelled_names : (test : CommandForm → Bool) (language : Language) (bytes : List ℕ) (c : CommandForm) (depth : ℕ) → SpellsBy test language bytes c depth → NamesPlainly c
-spelled_names test language bytes c depth s =
+pub spelled_names : (language : Language) (bytes : List ℕ) (c : CommandForm) (depth : ℕ) → Spells language bytes c depth → NamesPlainly c
+spelled_names language bytes c depth s =
     command_names number_of (map symbol s.lexemes) c depth
     (subst (λ (ls : List Lexeme). ArePlainSymbols (map symbol ls)) s.are.lexemes_are (symbols_plain s.are.cells s.are.each)) s.command

@@ -10,7 +10,6 @@ use Rattle.ded_model.specs.LongRows.{has_long_row}
 use Rattle.ded_model.specs.Plain.{IsPlainCommand}
 use Rattle.ded_model.specs.Refusals.{refusal_number}
 use Rattle.ded_sorts.specs.Causes.{has_cause}
-use Rattle.ded_syntax.specs.Answered.{is_answered}
 use Rattle.ded_syntax.specs.Spelling.{Spells, AppliesIn, IsRead, IsLeastIn}
 use Rattle.ded_syntax.proofs.One.{one_command}
 use Rattle.ded_syntax.proofs.PlainSums.{spelled_plain}
@@ -22,9 +21,6 @@ use Rattle.ded_session.specs.Steps.{Step, MayRefuse}
 -- ---- a command that is read
 
 module _ (l : Language) (bytes : List ℕ) (x : CommandForm) (h : IsRead l bytes x) where
-  pub read_answered : is_answered x ≡ true
-  read_answered = h.spells.passes
-
   -- it has no long row, since it would be refused for it
   pub read_short : has_long_row x ≡ false
   read_short = by (has_long_row x) refl
@@ -34,7 +30,7 @@ module _ (l : Language) (bytes : List ℕ) (x : CommandForm) (h : IsRead l bytes
       by true e = absurd (h.accepted LongNumber (inr (record { command = x; depth = h.depth; spells = h.spells; long = e })))
 
   pub read_plain : IsPlainCommand x
-  read_plain = spelled_plain is_answered l bytes x h.depth h.spells
+  read_plain = spelled_plain l bytes x h.depth h.spells
 
 -- ---- a statement
 
@@ -59,7 +55,7 @@ module _ (l : Language) (bytes : List ℕ) (c : Catalogue) (short : length bytes
   -- the causes of a statement whose bytes spell a command: those of the bytes, and those of this command
   module _ (x : CommandForm) (depth : ℕ) (spells : Spells l bytes x depth) where
     of_command : (q : Refusal) → Commands l bytes q c → has_cause q c x ≡ true
-    of_command q h = ap (has_cause q c) (one_command is_answered l bytes x h.command depth h.depth spells h.spells).0 ∙ h.cause
+    of_command q h = ap (has_cause q c) (one_command l bytes x h.command depth h.depth spells h.spells).0 ∙ h.cause
 
     causes : (q : Refusal) → Applies q l (Whole bytes) c → (AppliesIn q l bytes) ⊎ (has_cause q c x ≡ true)
     causes LongStatement h = absurd (omega arith)

@@ -10,16 +10,14 @@ use Rattle.ded_sorts.specs.declared.checked.Checked.{Checked}
 use Rattle.ded_sorts.specs.Causes.{has_cause, insert_refusal}
 use Rattle.ded_sorts.specs.Checks.{HasNoCause, IsResolved}
 use Rattle.ded_resolve.specs.Storing.{IsStorable}
-use Rattle.ded_syntax.specs.Answered.{is_answered}
 use Rattle.ded_session.specs.Replies.{ReplyForm, refused}
 use Rattle.ded_session.specs.Steps.{Does, MayBeWide}
 
 -- ---- of a command that the names accept
 
--- some command that the program answers is this one by slots, and is accepted
+-- some command is this one by slots, and is accepted
 pub record IsReady (c : Catalogue) (k : Checked) : Type 0 where
   pub written : CommandForm
-  pub answered : is_answered written ≡ true
   pub resolved : IsResolved c written k
   pub accepted : HasNoCause c written
   pub storable : IsStorable c k

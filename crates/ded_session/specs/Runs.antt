@@ -1,10 +1,11 @@
 -- Which replies a script may get, and the catalogue that it leaves.
-use Rattle.std.specs.Prelude.{◌≡◌, ℕ, List, [], ◌∷◌}
+use Rattle.std.specs.Prelude.{◌≡◌, ℕ, List, [], ◌∷◌, ◌++◌, if◌then◌else◌}
 use Rattle.ded_lex.specs.Pieces.{Statement, AreStatements}
 use Rattle.ded_model.specs.declared.command.Language.{Language}
 use Rattle.ded_model.specs.declared.command.Language.TheVariants.{Opening, One, Two}
 use Rattle.ded_model.specs.Catalogue.{Catalogue}
-use Rattle.ded_session.specs.Replies.{ReplyForm}
+use Rattle.ded_session.specs.Causes.{statement_bytes}
+use Rattle.ded_session.specs.Replies.{ReplyForm, is_refusal}
 use Rattle.ded_session.specs.Steps.{Step}
 
 -- the language after a statement: the first one alone is read in the opening language
@@ -29,3 +30,24 @@ pub record Run (limit : ℕ) (script : List ℕ) (replies : List ReplyForm) (las
   pub statements : List Statement
   pub cut : AreStatements script statements
   pub steps : Steps Opening (empty_catalogue limit) statements replies last
+
+-- ---- without refusals
+
+-- x before the list, unless the reply is a refusal
+abbrev pub unless_refused : {A : Type 0} → ReplyForm → A → List A → List A
+unless_refused reply x xs = if is_refusal reply then xs else x ∷ xs
+
+-- the statements whose replies aren't refusals, in order
+abbrev pub accepted : List Statement → List ReplyForm → List Statement
+accepted (s ∷ ss) (reply ∷ replies) = unless_refused reply s (accepted ss replies)
+accepted _ _ = []
+
+-- the replies that aren't refusals, in order
+abbrev pub accepted_replies : List ReplyForm → List ReplyForm
+accepted_replies [] = []
+accepted_replies (reply ∷ replies) = unless_refused reply reply (accepted_replies replies)
+
+-- the statements, each followed by ;
+abbrev pub script_of : List Statement → List ℕ
+script_of [] = []
+script_of (s ∷ ss) = statement_bytes s ++ 59 ∷ script_of ss

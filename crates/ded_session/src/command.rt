@@ -1,11 +1,10 @@
 //! The answer to a command.
-ghost use Rattle.std.specs.Prelude.{◌≡◌, true, false};
+ghost use Rattle.std.specs.Prelude.{◌≡◌, false};
 ghost use Rattle.ded_model.specs.Command.{CommandForm, command_form};
 ghost use Rattle.ded_model.specs.LongRows.{has_long_row};
 ghost use Rattle.ded_model.specs.Plain.{IsPlainCommand};
 ghost use Rattle.ded_catalog.specs.State.{catalogue_of};
 ghost use Rattle.ded_sorts.specs.Checks.{HasNoCause, IsResolved};
-ghost use Rattle.ded_syntax.specs.Answered.{is_answered};
 ghost use Rattle.ded_session.specs.Answered.{reply_form};
 ghost use Rattle.ded_session.specs.Carrying.{Answers, Carries, IsReady};
 
@@ -23,7 +22,6 @@ use std::alloc::Global;
 
 /// Answers a command, and changes the catalogue as it says. A refused command changes nothing.
 pub(crate) fn answer(alloc: Global, command: Command, catalogue: &mut Catalogue) -> Reply
-    requires answered { is_answered (command_form command) ≡ true }
     requires plain { IsPlainCommand (command_form command) }
     requires short { has_long_row (command_form command) ≡ false }
     ensures { Answers (command_form command) (catalogue_of catalogue.old) (reply_form result) (catalogue_of catalogue.new) }
@@ -53,6 +51,6 @@ fn carry_out(alloc: Global, command: Checked, catalogue: &mut Catalogue) -> Repl
         Checked::Show(name) => show(alloc, catalogue, &name),
         Checked::BoxOf(name) => reply_of(bounds(alloc, catalogue, &name)),
         Checked::Explain(_, goal) => reply_of(steps(alloc, &goal)),
-        Checked::Keep(_) => unreachable!(),
+        Checked::Keep(_) => Reply::Done,
     }
 }

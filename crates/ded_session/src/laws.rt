@@ -1,5 +1,5 @@
 //! Laws of the rules. Each is the contract of a function that does nothing.
-ghost use Rattle.std.specs.Prelude.{◌≡◌, Bool, List, ℕ};
+ghost use Rattle.std.specs.Prelude.{◌≡◌, List, ℕ};
 ghost use Rattle.ded_lex.specs.Pieces.{Statement};
 ghost use Rattle.ded_model.specs.declared.command.Language.{Language};
 ghost use Rattle.ded_model.specs.declared.name.Column.{Column};
@@ -8,11 +8,11 @@ ghost use Rattle.ded_model.specs.Catalogue.{Catalogue};
 ghost use Rattle.ded_model.specs.Command.{CommandForm};
 ghost use Rattle.ded_model.specs.Known.{IsWellFormed};
 ghost use Rattle.ded_model.specs.Row.{Atom};
-ghost use Rattle.ded_syntax.specs.Spelling.{SpellsBy};
+ghost use Rattle.ded_syntax.specs.Spelling.{Spells};
 ghost use Rattle.ded_session.specs.Pairs.{AreOfOne, SpeaksPlainly};
 ghost use Rattle.ded_session.specs.PlainNames.{HasPlainNames, NamesPlainly};
 ghost use Rattle.ded_session.specs.Replies.{ReplyForm, refused, stored};
-ghost use Rattle.ded_session.specs.Runs.{Run, Steps};
+ghost use Rattle.ded_session.specs.Runs.{Run, Steps, accepted, accepted_replies, script_of};
 ghost use Rattle.ded_session.specs.Steps.{Accepts, Step};
 ghost use Rattle.ded_session.specs.Widths.{IsNotNarrow};
 
@@ -24,8 +24,8 @@ pub fn one_list()
 
 /// Each name that a command has is a word of the grammar.
 pub fn spelled_names()
-    ensures { (test : CommandForm → Bool) (language : Language) (bytes : List ℕ) (command : CommandForm) (depth : ℕ) →
-        SpellsBy test language bytes command depth → NamesPlainly command }
+    ensures { (language : Language) (bytes : List ℕ) (command : CommandForm) (depth : ℕ) →
+        Spells language bytes command depth → NamesPlainly command }
 {}
 
 /// So each catalogue that a step leads to from one whose names are such words has such names too, and each that a run leads to.
@@ -51,4 +51,12 @@ pub fn two_replies()
 pub fn wide_questions()
     ensures { (language : Language) (c d : Catalogue) (s : Statement) → IsWellFormed c → Step language c s (refused Wide) d
         → Accepts language s c (λ command. IsNotNarrow command c) }
+{}
+
+/// The statements of a run that are not refused, with their replies, are a run with the same last catalogue.
+pub fn accepted_statements()
+    ensures steps { (language : Language) (c d : Catalogue) (ss : List Statement) (replies : List ReplyForm) →
+        Steps language c ss replies d → Steps language c (accepted ss replies) (accepted_replies replies) d }
+    ensures run { (limit : ℕ) (script : List ℕ) (replies : List ReplyForm) (last : Catalogue) → (run : Run limit script replies last) →
+        Run limit (script_of (accepted run.statements replies)) (accepted_replies replies) last }
 {}

@@ -13,6 +13,7 @@ ghost use Rattle.ded_session.specs.Steps.{Does, MayBeWide};
 
 use crate::reply::Reply;
 use ded_catalog::Catalogue;
+use ded_eval::Given;
 use ded_goals::laws::normal_goals;
 use ded_model::answer::Answer;
 use ded_model::goal::Goal;
@@ -20,6 +21,7 @@ use ded_model::memory::Refused;
 use ded_model::name::Heading;
 use ded_planner::plan;
 use ded_query::{answer, is_true};
+use ded_snapshot::Snapshot;
 use std::alloc::Global;
 
 /// Whether a closed formula is true, given as its goal.
@@ -33,7 +35,9 @@ pub(crate) fn truth(alloc: Global, catalogue: &Catalogue, goal: &Goal) -> Result
     ensures wide { (f : Form) → IsQuestion (catalogue_of catalogue.now) [] (goal_form goal.now) f
         → IsErrOf result Wide → MayBeWide (ask f) (catalogue_of catalogue.now) }
 {
-    Ok(Reply::Truth(is_true(alloc, catalogue, goal)?))
+    let snapshot = Snapshot::present(catalogue);
+    let truth = is_true(alloc, &snapshot, goal, &mut Given::new(alloc))?;
+    Ok(Reply::Truth(truth))
 }
 
 /// The tuples over the heading that hold where a formula does, given as its goal.
@@ -52,7 +56,8 @@ pub(crate) fn tuples(
     ensures wide { (f : Form) → IsQuestion (catalogue_of catalogue.now) heading (goal_form goal.now) f
         → IsErrOf result Wide → MayBeWide (query heading f) (catalogue_of catalogue.now) }
 {
-    let tuples = answer(alloc, catalogue, &heading, goal)?;
+    let snapshot = Snapshot::present(catalogue);
+    let tuples = answer(alloc, &snapshot, &heading, goal, &mut Given::new(alloc))?;
     Ok(Reply::Tuples(Answer { heading, tuples }))
 }
 

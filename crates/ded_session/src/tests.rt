@@ -160,7 +160,23 @@ fn plans_are_shown(rt: HostRuntime) -> Result<(), Fail> {
             ("relation P(x)", Kind::Done),
             ("explain (x) : P(x) and x < 3", Kind::Steps),
             ("explain (x) : N(x)", Kind::Refused(Refusal::Unknown)),
-            ("keep P", Kind::Refused(Refusal::Syntax)),
+        ],
+    );
+    Ok(())
+}
+
+#[test]
+fn views_are_kept(rt: HostRuntime) -> Result<(), Fail> {
+    let mut session = Session::new(rt.alloc(), 2)?;
+    check(
+        &rt,
+        &mut session,
+        &[
+            ("relation P(x)", Kind::Done),
+            ("view V(x) := P(x) and x < 3", Kind::Done),
+            ("keep V", Kind::Done),
+            ("keep P", Kind::Refused(Refusal::Kind)),
+            ("keep N", Kind::Refused(Refusal::Unknown)),
         ],
     );
     Ok(())

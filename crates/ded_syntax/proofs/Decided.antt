@@ -1,5 +1,5 @@
 -- Whether bytes spell a command is decided.
-use Rattle.std.proofs.Common.{◌≡◌, ◌⊎◌, ℕ, zero, suc, ◌+◌, ◌≤◌, ◌<◌, Bool, true, false, List, [], ◌∷◌, length, drop, refl, inl, inr, ⊎_elim, arith}
+use Rattle.std.proofs.Common.{◌≡◌, ◌⊎◌, ℕ, zero, suc, ◌+◌, ◌≤◌, ◌<◌, Bool, true, false, List, [], ◌∷◌, length, drop, refl, inl, inr, sym, ap, ◌∙◌, true≢false, ⊎_elim, arith}
 use Rattle.std.specs.Prelude.{map, Option, Some, None}
 use Rattle.std.proofs.lemmas.List.{length-drop}
 use Rattle.ded_lex.specs.declared.front.Front.{Front}
@@ -15,11 +15,15 @@ use Rattle.ded_model.specs.declared.command.Refusal.TheVariants.{Syntax}
 use Rattle.ded_model.specs.Command.{CommandForm}
 use Rattle.ded_syntax.specs.Symbols.{Symbol, symbol}
 use Rattle.ded_syntax.specs.CommandReading.{Draft, draft_at, scans}
-use Rattle.ded_syntax.specs.Drafts.{test_of, passes_draft}
+use Rattle.ded_syntax.specs.Drafts.{HasDraft}
 use Rattle.ded_syntax.specs.Items.{capped_of, AreSymbols}
-use Rattle.ded_syntax.specs.Spelling.{SpellsBy, AppliesBy, IsReadBy}
+use Rattle.ded_syntax.specs.Operands.{Reader}
+use Rattle.ded_syntax.specs.Spelling.{Spells, AppliesIn, IsRead}
 use Rattle.ded_syntax.proofs.Seen.{no_lexemes}
-use Rattle.ded_syntax.proofs.Refused.{no_token, not_drafted, not_scanned, not_passed, some_spelled}
+use Rattle.ded_syntax.proofs.Binds.{some_same}
+use Rattle.ded_syntax.proofs.Refused.{no_token, not_drafted, some_spelled}
+
+-- ---- tokens
 
 -- there are tokens, or none
 abbrev HasTokens : ℕ → List ℕ → Type 0
@@ -40,24 +44,34 @@ has_tokens k at [] le = inl ([], none_left at [] refl)
 has_tokens zero at (b ∷ bs) le = absurd (omega (arith, le))
 has_tokens (suc k) at (b ∷ bs) le = tokens_by at b bs (λ at2 cs less. has_tokens k at2 cs (omega (arith, le, less))) _ refl
 
-module _ (all : Bool) (language : Language) (bytes : List ℕ) where
+-- ---- drafts
+
+some_none : {A : Type 0} (x : A) (o : Option A) → o ≡ Some x → o ≡ None → ⊥
+some_none x None e f = cc
+some_none x (Some y) e f = cc
+
+no_draft : (value : Reader) (ts : List Symbol) → draft_at value ts ≡ None → HasDraft value ts → ⊥
+no_draft value ts e (d, read, scanned) = some_none d (draft_at value ts) read e
+
+no_formula : (value : Reader) (ts : List Symbol) (d : Draft) → draft_at value ts ≡ Some d → scans d ≡ false → HasDraft value ts → ⊥
+no_formula value ts d e f (other, read, scanned) = true≢false (sym scanned ∙ ap scans (some_same other d (sym read ∙ e)) ∙ f)
+
+-- ---- commands
+
+module _ (language : Language) (bytes : List ℕ) where
   abbrev pub SomeCommand : Type 0
-  SomeCommand = (c : CommandForm) × (depth : ℕ) × SpellsBy (test_of all) language bytes c depth
+  SomeCommand = (c : CommandForm) × (depth : ℕ) × Spells language bytes c depth
 
   abbrev pub NoCommand : Type 0
-  NoCommand = AppliesBy (test_of all) Syntax language bytes
+  NoCommand = AppliesIn Syntax language bytes
 
   module _ (ts : List Symbol) (are : AreSymbols bytes ts) where
-    by_passing : (d : Draft) → draft_at capped_of ts ≡ Some d → scans d ≡ true → (b : Bool) → passes_draft all d ≡ b → SomeCommand ⊎ NoCommand
-    by_passing d e s true p = inl (some_spelled all language bytes ts are d e s p)
-    by_passing d e s false p = inr (not_passed all language bytes ts are d e p).applies
-
     by_scanning : (d : Draft) → draft_at capped_of ts ≡ Some d → (b : Bool) → scans d ≡ b → SomeCommand ⊎ NoCommand
-    by_scanning d e true s = by_passing d e s (passes_draft all d) refl
-    by_scanning d e false s = inr (not_scanned all language bytes ts are d e s).applies
+    by_scanning d e true s = inl (some_spelled language bytes ts are d e s)
+    by_scanning d e false s = inr (not_drafted language bytes ts are (no_formula capped_of ts d e s)).applies
 
     by_drafts : (o : Option Draft) → draft_at capped_of ts ≡ o → SomeCommand ⊎ NoCommand
-    by_drafts None e = inr (not_drafted all language bytes ts are e).applies
+    by_drafts None e = inr (not_drafted language bytes ts are (no_draft capped_of ts e)).applies
     by_drafts (Some d) e = by_scanning d e (scans d) refl
 
   by_tokens : HasTokens 0 bytes → SomeCommand ⊎ NoCommand
@@ -65,7 +79,7 @@ module _ (all : Bool) (language : Language) (bytes : List ℕ) where
       let are : AreTokens bytes t.0 = record { cells = t.1.cells; is = t.1.is; each = t.1.each; tokens_are = t.1.tokens_are } in
       by_drafts (map symbol (map (lexeme bytes) t.0)) (record { lexemes = map (lexeme bytes) t.0; are = tokens_say bytes t.0 are; seen = refl }) _ refl
   by_tokens (inr none) =
-      inr (no_token all language bytes (no_lexemes bytes (λ tokens are. none tokens (record { cells = are.cells; is = are.is; each = are.each; tokens_are = are.tokens_are })))).applies
+      inr (no_token language bytes (no_lexemes bytes (λ tokens are. none tokens (record { cells = are.cells; is = are.is; each = are.each; tokens_are = are.tokens_are })))).applies
 
   -- a command is spelled, or none
   pub spelling_decided : SomeCommand ⊎ NoCommand
@@ -75,7 +89,7 @@ module _ (all : Bool) (language : Language) (bytes : List ℕ) where
   some_command applies = ⊎_elim (λ (s : SomeCommand). s) (λ (a : NoCommand). absurd (applies a)) spelling_decided
 
   -- where no refusal applies, a command is read
-  pub some_read : ((refusal : Refusal) → AppliesBy (test_of all) refusal language bytes → ⊥) → (c : CommandForm) × IsReadBy (test_of all) language bytes c
+  pub some_read : ((refusal : Refusal) → AppliesIn refusal language bytes → ⊥) → (c : CommandForm) × IsRead language bytes c
   some_read none =
       let s = some_command (none Syntax) in
       (s.0, record { depth = s.1; spells = s.2; accepted = none })

@@ -1,5 +1,5 @@
 -- Drafts: the commands for which they stand, and drafts of the same symbols whose numbers are read otherwise.
-use Rattle.std.proofs.Common.{◌≡◌, ℕ, Bool, true, false, List, refl, sym, ap, ◌∙◌}
+use Rattle.std.proofs.Common.{◌≡◌, ℕ, Bool, true, List, refl, sym, ap, ◌∙◌}
 use Rattle.std.specs.Prelude.{Some}
 use Rattle.std.specs.List.{list_any}
 use Rattle.ded_model.specs.Command.{CommandForm}
@@ -11,11 +11,10 @@ use Rattle.ded_grammar.proofs.Told.{one_spelled}
 use Rattle.ded_grammar.proofs.Leaves.{spelled_atoms}
 use Rattle.ded_syntax.specs.Symbols.{Symbol}
 use Rattle.ded_syntax.specs.Operands.{Reader}
-use Rattle.ded_syntax.specs.Commands.{Plain, defines, inserts_none, inserts, deletes, drops, keeps, shows, boxes, plain_form}
+use Rattle.ded_syntax.specs.Commands.{plain_form}
 use Rattle.ded_model.specs.LongRows.{is_long_atom, has_long_row}
-use Rattle.ded_syntax.specs.Answered.{is_answered}
 use Rattle.ded_syntax.specs.CommandReading.{Head, view_head, ask_head, query_head, explain_head, head_form, Draft, plain, formed, draft_at, scans}
-use Rattle.ded_syntax.specs.Drafts.{answers_draft, test_of, passes_draft, long_draft}
+use Rattle.ded_syntax.specs.Drafts.{HasDraft, long_draft}
 use Rattle.ded_syntax.specs.Meaning.{Means}
 use Rattle.ded_syntax.proofs.PiecesRead.{pieces_read, spelled_scans}
 use Rattle.ded_syntax.proofs.CommandsRead.{plain_read, prefix_read, head_of}
@@ -53,51 +52,17 @@ pub draft_rows : (d : Draft) (c : CommandForm) (depth : ℕ) → Means d c depth
 draft_rows (plain k) c depth (e, flat) = ap has_long_row (sym e)
 draft_rows (formed h ps) c depth (f, sp, e) = head_rows h f (list_any (piece_atom is_long_atom) ps) (spelled_atoms is_long_atom ps f depth sp) ∙ ap has_long_row (sym e)
 
-draft_answers : (d : Draft) (c : CommandForm) (depth : ℕ) → Means d c depth → answers_draft d ≡ is_answered c
-draft_answers (plain k) c depth (e, flat) = ap is_answered (sym e)
-draft_answers (formed h ps) c depth (f, sp, e) = head_answers h f ∙ ap is_answered (sym e)
-  where
-    head_answers : (h : Head) (f : Form) → true ≡ is_answered (head_form h f)
-    head_answers (view_head n h) f = refl
-    head_answers ask_head f = refl
-    head_answers (query_head h) f = refl
-    head_answers (explain_head h) f = refl
-
-pub draft_passes : (all : Bool) (d : Draft) (c : CommandForm) (depth : ℕ) → Means d c depth → passes_draft all d ≡ test_of all c
-draft_passes true d c depth m = refl
-draft_passes false d c depth m = draft_answers d c depth m
-
 -- ---- other numbers
 
-plain_answers : (value other : Reader) (p : Plain) → is_answered (plain_form value p) ≡ is_answered (plain_form other p)
-plain_answers value other (defines n h) = refl
-plain_answers value other (inserts_none n) = refl
-plain_answers value other (inserts n c cs) = refl
-plain_answers value other (deletes n d) = refl
-plain_answers value other (drops n) = refl
-plain_answers value other (keeps n) = refl
-plain_answers value other (shows n) = refl
-plain_answers value other (boxes n) = refl
-
--- a draft of the same symbols, which scans and is answered alike
-abbrev pub OtherDraft : Reader → List Symbol → Draft → Type 0
-OtherDraft other ts d = (e : Draft) × (draft_at other ts ≡ Some e) × (scans e ≡ true) × (answers_draft e ≡ answers_draft d)
-
-other_of : (value other : Reader) (ts : List Symbol) (d : Draft) → IsDraft value ts d → scans d ≡ true → OtherDraft other ts d
-other_of value other ts (plain c) (p, e, m) s =
-    (plain (plain_form other p), ap (draft_at other) e ∙ plain_read other p, refl, plain_answers other value p ∙ ap is_answered (sym m))
+other_of : (value other : Reader) (ts : List Symbol) (d : Draft) → IsDraft value ts d → scans d ≡ true → HasDraft other ts
+other_of value other ts (plain c) (p, e, m) s = (plain (plain_form other p), ap (draft_at other) e ∙ plain_read other p, refl)
 other_of value other ts (formed h ps) (p, rest, e, are, same) s =
     let q = reshapes value other ps rest are in
     let scanned = q.2 Start 0 ∙ s in (
       formed (head_of p) q.0,
       ap (draft_at other) e ∙ prefix_read other p rest q.0 (pieces_read other rest q.0 scanned q.1),
       scanned,
-      refl,
     )
 
-pub other_draft : (value other : Reader) (ts : List Symbol) (d : Draft) → draft_at value ts ≡ Some d → scans d ≡ true → OtherDraft other ts d
+pub other_draft : (value other : Reader) (ts : List Symbol) (d : Draft) → draft_at value ts ≡ Some d → scans d ≡ true → HasDraft other ts
 other_draft value other ts d e s = other_of value other ts d (draft_sound value ts d e) s
-
-pub passes_other : (all : Bool) (d e : Draft) → answers_draft e ≡ answers_draft d → passes_draft all e ≡ passes_draft all d
-passes_other true d e h = refl
-passes_other false d e h = h

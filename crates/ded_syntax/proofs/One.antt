@@ -1,5 +1,5 @@
 -- Bytes spell one command at most.
-use Rattle.std.proofs.Common.{◌≡◌, ℕ, Bool, List, map, sym, subst, ◌∙◌}
+use Rattle.std.proofs.Common.{◌≡◌, ℕ, List, map, sym, subst, ◌∙◌}
 use Rattle.ded_model.specs.declared.command.Language.{Language}
 use Rattle.ded_model.specs.Command.{CommandForm}
 use Rattle.ded_lex.specs.Lexemes.{Lexeme}
@@ -8,7 +8,7 @@ use Rattle.ded_syntax.specs.Operands.{Reader}
 use Rattle.ded_syntax.specs.Commands.{SpellsCommand}
 use Rattle.ded_syntax.specs.CommandReading.{Draft}
 use Rattle.ded_syntax.specs.Meaning.{Means}
-use Rattle.ded_syntax.specs.Spelling.{SpellsBy}
+use Rattle.ded_syntax.specs.Spelling.{Spells}
 use Rattle.ded_syntax.proofs.Binds.{some_same}
 use Rattle.ded_syntax.proofs.Seen.{one_list}
 use Rattle.ded_syntax.proofs.CommandsRead.{command_read}
@@ -20,8 +20,8 @@ same_symbols value ts c k m n s r =
     let e = command_read value ts k n r in
     one_meaning d.0 c k m n d.2 (subst (λ (x : Draft). Means x k n) (some_same e.0 d.0 (sym e.1 ∙ d.1)) e.2)
 
-pub one_command : (test : CommandForm → Bool) (language : Language) (bytes : List ℕ) (these those : CommandForm) (m n : ℕ) → SpellsBy test language bytes these m → SpellsBy test language bytes those n → (these ≡ those) × (m ≡ n)
-one_command test language bytes these those m n s r =
+pub one_command : (language : Language) (bytes : List ℕ) (these those : CommandForm) (m n : ℕ) → Spells language bytes these m → Spells language bytes those n → (these ≡ those) × (m ≡ n)
+one_command language bytes these those m n s r =
     same_symbols number_of (map symbol r.lexemes) these those m n
     (subst (λ (ls : List Lexeme). SpellsCommand number_of (map symbol ls) these m) (one_list bytes s.lexemes r.lexemes s.are r.are) s.command)
     r.command

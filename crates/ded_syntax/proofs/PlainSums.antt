@@ -16,7 +16,7 @@ use Rattle.ded_syntax.specs.Symbols.{Symbol, number_of}
 use Rattle.ded_syntax.specs.Operands.{Reader, Product, Side, text, sum, Sums, signed, put, Factor, factor, add_factor, add_all, no_sums, as_operand, single, operand_of}
 use Rattle.ded_syntax.specs.Atoms.{Comparison, comparison_form, Atom, truth, relates, belongs, atom_form, IsPiece, ArePieces, SpellsFormula}
 use Rattle.ded_syntax.specs.Commands.{Plain, defines, inserts_none, inserts, deletes, drops, keeps, shows, boxes, plain_form, Prefix, views, asks, queries, explains, prefix_form, SpellsCommand}
-use Rattle.ded_syntax.specs.Spelling.{SpellsBy}
+use Rattle.ded_syntax.specs.Spelling.{Spells}
 
 -- ---- sums
 
@@ -127,5 +127,5 @@ plain_command value ts c depth (inl s) = subst IsPlainCommand (sym s.means) (pla
 plain_command value ts c depth (inr s) = subst IsPlainCommand (sym s.means) (plain_before s.before s.formula (plain_formula value s.rest s.formula depth s.spells))
 
 -- a command that bytes spell
-pub spelled_plain : (test : CommandForm → Bool) (language : Language) (bytes : List ℕ) (c : CommandForm) (depth : ℕ) → SpellsBy test language bytes c depth → IsPlainCommand c
-spelled_plain test language bytes c depth s = plain_command number_of _ c depth s.command
+pub spelled_plain : (language : Language) (bytes : List ℕ) (c : CommandForm) (depth : ℕ) → Spells language bytes c depth → IsPlainCommand c
+spelled_plain language bytes c depth s = plain_command number_of _ c depth s.command

@@ -2,7 +2,6 @@ pub mod Symbols
 pub mod Operands
 pub mod Atoms
 pub mod Commands
-pub mod Answered
 pub mod Spelling
 pub mod Items
 pub mod OperandReading

@@ -11,17 +11,14 @@ use Rattle.ded_model.specs.Refusals.{refusal_number}
 use Rattle.ded_syntax.specs.Symbols.{symbol, number_of}
 use Rattle.ded_syntax.specs.Commands.{SpellsCommand}
 use Rattle.ded_model.specs.LongRows.{has_long_row}
-use Rattle.ded_syntax.specs.Answered.{is_answered}
 
 -- ---- what is spelled
 
--- The bytes spell the command in the language, with this nesting, and it passes the test. The test says which commands
--- there are at all. As yet each language has the same grammar.
-pub record SpellsBy (test : CommandForm → Bool) (language : Language) (bytes : List ℕ) (c : CommandForm) (depth : ℕ) : Type 0 where
+-- The bytes spell the command in the language, with this nesting. As yet each language has the same grammar.
+pub record Spells (language : Language) (bytes : List ℕ) (c : CommandForm) (depth : ℕ) : Type 0 where
   pub lexemes : List Lexeme
   pub are : AreLexemes bytes lexemes
   pub command : SpellsCommand number_of (map symbol lexemes) c depth
-  pub passes : test c ≡ true
 
 -- ---- what is refused
 
@@ -46,48 +43,34 @@ pub record SomeLexeme (test : Lexeme → Bool) (bytes : List ℕ) : Type 0 where
   pub passes : list_any test lexemes ≡ true
 
 -- a command is spelled in which a comparison or an argument has a long row
-pub record SpellsLongRow (test : CommandForm → Bool) (language : Language) (bytes : List ℕ) : Type 0 where
+pub record SpellsLongRow (language : Language) (bytes : List ℕ) : Type 0 where
   pub command : CommandForm
   pub depth : ℕ
-  pub spells : SpellsBy test language bytes command depth
+  pub spells : Spells language bytes command depth
   pub long : has_long_row command ≡ true
 
 -- a command is spelled whose nesting is above 64
-pub record IsDeepBy (test : CommandForm → Bool) (language : Language) (bytes : List ℕ) : Type 0 where
+pub record IsDeep (language : Language) (bytes : List ℕ) : Type 0 where
   pub command : CommandForm
   pub depth : ℕ
-  pub spells : SpellsBy test language bytes command depth
+  pub spells : Spells language bytes command depth
   pub above : 64 < depth
 
 -- the causes of the refusals that bytes alone decide; each is read only where no lesser one applies
-abbrev pub AppliesBy : (CommandForm → Bool) → Refusal → Language → List ℕ → Type 0
-AppliesBy test Syntax language bytes = (c : CommandForm) (depth : ℕ) → SpellsBy test language bytes c depth → ⊥
-AppliesBy test LongName language bytes = SomeLexeme is_long_word bytes
-AppliesBy test LongNumber language bytes = SomeLexeme is_long_number bytes ⊎ SpellsLongRow test language bytes
-AppliesBy test Deep language bytes = IsDeepBy test language bytes
-AppliesBy test _ language bytes = ⊥
+abbrev pub AppliesIn : Refusal → Language → List ℕ → Type 0
+AppliesIn Syntax language bytes = (c : CommandForm) (depth : ℕ) → Spells language bytes c depth → ⊥
+AppliesIn LongName language bytes = SomeLexeme is_long_word bytes
+AppliesIn LongNumber language bytes = SomeLexeme is_long_number bytes ⊎ SpellsLongRow language bytes
+AppliesIn Deep language bytes = IsDeep language bytes
+AppliesIn _ language bytes = ⊥
 
 -- the refusal applies, and none of a lesser number does
-pub record IsLeastBy (test : CommandForm → Bool) (r : Refusal) (language : Language) (bytes : List ℕ) : Type 0 where
-  pub applies : AppliesBy test r language bytes
-  pub least : (q : Refusal) → refusal_number q < refusal_number r → AppliesBy test q language bytes → ⊥
+pub record IsLeastIn (r : Refusal) (language : Language) (bytes : List ℕ) : Type 0 where
+  pub applies : AppliesIn r language bytes
+  pub least : (q : Refusal) → refusal_number q < refusal_number r → AppliesIn q language bytes → ⊥
 
 -- the bytes spell the command, and no refusal applies to them
-pub record IsReadBy (test : CommandForm → Bool) (language : Language) (bytes : List ℕ) (c : CommandForm) : Type 0 where
+pub record IsRead (language : Language) (bytes : List ℕ) (c : CommandForm) : Type 0 where
   pub depth : ℕ
-  pub spells : SpellsBy test language bytes c depth
-  pub accepted : (q : Refusal) → AppliesBy test q language bytes → ⊥
-
--- ---- the same of the commands that the program answers
-
-abbrev pub Spells : Language → List ℕ → CommandForm → ℕ → Type 0
-Spells language bytes c depth = SpellsBy is_answered language bytes c depth
-
-abbrev pub AppliesIn : Refusal → Language → List ℕ → Type 0
-AppliesIn r language bytes = AppliesBy is_answered r language bytes
-
-abbrev pub IsLeastIn : Refusal → Language → List ℕ → Type 0
-IsLeastIn r language bytes = IsLeastBy is_answered r language bytes
-
-abbrev pub IsRead : Language → List ℕ → CommandForm → Type 0
-IsRead language bytes c = IsReadBy is_answered language bytes c
+  pub spells : Spells language bytes c depth
+  pub accepted : (q : Refusal) → AppliesIn q language bytes → ⊥

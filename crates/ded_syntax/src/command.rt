@@ -1,18 +1,17 @@
 // Commands of bytes.
-ghost use Rattle.std.specs.Prelude.{◌≡◌, ◌≢◌, ◌≤◌, ℕ, List, true, false, length, IfOk, IfErr};
+ghost use Rattle.std.specs.Prelude.{◌≡◌, ◌≢◌, ◌≤◌, ℕ, List, Some, true, length, IfOk, IfErr, IfSome, IfNone};
+ghost use Rattle.ded_grammar.specs.declared.fault.ReadFault.TheVariants.{NotRead};
 ghost use Rattle.ded_model.specs.declared.command.Language.{Language as LanguageForm};
 ghost use Rattle.ded_model.specs.declared.command.Refusal.TheVariants as refusal;
 ghost use Rattle.ded_model.specs.Command.{command_form};
 ghost use Rattle.ded_model.specs.Form.{form};
-ghost use Rattle.ded_syntax.specs.Answered.{any_command};
 ghost use Rattle.ded_syntax.specs.CommandReading.{draft_at, scans, head_form};
-ghost use Rattle.ded_syntax.specs.Drafts.{test_of, passes_draft};
+ghost use Rattle.ded_syntax.specs.Drafts.{HasDraft, IsShort};
 ghost use Rattle.ded_syntax.specs.DraftViews.{seen_head, seen_draft};
 ghost use Rattle.ded_syntax.specs.Items.{capped_of, left, AreSymbols};
 ghost use Rattle.ded_syntax.specs.Meaning.{Means, MeansDeep};
-ghost use Rattle.ded_syntax.specs.Spelling.{IsReadBy, IsLeastBy, IsRead, IsLeastIn};
+ghost use Rattle.ded_syntax.specs.Spelling.{IsRead, IsLeastIn};
 
-use crate::answered::answers;
 use crate::draft::{Draft, Head};
 use crate::item::{Rest, has_long_literal, has_long_name, items_of};
 use crate::long::has_long_row;
@@ -33,11 +32,19 @@ fn is_spelled(draft: &Draft) -> bool
     }
 }
 
-// Whether the command of the draft is one that there is.
-fn passes(draft: &Draft, all: bool) -> bool
-    ensures { result ≡ passes_draft all (seen_draft draft.now) }
+// The draft that the items spell.
+fn spelled_draft(alloc: Global, items: Rest<'_>) -> Result<Draft, ReadFault>
+    requires few { length (left items) ≤ 65536 }
+    ensures read { IfOk result (λ d. draft_at capped_of (left items.entry) ≡ Some (seen_draft d)) }
+    ensures scanned { IfOk result (λ d. scans (seen_draft d) ≡ true) }
+    ensures unread { IfErr result (λ e. e ≡ NotRead → HasDraft capped_of (left items.entry) → ⊥) }
 {
-    all || answers(draft)
+    let draft = draft(alloc, items)?;
+    if is_spelled(&draft) {
+        Ok(draft)
+    } else {
+        Err(ReadFault::NotRead)
+    }
 }
 
 // The command of a head and its formula.
@@ -69,39 +76,51 @@ fn command_of(alloc: Global, draft: Draft) -> Result<Command, Refusal>
     }
 }
 
-// The command that the items spell, of all commands or of those that the program answers.
-fn command_by(alloc: Global, items: Rest<'_>, all: bool) -> Result<Command, Refusal>
-    requires few { length (left items) ≤ 65536 }
-    ensures read { IfOk result (λ c. (language : LanguageForm) (bytes : List ℕ) → AreSymbols bytes (left items.entry) → IsReadBy (test_of all) language bytes (command_form c)) }
-    ensures refused { IfErr result (λ r. r ≢ refusal.Memory → (language : LanguageForm) (bytes : List ℕ) → AreSymbols bytes (left items.entry) → IsLeastBy (test_of all) r language bytes) }
+// The refusal of the items for what is long in them, where something is.
+fn long_refusal(items: Rest<'_>, draft: &Draft) -> Option<Refusal>
+    requires read { draft_at capped_of (left items) ≡ Some (seen_draft draft.now) }
+    requires scanned { scans (seen_draft draft.now) ≡ true }
+    ensures some { IfSome result (λ r. (language : LanguageForm) (bytes : List ℕ) → AreSymbols bytes (left items.entry) → IsLeastIn r language bytes) }
+    ensures none { IfNone result (IsShort (left items.entry) (seen_draft draft.now)) }
 {
-    let draft = match draft(alloc, items) {
+    if has_long_name(items.bytes, items.items) {
+        Some(Refusal::LongName)
+    } else if has_long_literal(items.bytes, items.items) {
+        Some(Refusal::LongNumber)
+    } else if has_long_row(draft) {
+        Some(Refusal::LongNumber)
+    } else {
+        None
+    }
+}
+
+// The command that the items spell.
+fn command_by(alloc: Global, items: Rest<'_>) -> Result<Command, Refusal>
+    requires few { length (left items) ≤ 65536 }
+    ensures read { IfOk result (λ c. (language : LanguageForm) (bytes : List ℕ) → AreSymbols bytes (left items.entry) → IsRead language bytes (command_form c)) }
+    ensures refused { IfErr result (λ r. r ≢ refusal.Memory → (language : LanguageForm) (bytes : List ℕ) → AreSymbols bytes (left items.entry) → IsLeastIn r language bytes) }
+{
+    let draft = match spelled_draft(alloc, items) {
         Ok(draft) => draft,
         Err(ReadFault::NotRead) => return Err(Refusal::Syntax),
         Err(ReadFault::Memory) => return Err(Refusal::Memory),
     };
-    if !is_spelled(&draft) {
-        return Err(Refusal::Syntax);
+    match long_refusal(items, &draft) {
+        Some(refusal) => Err(refusal),
+        None => command_of(alloc, draft),
     }
-    if !passes(&draft, all) {
-        return Err(Refusal::Syntax);
-    }
-    if has_long_name(items.bytes, items.items) {
-        return Err(Refusal::LongName);
-    }
-    if has_long_literal(items.bytes, items.items) {
-        return Err(Refusal::LongNumber);
-    }
-    if has_long_row(&draft) {
-        return Err(Refusal::LongNumber);
-    }
-    command_of(alloc, draft)
 }
 
-fn read_by(alloc: Global, bytes: &[u8], language: Language, all: bool) -> Result<Command, Refusal>
+/// The command that the bytes spell in the language.
+///
+/// # Errors
+/// The least refusal that applies to the bytes: `Syntax` where they spell no command, whatever its nesting; `LongName`
+/// where a name has more than 64 bytes; `LongNumber` where a number, or a number of the normal row of a comparison or
+/// an argument, is above 2^63 - 1 in magnitude; `Deep` where the nesting is above 64. `Memory` where no memory is had.
+pub fn read_command(alloc: Global, bytes: &[u8], language: Language) -> Result<Command, Refusal>
     requires { length bytes.now ≤ 65536 }
-    ensures read { IfOk result (λ c. IsReadBy (test_of all) language bytes.now (command_form c)) }
-    ensures refused { IfErr result (λ r. r ≢ refusal.Memory → IsLeastBy (test_of all) r language bytes.now) }
+    ensures read { IfOk result (λ c. IsRead language bytes.now (command_form c)) }
+    ensures refused { IfErr result (λ r. r ≢ refusal.Memory → IsLeastIn r language bytes.now) }
 {
     let tokens = match tokens(alloc, bytes) {
         Ok(tokens) => tokens,
@@ -117,33 +136,5 @@ fn read_by(alloc: Global, bytes: &[u8], language: Language, all: bool) -> Result
             bytes,
             items: &items,
         },
-        all,
     )
-}
-
-/// The command that the bytes spell in the language, of the commands that the program can answer as yet
-/// (`specs/Answered.antt`). All others are not spelled.
-///
-/// # Errors
-/// The least refusal that applies to the bytes: `Syntax` where they spell no command, whatever its nesting; `LongName`
-/// where a name has more than 64 bytes; `LongNumber` where a number, or a number of the normal row of a comparison or
-/// an argument, is above 2^63 - 1 in magnitude; `Deep` where the nesting is above 64. `Memory` where no memory is had.
-pub fn read_command(alloc: Global, bytes: &[u8], language: Language) -> Result<Command, Refusal>
-    requires { length bytes.now ≤ 65536 }
-    ensures read { IfOk result (λ c. IsRead language bytes.now (command_form c)) }
-    ensures refused { IfErr result (λ r. r ≢ refusal.Memory → IsLeastIn r language bytes.now) }
-{
-    read_by(alloc, bytes, language, false)
-}
-
-/// The command that the bytes spell in the language, of all commands of the grammar.
-///
-/// # Errors
-/// As [`read_command`], where each command of the grammar is spelled.
-pub fn read_any_command(alloc: Global, bytes: &[u8], language: Language) -> Result<Command, Refusal>
-    requires { length bytes.now ≤ 65536 }
-    ensures read { IfOk result (λ c. IsReadBy any_command language bytes.now (command_form c)) }
-    ensures refused { IfErr result (λ r. r ≢ refusal.Memory → IsLeastBy any_command r language bytes.now) }
-{
-    read_by(alloc, bytes, language, true)
 }

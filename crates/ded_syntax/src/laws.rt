@@ -1,19 +1,16 @@
 // Laws of the grammar. Each is the contract of a function that does nothing.
-ghost use Rattle.std.specs.Prelude.{◌≡◌, ◌⊎◌, List, ℕ, Bool};
+ghost use Rattle.std.specs.Prelude.{◌≡◌, ◌⊎◌, List, ℕ};
 ghost use Rattle.ded_model.specs.declared.command.Language.{Language};
 ghost use Rattle.ded_model.specs.declared.command.Refusal.{Refusal};
 ghost use Rattle.ded_model.specs.declared.command.Refusal.TheVariants.{Syntax};
 ghost use Rattle.ded_model.specs.Command.{CommandForm};
 ghost use Rattle.ded_model.specs.Plain.{IsPlainCommand};
-ghost use Rattle.ded_syntax.specs.Answered.{any_command};
-ghost use Rattle.ded_syntax.specs.Spelling.{SpellsBy, AppliesBy, IsReadBy, Spells, AppliesIn, IsRead};
+ghost use Rattle.ded_syntax.specs.Spelling.{Spells, AppliesIn, IsRead};
 
-/// Bytes spell one command at most, with one nesting; of all commands, and of those that pass any test.
+/// Bytes spell one command at most, with one nesting.
 pub fn one_command()
-    ensures answered { (language : Language) (bytes : List ℕ) (these those : CommandForm) (m n : ℕ) →
+    ensures { (language : Language) (bytes : List ℕ) (these those : CommandForm) (m n : ℕ) →
         Spells language bytes these m → Spells language bytes those n → (these ≡ those) × (m ≡ n) }
-    ensures tested { (test : CommandForm → Bool) (language : Language) (bytes : List ℕ) (these those : CommandForm) (m n : ℕ) →
-        SpellsBy test language bytes these m → SpellsBy test language bytes those n → (these ≡ those) × (m ≡ n) }
 {}
 
 /// Bytes spell a command, or `Syntax` applies to them; and where no refusal applies, they are read as a command.
@@ -27,18 +24,8 @@ pub fn some_command()
         (command : CommandForm) × IsRead language bytes command }
 {}
 
-/// The same of all commands of the grammar.
-pub fn some_command_of_all()
-    ensures decided { (language : Language) (bytes : List ℕ) →
-        ((command : CommandForm) × (depth : ℕ) × SpellsBy any_command language bytes command depth)
-        ⊎ AppliesBy any_command Syntax language bytes }
-    ensures read { (language : Language) (bytes : List ℕ) →
-        ((refusal : Refusal) → AppliesBy any_command refusal language bytes → ⊥) →
-        (command : CommandForm) × IsReadBy any_command language bytes command }
-{}
-
 /// In a command that is spelled each sum is over 1 and has each name once.
 pub fn spelled_sums()
-    ensures { (test : CommandForm → Bool) (language : Language) (bytes : List ℕ) (command : CommandForm) (depth : ℕ) →
-        SpellsBy test language bytes command depth → IsPlainCommand command }
+    ensures { (language : Language) (bytes : List ℕ) (command : CommandForm) (depth : ℕ) →
+        Spells language bytes command depth → IsPlainCommand command }
 {}

@@ -1,4 +1,4 @@
-use crate::{read_any_command, read_command};
+use crate::read_command;
 use ded_model::command::{Command, Language, Refusal};
 use ded_model::formula::{CompareOp, Formula, Operand};
 use std::alloc::Global;
@@ -81,15 +81,7 @@ fn told(command: &Command) -> Outcome {
     }
 }
 
-fn outcome_of(rt: &impl Abort, alloc: Global, bytes: &[u8]) -> Outcome {
-    assert!(rt; bytes.len() < 300);
-    match read_any_command(alloc, bytes, Language::One) {
-        Ok(command) => told(&command),
-        Err(refusal) => Outcome::Refused(refusal),
-    }
-}
-
-fn answered_of(rt: &impl Abort, alloc: Global, bytes: &[u8], language: Language) -> Outcome {
+fn outcome_of(rt: &impl Abort, alloc: Global, bytes: &[u8], language: Language) -> Outcome {
     assert!(rt; bytes.len() < 300);
     match read_command(alloc, bytes, language) {
         Ok(command) => told(&command),
@@ -98,7 +90,7 @@ fn answered_of(rt: &impl Abort, alloc: Global, bytes: &[u8], language: Language)
 }
 
 #[test]
-fn answered_bytes_are_read(rt: HostRuntime) -> Result<(), Fail> {
+fn each_language_reads_alike(rt: HostRuntime) -> Result<(), Fail> {
     let syntax = Outcome::Refused(Refusal::Syntax);
     for (text, wanted) in [
         ("ask 3 <= 7", Outcome::Asks(3, CompareOp::LessEq, 7)),
@@ -129,13 +121,13 @@ fn answered_bytes_are_read(rt: HostRuntime) -> Result<(), Fail> {
         ("relation N(x)", Outcome::Relation(1)),
         ("insert N { x = 1 }", Outcome::Insert(1)),
         ("view V(x) := N(x)", Outcome::View(Shape::Member(1))),
-        ("keep N", syntax),
+        ("keep N", Outcome::Keep),
         ("box N", Outcome::BoxOf),
         ("query (x) : N(x)", Outcome::Query(1, Shape::Member(1))),
         ("explain (x) : N(x)", Outcome::Explain(1, Shape::Member(1))),
     ] {
         for language in [Language::One, Language::Two, Language::Opening] {
-            let outcome = answered_of(&rt, rt.alloc(), text.as_bytes(), language);
+            let outcome = outcome_of(&rt, rt.alloc(), text.as_bytes(), language);
             assert_eq!(rt; outcome, wanted, "at {text}");
         }
     }
@@ -163,7 +155,7 @@ fn commands_are_read(rt: HostRuntime) -> Result<(), Fail> {
         ),
         ("explain (x) : not x = 1", Outcome::Explain(1, Shape::Not)),
     ] {
-        let outcome = outcome_of(&rt, rt.alloc(), text.as_bytes());
+        let outcome = outcome_of(&rt, rt.alloc(), text.as_bytes(), Language::One);
         assert_eq!(rt; outcome, wanted, "at {text}");
     }
     Ok(())
@@ -196,7 +188,7 @@ fn formulas_are_read(rt: HostRuntime) -> Result<(), Fail> {
             Outcome::Asks(0, CompareOp::Equal, 0),
         ),
     ] {
-        let outcome = outcome_of(&rt, rt.alloc(), text.as_bytes());
+        let outcome = outcome_of(&rt, rt.alloc(), text.as_bytes(), Language::One);
         assert_eq!(rt; outcome, wanted, "at {text}");
     }
     Ok(())
@@ -221,7 +213,7 @@ fn refusals_are_the_least(rt: HostRuntime) -> Result<(), Fail> {
         ("ask x = 9223372036854775807 + 1", Refusal::LongNumber),
         ("ask T(9223372036854775807*x + x)", Refusal::LongNumber),
     ] {
-        let outcome = outcome_of(&rt, rt.alloc(), text.as_bytes());
+        let outcome = outcome_of(&rt, rt.alloc(), text.as_bytes(), Language::One);
         assert_eq!(rt; outcome, Outcome::Refused(wanted), "at {text}");
     }
     Ok(())

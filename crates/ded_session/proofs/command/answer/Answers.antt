@@ -9,7 +9,6 @@ use Rattle.ded_session.proofs.command.answer.Goals as goal
 pub carry_out-requires : goal.carry_out-requires
 carry_out-requires c = record {
   written = command_form c.args.command;
-  answered = c.requires.answered;
   resolved = c.in-Ok.ensures.resolved;
   accepted = c.in-Ok.ensures.accepted;
   storable = c.in-Ok.ensures.stored;

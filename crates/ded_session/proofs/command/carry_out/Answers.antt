@@ -4,7 +4,7 @@ use Rattle.ded_model.specs.Command.{CommandForm, ask, query, box_of, explain}
 use Rattle.ded_catalog.specs.State.{catalogue_of}
 use Rattle.ded_session.specs.Answered.{reply_form}
 use Rattle.ded_session.specs.Carrying.{Carries}
-use Rattle.ded_session.proofs.Accepted.{ready_relation, ready_insert, ready_delete, ready_drop, ready_show, ready_view, ready_box, written_relation, written_insert, written_delete, written_drop, written_show, written_view, written_box, ready_keep}
+use Rattle.ded_session.proofs.Accepted.{ready_relation, ready_insert, ready_delete, ready_drop, ready_show, ready_view, ready_box, written_relation, written_insert, written_delete, written_drop, written_show, written_view, written_box}
 use Rattle.ded_session.proofs.Asking.{ready_ask, ready_query, ready_explain, written_ask, written_query, written_explain}
 use Rattle.ded_session.proofs.command.carry_out.Goals as goal
 
@@ -45,9 +45,6 @@ tuples-requires c = ready_query (catalogue_of c.args.catalogue.now) c.args.comma
 
 pub steps-requires : goal.steps-requires
 steps-requires c = ready_explain (catalogue_of c.args.catalogue.now) c.args.command c.in-Explain.field-0 c.in-Explain.goal c.requires c.in-Explain.is
-
-pub unreachable-requires : goal.unreachable-requires
-unreachable-requires c = ready_keep (catalogue_of c.args.catalogue.now) c.args.command c.requires c.in-Keep.field-0 c.in-Keep.is
 
 pub returns-in-Relation : goal.returns-in-Relation
 returns-in-Relation c = λ written resolved accepted.

@@ -3,7 +3,7 @@ use Rattle.std.proofs.Common.{refl}
 use Rattle.ded_model.specs.Command.{command_form}
 use Rattle.ded_catalog.specs.State.{catalogue_of}
 use Rattle.ded_session.specs.Answered.{reply_form}
-use Rattle.ded_session.proofs.StepLemmas.{read_answered, read_short, read_plain, step_read, may_refuse}
+use Rattle.ded_session.proofs.StepLemmas.{read_short, read_plain, step_read, may_refuse}
 use Rattle.ded_session.proofs.statement.reply_to.Goals as goal
 
 pub answer-requires : goal.answer-requires
@@ -11,7 +11,6 @@ answer-requires c =
     let x = command_form c.in-Ok.command in
     let read = c.in-Ok.ensures.read in
     record {
-      answered = read_answered c.args.language c.args.bytes.now x read;
       plain = read_plain c.args.language c.args.bytes.now x read;
       short = read_short c.args.language c.args.bytes.now x read;
     }

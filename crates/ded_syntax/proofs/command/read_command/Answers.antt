@@ -6,15 +6,14 @@ use Rattle.ded_model.specs.declared.command.Refusal.TheVariants.{Memory}
 use Rattle.ded_model.specs.declared.command.Command.{Command}
 use Rattle.ded_model.specs.Command.{command_form}
 use Rattle.ded_syntax.specs.Items.{seen, symbols, AreSymbols}
-use Rattle.ded_syntax.specs.Drafts.{test_of}
-use Rattle.ded_syntax.specs.Spelling.{IsReadBy, IsLeastBy}
+use Rattle.ded_syntax.specs.Spelling.{IsRead, IsLeastIn}
 use Rattle.ded_syntax.proofs.Drafted.{if_ok, if_err}
 use Rattle.ded_syntax.proofs.Seen.{no_lexemes, symbols_are, few_items}
 use Rattle.ded_syntax.proofs.Refused.{no_token}
-use Rattle.ded_syntax.proofs.command.read_by.Goals as goal
+use Rattle.ded_syntax.proofs.command.read_command.Goals as goal
 
 pub returns-in-Err-NoToken-clause-refused : goal.returns-in-Err-NoToken-clause-refused
-returns-in-Err-NoToken-clause-refused c = λ other. no_token c.args.all c.args.language c.args.bytes.now (no_lexemes _ (c.in-Err-NoToken.ensures.no_token c.in-Err-NoToken.field-0-is))
+returns-in-Err-NoToken-clause-refused c = λ other. no_token c.args.language c.args.bytes.now (no_lexemes _ (c.in-Err-NoToken.ensures.no_token c.in-Err-NoToken.field-0-is))
 
 pub command_by-requires : goal.command_by-requires
 command_by-requires c = record {
@@ -24,15 +23,15 @@ command_by-requires c = record {
 pub returns-clause-read : goal.returns-clause-read
 returns-clause-read c =
     if_ok c.command_by.result
-    (λ (x : Command). (language : Language) (bytes : List ℕ) → AreSymbols bytes (symbols c.args.bytes.now c.deref.result.now) → IsReadBy (test_of c.args.all) language bytes (command_form x))
-    (λ (x : Command). IsReadBy (test_of c.args.all) c.args.language c.args.bytes.now (command_form x))
+    (λ (x : Command). (language : Language) (bytes : List ℕ) → AreSymbols bytes (symbols c.args.bytes.now c.deref.result.now) → IsRead language bytes (command_form x))
+    (λ (x : Command). IsRead c.args.language c.args.bytes.now (command_form x))
     (λ x h. h c.args.language c.args.bytes.now (symbols_are c.args.bytes.now _ _ c.deref.result.now c.in-Ok.ensures.tokens c.list.ensures (ap (symbols c.args.bytes.now) c.deref.ensures.value ∙ c.in-Ok-items_of.ensures)))
     c.command_by.ensures.read
 
 pub returns-clause-refused : goal.returns-clause-refused
 returns-clause-refused c =
     if_err c.command_by.result
-    (λ (r : Refusal). r ≢ Memory → (language : Language) (bytes : List ℕ) → AreSymbols bytes (symbols c.args.bytes.now c.deref.result.now) → IsLeastBy (test_of c.args.all) r language bytes)
-    (λ (r : Refusal). r ≢ Memory → IsLeastBy (test_of c.args.all) r c.args.language c.args.bytes.now)
+    (λ (r : Refusal). r ≢ Memory → (language : Language) (bytes : List ℕ) → AreSymbols bytes (symbols c.args.bytes.now c.deref.result.now) → IsLeastIn r language bytes)
+    (λ (r : Refusal). r ≢ Memory → IsLeastIn r c.args.language c.args.bytes.now)
     (λ r h other. h other c.args.language c.args.bytes.now (symbols_are c.args.bytes.now _ _ c.deref.result.now c.in-Ok.ensures.tokens c.list.ensures (ap (symbols c.args.bytes.now) c.deref.ensures.value ∙ c.in-Ok-items_of.ensures)))
     c.command_by.ensures.refused
