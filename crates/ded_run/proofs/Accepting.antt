@@ -1,99 +1,96 @@
 -- The accepted words are those that the parse reads.
-use Rattle.std.proofs.Common.{◌≡◌, ◌≢◌, ◌<◌, ℕ, List, [], ◌∷◌, ◌++◌, refl, sym, ◌∙◌, inl, inr, subst, false, codes, arith}
-use Rattle.std.specs.Prelude.{Option, None, Some, Result, Ok, Err, IfOk, MatchResult, map}
+use Rattle.std.proofs.Common.{◌≡◌, ◌≢◌, ◌<◌, ◌≤◌, ℕ, List, [], ◌∷◌, sym, subst, false, arith}
+use Rattle.std.specs.Prelude.{Option, None, Some, MatchOption, map}
 use Rattle.std.specs.Char.{digit_value}
 use Rattle.clap.specs.Faults.{fault_of}
-use Rattle.clap.specs.Simple.{matches_of}
-use Rattle.clap.specs.Walk.{Text, first_of}
+use Rattle.clap.specs.Walk.{Text}
 use Rattle.ded_run.specs.CommandLine.{dedale, has_dashes}
-use Rattle.ded_run.specs.Words.{IsLimit, AcceptedWords}
-use Rattle.ded_run.proofs.Parsing.{IsRead, no_dash_first, words_read, none_passes, attached_passes, separate_passes}
+use Rattle.ded_run.specs.declared.words.Options.{Options}
+use Rattle.ded_run.specs.Words.{IsNumber, LimitValue, SizeValue, AcceptedWords}
+use Rattle.ded_run.proofs.Parsing.{Limit, Make, value_of, IsPlainValue, IsPlainOption, no_dash_first, words_read, both_pass, both_no_dashes}
 
 no_digit : (d : ℕ) → digit_value d < 10 → d ≢ 45
 no_digit d digit same =
     let dash : digit_value 45 < 10 = subst (λ (b : ℕ). digit_value b < 10) same digit in
     absurd (omega (arith, dash))
 
--- accepted words are parsed without a fault
-value_passes : (value : Text) (limit : ℕ) → IsLimit value limit → fault_of dedale (codes "--limit" ∷ value ∷ []) ≡ []
-value_passes [] limit l = absurd (omega (arith, l.numeral.0))
-value_passes (d ∷ ds) limit l = separate_passes d ds (no_digit d l.numeral.1.0)
+-- a value of digits is no flag
+plain_number : (greatest : ℕ) (value : Text) (number : ℕ) → IsNumber greatest value number → IsPlainValue value
+plain_number greatest [] number l = absurd (omega (arith, l.numeral.0))
+plain_number greatest (d ∷ ds) number l = no_dash_first d ds (no_digit d l.numeral.1.0)
 
-pub accepted_passes : (words : List Text) (limit : ℕ) → AcceptedWords words limit → fault_of dedale words ≡ []
-accepted_passes [] limit a = none_passes
-accepted_passes (word ∷ []) limit a = subst (λ (t : Text). fault_of dedale (t ∷ []) ≡ []) (sym a.1) (attached_passes a.0)
-accepted_passes (name ∷ value ∷ []) limit a = subst (λ (t : Text). fault_of dedale (t ∷ value ∷ []) ≡ []) (sym a.0) (value_passes value limit a.1)
-accepted_passes (first ∷ second ∷ third ∷ more) limit a = absurd a
+plain_limit : (value : Option Text) (limit : ℕ) → LimitValue value limit → IsPlainOption value
+plain_limit None limit l = tt
+plain_limit (Some v) limit l = plain_number 1000000 v limit l
 
--- and none of them is `--`
-value_no_dashes : (value : Text) (limit : ℕ) → IsLimit value limit → has_dashes (codes "--limit" ∷ value ∷ []) ≡ false
-value_no_dashes [] limit l = refl
-value_no_dashes (d ∷ ds) limit l = rw (no_dash_first d ds (no_digit d l.numeral.1.0)).0 refl
+plain_size : (value : Option Text) (size : Option ℕ) → SizeValue value size → IsPlainOption value
+plain_size None size l = tt
+plain_size (Some v) None l = absurd l
+plain_size (Some v) (Some size) l = plain_number 100 v size l
 
-pub accepted_no_dashes : (words : List Text) (limit : ℕ) → AcceptedWords words limit → has_dashes words ≡ false
-accepted_no_dashes [] limit a = refl
-accepted_no_dashes (word ∷ []) limit a = subst (λ (t : Text). has_dashes (t ∷ []) ≡ false) (sym a.1) refl
-accepted_no_dashes (name ∷ value ∷ []) limit a = subst (λ (t : Text). has_dashes (t ∷ value ∷ []) ≡ false) (sym a.0) (value_no_dashes value limit a.1)
-accepted_no_dashes (first ∷ second ∷ third ∷ more) limit a = absurd a
+-- accepted words are parsed without a fault, none of them is `--`, and their values are read
+abbrev IsParsed : List Text → Options → Type 0
+IsParsed words options = (has_dashes words ≡ false) × (fault_of dedale words ≡ []) × LimitValue (value_of Limit words) options.limit × SizeValue (value_of Make words) options.size
 
--- ---- what was read is accepted where its value is, and nothing else
+pub accepted_parsed : (words : List Text) (options : Options) → AcceptedWords words options → IsParsed words options
+accepted_parsed words options a =
+    let limit = plain_limit a.limit_value options.limit a.limit in
+    let size = plain_size a.size_value options.size a.size in
+    let passed = both_pass words a.limit_value a.size_value a.are limit size in (
+      both_no_dashes words a.limit_value a.size_value a.are limit size,
+      passed.0,
+      subst (λ (t : Option Text). LimitValue t options.limit) (sym passed.1) a.limit,
+      subst (λ (t : Option Text). SizeValue t options.size) (sym passed.2) a.size,
+    )
 
-none_accepted : (words : List Text) → IsRead words None → AcceptedWords words 100000
-none_accepted words is = subst (λ (ws : List Text). AcceptedWords ws 100000) (sym is) refl
+-- and what is parsed without a fault is accepted where its values are in range
+pub parsed_accepted : (words : List Text) (limit_value size_value : Option Text) (limit : ℕ) (size : Option ℕ) → has_dashes words ≡ false → fault_of dedale words ≡ [] → limit_value ≡ value_of Limit words → size_value ≡ value_of Make words
+    → LimitValue limit_value limit → SizeValue size_value size → AcceptedWords words (record { limit = limit; size = size })
+parsed_accepted words limit_value size_value limit size n e limit_is size_is l z = record {
+  limit_value = value_of Limit words;
+  size_value = value_of Make words;
+  are = words_read words n e;
+  limit = subst (λ (t : Option Text). LimitValue t limit) limit_is l;
+  size = subst (λ (t : Option Text). SizeValue t size) size_is z;
+}
 
-value_accepted : (words : List Text) (value : Text) (limit : ℕ) → IsRead words (Some value) → IsLimit value limit → AcceptedWords words limit
-value_accepted words value limit (inl is) l = subst (λ (ws : List Text). AcceptedWords ws limit) (sym is) (value, refl, l)
-value_accepted words value limit (inr is) l = subst (λ (ws : List Text). AcceptedWords ws limit) (sym is) (refl, l)
+-- where a value isn't in range, the words aren't accepted
+pub no_limit : (words : List Text) (value : Option Text) → value ≡ value_of Limit words → ((limit : ℕ) → LimitValue value limit → ⊥) → (options : Options) → AcceptedWords words options → ⊥
+no_limit words value is none options a = none options.limit (subst (λ (t : Option Text). LimitValue t options.limit) (sym is) (accepted_parsed words options a).2)
 
-same_value : (v u : Text) → codes "--limit=" ++ v ≡ codes "--limit=" ++ u → v ≡ u
-same_value v u e = cc
+pub no_size : (words : List Text) (value : Option Text) → value ≡ value_of Make words → ((size : Option ℕ) → SizeValue value size → ⊥) → (options : Options) → AcceptedWords words options → ⊥
+no_size words value is none options a = none options.size (subst (λ (t : Option Text). SizeValue t options.size) (sym is) (accepted_parsed words options a).3)
 
-only_value : (words : List Text) (value : Text) (limit : ℕ) → IsRead words (Some value) → AcceptedWords words limit → IsLimit value limit
-only_value [] value limit (inl is) a = absurd (nothing is)
+-- ---- what the options are
+
+pub limit_low : (words : List Text) (options : Options) → AcceptedWords words options → 1 ≤ options.limit
+limit_low words options a = by a.limit_value a.limit
   where
-    nothing : {w : Text} {ws : List Text} → [] ≡ w ∷ ws → ⊥
-    nothing e = cc
-only_value [] value limit (inr is) a = absurd (nothing is)
-  where
-    nothing : {w : Text} {ws : List Text} → [] ≡ w ∷ ws → ⊥
-    nothing e = cc
-only_value (word ∷ []) value limit (inl is) a = subst (λ (t : Text). IsLimit t limit) (same_value a.0 value (sym a.1 ∙ same is)) a.2
-  where
-    same : {u w : Text} → u ∷ [] ≡ w ∷ [] → u ≡ w
-    same e = cc
-only_value (word ∷ []) value limit (inr is) a = absurd (shorter is)
-  where
-    shorter : {u w x : Text} → u ∷ [] ≡ w ∷ x ∷ [] → ⊥
-    shorter e = cc
-only_value (name ∷ second ∷ []) value limit (inl is) a = absurd (longer is)
-  where
-    longer : {u w x : Text} → u ∷ w ∷ [] ≡ x ∷ [] → ⊥
-    longer e = cc
-only_value (name ∷ second ∷ []) value limit (inr is) a = subst (λ (t : Text). IsLimit t limit) (same is) a.1
-  where
-    same : {u w x y : Text} → u ∷ w ∷ [] ≡ x ∷ y ∷ [] → w ≡ y
-    same e = cc
-only_value (first ∷ second ∷ third ∷ more) value limit is a = absurd a
+    by : (value : Option Text) → LimitValue value options.limit → 1 ≤ options.limit
+    by None l = omega (arith, l)
+    by (Some v) l = l.low
 
--- ---- the same, of a parse without a fault
-
-read_so : (words : List Text) (text read : Option Text) → has_dashes words ≡ false → fault_of dedale words ≡ [] → read ≡ first_of (codes "limit") (matches_of dedale words) → read ≡ text → IsRead words text
-read_so words text read n e is same = subst (λ (o : Option Text). IsRead words o) (sym is ∙ same) (words_read words n e)
-
-pub default_accepted : (words : List Text) (read : Option Text) → has_dashes words ≡ false → fault_of dedale words ≡ [] → read ≡ first_of (codes "limit") (matches_of dedale words) → read ≡ None → AcceptedWords words 100000
-default_accepted words read n e is same = none_accepted words (read_so words None read n e is same)
-
-pub limit_accepted : {E : Type 0} (words : List Text) (value : Text) (read : Option Text) (r : Result ℕ E) → has_dashes words ≡ false → fault_of dedale words ≡ [] → read ≡ first_of (codes "limit") (matches_of dedale words) → read ≡ Some value → MatchResult r (λ limit. IsLimit value limit) (λ _. (limit : ℕ) → IsLimit value limit → ⊥) → IfOk r (λ limit. AcceptedWords words limit)
-limit_accepted words value read (Ok limit) n e is same l = value_accepted words value limit (read_so words (Some value) read n e is same) l
-limit_accepted words value read (Err fault) n e is same l = tt
-
-pub limit_refused : {E : Type 0} (words : List Text) (value : Text) (read : Option Text) (r : Result ℕ E) (bad : E) → has_dashes words ≡ false → fault_of dedale words ≡ [] → read ≡ first_of (codes "limit") (matches_of dedale words) → read ≡ Some value → MatchResult r (λ limit. IsLimit value limit) (λ _. (limit : ℕ) → IsLimit value limit → ⊥) → r ≡ Err bad → (limit : ℕ) → AcceptedWords words limit → ⊥
-limit_refused words value read (Ok l) bad n e is same found failed limit a = absurd (ok_err failed)
+pub limit_high : (words : List Text) (options : Options) → AcceptedWords words options → options.limit ≤ 1000000
+limit_high words options a = by a.limit_value a.limit
   where
-    ok_err : {A B : Type 0} {x : A} {y : B} → Ok x ≡ Err y → ⊥
-    ok_err g = cc
-limit_refused words value read (Err fault) bad n e is same none failed limit a = none limit (only_value words value limit (read_so words (Some value) read n e is same) a)
+    by : (value : Option Text) → LimitValue value options.limit → options.limit ≤ 1000000
+    by None l = omega (arith, l)
+    by (Some v) l = l.high
+
+size_range : (value : Option Text) (n : ℕ) → SizeValue value (Some n) → (1 ≤ n) × (n ≤ 100)
+size_range None n z = absurd z
+size_range (Some v) n z = (z.low, z.high)
+
+pub size_within : (words : List Text) (options : Options) (n : ℕ) → AcceptedWords words options → options.size ≡ Some n → (1 ≤ n) × (n ≤ 100)
+size_within words options n a is = size_range a.size_value n (subst (λ (o : Option ℕ). SizeValue a.size_value o) is a.size)
+
+-- what is so of a run over a made script, or over the input
+pub when_some : (size : Option ℕ) (n : ℕ) (P : Type 0) (Q : ℕ → Type 0) → size ≡ Some n → Q n → MatchOption size P Q
+when_some size n P Q is q = subst (λ (o : Option ℕ). MatchOption o P Q) (sym is) q
+
+pub when_none : (size : Option ℕ) (P : Type 0) (Q : ℕ → Type 0) → size ≡ None → P → MatchOption size P Q
+when_none size P Q is p = subst (λ (o : Option ℕ). MatchOption o P Q) (sym is) p
 
 -- words that are reached in another way
-pub same_words : {A : Type 0} (text : A → Text) (these those : List A) (limit : ℕ) → these ≡ those → AcceptedWords (map text these) limit → AcceptedWords (map text those) limit
-same_words {A} text these those limit same a = subst (λ (ws : List A). AcceptedWords (map text ws) limit) same a
+pub same_words : {A : Type 0} (text : A → Text) (these those : List A) (options : Options) → these ≡ those → AcceptedWords (map text these) options → AcceptedWords (map text those) options
+same_words {A} text these those options same a = subst (λ (ws : List A). AcceptedWords (map text ws) options) same a

@@ -7,7 +7,7 @@ use Rattle.std.proofs.Math.Seq.{take-append-add}
 use Rattle.ded_run.specs.declared.dialogue.Dialogue.{Dialogue}
 use Rattle.ded_session.specs.Runs.{Run}
 use Rattle.ded_run.specs.Outcome.{Answered, Concluded, WholesAnswered, Unread, Overlong, Interrupted, Broken}
-use Rattle.ded_run.specs.Streams.{IsFresh, Streamed, Stopped, Reading}
+use Rattle.ded_run.specs.Streams.{IsFresh, Streamed, Stopped, Grows, Breaks, Reading}
 use Rattle.ded_run.proofs.Answering.{starts, wholes_answered}
 
 -- ---- bytes that are told
@@ -36,29 +36,32 @@ whole_input (Some u) (Some v) xs P takes end p = subst P (sym (takes ∙ ap (λ 
 
 -- ---- how reading goes on
 
-pub begins : (limit input_limit : ℕ) (d : Dialogue) (input held : Option (List ℕ)) → IsFresh limit d → Reading limit input_limit input_limit d input input held held
+pub fresh_streams : (limit silent : ℕ) (d : Dialogue) (held : Option (List ℕ)) → IsFresh limit silent d → Streamed limit silent d [] held held
+fresh_streams limit silent d held fresh = record { tail = []; since = fresh.since; so_far = starts limit silent d.silent _ _ d.refused held fresh.language fresh.catalogue fresh.refused fresh.left }
+
+pub begins : (limit input_limit : ℕ) (d : Dialogue) (input held : Option (List ℕ)) → IsFresh limit 0 d → Reading limit input_limit input_limit d input input held held
 begins limit input_limit d input held fresh = record {
   taken = [];
   takes = consumes_nothing input;
   counts = omega arith;
-  streamed = record { tail = []; since = fresh.since; so_far = starts limit _ _ d.refused held fresh.language fresh.catalogue fresh.refused };
+  streamed = fresh_streams limit 0 d held fresh;
 }
 
 -- a piece that fits was read and answered
 pub reads_on : (limit input_limit room : ℕ) (d e : Dialogue) (s0 s1 s2 h0 h1 h2 : Option (List ℕ)) (bytes : List ℕ) (n within : ℕ) → Reading limit input_limit room d s0 s1 h0 h1 → n ≤ length bytes → within ≡ n → n ≤ room → Consumes s1 s2 (take n bytes)
-    → ((taken : List ℕ) → Streamed limit d taken h0 h1 → Streamed limit e (taken ++ take within bytes) h0 h2)
+    → Grows d e h1 h2 (take within bytes)
     → (left : ℕ) → left + n ≡ room → Reading limit input_limit left e s0 s2 h0 h2
 reads_on limit input_limit room d e s0 s1 s2 h0 h1 h2 bytes n within r fits same le takes streamed left rest = record {
   taken = r.taken ++ take n bytes;
   takes = consumes_both s0 s1 s2 r.taken (take n bytes) r.takes takes;
   counts = omega (arith, r.counts, length-append r.taken (take n bytes), length-take-le n bytes fits);
-  streamed = subst (λ (k : ℕ). Streamed limit e (r.taken ++ take k bytes) h0 h2) same (streamed r.taken r.streamed);
+  streamed = subst (λ (k : ℕ). Streamed limit 0 e (r.taken ++ take k bytes) h0 h2) same (streamed.on limit 0 r.taken h0 r.streamed);
 }
 
 -- ---- how it ends
 
-answered_here : (limit : ℕ) (d : Dialogue) (taken : List ℕ) (h0 h1 : Option (List ℕ)) → Streamed limit d taken h0 h1 → WholesAnswered limit taken h0 h1
-answered_here limit d taken h0 h1 s = wholes_answered limit taken s.tail _ _ _ h0 h1 s.so_far
+answered_here : (limit : ℕ) (d : Dialogue) (taken : List ℕ) (h0 h1 : Option (List ℕ)) → Streamed limit 0 d taken h0 h1 → WholesAnswered limit taken h0 h1
+answered_here limit d taken h0 h1 s = wholes_answered limit _ taken s.tail _ _ _ h0 h1 s.so_far
 
 -- the read failed
 pub stays_unread : (limit input_limit room : ℕ) (d : Dialogue) (s0 s1 s2 h0 h1 : Option (List ℕ)) → Reading limit input_limit room d s0 s1 h0 h1 → Keeps s1 s2 → Unread limit input_limit s0 s2 h0 h1
@@ -76,7 +79,7 @@ nothing_more s0 s1 s2 taken bytes n so_far none takes =
 
 -- and its last statement is answered
 pub all_answered : (limit input_limit room : ℕ) (d : Dialogue) (s0 s1 s2 h0 h1 h2 : Option (List ℕ)) (refused : Bool) (bytes : List ℕ) (n : ℕ) → Reading limit input_limit room d s0 s1 h0 h1 → n ≡ 0 → Consumes s1 s2 (take n bytes) → IsAtEnd s2
-    → ((taken : List ℕ) → Streamed limit d taken h0 h1 → Concluded limit taken h0 h2 refused)
+    → ((taken : List ℕ) → Streamed limit 0 d taken h0 h1 → Concluded limit 0 taken h0 h2 refused)
     → Answered limit input_limit s0 s2 h0 h2 refused
 all_answered limit input_limit room d s0 s1 s2 h0 h1 h2 refused bytes n r none takes end conclude =
     let c = conclude r.taken r.streamed in
@@ -92,7 +95,7 @@ all_answered limit input_limit room d s0 s1 s2 h0 h1 h2 refused bytes n r none t
 
 -- or the sink failed at its reply
 pub breaks_at_end : (limit input_limit room : ℕ) (d : Dialogue) (s0 s1 s2 h0 h1 h2 : Option (List ℕ)) (bytes : List ℕ) (n : ℕ) → Reading limit input_limit room d s0 s1 h0 h1 → n ≡ 0 → Consumes s1 s2 (take n bytes)
-    → ((taken : List ℕ) → Streamed limit d taken h0 h1 → Interrupted limit taken h0 h2)
+    → ((taken : List ℕ) → Streamed limit 0 d taken h0 h1 → Interrupted limit 0 taken h0 h2)
     → Broken limit s0 s2 h0 h2
 breaks_at_end limit input_limit room d s0 s1 s2 h0 h1 h2 bytes n r none takes stops = record {
   taken = r.taken;
@@ -105,7 +108,7 @@ take_within n within bytes le = sym (take-append-drop within (take n bytes)) ∙
 
 -- the sink failed at a reply in a piece that was read
 pub breaks_in : (limit input_limit room : ℕ) (d : Dialogue) (s0 s1 s2 h0 h1 h2 : Option (List ℕ)) (bytes : List ℕ) (n within : ℕ) → Reading limit input_limit room d s0 s1 h0 h1 → within ≤ n → Consumes s1 s2 (take n bytes)
-    → ((taken : List ℕ) → Streamed limit d taken h0 h1 → Stopped limit (taken ++ take within bytes) h0 h2)
+    → Breaks d h1 h2 (take within bytes)
     → Broken limit s0 s2 h0 h2
 breaks_in limit input_limit room d s0 s1 s2 h0 h1 h2 bytes n within r le takes stops =
     let all : (r.taken ++ take within bytes) ++ drop within (take n bytes) ≡ r.taken ++ take n bytes =
@@ -113,12 +116,12 @@ breaks_in limit input_limit room d s0 s1 s2 h0 h1 h2 bytes n within r le takes s
     record {
       taken = r.taken ++ take n bytes;
       takes = consumes_both s0 s1 s2 r.taken (take n bytes) r.takes takes;
-      interrupted = subst (λ (l : List ℕ). Interrupted limit l h0 h2) all (stops r.taken r.streamed (drop within (take n bytes)));
+      interrupted = subst (λ (l : List ℕ). Interrupted limit 0 l h0 h2) all (stops.on limit 0 r.taken h0 r.streamed (drop within (take n bytes)));
     }
 
 -- more was read than may come
 pub is_overlong : (limit input_limit room : ℕ) (d e : Dialogue) (s0 s1 s2 h0 h1 h2 : Option (List ℕ)) (bytes : List ℕ) (n within : ℕ) → Reading limit input_limit room d s0 s1 h0 h1 → n ≤ length bytes → within ≡ room → room < n → Consumes s1 s2 (take n bytes)
-    → ((taken : List ℕ) → Streamed limit d taken h0 h1 → Streamed limit e (taken ++ take within bytes) h0 h2)
+    → Grows d e h1 h2 (take within bytes)
     → Overlong limit input_limit s0 s2 h0 h2
 is_overlong limit input_limit room d e s0 s1 s2 h0 h1 h2 bytes n within r fits same more takes streamed =
     let front : take input_limit (r.taken ++ take n bytes) ≡ r.taken ++ take room bytes =
@@ -128,5 +131,9 @@ is_overlong limit input_limit room d e s0 s1 s2 h0 h1 h2 bytes n within r fits s
       takes = consumes_both s0 s1 s2 r.taken (take n bytes) r.takes takes;
       more = omega (arith, r.counts, length-append r.taken (take n bytes), length-take-le n bytes fits);
       answered = subst (λ (l : List ℕ). WholesAnswered limit l h0 h2) (ap (λ (k : ℕ). r.taken ++ take k bytes) same ∙ sym front)
-          (answered_here limit e (r.taken ++ take within bytes) h0 h2 (streamed r.taken r.streamed));
+          (answered_here limit e (r.taken ++ take within bytes) h0 h2 (streamed.on limit 0 r.taken h0 r.streamed));
     }
+
+-- the sink failed, and nothing came behind
+pub stops_here : (limit silent : ℕ) (bytes : List ℕ) (h0 h1 : Option (List ℕ)) → Stopped limit silent bytes h0 h1 → Interrupted limit silent bytes h0 h1
+stops_here limit silent bytes h0 h1 s = subst (λ (l : List ℕ). Interrupted limit silent l h0 h1) (append-nil bytes) (s [])

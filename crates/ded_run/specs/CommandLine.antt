@@ -6,13 +6,17 @@ use Rattle.clap.specs.Simple.{App, new_app, on_top, with_rule, new_rule}
 use Rattle.clap.specs.Walk.{Rule}
 use Rattle.clap.specs.declared.builder.action.ArgAction.TheVariants.{Set}
 
--- `--limit`, which takes one value
-abbrev pub limit_rule : Rule
-limit_rule = record (new_rule (codes "limit")) { long = Some (codes "limit"); action = Some Set }
+-- an option of this name, which takes one value
+abbrev pub option_rule : List ℕ → Rule
+option_rule name = record (new_rule name) { long = Some name; action = Some Set }
 
--- a command with this option alone: no help, no version, no positional argument
+-- no help, no version
+abbrev pub bare : App
+bare = on_top (λ s. record s { no_binary_name = true; disable_help_flag = true }) (new_app (codes "dedale"))
+
+-- a command with `--limit` and `--make` alone: no help, no version, no positional argument
 abbrev pub dedale : App
-dedale = with_rule (on_top (λ s. record s { no_binary_name = true; disable_help_flag = true }) (new_app (codes "dedale"))) limit_rule
+dedale = with_rule (with_rule bare (option_rule (codes "limit"))) (option_rule (codes "make"))
 
 -- some word is `--`
 abbrev pub has_dashes : List (List ℕ) → Bool

@@ -1,5 +1,7 @@
 pub mod Texts
 pub mod Outcome
 pub mod Streams
+pub mod Made
+pub mod Parts
 pub mod Words
 pub mod CommandLine

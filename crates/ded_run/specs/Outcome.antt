@@ -1,5 +1,5 @@
 -- What a run leaves in its source and its sink.
-use Rattle.std.specs.Prelude.{◌≡◌, ◌<◌, ◌≤◌, ℕ, List, Bool, Option, length, take, map, IfSome}
+use Rattle.std.specs.Prelude.{◌≡◌, ◌<◌, ◌≤◌, ℕ, List, Bool, Option, length, take, drop, map, IfSome}
 use Rattle.std.specs.Io.KnownBytes.{Appends, Consumes, IsAtEnd}
 use Rattle.ded_io.specs.Devices.{Sent}
 use Rattle.ded_lex.specs.Pieces.{Whole, IsCut}
@@ -18,12 +18,12 @@ pub record Answered (limit input_limit : ℕ) (input left held now : Option (Lis
   pub written : Appends held now (texts replies)
   pub refuses : some_refusal replies ≡ refused
 
--- The texts of the replies were written, one for each statement of these bytes.
-pub record Concluded (limit : ℕ) (bytes : List ℕ) (held now : Option (List ℕ)) (refused : Bool) : Type 0 where
+-- The texts of the replies were written, one for each statement of these bytes but the first so many.
+pub record Concluded (limit silent : ℕ) (bytes : List ℕ) (held now : Option (List ℕ)) (refused : Bool) : Type 0 where
   pub replies : List ReplyForm
   pub last : Catalogue
   pub run : Run limit bytes replies last
-  pub written : Appends held now (texts replies)
+  pub written : Appends held now (texts (drop silent replies))
   pub refuses : some_refusal replies ≡ refused
 
 -- The texts of the replies to the whole pieces of these bytes were written, and nothing else.
@@ -50,16 +50,16 @@ pub record Overlong (limit input_limit : ℕ) (input left held now : Option (Lis
   pub more : input_limit < length taken
   pub answered : WholesAnswered limit (take input_limit taken) held now
 
--- Of the texts of the replies to the statements of these bytes a front was written.
-pub record Interrupted (limit : ℕ) (bytes : List ℕ) (held now : Option (List ℕ)) : Type 0 where
+-- Of the texts of the replies to the statements of these bytes, but the first so many, a front was written.
+pub record Interrupted (limit silent : ℕ) (bytes : List ℕ) (held now : Option (List ℕ)) : Type 0 where
   pub replies : List ReplyForm
   pub last : Catalogue
   pub run : Run limit bytes replies last
   pub unwritten : List ℕ
-  pub written : Sent held now (texts replies) unwritten
+  pub written : Sent held now (texts (drop silent replies)) unwritten
 
 -- Some bytes were taken, and a front of the texts of the replies to their statements was written.
 pub record Broken (limit : ℕ) (input left held now : Option (List ℕ)) : Type 0 where
   pub taken : List ℕ
   pub takes : Consumes input left taken
-  pub interrupted : Interrupted limit taken held now
+  pub interrupted : Interrupted limit 0 taken held now

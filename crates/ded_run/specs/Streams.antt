@@ -1,5 +1,5 @@
 -- What is answered of a script that comes in parts.
-use Rattle.std.specs.Prelude.{◌≡◌, ◌+◌, ℕ, List, [], ◌++◌, Bool, false, ◌||◌, Option, Result, length, map}
+use Rattle.std.specs.Prelude.{◌≡◌, ◌+◌, ℕ, List, [], ◌++◌, Bool, false, ◌||◌, ◌-◌, zero, suc, Option, Result, length, drop, map}
 use Rattle.std.specs.Io.KnownBytes.{Appends, Consumes}
 use Rattle.ded_lex.specs.Pieces.{Statement, Whole, IsCut}
 use Rattle.ded_lex.specs.Splits.{Since}
@@ -16,46 +16,63 @@ use Rattle.ded_run.specs.declared.dialogue.Dialogue.{Dialogue}
 use Rattle.ded_run.specs.Outcome.{Interrupted}
 use Rattle.ded_run.specs.Texts.{text_of, texts}
 
--- The whole pieces of the bytes taken are answered, and the tail stands behind them. Whatever replies further
--- statements may get in this language over this catalogue, they may get them behind these.
-pub record SoFar (limit : ℕ) (taken tail : List ℕ) (language : Language) (c : Catalogue) (refused : Bool) (held now : Option (List ℕ)) : Type 0 where
+-- what is written of a reply where so many more aren't written
+abbrev pub spoken : ℕ → ReplyForm → List ℕ
+spoken zero reply = text_of reply
+spoken (suc left) reply = []
+
+-- The whole pieces of the bytes taken are answered, and the tail stands behind them. Of the replies the first so many aren't
+-- written, and so many of these are left. Whatever replies further statements may get in this language over this catalogue,
+-- they may get them behind these.
+pub record SoFar (limit silent left : ℕ) (taken tail : List ℕ) (language : Language) (c : Catalogue) (refused : Bool) (held now : Option (List ℕ)) : Type 0 where
   pub pieces : List (List ℕ)
   pub cut : IsCut taken pieces tail
   pub replies : List ReplyForm
   pub goes : (statements : List Statement) (more : List ReplyForm) (last : Catalogue)
       → Steps language c statements more last
       → Steps Opening (empty_catalogue limit) (map Whole pieces ++ statements) (replies ++ more) last
-  pub written : Appends held now (texts replies)
+  pub counts : left ≡ silent - length replies
+  pub written : Appends held now (texts (drop silent replies))
   pub refuses : some_refusal replies ≡ refused
 
--- a piece got a reply, whose text was written, or a front of it where the sink failed
-pub record IsReplied {T E : Type 0} (piece : Piece) (language : Language) (c : Catalogue) (next : Language) (d : Catalogue) (before refused : Bool) (held now : Option (List ℕ)) (result : Result T E) : Type 0 where
+-- a piece got a reply, whose text was written where none is left that isn't, or a front of it where the sink failed
+pub record IsReplied {T E : Type 0} (piece : Piece) (language : Language) (c : Catalogue) (next : Language) (d : Catalogue) (before refused : Bool) (silent left : ℕ) (held now : Option (List ℕ)) (result : Result T E) : Type 0 where
   pub reply : ReplyForm
   pub step : StepsPiece piece language c reply d
   pub goes_on : next ≡ next_language language
   pub refuses : refused ≡ before || is_refusal reply
-  pub written : AddsAll held now result (text_of reply)
+  pub counts : left ≡ silent - 1
+  pub written : AddsAll held now result (spoken silent reply)
 
 -- nothing was taken yet, and the catalogue is without entries
-pub record IsFresh (limit : ℕ) (d : Dialogue) : Type 0 where
+pub record IsFresh (limit silent : ℕ) (d : Dialogue) : Type 0 where
   pub since : Since d.splitter []
   pub catalogue : catalogue_in d.session ≡ empty_catalogue limit
   pub language : language_in d.session ≡ Opening
   pub refused : d.refused ≡ false
+  pub left : d.silent ≡ silent
 
 -- the whole pieces of the bytes taken are answered, and the splitter was fed the tail
-pub record Streamed (limit : ℕ) (d : Dialogue) (taken : List ℕ) (held now : Option (List ℕ)) : Type 0 where
+pub record Streamed (limit silent : ℕ) (d : Dialogue) (taken : List ℕ) (held now : Option (List ℕ)) : Type 0 where
   pub tail : List ℕ
   pub since : Since d.splitter tail
-  pub so_far : SoFar limit taken tail (language_in d.session) (catalogue_in d.session) d.refused held now
+  pub so_far : SoFar limit silent d.silent taken tail (language_in d.session) (catalogue_in d.session) d.refused held now
 
 -- the sink failed in these bytes, however the script goes on
-abbrev pub Stopped : ℕ → List ℕ → Option (List ℕ) → Option (List ℕ) → Type 0
-Stopped limit bytes held now = (more : List ℕ) → Interrupted limit (bytes ++ more) held now
+abbrev pub Stopped : ℕ → ℕ → List ℕ → Option (List ℕ) → Option (List ℕ) → Type 0
+Stopped limit silent bytes held now = (more : List ℕ) → Interrupted limit silent (bytes ++ more) held now
+
+-- the bytes were taken, and the statements that end in them are answered
+pub record Grows (before after : Dialogue) (held now : Option (List ℕ)) (bytes : List ℕ) : Type 0 where
+  pub on : (limit silent : ℕ) (taken : List ℕ) (was : Option (List ℕ)) → Streamed limit silent before taken was held → Streamed limit silent after (taken ++ bytes) was now
+
+-- the sink failed in the bytes
+pub record Breaks (before : Dialogue) (held now : Option (List ℕ)) (bytes : List ℕ) : Type 0 where
+  pub on : (limit silent : ℕ) (taken : List ℕ) (was : Option (List ℕ)) → Streamed limit silent before taken was held → Stopped limit silent (taken ++ bytes) was now
 
 -- What was taken so far is answered, and so many bytes may still come.
 pub record Reading (limit input_limit room : ℕ) (d : Dialogue) (input left held now : Option (List ℕ)) : Type 0 where
   pub taken : List ℕ
   pub takes : Consumes input left taken
   pub counts : length taken + room ≡ input_limit
-  pub streamed : Streamed limit d taken held now
+  pub streamed : Streamed limit 0 d taken held now

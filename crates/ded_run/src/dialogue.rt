@@ -12,34 +12,36 @@ use ded_model::memory::NoMemory;
 use ded_session::{Piece, Session};
 use std::alloc::Global;
 
-/// The statement that is coming in, the session that answers it when it ends, and whether some reply so far is a
-/// refusal.
+/// The statement that is coming in, the session that answers it when it ends, whether some reply so far is a refusal,
+/// and how many of the next replies aren't written.
 #[derive(Drop)]
 pub struct Dialogue {
     splitter: Splitter,
     session: Session,
     refused: bool,
+    silent: u32,
 }
 
 impl Dialogue {
-    ghost use Rattle.std.specs.Prelude.{◌≡◌, ◌≤◌, ◌++◌, ◌∷◌, [], List, ℕ, Option, IfOk, OnErr};
+    ghost use Rattle.std.specs.Prelude.{◌≡◌, ◌≤◌, ◌∷◌, [], List, ℕ, Option, IfOk, OnErr};
     ghost use Rattle.ded_io.specs.Causes.{HasCause};
     ghost use Rattle.ded_run.specs.Outcome.{Concluded, Interrupted};
-    ghost use Rattle.ded_run.specs.Streams.{IsFresh, Streamed, Stopped};
+    ghost use Rattle.ded_run.specs.Streams.{IsFresh, Streamed, Grows, Breaks};
 
-    /// Nothing came in yet.
+    /// Nothing came in yet, and the first `silent` replies won't be written.
     ///
     /// # Errors
     /// `NoMemory` where the splitter's buffer or the catalogue isn't had.
-    pub fn new(alloc: Global, limit: u32) -> Result<Dialogue, NoMemory>
+    pub fn new(alloc: Global, limit: u32, silent: u32) -> Result<Dialogue, NoMemory>
         requires low { 1 ≤ limit }
         requires high { limit ≤ 1000000 }
-        ensures { IfOk result (IsFresh limit) }
+        ensures { IfOk result (IsFresh limit silent) }
     {
         Ok(Dialogue {
             splitter: Splitter::new(alloc)?,
             session: Session::new(alloc, limit)?,
             refused: false,
+            silent,
         })
     }
 
@@ -52,21 +54,29 @@ impl Dialogue {
 
     // Takes the next byte, and answers the statement that ends there.
     fn feed_byte<K: Sink>(&mut self, byte: u8, sink: &mut K) -> Result<(), Failed>
-        ensures streamed { IfOk result (λ _. (limit : ℕ) (taken : List ℕ) (held : Option (List ℕ)) →
-            Streamed limit self.old taken held (K.held sink.old) →
-            Streamed limit self.new (taken ++ byte ∷ []) held (K.held sink.new)) }
-        ensures stopped { OnErr result ((limit : ℕ) (taken : List ℕ) (held : Option (List ℕ)) →
-            Streamed limit self.old taken held (K.held sink.old) →
-            Stopped limit (taken ++ byte ∷ []) held (K.held sink.new)) }
+        ensures grows { IfOk result (λ _. Grows self.old self.new (K.held sink.old) (K.held sink.new) (byte ∷ [])) }
+        ensures breaks { OnErr result (Breaks self.old (K.held sink.old) (K.held sink.new) (byte ∷ [])) }
         ensures cause { HasCause (K.faults sink.old) (K.faults sink.new) result }
     {
         match self.splitter.feed(byte) {
             Fed::More => Ok(()),
             Fed::Ended => {
                 let piece = Piece::Whole(self.splitter.piece());
-                answer(&mut self.session, piece, &mut self.refused, sink)
+                answer(
+                    &mut self.session,
+                    piece,
+                    &mut self.refused,
+                    &mut self.silent,
+                    sink,
+                )
             }
-            Fed::EndedLong => answer(&mut self.session, Piece::Long, &mut self.refused, sink),
+            Fed::EndedLong => answer(
+                &mut self.session,
+                Piece::Long,
+                &mut self.refused,
+                &mut self.silent,
+                sink,
+            ),
         }
     }
 
@@ -75,12 +85,8 @@ impl Dialogue {
     /// # Errors
     /// `Failed` only where the sink's count of faults rose.
     pub fn feed<K: Sink>(&mut self, bytes: &[u8], sink: &mut K) -> Result<(), Failed>
-        ensures streamed { IfOk result (λ _. (limit : ℕ) (taken : List ℕ) (held : Option (List ℕ)) →
-            Streamed limit self.old taken held (K.held sink.old) →
-            Streamed limit self.new (taken ++ bytes.now) held (K.held sink.new)) }
-        ensures stopped { OnErr result ((limit : ℕ) (taken : List ℕ) (held : Option (List ℕ)) →
-            Streamed limit self.old taken held (K.held sink.old) →
-            Stopped limit (taken ++ bytes.now) held (K.held sink.new)) }
+        ensures grows { IfOk result (λ _. Grows self.old self.new (K.held sink.old) (K.held sink.new) bytes.now) }
+        ensures breaks { OnErr result (Breaks self.old (K.held sink.old) (K.held sink.new) bytes.now) }
         ensures cause { HasCause (K.faults sink.old) (K.faults sink.new) result }
     {
         for byte in bytes {
@@ -94,36 +100,53 @@ impl Dialogue {
     /// # Errors
     /// `Failed` only where the sink's count of faults rose.
     pub fn finish<K: Sink>(&mut self, sink: &mut K) -> Result<(), Failed>
-        ensures concluded { IfOk result (λ _. (limit : ℕ) (taken : List ℕ) (held : Option (List ℕ)) →
-            Streamed limit self.old taken held (K.held sink.old) →
-            Concluded limit taken held (K.held sink.new) self.new.refused) }
-        ensures stopped { OnErr result ((limit : ℕ) (taken : List ℕ) (held : Option (List ℕ)) →
-            Streamed limit self.old taken held (K.held sink.old) →
-            Interrupted limit taken held (K.held sink.new)) }
+        ensures concluded { IfOk result (λ _. (limit silent : ℕ) (taken : List ℕ) (held : Option (List ℕ)) →
+            Streamed limit silent self.old taken held (K.held sink.old) →
+            Concluded limit silent taken held (K.held sink.new) self.new.refused) }
+        ensures stopped { OnErr result ((limit silent : ℕ) (taken : List ℕ) (held : Option (List ℕ)) →
+            Streamed limit silent self.old taken held (K.held sink.old) →
+            Interrupted limit silent taken held (K.held sink.new)) }
         ensures cause { HasCause (K.faults sink.old) (K.faults sink.new) result }
     {
         match self.splitter.finish() {
             Rest::Blank => Ok(()),
-            Rest::Cut => answer(&mut self.session, Piece::Cut, &mut self.refused, sink),
-            Rest::CutLong => answer(&mut self.session, Piece::Long, &mut self.refused, sink),
+            Rest::Cut => answer(
+                &mut self.session,
+                Piece::Cut,
+                &mut self.refused,
+                &mut self.silent,
+                sink,
+            ),
+            Rest::CutLong => answer(
+                &mut self.session,
+                Piece::Long,
+                &mut self.refused,
+                &mut self.silent,
+                sink,
+            ),
         }
     }
 }
 
-// Answers a piece, notes whether the reply is a refusal, and writes it.
+// Answers a piece, notes whether the reply is a refusal, and writes it unless it is one of those that aren't written.
 fn answer<K: Sink>(
     session: &mut Session,
     piece: Piece<'_>,
     refused: &mut bool,
+    silent: &mut u32,
     sink: &mut K,
 ) -> Result<(), Failed>
     requires { IsShortPiece piece }
     ensures replied { IsReplied piece.entry (language_in session.old) (catalogue_in session.old)
-        (language_in session.new) (catalogue_in session.new) refused.old refused.new
+        (language_in session.new) (catalogue_in session.new) refused.old refused.new silent.old silent.new
         (K.held sink.old) (K.held sink.new) result }
     ensures cause { HasCause (K.faults sink.old) (K.faults sink.new) result }
 {
     let reply = session.step(piece);
     *refused |= reply.is_refusal();
+    if *silent > 0 {
+        *silent -= 1;
+        return Ok(());
+    }
     write_reply(&reply, sink)
 }

@@ -4,8 +4,8 @@
 //! the input. Each statement is answered before the next read. Where it is done, the whole script was read, and the sink
 //! holds what it held, then the text of one reply for each statement, in order, each by the rules of `ded_session`
 //! (`specs/Outcome.antt`). Where a device fails, or the script is too long, the contract says what stands written.
-//! [`run`] has `clap` read the words of the command line first (`specs/Words.antt`). [`write_reply`] writes one reply
-//! (`specs/Texts.antt`).
+//! [`make`] runs a script that is made (`specs/Made.antt`), and writes the replies to its questions alone. [`run`] has `clap`
+//! read the words of the command line first (`specs/Words.antt`). [`write_reply`] writes one reply (`specs/Texts.antt`).
 //!
 //! It stands on `ded_lex` for statements, on `ded_session` for replies, on `ded_print` for their texts, and on `ded_io`
 //! for the source and the sink.
@@ -13,12 +13,13 @@
 
 mod dialogue;
 pub mod laws;
+mod made;
 mod program;
 mod reply;
 #[cfg(test)]
 mod tests;
 mod words;
 
-pub use program::{Setup, Status, run, serve};
+pub use program::{Setup, Status, make, run, serve};
 pub use reply::write_reply;
 pub use words::Words;

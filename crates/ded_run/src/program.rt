@@ -1,12 +1,15 @@
 //! A whole run: from the bytes of a source to the texts of a sink.
-ghost use Rattle.std.specs.Prelude.{◌≡◌, ◌≢◌, ◌≤◌, ◌^◌, ◌⊎◌, false, true, ℕ, List, Option};
+ghost use Rattle.std.specs.Prelude.{◌≡◌, ◌≢◌, ◌≤◌, ◌^◌, ◌⊎◌, false, true, ℕ, List, MatchOption, None, Option};
 ghost use Rattle.ded_io.specs.Causes.{Rose};
+ghost use Rattle.ded_run.specs.Made.{HalfMade, Made};
 ghost use Rattle.ded_run.specs.Outcome.{Answered, Broken, Concluded, Interrupted, Overlong, Unread};
 ghost use Rattle.ded_run.specs.Streams.{Streamed};
-ghost use Rattle.ded_run.specs.Words.{AcceptedWords, WithLimit, texts_in};
+ghost use Rattle.ded_run.specs.declared.words.Options.{Options};
+ghost use Rattle.ded_run.specs.Words.{AcceptedWords, WithOptions, texts_in};
 
 use crate::dialogue::Dialogue;
-use crate::words::{WordFault, Words, limit_in};
+use crate::made::feed_script;
+use crate::words::{WordFault, Words, options_in};
 use ded_io::{Failed, Sink, Source};
 use std::alloc::Global;
 
@@ -63,7 +66,7 @@ pub fn serve<S: Source, K: Sink>(
     ensures overlong { result ≡ Status.TooLong → Overlong setup.now.limit setup.now.input_limit (S.left source.old) (S.left source.new) (K.held sink.old) (K.held sink.new) }
     ensures ends { (Rose (S.faults source.old) (S.faults source.new) → ⊥) → (Rose (K.faults sink.old) (K.faults sink.new) → ⊥) → result ≢ Status.NoMemory → result ≢ Status.TooLong → (result ≡ Status.Done) ⊎ (result ≡ Status.DoneWithRefusals) }
 {
-    let Ok(mut dialogue) = Dialogue::new(alloc, setup.limit) else {
+    let Ok(mut dialogue) = Dialogue::new(alloc, setup.limit, 0) else {
         return Status::NoMemory;
     };
     let mut buffer = [0u8; READ_AT_ONCE];
@@ -89,13 +92,13 @@ pub fn serve<S: Source, K: Sink>(
 // Answers the last statement of an input that ended.
 fn conclude<K: Sink>(dialogue: &mut Dialogue, sink: &mut K) -> Status
     ensures kinds { (result ≡ Status.Done) ⊎ (result ≡ Status.DoneWithRefusals) ⊎ (result ≡ Status.WriteFault) }
-    ensures done { result ≡ Status.Done → (limit : ℕ) (taken : List ℕ) (held : Option (List ℕ)) →
-        Streamed limit dialogue.old taken held (K.held sink.old) → Concluded limit taken held (K.held sink.new) false }
-    ensures done_with_refusals { result ≡ Status.DoneWithRefusals → (limit : ℕ) (taken : List ℕ) (held : Option (List ℕ)) →
-        Streamed limit dialogue.old taken held (K.held sink.old) → Concluded limit taken held (K.held sink.new) true }
+    ensures done { result ≡ Status.Done → (limit silent : ℕ) (taken : List ℕ) (held : Option (List ℕ)) →
+        Streamed limit silent dialogue.old taken held (K.held sink.old) → Concluded limit silent taken held (K.held sink.new) false }
+    ensures done_with_refusals { result ≡ Status.DoneWithRefusals → (limit silent : ℕ) (taken : List ℕ) (held : Option (List ℕ)) →
+        Streamed limit silent dialogue.old taken held (K.held sink.old) → Concluded limit silent taken held (K.held sink.new) true }
     ensures faultless { (result ≡ Status.Done) ⊎ (result ≡ Status.DoneWithRefusals) → K.faults sink.new ≡ K.faults sink.old }
-    ensures broken { result ≡ Status.WriteFault → (limit : ℕ) (taken : List ℕ) (held : Option (List ℕ)) →
-        Streamed limit dialogue.old taken held (K.held sink.old) → Interrupted limit taken held (K.held sink.new) }
+    ensures broken { result ≡ Status.WriteFault → (limit silent : ℕ) (taken : List ℕ) (held : Option (List ℕ)) →
+        Streamed limit silent dialogue.old taken held (K.held sink.old) → Interrupted limit silent taken held (K.held sink.new) }
     ensures write_fault { result ≡ Status.WriteFault → Rose (K.faults sink.old) (K.faults sink.new) }
 {
     match dialogue.finish(sink) {
@@ -105,32 +108,68 @@ fn conclude<K: Sink>(dialogue: &mut Dialogue, sink: &mut K) -> Status
     }
 }
 
+/// Runs the made script of the size, whose statements come one by one, and writes the replies to its questions alone.
+///
+/// The script has `size * size + size + 3` statements that set up, and five questions.
+pub fn make<K: Sink>(alloc: Global, setup: &Setup, size: u32, sink: &mut K) -> Status
+    requires low { 1 ≤ setup.now.limit }
+    requires high { setup.now.limit ≤ 1000000 }
+    requires size_low { 1 ≤ size }
+    requires size_high { size ≤ 100 }
+    ensures done { result ≡ Status.Done → Made setup.now.limit size (K.held sink.old) (K.held sink.new) false }
+    ensures done_with_refusals { result ≡ Status.DoneWithRefusals → Made setup.now.limit size (K.held sink.old) (K.held sink.new) true }
+    ensures kinds { (result ≢ Status.ReadFault) × (result ≢ Status.TooLong) × (result ≢ Status.BadWords) }
+    ensures faultless { (result ≡ Status.Done) ⊎ (result ≡ Status.DoneWithRefusals) → K.faults sink.new ≡ K.faults sink.old }
+    ensures write_fault { result ≡ Status.WriteFault → Rose (K.faults sink.old) (K.faults sink.new) }
+    ensures broken { result ≡ Status.WriteFault → HalfMade setup.now.limit size (K.held sink.old) (K.held sink.new) }
+    ensures no_memory { result ≡ Status.NoMemory → sink.new ≡ sink.old }
+    ensures ends { (Rose (K.faults sink.old) (K.faults sink.new) → ⊥) → result ≢ Status.NoMemory → (result ≡ Status.Done) ⊎ (result ≡ Status.DoneWithRefusals) }
+{
+    let silent = size * size + size + 3;
+    let Ok(mut dialogue) = Dialogue::new(alloc, setup.limit, silent) else {
+        return Status::NoMemory;
+    };
+    if let Err(Failed) = feed_script(&mut dialogue, size, sink) {
+        return Status::WriteFault;
+    }
+    conclude(&mut dialogue, sink)
+}
+
 const INPUT_LIMIT: u64 = 1 << 40;
 
-/// All that the program does: reads the words, and then serves.
+/// All that the program does: reads the words, and then serves, or makes a script where they ask for one.
 pub fn run<S: Source, K: Sink>(alloc: Global, words: &Words, source: &mut S, sink: &mut K) -> Status
-    ensures bad_words { result ≡ Status.BadWords → (limit : ℕ) → AcceptedWords (texts_in words.now) limit → ⊥ }
-    ensures no_limit { ((limit : ℕ) → AcceptedWords (texts_in words.now) limit → ⊥) → (result ≡ Status.BadWords) ⊎ (result ≡ Status.NoMemory) }
+    ensures bad_words { result ≡ Status.BadWords → (options : Options) → AcceptedWords (texts_in words.now) options → ⊥ }
+    ensures no_options { ((options : Options) → AcceptedWords (texts_in words.now) options → ⊥) → (result ≡ Status.BadWords) ⊎ (result ≡ Status.NoMemory) }
     ensures no_words { result ≡ Status.BadWords → (source.new ≡ source.old) × (sink.new ≡ sink.old) }
-    ensures done { result ≡ Status.Done → WithLimit (texts_in words.now) (λ limit. Answered limit (2 ^ 40) (S.left source.old) (S.left source.new) (K.held sink.old) (K.held sink.new) false) }
-    ensures done_with_refusals { result ≡ Status.DoneWithRefusals → WithLimit (texts_in words.now) (λ limit. Answered limit (2 ^ 40) (S.left source.old) (S.left source.new) (K.held sink.old) (K.held sink.new) true) }
+    ensures done { result ≡ Status.Done → WithOptions (texts_in words.now) (λ options. MatchOption options.size
+        (Answered options.limit (2 ^ 40) (S.left source.old) (S.left source.new) (K.held sink.old) (K.held sink.new) false)
+        (λ size. Made options.limit size (K.held sink.old) (K.held sink.new) false × (source.new ≡ source.old))) }
+    ensures done_with_refusals { result ≡ Status.DoneWithRefusals → WithOptions (texts_in words.now) (λ options. MatchOption options.size
+        (Answered options.limit (2 ^ 40) (S.left source.old) (S.left source.new) (K.held sink.old) (K.held sink.new) true)
+        (λ size. Made options.limit size (K.held sink.old) (K.held sink.new) true × (source.new ≡ source.old))) }
     ensures faultless { (result ≡ Status.Done) ⊎ (result ≡ Status.DoneWithRefusals) ⊎ (result ≡ Status.TooLong) → (S.faults source.new ≡ S.faults source.old) × (K.faults sink.new ≡ K.faults sink.old) }
     ensures read_fault { result ≡ Status.ReadFault → Rose (S.faults source.old) (S.faults source.new) × (K.faults sink.new ≡ K.faults sink.old) }
-    ensures unread { result ≡ Status.ReadFault → WithLimit (texts_in words.now) (λ limit. Unread limit (2 ^ 40) (S.left source.old) (S.left source.new) (K.held sink.old) (K.held sink.new)) }
+    ensures unread { result ≡ Status.ReadFault → WithOptions (texts_in words.now) (λ options. (options.size ≡ None) × Unread options.limit (2 ^ 40) (S.left source.old) (S.left source.new) (K.held sink.old) (K.held sink.new)) }
     ensures write_fault { result ≡ Status.WriteFault → Rose (K.faults sink.old) (K.faults sink.new) × (S.faults source.new ≡ S.faults source.old) }
-    ensures broken { result ≡ Status.WriteFault → WithLimit (texts_in words.now) (λ limit. Broken limit (S.left source.old) (S.left source.new) (K.held sink.old) (K.held sink.new)) }
+    ensures broken { result ≡ Status.WriteFault → WithOptions (texts_in words.now) (λ options. MatchOption options.size
+        (Broken options.limit (S.left source.old) (S.left source.new) (K.held sink.old) (K.held sink.new))
+        (λ size. HalfMade options.limit size (K.held sink.old) (K.held sink.new) × (source.new ≡ source.old))) }
     ensures no_memory { result ≡ Status.NoMemory → (source.new ≡ source.old) × (sink.new ≡ sink.old) }
-    ensures overlong { result ≡ Status.TooLong → WithLimit (texts_in words.now) (λ limit. Overlong limit (2 ^ 40) (S.left source.old) (S.left source.new) (K.held sink.old) (K.held sink.new)) }
+    ensures overlong { result ≡ Status.TooLong → WithOptions (texts_in words.now) (λ options. (options.size ≡ None) × Overlong options.limit (2 ^ 40) (S.left source.old) (S.left source.new) (K.held sink.old) (K.held sink.new)) }
     ensures ends { (Rose (S.faults source.old) (S.faults source.new) → ⊥) → (Rose (K.faults sink.old) (K.faults sink.new) → ⊥) → result ≢ Status.NoMemory → result ≢ Status.TooLong → result ≢ Status.BadWords → (result ≡ Status.Done) ⊎ (result ≡ Status.DoneWithRefusals) }
 {
-    let limit = match limit_in(alloc, &words.list) {
-        Ok(limit) => limit,
+    let options = match options_in(alloc, &words.list) {
+        Ok(options) => options,
         Err(WordFault::Bad) => return Status::BadWords,
         Err(WordFault::Memory) => return Status::NoMemory,
     };
     let setup = Setup {
-        limit,
+        limit: options.limit,
         input_limit: INPUT_LIMIT,
     };
-    serve(alloc, &setup, source, sink)
+    match options.size {
+        Some(size) => make(alloc, &setup, size, sink),
+        None => serve(alloc, &setup, source, sink),
+    }
 }

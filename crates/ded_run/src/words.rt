@@ -1,10 +1,11 @@
 //! The words of the command line.
-ghost use Rattle.std.specs.Prelude.{◌≡◌, ◌≢◌, [], ℕ, Err, IfOk, MatchResult, codes, map, option_map};
+ghost use Rattle.std.specs.Prelude.{◌≡◌, ◌≢◌, ◌≤◌, [], ℕ, List, Option, Some, None, Err, IfOk, MatchOption, codes, map, option_map};
 ghost use Rattle.std.specs.String.{string_bytes};
 ghost use Rattle.clap.specs.Words.{app_of, fault_of, first_of, matches_of};
-ghost use Rattle.ded_run.specs.CommandLine.{dedale, has_dashes};
+ghost use Rattle.ded_run.specs.CommandLine.{dedale, has_dashes, option_rule};
+ghost use Rattle.ded_run.specs.declared.words.Options.{Options};
 ghost use Rattle.ded_run.specs.declared.words.WordFault.TheVariants.{Memory};
-ghost use Rattle.ded_run.specs.Words.{AcceptedWords, IsLimit};
+ghost use Rattle.ded_run.specs.Words.{AcceptedWords, IsNumber, LimitValue, SizeValue};
 
 use clap::error::ErrorKind;
 use clap::{Arg, ArgAction, Command};
@@ -17,13 +18,24 @@ pub struct Words {
     pub list: Vec<String>,
 }
 
+/// What the words ask for.
+#[derive(Clone, Copy, Debug, PartialEq, Eq)]
+pub struct Options {
+    /// The most tuples that a relation holds.
+    pub limit: u32,
+    /// The size of the made script that stands for the input, where one does.
+    pub size: Option<u32>,
+}
+
 const DEFAULT_LIMIT: u32 = 100_000;
 
 const GREATEST_LIMIT: u32 = 1_000_000;
 
+const GREATEST_SIZE: u32 = 100;
+
 const MOST_DIGITS: usize = 7;
 
-/// Why words give no limit.
+/// Why words give no options.
 #[derive(Clone, Copy, Debug, PartialEq, Eq)]
 pub enum WordFault {
     /// They are no accepted list.
@@ -40,19 +52,30 @@ impl From<NoMemory> for WordFault {
     }
 }
 
-/// The limit that the words give.
-pub fn limit_in(alloc: Global, words: &[String]) -> Result<u32, WordFault>
-    ensures accepted { IfOk result (λ limit. AcceptedWords (map string_bytes words.now) limit) }
+/// The values of the two options, where the words have them.
+#[derive(Clone, Copy)]
+struct Values<'a> {
+    limit: Option<&'a str>,
+    size: Option<&'a str>,
+}
+
+/// The options that the words give.
+pub fn options_in(alloc: Global, words: &[String]) -> Result<Options, WordFault>
+    ensures accepted { IfOk result (λ options. AcceptedWords (map string_bytes words.now) options) }
     ensures bad { result ≡ Err WordFault.Bad →
-        (limit : ℕ) → AcceptedWords (map string_bytes words.now) limit → ⊥ }
+        (options : Options) → AcceptedWords (map string_bytes words.now) options → ⊥ }
 {
     if has_dashes(words) {
         return Err(WordFault::Bad);
     }
-    match limit_text(alloc, words)? {
-        Some(value) => limit_of(value),
-        None => Ok(DEFAULT_LIMIT),
-    }
+    let values = values_in(alloc, words)?;
+    let Some(limit) = limit_of(values.limit) else {
+        return Err(WordFault::Bad);
+    };
+    let Some(size) = size_of(values.size) else {
+        return Err(WordFault::Bad);
+    };
+    Ok(Options { limit, size })
 }
 
 // Whether some word is `--`.
@@ -67,43 +90,75 @@ fn has_dashes(words: &[String]) -> bool
     false
 }
 
-// `--limit` takes one value. There is no other option, and no argument without a name.
+// `--limit` and `--make` take one value each. There is no other option, and no argument without a name.
 fn command<'a>(alloc: Global) -> Result<Command<'a>, NoMemory>
     ensures { IfOk result (λ command. app_of command ≡ dedale) }
 {
     let limit = Arg::new(alloc, "limit")
         .long("limit")
         .action(ArgAction::Set);
+    let size = Arg::new(alloc, "make").long("make").action(ArgAction::Set);
     Command::new(alloc, "dedale")
         .no_binary_name(true)
         .disable_help_flag(true)
-        .arg(limit)
+        .arg(limit)?
+        .arg(size)
 }
 
-// The value of `--limit`, where the words have it.
-fn limit_text<'a>(alloc: Global, words: &'a [String]) -> Result<Option<&'a str>, WordFault>
-    ensures ok { IfOk result (λ text. (fault_of dedale (map string_bytes words.entry.now) ≡ []) ×
-        (option_map (λ t. t.now) text ≡ first_of (codes "limit") (matches_of dedale (map string_bytes words.entry.now)))) }
+// The values of the two options, where the words have them.
+fn values_in<'a>(alloc: Global, words: &'a [String]) -> Result<Values<'a>, WordFault>
+    ensures none { IfOk result (λ _. fault_of dedale (map string_bytes words.entry.now) ≡ []) }
+    ensures limit { IfOk result (λ values. option_map (λ t. t.now) values.limit
+        ≡ first_of (codes "limit") (matches_of dedale (map string_bytes words.entry.now))) }
+    ensures size { IfOk result (λ values. option_map (λ t. t.now) values.size
+        ≡ first_of (codes "make") (matches_of dedale (map string_bytes words.entry.now))) }
     ensures bad { result ≡ Err WordFault.Bad → fault_of dedale (map string_bytes words.entry.now) ≢ [] }
 {
     match command(alloc)?.try_get_matches_from(words) {
-        Ok(matches) => Ok(matches.get_str("limit")),
+        Ok(matches) => Ok(Values {
+            limit: matches.get_str("limit"),
+            size: matches.get_str("make"),
+        }),
         Err(error) if error.kind() == ErrorKind::OutOfMemory => Err(WordFault::Memory),
         Err(_) => Err(WordFault::Bad),
     }
 }
 
-// 1 to 7 digits whose number is 1 to 1,000,000.
-fn limit_of(value: &str) -> Result<u32, WordFault>
-    ensures { MatchResult result
-        (λ limit. IsLimit value.now limit)
-        (λ _. (limit : ℕ) → IsLimit value.now limit → ⊥) }
+// The limit, where its value is one.
+fn limit_of(value: Option<&str>) -> Option<u32>
+    ensures { MatchOption result
+        ((limit : ℕ) → LimitValue (option_map (λ t. t.now) value.entry) limit → ⊥)
+        (λ limit. LimitValue (option_map (λ t. t.now) value.entry) limit) }
+{
+    match value {
+        Some(text) => number_of(text, GREATEST_LIMIT),
+        None => Some(DEFAULT_LIMIT),
+    }
+}
+
+// The size, where its value is one.
+fn size_of(value: Option<&str>) -> Option<Option<u32>>
+    ensures { MatchOption result
+        ((size : Option ℕ) → SizeValue (option_map (λ t. t.now) value.entry) size → ⊥)
+        (λ size. SizeValue (option_map (λ t. t.now) value.entry) size) }
+{
+    match value {
+        Some(text) => Some(Some(number_of(text, GREATEST_SIZE)?)),
+        None => Some(None),
+    }
+}
+
+// 1 to 7 digits whose number is 1 to the greatest.
+fn number_of(value: &str, greatest: u32) -> Option<u32>
+    ensures { MatchOption result
+        ((number : ℕ) → IsNumber greatest value.now number → ⊥)
+        (λ number. IsNumber greatest value.now number) }
 {
     if value.len() > MOST_DIGITS || value.as_bytes().first() == Some(&b'+') {
-        return Err(WordFault::Bad);
+        return None;
     }
     match value.parse::<u32>() {
-        Ok(limit) if 1 <= limit && limit <= GREATEST_LIMIT => Ok(limit),
-        _ => Err(WordFault::Bad),
+        Ok(number) if 1 <= number && number <= greatest => Some(number),
+        _ => None,
     }
 }

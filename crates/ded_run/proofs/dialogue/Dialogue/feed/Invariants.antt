@@ -1,6 +1,5 @@
-use Rattle.std.proofs.Common.{◌≡◌, List, ℕ, ◌++◌, take}
-use Rattle.std.specs.declared.option.Option.{Option}
-use Rattle.ded_run.specs.Streams.{Streamed}
+use Rattle.std.proofs.Common.{◌≡◌, take}
+use Rattle.ded_run.specs.Streams.{Grows}
 use Rattle.ded_run.proofs.dialogue.Dialogue.feed.Given as goal
 
 -- the bytes so far are answered, and no call failed
@@ -8,6 +7,6 @@ abbrev pub invariant-loop-byte : goal.invariant-loop-byte
 invariant-loop-byte g l =
     let held = g.K.Sink.held in
     record {
-      streamed : (limit : ℕ) (taken : List ℕ) (before : Option (List ℕ)) → Streamed limit l.fn.self taken before (held l.fn.sink) → Streamed limit l.self (taken ++ take l.byte-index l.bytes) before (held l.sink);
+      fed : Grows l.fn.self l.self (held l.fn.sink) (held l.sink) (take l.byte-index l.bytes);
       done : g.K.Sink.faults l.sink ≡ g.K.Sink.faults l.fn.sink;
     }

@@ -1,0 +1,16 @@
+use Rattle.std.proofs.Common.{◌≡◌, ◌||◌, Bool, ap, arith}
+use Rattle.ded_session.specs.Answered.{reply_form}
+use Rattle.ded_run.proofs.Answering.{adds_aloud}
+use Rattle.ded_run.proofs.dialogue.answer.Goals as goal
+
+pub returns-clause-replied : goal.returns-clause-replied
+returns-clause-replied g c =
+    let none : c.args.silent.now ≡ 0 = omega (arith, c.if-silent-gt0.false) in
+    record {
+      reply = reply_form c.step-reply.result;
+      step = c.step-reply.ensures.step;
+      goes_on = c.step-reply.ensures.language;
+      refuses = ap (λ (b : Bool). c.args.refused.now || b) c.is_refusal.ensures;
+      counts = omega (arith, none);
+      written = adds_aloud _ _ _ _ _ none c.write_reply.ensures.bytes;
+    }

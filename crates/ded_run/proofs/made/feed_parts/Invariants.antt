@@ -1,0 +1,13 @@
+use Rattle.std.proofs.Common.{◌≡◌, take}
+use Rattle.ded_run.specs.Parts.{parts_bytes}
+use Rattle.ded_run.specs.Streams.{Grows}
+use Rattle.ded_run.proofs.made.feed_parts.Given as goal
+
+-- the parts so far were fed, and no call failed
+abbrev pub invariant-loop-part : goal.invariant-loop-part
+invariant-loop-part g l =
+    let held = g.K.Sink.held in
+    record {
+      fed : Grows l.fn.dialogue l.dialogue (held l.fn.sink) (held l.sink) (parts_bytes (take l.part-index l.parts));
+      done : g.K.Sink.faults l.sink ≡ g.K.Sink.faults l.fn.sink;
+    }

@@ -1,0 +1,13 @@
+use Rattle.std.proofs.Common.{◌≡◌, map}
+use Rattle.ded_run.specs.Made.{below, lines, road_insert}
+use Rattle.ded_run.specs.Streams.{Grows}
+use Rattle.ded_run.proofs.made.feed_roads.Given as goal
+
+-- the statements so far were fed, and no call failed
+abbrev pub invariant-loop-band : goal.invariant-loop-band
+invariant-loop-band g l =
+    let held = g.K.Sink.held in
+    record {
+      fed : Grows l.fn.dialogue l.dialogue (held l.fn.sink) (held l.sink) (lines (map road_insert (below l.band)));
+      done : g.K.Sink.faults l.sink ≡ g.K.Sink.faults l.fn.sink;
+    }

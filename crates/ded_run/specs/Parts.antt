@@ -1,0 +1,13 @@
+-- The parts of which a made statement is put together.
+use Rattle.std.specs.Prelude.{ℕ, List}
+use Rattle.std.specs.List.{flat_map}
+use Rattle.ded_print.specs.Numbers.{number_text}
+use Rattle.ded_run.specs.declared.made.Part.{Part}
+use Rattle.ded_run.specs.declared.made.Part.TheVariants.{Text, Number}
+
+abbrev pub part_bytes : Part → List ℕ
+part_bytes (Text bytes) = bytes.now
+part_bytes (Number n) = number_text n
+
+abbrev pub parts_bytes : List Part → List ℕ
+parts_bytes parts = flat_map part_bytes parts

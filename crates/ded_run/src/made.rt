@@ -1,0 +1,205 @@
+//! The made script, fed statement by statement.
+ghost use Rattle.std.specs.Prelude.{◌≡◌, ◌<◌, ◌≤◌, ◌-◌, ◌++◌, ◌∷◌, [], IfOk, OnErr, map};
+ghost use Rattle.std.specs.List.{flat_map};
+ghost use Rattle.ded_io.specs.Causes.{HasCause};
+ghost use Rattle.ded_run.specs.Made.{below, land_insert, land_row, line, lines, made_questions, made_script, road_insert};
+ghost use Rattle.ded_run.specs.Parts.{part_bytes, parts_bytes};
+ghost use Rattle.ded_run.specs.Streams.{Grows, Breaks};
+
+use crate::dialogue::Dialogue;
+use ded_io::{Failed, Sink};
+use itoa::Buffer;
+
+/// A part of a statement: a text as it stands, or a number in decimal.
+#[derive(Clone, Copy)]
+enum Part<'a> {
+    Text(&'a [u8]),
+    Number(u32),
+}
+
+/// Feeds the whole script of a size of 1 to 100.
+///
+/// # Errors
+/// `Failed` only where the sink's count of faults rose.
+pub fn feed_script<K: Sink>(dialogue: &mut Dialogue, size: u32, sink: &mut K) -> Result<(), Failed>
+    requires low { 1 ≤ size }
+    requires high { size ≤ 100 }
+    ensures grows { IfOk result (λ _. Grows dialogue.old dialogue.new (K.held sink.old) (K.held sink.new) (made_script size)) }
+    ensures breaks { OnErr result (Breaks dialogue.old (K.held sink.old) (K.held sink.new) (made_script size)) }
+    ensures cause { HasCause (K.faults sink.old) (K.faults sink.new) result }
+{
+    dialogue.feed(
+        b"relation Land(n text, x, y);\nrelation Road(k text, x, y);\n",
+        sink,
+    )?;
+    feed_lands(dialogue, size, sink)?;
+    feed_roads(dialogue, size, sink)?;
+    dialogue.feed(VIEW, sink)?;
+    feed_questions(dialogue, size, sink)
+}
+
+const VIEW: &[u8] =
+    b"view Cross(n text, k text) := exists x exists y (Land(n, x, y) and Road(k, x, y));\n";
+
+// Feeds the rectangles, row by row.
+fn feed_lands<K: Sink>(dialogue: &mut Dialogue, size: u32, sink: &mut K) -> Result<(), Failed>
+    requires { size ≤ 100 }
+    ensures grows { IfOk result (λ _. Grows dialogue.old dialogue.new (K.held sink.old) (K.held sink.new) (lines (flat_map (land_row size) (below size)))) }
+    ensures breaks { OnErr result (Breaks dialogue.old (K.held sink.old) (K.held sink.new) (lines (flat_map (land_row size) (below size)))) }
+    ensures cause { HasCause (K.faults sink.old) (K.faults sink.new) result }
+{
+    for row in 0..size {
+        feed_land_row(dialogue, row, size, sink)?;
+    }
+    Ok(())
+}
+
+// Feeds the rectangles of a row.
+fn feed_land_row<K: Sink>(
+    dialogue: &mut Dialogue,
+    row: u32,
+    size: u32,
+    sink: &mut K,
+) -> Result<(), Failed>
+    requires row { row < 100 }
+    requires size { size ≤ 100 }
+    ensures grows { IfOk result (λ _. Grows dialogue.old dialogue.new (K.held sink.old) (K.held sink.new) (lines (land_row size row))) }
+    ensures breaks { OnErr result (Breaks dialogue.old (K.held sink.old) (K.held sink.new) (lines (land_row size row))) }
+    ensures cause { HasCause (K.faults sink.old) (K.faults sink.new) result }
+{
+    for column in 0..size {
+        feed_land(dialogue, row, column, sink)?;
+    }
+    Ok(())
+}
+
+// Feeds a rectangle.
+fn feed_land<K: Sink>(
+    dialogue: &mut Dialogue,
+    row: u32,
+    column: u32,
+    sink: &mut K,
+) -> Result<(), Failed>
+    requires row { row < 100 }
+    requires column { column < 100 }
+    ensures grows { IfOk result (λ _. Grows dialogue.old dialogue.new (K.held sink.old) (K.held sink.new) (line (land_insert row column))) }
+    ensures breaks { OnErr result (Breaks dialogue.old (K.held sink.old) (K.held sink.new) (line (land_insert row column))) }
+    ensures cause { HasCause (K.faults sink.old) (K.faults sink.new) result }
+{
+    let parts = [
+        Part::Text(b"insert Land { n = 'r"),
+        Part::Number(row),
+        Part::Text(b"c"),
+        Part::Number(column),
+        Part::Text(b"', x >= "),
+        Part::Number(10 * column),
+        Part::Text(b", x <= "),
+        Part::Number(10 * column + 10),
+        Part::Text(b", y >= "),
+        Part::Number(10 * row),
+        Part::Text(b", y <= "),
+        Part::Number(10 * row + 10),
+        Part::Text(b" }"),
+    ];
+    feed_statement(dialogue, &parts, sink)
+}
+
+// Feeds the bands.
+fn feed_roads<K: Sink>(dialogue: &mut Dialogue, size: u32, sink: &mut K) -> Result<(), Failed>
+    requires { size ≤ 100 }
+    ensures grows { IfOk result (λ _. Grows dialogue.old dialogue.new (K.held sink.old) (K.held sink.new) (lines (map road_insert (below size)))) }
+    ensures breaks { OnErr result (Breaks dialogue.old (K.held sink.old) (K.held sink.new) (lines (map road_insert (below size)))) }
+    ensures cause { HasCause (K.faults sink.old) (K.faults sink.new) result }
+{
+    for band in 0..size {
+        feed_road(dialogue, band, sink)?;
+    }
+    Ok(())
+}
+
+// Feeds a band.
+fn feed_road<K: Sink>(dialogue: &mut Dialogue, band: u32, sink: &mut K) -> Result<(), Failed>
+    requires { band < 100 }
+    ensures grows { IfOk result (λ _. Grows dialogue.old dialogue.new (K.held sink.old) (K.held sink.new) (line (road_insert band))) }
+    ensures breaks { OnErr result (Breaks dialogue.old (K.held sink.old) (K.held sink.new) (line (road_insert band))) }
+    ensures cause { HasCause (K.faults sink.old) (K.faults sink.new) result }
+{
+    let parts = [
+        Part::Text(b"insert Road { k = 's"),
+        Part::Number(band),
+        Part::Text(b"', y - x >= "),
+        Part::Number(10 * band),
+        Part::Text(b", y - x <= "),
+        Part::Number(10 * band + 1),
+        Part::Text(b" }"),
+    ];
+    feed_statement(dialogue, &parts, sink)
+}
+
+// Feeds the questions.
+fn feed_questions<K: Sink>(dialogue: &mut Dialogue, size: u32, sink: &mut K) -> Result<(), Failed>
+    requires low { 1 ≤ size }
+    requires high { size ≤ 100 }
+    ensures grows { IfOk result (λ _. Grows dialogue.old dialogue.new (K.held sink.old) (K.held sink.new) (lines (made_questions size))) }
+    ensures breaks { OnErr result (Breaks dialogue.old (K.held sink.old) (K.held sink.new) (lines (made_questions size))) }
+    ensures cause { HasCause (K.faults sink.old) (K.faults sink.new) result }
+{
+    let last = Part::Number(size - 1);
+    let corner = [
+        Part::Text(b"ask Cross('r"),
+        last,
+        Part::Text(b"c0', 's"),
+        last,
+        Part::Text(b"')"),
+    ];
+    let other_corner = [Part::Text(b"ask Cross('r0c"), last, Part::Text(b"', 's0')")];
+    dialogue.feed(b"ask exists n text exists k text (Cross(n, k));\n", sink)?;
+    feed_statement(dialogue, &corner, sink)?;
+    feed_statement(dialogue, &other_corner, sink)?;
+    dialogue.feed(b"box Land;\nbox Road;\n", sink)
+}
+
+// Feeds a statement of these parts, with a `;` and a line feed.
+fn feed_statement<K: Sink>(
+    dialogue: &mut Dialogue,
+    parts: &[Part<'_>],
+    sink: &mut K,
+) -> Result<(), Failed>
+    ensures grows { IfOk result (λ _. Grows dialogue.old dialogue.new (K.held sink.old) (K.held sink.new) (line (parts_bytes parts.now))) }
+    ensures breaks { OnErr result (Breaks dialogue.old (K.held sink.old) (K.held sink.new) (line (parts_bytes parts.now))) }
+    ensures cause { HasCause (K.faults sink.old) (K.faults sink.new) result }
+{
+    feed_parts(dialogue, parts, sink)?;
+    dialogue.feed(b";\n", sink)
+}
+
+// Feeds the parts in turn.
+fn feed_parts<K: Sink>(
+    dialogue: &mut Dialogue,
+    parts: &[Part<'_>],
+    sink: &mut K,
+) -> Result<(), Failed>
+    ensures grows { IfOk result (λ _. Grows dialogue.old dialogue.new (K.held sink.old) (K.held sink.new) (parts_bytes parts.now)) }
+    ensures breaks { OnErr result (Breaks dialogue.old (K.held sink.old) (K.held sink.new) (parts_bytes parts.now)) }
+    ensures cause { HasCause (K.faults sink.old) (K.faults sink.new) result }
+{
+    for part in parts {
+        feed_part(dialogue, *part, sink)?;
+    }
+    Ok(())
+}
+
+// Feeds a part.
+fn feed_part<K: Sink>(dialogue: &mut Dialogue, part: Part<'_>, sink: &mut K) -> Result<(), Failed>
+    ensures grows { IfOk result (λ _. Grows dialogue.old dialogue.new (K.held sink.old) (K.held sink.new) (part_bytes part.entry)) }
+    ensures breaks { OnErr result (Breaks dialogue.old (K.held sink.old) (K.held sink.new) (part_bytes part.entry)) }
+    ensures cause { HasCause (K.faults sink.old) (K.faults sink.new) result }
+{
+    match part {
+        Part::Text(bytes) => dialogue.feed(bytes, sink),
+        Part::Number(number) => {
+            let mut buffer = Buffer::new();
+            dialogue.feed(buffer.format(number).as_bytes(), sink)
+        }
+    }
+}
