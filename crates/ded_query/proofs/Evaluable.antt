@@ -22,7 +22,7 @@ use Rattle.ded_query.proofs.GivenNames.{found_of}
 -- what follows of an atom from a property of it and one of the names that it uses follows of all atoms
 module _ (Q R : PlanAtom → Type 0) (P : List ℕ → Type 0) (step : (a : PlanAtom) → Q a → ((n : List ℕ) → plan_atom_uses n a ≡ true → P n) → R a) where
   mutual
-    all_with : (f : PlanForm) → AllAtoms Q f → ((n : List ℕ) → plan_uses n f ≡ true → P n) → AllAtoms R f
+    pub all_with : (f : PlanForm) → AllAtoms Q f → ((n : List ℕ) → plan_uses n f ≡ true → P n) → AllAtoms R f
     all_with (atom a) q u = step a q u
     all_with always q u = tt
     all_with never q u = tt
@@ -39,7 +39,7 @@ module _ (Q R : PlanAtom → Type 0) (P : List ℕ → Type 0) (step : (a : Plan
     all_with_of (also f fs) q u =
         (all_with f q.0 (λ n e. u n (or_left (plan_uses n f) (some_atom_of (plan_atom_uses n) fs) e)), all_with_of fs q.1 (λ n e. u n (or_right (plan_uses n f) (some_atom_of (plan_atom_uses n) fs) e)))
 
-any_atoms : (t : List Atom) → AllByRecursion IsAnyAtom t
+pub any_atoms : (t : List Atom) → AllByRecursion IsAnyAtom t
 any_atoms [] = tt
 any_atoms (a ∷ t) = (tt, any_atoms t)
 
@@ -48,7 +48,7 @@ read_over h [] k = tt
 read_over h (t ∷ ts) k = ((k.0, any_atoms t), read_over h ts k.1)
 
 module _ (c : Catalogue) (f : Form) (rs : List GivenRelation) (g : AllByRecursion (IsGivenOf c) rs) where
-  scannable : (a : PlanAtom) → IsScanOf c f a → ((n : List ℕ) → plan_atom_uses n a ≡ true → has_name n rs ≡ true) → IsScannable IsAnyAtom (given_catalogue rs) a
+  pub scannable : (a : PlanAtom) → IsScanOf c f a → ((n : List ℕ) → plan_atom_uses n a ≡ true → has_name n rs ≡ true) → IsScannable IsAnyAtom (given_catalogue rs) a
   scannable (rows t) q u = any_atoms t
   scannable (scan n ss) q u =
       let found = found_of c rs n g (u n ((bytes_eq-Decides n n).1 refl)) in

@@ -74,11 +74,11 @@ module _ (c : Catalogue) (n : List ℕ) where
       by true e = rw e refl
       by false e = rw e h
 
-  lines_from : (rs : List GivenRelation) (M : Measures) → AllByRecursion (IsGivenOf c) rs → IsSubset (M n).lines (measures c n).lines → IsSubset (measures_from M (map given_entry rs) n).lines (measures c n).lines
+  pub lines_from : (rs : List GivenRelation) (M : Measures) → AllByRecursion (IsGivenOf c) rs → IsSubset (M n).lines (measures c n).lines → IsSubset (measures_from M (map given_entry rs) n).lines (measures c n).lines
   lines_from [] M g h = h
   lines_from (r ∷ rs) M g h = lines_from rs (with_measure M (given_entry r)) g.1 (own_lines r M g.0 h)
 
-  clash_from : (rs : List GivenRelation) (M : Measures) → (M n).clash ≡ false → (measures_from M (map given_entry rs) n).clash ≡ false
+  pub clash_from : (rs : List GivenRelation) (M : Measures) → (M n).clash ≡ false → (measures_from M (map given_entry rs) n).clash ≡ false
   clash_from [] M h = h
   clash_from (r ∷ rs) M h = clash_from rs (with_measure M (given_entry r)) (own_clash r M h)
 

@@ -58,6 +58,11 @@ heard_last silent left replies reply counts =
 pub adds_aloud : {T E : Type 0} (r : Result T E) (h0 h1 : Option (List ℕ)) (silent : ℕ) (reply : ReplyForm) → silent ≡ 0 → AddsAll h0 h1 r (text_of reply) → AddsAll h0 h1 r (spoken silent reply)
 adds_aloud r h0 h1 silent reply none adds = subst (λ (k : ℕ). AddsAll h0 h1 r (spoken k reply)) (sym none) adds
 
+-- a reply that isn't written adds nothing
+pub adds_silently : (E : Type 0) (h : Option (List ℕ)) (silent : ℕ) (reply : ReplyForm) → 0 < silent → AddsAll {T = Unit {0}} {E = E} h h (Ok tt) (spoken silent reply)
+adds_silently E h zero reply some = absurd (omega (arith, some))
+adds_silently E h (suc left) reply some = appends_nothing h
+
 counts_more : (silent left now : ℕ) (replies : List ReplyForm) (reply : ReplyForm) → left ≡ silent - length replies → now ≡ left - 1 → now ≡ silent - length (replies ++ reply ∷ [])
 counts_more silent left now replies reply counts next = omega (arith, counts, next, length-append replies (reply ∷ []))
 

@@ -31,15 +31,20 @@ impl Dialogue {
     /// Nothing came in yet, and the first `silent` replies won't be written.
     ///
     /// # Errors
-    /// `NoMemory` where the splitter's buffer or the catalogue isn't had.
-    pub fn new(alloc: Global, limit: u32, silent: u32) -> Result<Dialogue, NoMemory>
+    /// `NoMemory` where the splitter's buffer isn't had.
+    pub fn new(
+        alloc: Global,
+        limit: u32,
+        keys: (u64, u64),
+        silent: u32,
+    ) -> Result<Dialogue, NoMemory>
         requires low { 1 ≤ limit }
         requires high { limit ≤ 1000000 }
         ensures { IfOk result (IsFresh limit silent) }
     {
         Ok(Dialogue {
             splitter: Splitter::new(alloc)?,
-            session: Session::new(alloc, limit)?,
+            session: Session::hashed_with(alloc, limit, keys),
             refused: false,
             silent,
         })

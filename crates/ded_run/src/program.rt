@@ -20,6 +20,8 @@ pub struct Setup {
     pub limit: u32,
     /// The most bytes that a script has.
     pub input_limit: u64,
+    /// The keys by which names are hashed. They change no reply; where they are drawn at random, nobody can choose names that are slow to find.
+    pub keys: (u64, u64),
 }
 
 /// How a run ended.
@@ -66,7 +68,7 @@ pub fn serve<S: Source, K: Sink>(
     ensures overlong { result ≡ Status.TooLong → Overlong setup.now.limit setup.now.input_limit (S.left source.old) (S.left source.new) (K.held sink.old) (K.held sink.new) }
     ensures ends { (Rose (S.faults source.old) (S.faults source.new) → ⊥) → (Rose (K.faults sink.old) (K.faults sink.new) → ⊥) → result ≢ Status.NoMemory → result ≢ Status.TooLong → (result ≡ Status.Done) ⊎ (result ≡ Status.DoneWithRefusals) }
 {
-    let Ok(mut dialogue) = Dialogue::new(alloc, setup.limit, 0) else {
+    let Ok(mut dialogue) = Dialogue::new(alloc, setup.limit, setup.keys, 0) else {
         return Status::NoMemory;
     };
     let mut buffer = [0u8; READ_AT_ONCE];
@@ -126,7 +128,7 @@ pub fn make<K: Sink>(alloc: Global, setup: &Setup, size: u32, sink: &mut K) -> S
     ensures ends { (Rose (K.faults sink.old) (K.faults sink.new) → ⊥) → result ≢ Status.NoMemory → (result ≡ Status.Done) ⊎ (result ≡ Status.DoneWithRefusals) }
 {
     let silent = size * size + size + 3;
-    let Ok(mut dialogue) = Dialogue::new(alloc, setup.limit, silent) else {
+    let Ok(mut dialogue) = Dialogue::new(alloc, setup.limit, setup.keys, silent) else {
         return Status::NoMemory;
     };
     if let Err(Failed) = feed_script(&mut dialogue, size, sink) {
@@ -137,8 +139,14 @@ pub fn make<K: Sink>(alloc: Global, setup: &Setup, size: u32, sink: &mut K) -> S
 
 const INPUT_LIMIT: u64 = 1 << 40;
 
-/// All that the program does: reads the words, and then serves, or makes a script where they ask for one.
-pub fn run<S: Source, K: Sink>(alloc: Global, words: &Words, source: &mut S, sink: &mut K) -> Status
+/// All that the program does: reads the words, and then serves, or makes a script where they ask for one. Names are hashed by the keys.
+pub fn run<S: Source, K: Sink>(
+    alloc: Global,
+    words: &Words,
+    keys: (u64, u64),
+    source: &mut S,
+    sink: &mut K,
+) -> Status
     ensures bad_words { result ≡ Status.BadWords → (options : Options) → AcceptedWords (texts_in words.now) options → ⊥ }
     ensures no_options { ((options : Options) → AcceptedWords (texts_in words.now) options → ⊥) → (result ≡ Status.BadWords) ⊎ (result ≡ Status.NoMemory) }
     ensures no_words { result ≡ Status.BadWords → (source.new ≡ source.old) × (sink.new ≡ sink.old) }
@@ -167,6 +175,7 @@ pub fn run<S: Source, K: Sink>(alloc: Global, words: &Words, source: &mut S, sin
     let setup = Setup {
         limit: options.limit,
         input_limit: INPUT_LIMIT,
+        keys,
     };
     match options.size {
         Some(size) => make(alloc, &setup, size, sink),

@@ -5,6 +5,9 @@ use std::alloc::Global;
 use std::process::Abort;
 use std::test::Fail;
 
+// The keys by which names are hashed.
+const KEYS: (u64, u64) = (1, 2);
+
 // A script, the texts of its replies, and how it ends.
 const SCRIPTS: [(&[u8], &[u8], Status); 6] = [
     (b"ask 3 <= 7;", b"yes\n", Status::Done),
@@ -48,6 +51,7 @@ impl Run<'_> {
         let setup = Setup {
             limit: 100,
             input_limit: self.input_limit.clamp(1, 100_000),
+            keys: KEYS,
         };
         let mut source = BytesSource::new(alloc, self.script, self.piece, self.failing_reads)?;
         let mut sink = BytesSink::new(alloc, 1_000, self.piece, self.failing_writes)?;
@@ -209,6 +213,7 @@ fn each_failing_read_leaves_the_replies_so_far(rt: HostRuntime) -> Result<(), Fa
     let setup = Setup {
         limit: 100,
         input_limit: 1_000,
+        keys: KEYS,
     };
     for call in 1..=READS + 1 {
         let mut source = BytesSource::new(alloc, &script, 16, &[call])?;
@@ -239,6 +244,7 @@ fn each_failing_write_leaves_a_front_of_the_replies(rt: HostRuntime) -> Result<(
     let setup = Setup {
         limit: 100,
         input_limit: 1_000,
+        keys: KEYS,
     };
     for call in 1..=WRITES + 1 {
         let mut source = BytesSource::new(alloc, &script, 16, &[])?;
@@ -282,7 +288,7 @@ fn words_are_accepted_or_nothing_is_done(rt: HostRuntime) -> Result<(), Fail> {
         }
         let mut source = BytesSource::new(alloc, b"ask 3 <= 7;", 100, &[])?;
         let mut sink = BytesSink::new(alloc, 100, 100, &[])?;
-        assert_eq!(rt; run(alloc, &words, &mut source, &mut sink), status);
+        assert_eq!(rt; run(alloc, &words, KEYS, &mut source, &mut sink), status);
         let replies: &[u8] = if status == Status::Done {
             b"yes\n"
         } else {

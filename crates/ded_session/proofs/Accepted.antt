@@ -9,7 +9,7 @@ use Rattle.ded_model.specs.declared.formula.Formula.{Formula}
 use Rattle.ded_model.specs.declared.goal.Goal.{Goal}
 use Rattle.ded_model.specs.declared.name.Column.{Column}
 use Rattle.ded_model.specs.Catalogue.{Catalogue}
-use Rattle.ded_model.specs.Command.{CommandForm, relation, insert, delete, drop, view, show, box_of}
+use Rattle.ded_model.specs.Command.{CommandForm, relation, insert, delete, drop, view, keep, show, box_of}
 use Rattle.ded_model.specs.Form.{Form, FormAtom, form}
 use Rattle.ded_model.specs.Goal.{goal_form}
 use Rattle.ded_model.specs.Known.{Known, IsAccepted, IsTupleOver, level_of, is_many, has_twice, uses_unknown, has_other_arity, has_unbound, has_missorted}
@@ -47,6 +47,10 @@ relation_of : (o : Option Known) → is_none o ≡ false → is_view_with o ≡ 
 relation_of None e f = absurd (true≢false e)
 relation_of (Some k) e f = ap not f
 
+view_of : (o : Option Known) → is_none o ≡ false → is_relation_with o ≡ false → is_view_with o ≡ true
+view_of None e f = absurd (true≢false e)
+view_of (Some k) e f = true_of k.is_view f
+
 at_most : (n : ℕ) → nat_lt 16 n ≡ false → n ≤ 16
 at_most n e = grind (arith, nat_tests)
 
@@ -64,6 +68,9 @@ module _ (c : Catalogue) where
 
   of_box : (n : List ℕ) → HasNoCause c (box_of n) → is_relation_with (known c n) ≡ true
   of_box n a = relation_of (known c n) (a Unknown refl) (a Kind refl)
+
+  of_view : (n : List ℕ) → HasNoCause c (keep n) → is_view_with (known c n) ≡ true
+  of_view n a = view_of (known c n) (a Unknown refl) (a Kind refl)
 
   present : (n : List ℕ) (k : ℕ) → HasNoCause c (delete n k) → list_any (λ t. t.0 == k) (tuples_in c n) ≡ true
   present n k a = true_of (list_any (λ t. t.0 == k) (tuples_in c n)) (a NoTuple refl)
@@ -115,6 +122,10 @@ module _ (c : Catalogue) where
   box_is (box_of m) n r = ap box_of (sym r)
   box_is _ n r = absurd r
 
+  keep_is : (x : CommandForm) (n : List ℕ) → IsResolved c x (checked.Keep n) → x ≡ keep n
+  keep_is (keep m) n r = ap keep (sym r)
+  keep_is _ n r = absurd r
+
   view_is : (x : CommandForm) (n : List ℕ) (h : List Column) (f : Formula) (g : Goal) → IsResolved c x (checked.View n h f g) → (x ≡ view n h (form f)) × (goal_form g ≡ goal_of h (form f))
   view_is (view m k e) n h f g r = (
     ap (λ (y : List ℕ). view y k e) (sym r.0) ∙ ap (λ (y : List Column). view n y e) (sym r.1) ∙ ap (view n h) (sym r.2),
@@ -157,6 +168,11 @@ module _ (c : Catalogue) where
         let r = subst (IsReady c) e ready in
         of_box n (subst (HasNoCause c) (box_is r.written n r.resolved) r.accepted)
 
+    pub ready_keep : (n : List ℕ) → k ≡ checked.Keep n → is_view_with (known c n) ≡ true
+    ready_keep n e =
+        let r = subst (IsReady c) e ready in
+        of_view n (subst (HasNoCause c) (keep_is r.written n r.resolved) r.accepted)
+
     pub ready_view : (n : List ℕ) (h : List Column) (f : Formula) (g : Goal) → k ≡ checked.View n h f g
         → (known c n ≡ None) × IsAccepted (known c) h (form f) × (level_of (known c) (form f) ≤ 16) × (goal_form g ≡ goal_of h (form f))
     ready_view n h f g e =
@@ -181,8 +197,18 @@ module _ (c : Catalogue) where
     pub written_box : (n : List ℕ) → k ≡ checked.BoxOf n → (x : CommandForm) → IsResolved c x k → x ≡ box_of n
     written_box n e x r = box_is x n (subst (IsResolved c x) e r)
 
+    pub written_keep : (n : List ℕ) → k ≡ checked.Keep n → (x : CommandForm) → IsResolved c x k → x ≡ keep n
+    written_keep n e x r = keep_is x n (subst (IsResolved c x) e r)
+
     pub written_view : (n : List ℕ) (h : List Column) (f : Formula) (g : Goal) → k ≡ checked.View n h f g → (x : CommandForm) → IsResolved c x k → x ≡ view n h (form f)
     written_view n h f g e x r = (view_is x n h f g (subst (IsResolved c x) e r)).0
+
+  -- what is so of every insert is so of one that is an insert by slots
+  pub written_as_insert : (k : Checked) (n : List ℕ) (t : List Atom) → k ≡ checked.Insert n t → (P : CommandForm → Type 0) → ((comparisons : Logics FormAtom) → P (insert n comparisons))
+      → (x : CommandForm) → IsResolved c x k → P x
+  written_as_insert k n t e P all x r =
+      let i = insert_is x n t (subst (IsResolved c x) e r) in
+      subst P (sym i.is) (all i.comparisons)
 
   -- one that is an insert by slots is carried out as the insert that it is written as
   pub written_insert : (d : Catalogue) (reply : ReplyForm) (k : Checked) (n : List ℕ) (t : List Atom) → k ≡ checked.Insert n t

@@ -3,7 +3,7 @@
 -- A refused statement leaves the catalogue, so the next one is stepped over the same; it may then be the first one, and read
 -- in another language. A whole piece is one before its ; whatever comes next, so the pieces that are left, each followed by
 -- its ; , are cut into these again.
-use Rattle.std.proofs.Common.{◌≡◌, inl, inr, ℕ, List, [], ◌∷◌, ◌++◌, map, refl, sym, ap, subst, ◌∙◌}
+use Rattle.std.proofs.Common.{inl, inr, ℕ, List, [], ◌∷◌, ◌++◌, map, refl, sym, ap, subst, ◌∙◌}
 use Rattle.std.proofs.lemmas.List.{append-nil}
 use Rattle.std.specs.List.{AllByRecursion}
 use Rattle.ded_lex.specs.Pieces.{Statement, Whole, IsWhole, IsCut, EndsIn, AreStatements}

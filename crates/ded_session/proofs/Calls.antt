@@ -24,6 +24,12 @@ did x c d (Ok u) reply left is wants does same = subst (λ (y : ReplyForm). Carr
 did x c d (Err e) reply left is wants does same =
     subst (λ (y : ReplyForm). Carries x c y d) (sym wants) (ap (λ (o : Option Refusal). unwrap_or o Memory) (sym left), same)
 
+-- one that leaves the catalogue as it is
+pub did_same : {E : Type 0} (x : CommandForm) (c d : Catalogue) (r : Result (Unit {0}) E) (reply : ReplyForm) → refusal_left c x ≡ None
+    → OnOk r (reply ≡ done) → OnErr r (reply ≡ refused Memory) → Does x c done d → d ≡ c → Carries x c reply d
+did_same {E} x c d (Ok u) reply left is wants does same = did {E = E} x c d (Ok u) reply left is wants does tt
+did_same {E} x c d (Err e) reply left is wants does same = did {E = E} x c d (Err e) reply left is wants tt same
+
 -- ---- what a relation stores
 
 pub heading_there : (o : Option Known) → is_relation_with o ≡ true → option_map (λ (k : Known). k.columns) o ≡ None → ⊥

@@ -10,4 +10,6 @@ pub mod PlainNames
 pub mod PlainSpelling
 pub mod OneList
 mod StepLemmas
+mod Upheld
+mod Histories
 mod WideQuestions

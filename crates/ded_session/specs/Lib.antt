@@ -1,6 +1,8 @@
 pub mod Answered
 pub mod Carrying
 pub mod Causes
+pub mod Histories
+pub mod Keeping
 pub mod Pairs
 pub mod Pieces
 pub mod PlainNames

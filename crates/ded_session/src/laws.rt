@@ -1,5 +1,5 @@
 //! Laws of the rules. Each is the contract of a function that does nothing.
-ghost use Rattle.std.specs.Prelude.{◌≡◌, List, ℕ};
+ghost use Rattle.std.specs.Prelude.{◌≡◌, true, false, None, List, ℕ};
 ghost use Rattle.ded_lex.specs.Pieces.{Statement};
 ghost use Rattle.ded_model.specs.declared.command.Language.{Language};
 ghost use Rattle.ded_model.specs.declared.name.Column.{Column};
@@ -9,6 +9,10 @@ ghost use Rattle.ded_model.specs.Command.{CommandForm};
 ghost use Rattle.ded_model.specs.Known.{IsWellFormed};
 ghost use Rattle.ded_model.specs.Row.{Atom};
 ghost use Rattle.ded_syntax.specs.Spelling.{Spells};
+ghost use Rattle.ded_upkeep.specs.Held.{held_under};
+ghost use Rattle.ded_upkeep.specs.Upkeep.{IsTightView};
+ghost use Rattle.ded_database.specs.State.{State, catalogue_at, is_kept, IsSound};
+ghost use Rattle.ded_session.specs.Histories.{Turn, AreTaken, last_state, IsLost};
 ghost use Rattle.ded_session.specs.Pairs.{AreOfOne, SpeaksPlainly};
 ghost use Rattle.ded_session.specs.PlainNames.{HasPlainNames, NamesPlainly};
 ghost use Rattle.ded_session.specs.Replies.{ReplyForm, refused, stored};
@@ -59,4 +63,12 @@ pub fn accepted_statements()
         Steps language c ss replies d → Steps language c (accepted ss replies) (accepted_replies replies) d }
     ensures run { (limit : ℕ) (script : List ℕ) (replies : List ReplyForm) (last : Catalogue) → (run : Run limit script replies last) →
         Run limit (script_of (accepted run.statements replies)) (accepted_replies replies) last }
+{}
+
+/// Over steps one after another no list is held of a kept view only where its formula isn't tight, or where a list may have been lost: an insert or a
+/// delete in a relation that the view reaches was refused for want of memory, and since then none was accepted there, nor a `keep` of the view.
+pub fn lost_lists()
+    ensures { (language : Language) (s : State) (turns : List Turn) (v : List ℕ) → IsSound s → AreTaken language s turns → is_kept s v ≡ false
+        → is_kept (last_state s turns) v ≡ true → IsTightView (catalogue_at (last_state s turns)) v → held_under (last_state s turns).held v ≡ None
+        → IsLost language s turns v }
 {}

@@ -1,4 +1,4 @@
-//! A session: the catalogue that the statements so far have made.
+//! A session: the catalogue that the statements so far have made, and the lists that are held of its kept views.
 
 ghost use Rattle.std.specs.Prelude.{◌≡◌};
 ghost use Rattle.ded_session.specs.Runs.{next_language};
@@ -6,8 +6,11 @@ ghost use Rattle.ded_session.specs.Runs.{next_language};
 use crate::reply::Reply;
 use crate::statement::reply_to;
 use ded_catalog::Catalogue;
+use ded_database::Database;
 use ded_model::command::{Language, Refusal};
 use ded_model::memory::NoMemory;
+use ded_model::name::Name;
+use ded_model::tuple::Tuple;
 use std::alloc::Global;
 
 /// What stands between two ends of statements.
@@ -24,39 +27,52 @@ pub enum Piece<'a> {
 /// The state of a script between two statements.
 #[derive(Drop)]
 pub struct Session {
-    catalogue: Catalogue,
+    database: Database,
     language: Language,
     alloc: Global,
 }
 
 impl Session {
-    ghost use Rattle.std.specs.Prelude.{◌≡◌, ◌≤◌, IfOk, length};
+    ghost use Rattle.std.specs.Prelude.{◌≡◌, ◌≤◌, true, IsOk, IfOk, IfSome, length};
+    ghost use Rattle.std.specs.Option.{option_map};
     ghost use Rattle.ded_lex.specs.Pieces.{Whole};
-    ghost use Rattle.ded_model.specs.declared.command.Language.TheVariants.{Opening};
     ghost use Rattle.ded_catalog.specs.State.{catalogue_of};
+    ghost use Rattle.ded_database.specs.State.{is_kept, IsSound};
+    ghost use Rattle.ded_upkeep.specs.Held.{held_under, IsListOf};
     ghost use Rattle.ded_session.specs.Answered.{reply_form};
+    ghost use Rattle.ded_session.specs.Keeping.{UpholdsPiece, UpholdsStatement};
     ghost use Rattle.ded_session.specs.Pieces.{IsShortPiece, StepsPiece};
     ghost use Rattle.ded_session.specs.Replies.{refused};
-    ghost use Rattle.ded_session.specs.Runs.{empty_catalogue, next_language};
-    ghost use Rattle.ded_session.specs.State.{catalogue_in, language_in};
+    ghost use Rattle.ded_session.specs.Runs.{next_language};
+    ghost use Rattle.ded_session.specs.State.{catalogue_in, language_in, state_in, IsFreshSession};
     ghost use Rattle.ded_session.specs.Steps.{Step};
 
-    /// A session with an empty catalogue whose relations have at most `limit` tuples, 1 to 1,000,000.
+    /// A session with an empty catalogue whose relations have at most `limit` tuples, 1 to 1,000,000, and no kept view. Names are hashed with
+    /// keys that are known to all.
     ///
     /// # Errors
-    /// `NoMemory` where the catalogue isn't had.
-    #[tactic(auto, unfolding(crate::specs::State::catalogue_in, crate::specs::State::language_in))]
+    /// None: the first name that is defined takes memory.
     pub fn new(alloc: Global, limit: u32) -> Result<Session, NoMemory>
         requires low { 1 ≤ limit }
         requires high { limit ≤ 1000000 }
-        ensures catalogue { IfOk result (λ s. catalogue_in s ≡ empty_catalogue limit) }
-        ensures language { IfOk result (λ s. language_in s ≡ Opening) }
+        ensures made { IsOk result }
+        ensures fresh { IfOk result (IsFreshSession limit) }
     {
-        Ok(Session {
-            catalogue: Catalogue::new(alloc, limit)?,
+        Ok(Session::hashed_with(alloc, limit, (0, 0)))
+    }
+
+    /// The same, with keys by which the names are hashed. Where these are drawn at random, nobody can choose names that are slow to find.
+    #[tactic(auto, unfolding(crate::specs::State::catalogue_in, crate::specs::State::language_in, crate::specs::State::state_in))]
+    pub fn hashed_with(alloc: Global, limit: u32, keys: (u64, u64)) -> Session
+        requires low { 1 ≤ limit }
+        requires high { limit ≤ 1000000 }
+        ensures { IsFreshSession limit result }
+    {
+        Session {
+            database: Database::new(alloc, limit, keys),
             language: Language::Opening,
             alloc,
-        })
+        }
     }
 
     /// The present catalogue. Takes no memory.
@@ -64,7 +80,34 @@ impl Session {
     pub fn catalogue(&self) -> &Catalogue
         ensures { catalogue_of result.now ≡ catalogue_in self.now }
     {
-        &self.catalogue
+        self.database.catalogue()
+    }
+
+    /// Every session is sound: its catalogue is well formed, and marks and lists are right over it. It does nothing.
+    #[tactic(auto, unfolding(crate::specs::State::state_in))]
+    pub fn sound(&self)
+        ensures { IsSound (state_in self.now) }
+    {
+        self.database.sound()
+    }
+
+    /// The list that is held of a kept view: its tuples hold exactly where the view's formula does over the present catalogue. None where no list
+    /// is held. Takes no memory.
+    #[tactic(auto, unfolding(crate::specs::State::catalogue_in, crate::specs::State::state_in))]
+    pub fn kept(&self, name: &Name) -> Option<&[Tuple]>
+        ensures held { option_map (λ ts. ts.now) result ≡ held_under (state_in self.now).held name.now }
+        ensures list { IfSome result (λ ts. IsListOf (catalogue_in self.now) name.now ts.now) }
+        ensures marked { IfSome result (λ ts. is_kept (state_in self.now) name.now ≡ true) }
+    {
+        self.database.kept(name)
+    }
+
+    /// How often a list was extended by one tuple alone, up to the greatest number. Takes no memory.
+    #[tactic(auto, unfolding(crate::specs::State::state_in))]
+    pub fn added(&self) -> u64
+        ensures { result ≡ (state_in self.now).added }
+    {
+        self.database.added()
     }
 
     /// Answers the next statement and changes the catalogue as the rules say. A refused statement changes nothing.
@@ -73,6 +116,7 @@ impl Session {
         requires { IsShortPiece piece }
         ensures step { StepsPiece piece.entry (language_in self.old) (catalogue_in self.old) (reply_form result) (catalogue_in self.new) }
         ensures language { language_in self.new ≡ next_language (language_in self.old) }
+        ensures upholds { UpholdsStatement piece.entry (language_in self.old) (reply_form result) (state_in self.old) (state_in self.new) }
     {
         match piece {
             Piece::Whole(bytes) => self.step_whole(bytes),
@@ -81,9 +125,10 @@ impl Session {
         }
     }
 
-    #[tactic(auto, unfolding(crate::specs::State::catalogue_in, crate::specs::State::language_in))]
+    #[tactic(auto, unfolding(crate::specs::State::catalogue_in, crate::specs::State::language_in, crate::specs::State::state_in))]
     fn refuse(&mut self, refusal: Refusal) -> Reply
         ensures reply { reply_form result ≡ refused refusal }
+        ensures state { state_in self.new ≡ state_in self.old }
         ensures catalogue { catalogue_in self.new ≡ catalogue_in self.old }
         ensures language { language_in self.new ≡ next_language (language_in self.old) }
     {
@@ -91,13 +136,14 @@ impl Session {
         Reply::Refused(refusal)
     }
 
-    #[tactic(auto, unfolding(crate::specs::State::catalogue_in, crate::specs::State::language_in))]
+    #[tactic(auto, unfolding(crate::specs::State::catalogue_in, crate::specs::State::language_in, crate::specs::State::state_in))]
     fn step_whole(&mut self, bytes: &[u8]) -> Reply
         requires { length bytes.now ≤ 65536 }
         ensures step { Step (language_in self.old) (catalogue_in self.old) (Whole bytes.now) (reply_form result) (catalogue_in self.new) }
         ensures language { language_in self.new ≡ next_language (language_in self.old) }
+        ensures upholds { UpholdsPiece (language_in self.old) bytes.now (reply_form result) (state_in self.old) (state_in self.new) }
     {
-        let reply = reply_to(self.alloc, bytes, self.language, &mut self.catalogue);
+        let reply = reply_to(self.alloc, bytes, self.language, &mut self.database);
         self.language = after(self.language);
         reply
     }

@@ -2,13 +2,14 @@
 
 ghost use Rattle.std.specs.Prelude.{◌≤◌, length};
 ghost use Rattle.ded_lex.specs.Pieces.{Whole};
-ghost use Rattle.ded_catalog.specs.State.{catalogue_of};
+ghost use Rattle.ded_database.specs.State.{catalogue_at};
 ghost use Rattle.ded_session.specs.Answered.{reply_form};
+ghost use Rattle.ded_session.specs.Keeping.{UpholdsPiece};
 ghost use Rattle.ded_session.specs.Steps.{Step};
 
 use crate::command::answer;
 use crate::reply::Reply;
-use ded_catalog::Catalogue;
+use ded_database::Database;
 use ded_model::command::Language;
 use ded_syntax::read_command;
 use std::alloc::Global;
@@ -18,13 +19,14 @@ pub(crate) fn reply_to(
     alloc: Global,
     bytes: &[u8],
     language: Language,
-    catalogue: &mut Catalogue,
+    database: &mut Database,
 ) -> Reply
     requires { length bytes.now ≤ 65536 }
-    ensures { Step language (catalogue_of catalogue.old) (Whole bytes.now) (reply_form result) (catalogue_of catalogue.new) }
+    ensures step { Step language (catalogue_at database.old) (Whole bytes.now) (reply_form result) (catalogue_at database.new) }
+    ensures upholds { UpholdsPiece language bytes.now (reply_form result) database.old database.new }
 {
     match read_command(alloc, bytes, language) {
-        Ok(command) => answer(alloc, command, catalogue),
+        Ok(command) => answer(alloc, command, database),
         Err(refusal) => Reply::Refused(refusal),
     }
 }

@@ -3,6 +3,11 @@
 use crate::{Piece, Reply, Session};
 use ded_model::bound::BoxReply;
 use ded_model::command::Refusal;
+use ded_model::memory::NoMemory;
+use ded_model::name::Name;
+use ded_model::row::RowOp;
+use ded_model::tuple::{BothAtom, Tuple};
+use std::alloc::Global;
 use std::process::Abort;
 use std::test::Fail;
 
@@ -189,5 +194,79 @@ fn pieces_may_be_long_or_cut(rt: HostRuntime) -> Result<(), Fail> {
     assert_eq!(rt; kind_of(&long), Kind::Refused(Refusal::LongStatement));
     let cut = session.step(Piece::Cut);
     assert_eq!(rt; kind_of(&cut), Kind::Refused(Refusal::Unfinished));
+    Ok(())
+}
+
+// The number at which the tuple alone holds, which is one equation `x = n`.
+fn point(tuple: &Tuple) -> Option<i128> {
+    match tuple.atoms.as_slice() {
+        [BothAtom::First(row)] if row.op == RowOp::Zero => row.constant.checked_neg(),
+        _ => None,
+    }
+}
+
+// Whether a list is held of the view `V`, whose tuples hold at these numbers, one after another.
+fn holds_at(alloc: Global, session: &Session, numbers: &[i128]) -> Result<bool, NoMemory> {
+    let name = Name {
+        bytes: b"V".to_vec(alloc)?,
+    };
+    let Some(list) = session.kept(&name) else {
+        return Ok(false);
+    };
+    Ok(list.len() == numbers.len() && all_at(list, numbers))
+}
+
+fn all_at(list: &[Tuple], numbers: &[i128]) -> bool {
+    for (tuple, number) in list.iter().zip(numbers) {
+        if point(tuple) != Some(*number) {
+            return false;
+        }
+    }
+    true
+}
+
+#[test]
+fn kept_lists_are_extended(rt: HostRuntime) -> Result<(), Fail> {
+    let mut session = Session::new(rt.alloc(), 5)?;
+    check(
+        &rt,
+        &mut session,
+        &[
+            ("relation T(x, y)", Kind::Done),
+            ("insert T { x = 1, y = 1 }", Kind::Number(1)),
+            ("view V(x) := exists y (T(x, y))", Kind::Done),
+            ("keep V", Kind::Done),
+            ("ask V(2)", Kind::Truth(false)),
+            ("insert T { x = 2, y = 5 }", Kind::Number(2)),
+        ],
+    );
+    assert!(rt; holds_at(rt.alloc(), &session, &[1, 2])?);
+    assert_eq!(rt; session.added(), 1);
+    check(
+        &rt,
+        &mut session,
+        &[("delete T 1", Kind::Done), ("ask V(1)", Kind::Truth(false))],
+    );
+    assert!(rt; holds_at(rt.alloc(), &session, &[2])?);
+    assert_eq!(rt; session.added(), 1);
+    Ok(())
+}
+
+#[test]
+fn kept_unions_are_extended(rt: HostRuntime) -> Result<(), Fail> {
+    let mut session = Session::new(rt.alloc(), 5)?;
+    check(
+        &rt,
+        &mut session,
+        &[
+            ("relation T(x)", Kind::Done),
+            ("view V(x) := T(x) or x = 9", Kind::Done),
+            ("keep V", Kind::Done),
+            ("insert T { x = 1 }", Kind::Number(1)),
+            ("keep T", Kind::Refused(Refusal::Kind)),
+        ],
+    );
+    assert!(rt; holds_at(rt.alloc(), &session, &[9, 1])?);
+    assert_eq!(rt; session.added(), 1);
     Ok(())
 }

@@ -10,6 +10,7 @@ use ded_run::{Status, Words, run};
 use std::env;
 use std::io::ErrorKind;
 use std::process::ExitCode;
+use std::random::RandomSource;
 use std::rt::Env;
 
 // The words behind the program's name. Where they aren't all texts, they are no accepted list.
@@ -26,6 +27,15 @@ fn words(rt: &(impl Env + AllocGlobal)) -> Result<Words, Status> {
         }
     }
     Ok(Words { list })
+}
+
+// A key by which names are hashed, that nobody who writes a script knows: one drawn at random, and 0 where the system gives none.
+fn key(rt: &impl RandomSource) -> u64 {
+    let mut bytes = [0; 8];
+    match rt.fill_bytes(&mut bytes) {
+        Ok(()) => u64::from_le_bytes(bytes),
+        Err(_) => 0,
+    }
 }
 
 fn code(status: Status) -> u8 {
@@ -47,5 +57,11 @@ fn main(rt: HostRuntime) -> ExitCode {
     };
     let mut source = StdSource::new(rt.stdin());
     let mut sink = StdSink::new(rt.stdout());
-    ExitCode::from(code(run(rt.alloc(), &words, &mut source, &mut sink)))
+    ExitCode::from(code(run(
+        rt.alloc(),
+        &words,
+        (key(&rt), key(&rt)),
+        &mut source,
+        &mut sink,
+    )))
 }

@@ -1,6 +1,7 @@
-use Rattle.std.proofs.Common.{◌≡◌, ◌||◌, Bool, ap, arith}
+use Rattle.std.proofs.Common.{◌≡◌, ◌||◌, Bool, refl, ap, arith}
+use Rattle.ded_io.specs.declared.device.Failed.{Failed}
 use Rattle.ded_session.specs.Answered.{reply_form}
-use Rattle.ded_run.proofs.Answering.{adds_aloud}
+use Rattle.ded_run.proofs.Answering.{adds_aloud, adds_silently}
 use Rattle.ded_run.proofs.dialogue.answer.Goals as goal
 
 pub returns-clause-replied : goal.returns-clause-replied
@@ -13,4 +14,15 @@ returns-clause-replied g c =
       refuses = ap (λ (b : Bool). c.args.refused.now || b) c.is_refusal.ensures;
       counts = omega (arith, none);
       written = adds_aloud _ _ _ _ _ none c.write_reply.ensures.bytes;
+    }
+
+pub returns-then-silent-gt0-clause-replied : goal.returns-then-silent-gt0-clause-replied
+returns-then-silent-gt0-clause-replied g c =
+    record {
+      reply = reply_form c.step-reply.result;
+      step = c.step-reply.ensures.step;
+      goes_on = c.step-reply.ensures.language;
+      refuses = ap (λ (b : Bool). c.args.refused.now || b) c.is_refusal.ensures;
+      counts = refl;
+      written = adds_silently Failed _ _ (reply_form c.step-reply.result) c.if-silent-gt0.true;
     }

@@ -1,0 +1,75 @@
+-- What becomes of the list of a kept view over statements one after another.
+use Rattle.std.specs.Prelude.{◌≡◌, ◌⊎◌, ℕ, Bool, true, false, List, [], ◌∷◌}
+use Rattle.std.specs.Str.{bytes_eq}
+use Rattle.ded_lex.specs.Pieces.{Whole}
+use Rattle.ded_model.specs.declared.command.Language.{Language}
+use Rattle.ded_model.specs.declared.command.Refusal.TheVariants.{Memory}
+use Rattle.ded_model.specs.Catalogue.{Catalogue}
+use Rattle.ded_model.specs.Command.{CommandForm, insert, delete, keep}
+use Rattle.ded_syntax.specs.Spelling.{Spells}
+use Rattle.ded_views.specs.Reaching.{reaches}
+use Rattle.ded_database.specs.State.{State, catalogue_at, IsSound}
+use Rattle.ded_session.specs.Keeping.{UpholdsPiece}
+use Rattle.ded_session.specs.Replies.{ReplyForm, done, number, refused}
+use Rattle.ded_session.specs.Runs.{next_language}
+use Rattle.ded_session.specs.Steps.{Step}
+
+-- a whole piece, its reply, and the state that it leaves
+pub record Turn : Type 0 where
+  pub piece : List ℕ
+  pub reply : ReplyForm
+  pub left : State
+
+-- one step of the rules, over a state that is sound, to one that is
+pub record Takes (language : Language) (s : State) (x : Turn) : Type 0 where
+  pub step : Step language (catalogue_at s) (Whole x.piece) x.reply (catalogue_at x.left)
+  pub upholds : UpholdsPiece language x.piece x.reply s x.left
+  pub sound : IsSound x.left
+
+abbrev pub AreTaken : Language → State → List Turn → Type 0
+AreTaken language s [] = Unit {0}
+AreTaken language s (x ∷ xs) = Takes language s x × AreTaken (next_language language) x.left xs
+
+abbrev pub last_state : State → List Turn → State
+last_state s [] = s
+last_state s (x ∷ xs) = last_state x.left xs
+
+-- ---- statements that concern the view v
+
+-- an accepted `keep` of the view, or an accepted insert or delete in a relation that it reaches, has its list made
+abbrev pub renews : Catalogue → CommandForm → ReplyForm → List ℕ → Bool
+renews c (keep n) done v = bytes_eq v n
+renews c (insert n fs) (number k) v = reaches c v n
+renews c (delete n k) done v = reaches c v n
+renews c _ _ v = false
+
+-- an insert or delete there that is refused for want of memory may lose it
+abbrev pub loses : Catalogue → CommandForm → ReplyForm → List ℕ → Bool
+loses c (insert n fs) (refused Memory) v = reaches c v n
+loses c (delete n k) (refused Memory) v = reaches c v n
+loses c _ _ v = false
+
+-- the piece spells a command that passes the test
+pub record SpellsSome (language : Language) (piece : List ℕ) (test : CommandForm → Bool) : Type 0 where
+  pub command : CommandForm
+  pub depth : ℕ
+  pub spells : Spells language piece command depth
+  pub passes : test command ≡ true
+
+abbrev pub Renews : Language → State → Turn → List ℕ → Type 0
+Renews language s x v = SpellsSome language x.piece (λ command. renews (catalogue_at s) command x.reply v)
+
+abbrev pub Loses : Language → State → Turn → List ℕ → Type 0
+Loses language s x v = SpellsSome language x.piece (λ command. loses (catalogue_at s) command x.reply v)
+
+-- ---- statements one after another
+
+-- none of them has the list made
+abbrev pub NoneRenews : Language → State → List Turn → List ℕ → Type 0
+NoneRenews language s [] v = Unit {0}
+NoneRenews language s (x ∷ xs) v = (Renews language s x v → ⊥) × NoneRenews (next_language language) x.left xs v
+
+-- one of them may have lost the list, and none after that one had it made
+abbrev pub IsLost : Language → State → List Turn → List ℕ → Type 0
+IsLost language s [] v = ⊥
+IsLost language s (x ∷ xs) v = (Loses language s x v × NoneRenews (next_language language) x.left xs v) ⊎ IsLost (next_language language) x.left xs v

@@ -1,0 +1,4 @@
+pub mod Changes
+pub mod Held
+pub mod Renewed
+pub mod Upkeep
