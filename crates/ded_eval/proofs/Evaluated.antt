@@ -1,11 +1,11 @@
 -- Evaluations put together: what is done with the lists of the parts of a plan gives the list of the plan.
-use Rattle.std.proofs.Common.{◌≡◌, ℕ, suc, Vec, Global, Bool, true, not, ◌&&◌, ◌||◌, List, [], ◌∷◌, ◌++◌, ◌⊎◌, ⊎_elim, inl, inr, length, arith, refl, sym, ap, ◌∙◌, subst, true≢false, append_assoc, append-nil}
+use Rattle.std.proofs.Common.{◌≡◌, ℕ, suc, Vec, Global, Bool, true, false, not, ◌&&◌, ◌||◌, List, [], ◌∷◌, ◌++◌, ◌⊎◌, ⊎_elim, inl, inr, length, arith, refl, sym, ap, ◌∙◌, subst, true≢false, append_assoc, append-nil}
 use Rattle.std.specs.Prelude.{◌↔◌, ◌==◌}
 use Rattle.std.proofs.Math.Bool.{or_assoc}
 use Rattle.std.proofs.lemmas.Bool.{and_from, and_parts, not-true, not_from_false, false_from_ne_true}
 use Rattle.std.proofs.lemmas.Bool.Decides.{nat_tests}
 use Rattle.ded_model.specs.declared.slot.Slot.{Slot}
-use Rattle.ded_model.specs.Point.{Key, slot, Point}
+use Rattle.ded_model.specs.Point.{Key, slot, Point, IsPoint}
 use Rattle.ded_model.specs.Row.{Atom}
 use Rattle.ded_model.specs.Logic.{Logic, atom, negation, every_of, some_of, minus, none, logics, Sat, SatEvery, SatSome, mentions, any_mentions}
 use Rattle.ded_model.specs.Catalogue.{Catalogue, meaning}
@@ -137,6 +137,21 @@ module _ {A : Type 0} (h : A → Point → Bool) (m : A → Slot → Bool) (l : 
     slots = λ s u. a.slots s (o.slots s u);
     lines = subset_trans (conjs_lines l out) (conjs_lines l xs) (plan_lines (measures c) f) o.lines a.lines;
   }
+
+  -- the complement of a complement or another plan
+  pub implied_for : (c : Catalogue) (f g : PlanForm) (xs : List (List A)) → IsListFor c (minus f g) xs → IsListFor c (negation (some_of (logics (negation f ∷ g ∷ [])))) xs
+  implied_for c f g xs a = record {
+    holds = λ p i. (
+      λ x y. (let both = (a.holds p i).0 x in ⊎_elim (λ n. n both.0) (λ z. ⊎_elim (λ s. both.1 s) (λ n. absurd n) z) y),
+      λ y. by p i y (conjs_hold h xs p) refl,
+    );
+    slots = λ s u. ap (λ b. plan_mentions f (slot s) || b) (or_false (plan_mentions g (slot s))) ∙ a.slots s u;
+    lines = subst (λ ls. IsSubset (conjs_lines l xs) (plan_lines (measures c) f ++ ls)) (sym (append-nil (plan_lines (measures c) g))) a.lines;
+  }
+    where
+      by : (p : Point) → IsPoint p → Sat (PlanAtomHolds (meaning c)) (negation (some_of (logics (negation f ∷ g ∷ [])))) p → (b : Bool) → conjs_hold h xs p ≡ b → conjs_hold h xs p ≡ true
+      by p i y true e = e
+      by p i y false e = absurd (y (inl (λ s. true≢false (sym ((a.holds p i).1 (s, λ z. y (inr (inl z)))) ∙ e))))
 
   -- what an empty list of conjunctions stands for
   pub no_conjunction : (xs : List (Vec A Global)) (conjs : List (List A)) (b : Bool) → conjs_of xs ≡ conjs → b ≡ (length xs == 0) → b ≡ true → length conjs ≡ 0

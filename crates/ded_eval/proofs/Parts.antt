@@ -1,5 +1,5 @@
 -- The parts of a join or a union, one after another.
-use Rattle.std.proofs.Common.{◌≡◌, ℕ, zero, suc, ◌+◌, ◌<◌, Bool, true, List, [], ◌∷◌, ◌++◌, length, get_or, take, drop, map, arith, add-one, sym, ap, ◌∙◌, subst}
+use Rattle.std.proofs.Common.{◌≡◌, ℕ, zero, suc, ◌+◌, ◌<◌, ◌≤◌, Bool, true, List, [], ◌∷◌, ◌++◌, length, get_or, take, drop, map, arith, add-one, sym, ap, ◌∙◌, subst}
 use Rattle.std.proofs.lemmas.List.{map-append, take-append-drop}
 use Rattle.ded_model.specs.declared.plan.Plan.{Plan}
 use Rattle.ded_model.specs.Logic.{AllAtoms, AllAtomsOf}
@@ -38,3 +38,10 @@ rest_atoms P (q ∷ ps) (suc i) l a = subst (λ k. AllAtomsOf P (plan_forms (dro
 pub atoms-push : (P : PlanAtom → Type 0) (ps : List Plan) (p : Plan) → AllAtomsOf P (plan_forms ps) → AllAtoms P (plan_form p) → AllAtomsOf P (plan_forms (ps ++ p ∷ []))
 atoms-push P [] p a k = (k, tt)
 atoms-push P (q ∷ ps) p a k = (a.0, atoms-push P ps p a.1 k)
+
+-- a list of two
+pub two_items : {A : Type 0} (xs : List A) (a b : A) → 2 ≤ length xs → length xs < 3 → a ≡ get_or xs 0 a → b ≡ get_or xs 1 b → xs ≡ a ∷ b ∷ []
+two_items [] a b l m e f = absurd (omega (arith, l))
+two_items (x ∷ []) a b l m e f = absurd (omega (arith, l))
+two_items (x ∷ y ∷ []) a b l m e f = ap (λ z. z ∷ y ∷ []) (sym e) ∙ ap (λ z. a ∷ z ∷ []) (sym f)
+two_items (x ∷ y ∷ z ∷ xs) a b l m e f = absurd (omega (arith, m))

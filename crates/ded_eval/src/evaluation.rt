@@ -3,7 +3,7 @@ ghost use Rattle.std.specs.Prelude.{◌≡◌, true, IfOk, IsErrOf};
 ghost use Rattle.std.specs.List.{AllByRecursion};
 ghost use Rattle.ded_model.specs.declared.memory.Refused.TheVariants.{Wide};
 ghost use Rattle.ded_model.specs.Catalogue.{Catalogue};
-ghost use Rattle.ded_model.specs.Logic.{atom, every_of, some_of, AllAtomsOf};
+ghost use Rattle.ded_model.specs.Logic.{atom, negation, every_of, some_of, AllAtomsOf};
 ghost use Rattle.ded_model.specs.Lines.{any_clashes};
 ghost use Rattle.ded_model.specs.Measure.{measures, plan_atom_lines, plan_atom_clash, plan_clashes};
 ghost use Rattle.ded_model.specs.PlanForm.{rows, plan_form, plan_forms};
@@ -58,15 +58,38 @@ pub fn evaluate_counted<T: OfTuples, R: Relations>(
             let taken = evaluate_counted(alloc, taken, relations, met)?;
             Ok(minus(alloc, &from, &taken)?)
         }
-        Plan::Not(part) => {
-            let list = evaluate_counted(alloc, part, relations, met)?;
-            Ok(complement(alloc, &list)?)
-        }
+        Plan::Not(part) => complemented(alloc, part, relations, met),
         Plan::Project(slot, part) => {
             let list = evaluate_counted(alloc, part, relations, met)?.project(*slot)?;
             Ok(distinct(alloc, list)?)
         }
     }
+}
+
+/// The complement of the plan. That of a complement or another plan, as `implies` makes it, is what the first one's part leaves of the other: so
+/// nothing is complemented twice.
+#[cycle(evaluate)]
+fn complemented<T: OfTuples, R: Relations>(
+    alloc: Global,
+    plan: &Plan,
+    relations: &R,
+    met: &mut u64,
+) -> Result<GenRel<T>, Refused>
+    requires { IsEvaluable T.reads (R.catalogue relations.now) (plan_form plan.now) }
+    ensures is { IfOk result (λ r. IsEvaluation (R.catalogue relations.now) (negation (plan_form plan.now)) (conjs_hold T.holds r) (conjs_mention T.mentions r) (conjs_lines T.lines r)) }
+    ensures wide { IsErrOf result Wide → plan_clashes (measures (R.catalogue relations.now)) (plan_form plan.now) ≡ true }
+{
+    if let Plan::Union(parts) = plan {
+        if let [first, other] = parts.as_slice() {
+            if let Plan::Not(from) = first {
+                let from = evaluate_counted(alloc, from, relations, met)?;
+                let other = evaluate_counted(alloc, other, relations, met)?;
+                return Ok(minus(alloc, &from, &other)?);
+            }
+        }
+    }
+    let list = evaluate_counted(alloc, plan, relations, met)?;
+    Ok(complement(alloc, &list)?)
 }
 
 /// The join of the parts, which ends at the first one that leaves nothing.

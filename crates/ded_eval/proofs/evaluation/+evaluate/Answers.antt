@@ -1,4 +1,4 @@
-use Rattle.std.proofs.Common.{rules, ◌≡◌, true, ◌+◌, ◌++◌, ◌∷◌, [], ◌∙◌, sym, ap, subst, take, drop, map}
+use Rattle.std.proofs.Common.{rules, arith, ◌≡◌, true, ◌+◌, ◌++◌, ◌∷◌, [], ◌∙◌, sym, ap, subst, take, drop, map}
 use Rattle.std.proofs.lemmas.List.{take_all}
 use Rattle.ded_model.specs.declared.plan.Plan.TheFolds.{fold-roll-Plan, fold_out-Plan}
 use Rattle.ded_model.specs.declared.plan.Plan.TheViews.{the_lemmas}
@@ -14,8 +14,8 @@ use Rattle.ded_algebra.specs.Evaluation.{IsScannable}
 use Rattle.ded_genrel.specs.Lists.{AreNormal, conjs_lines}
 use Rattle.ded_eval.specs.Joining.{begun}
 use Rattle.ded_eval.proofs.Distinct.{distinct_for}
-use Rattle.ded_eval.proofs.Evaluated.{IsListFor, no_conjunction, united_none, united_more, joined_none, joined_more, joined_ends, minus_for, minus_none, complement_for}
-use Rattle.ded_eval.proofs.Parts.{part_clashes, parts_to, parts_split, rest_atoms}
+use Rattle.ded_eval.proofs.Evaluated.{IsListFor, no_conjunction, united_none, united_more, joined_none, joined_more, joined_ends, minus_for, minus_none, complement_for, implied_for}
+use Rattle.ded_eval.proofs.Parts.{part_clashes, parts_to, parts_split, rest_atoms, two_items}
 use Rattle.ded_eval.proofs.Projected.{AreInOrder, projection_for, projection_clash}
 use Rattle.ded_eval.proofs.Scanned.{lists_lines}
 use Rattle.ded_eval.proofs.evaluation.+evaluate.Goals as goal
@@ -29,12 +29,6 @@ evaluate_counted-returns-then-is_empty-clause-is g t c =
     (minus_none g.T.Theory.holds g.T.Theory.mentions g.T.Theory.lines cat (plan_form c.deref.result.now) (plan_form c.in-Minus.taken.value) xs
     (no_conjunction g.T.Theory.holds g.T.Theory.mentions g.T.Theory.lines c.list.result.now xs c.is_empty.result c.list.ensures.list c.is_empty.ensures c.if-is_empty.true) c.in_ok-from-in-Minus.ensures.is)
 
-pub evaluate_counted-returns-in_ok-rows-in-Rows-clause-is : goal.evaluate_counted-returns-in_ok-rows-in-Rows-clause-is
-evaluate_counted-returns-in_ok-rows-in-Rows-clause-is g t c =
-    let cat = g.R.Relations.catalogue c.args.relations.now in
-    let e : plan_form c.args.plan.now ≡ atom (rows c.in-Rows.tuple) = search (rules, the_lemmas, fold-roll-Plan, fold_out-Plan) in
-    subst (λ f. IsListFor g.T.Theory.holds g.T.Theory.mentions g.T.Theory.lines cat f c.in_ok-rows-in-Rows.field-0) (sym e) (c.in_ok-rows-in-Rows.ensures cat)
-
 pub evaluate_counted-returns-in_ok-minus-in-Minus-clause-is : goal.evaluate_counted-returns-in_ok-minus-in-Minus-clause-is
 evaluate_counted-returns-in_ok-minus-in-Minus-clause-is g t c =
     let cat = g.R.Relations.catalogue c.args.relations.now in
@@ -43,12 +37,11 @@ evaluate_counted-returns-in_ok-minus-in-Minus-clause-is g t c =
     (minus_for g.T.Theory.holds g.T.Theory.mentions g.T.Theory.lines cat (plan_form c.deref.result.now) (plan_form c.deref-in-Minus.result.now) c.in_ok-from-in-Minus.from c.in_ok-taken-in-Minus.taken c.in_ok-minus-in-Minus.field-0
     c.in_ok-from-in-Minus.ensures.is c.in_ok-taken-in-Minus.ensures.is c.in_ok-minus-in-Minus.ensures.is)
 
-pub evaluate_counted-returns-in_ok-complement-in-Not-clause-is : goal.evaluate_counted-returns-in_ok-complement-in-Not-clause-is
-evaluate_counted-returns-in_ok-complement-in-Not-clause-is g t c =
+pub evaluate_counted-returns-in_ok-rows-in-Rows-clause-is : goal.evaluate_counted-returns-in_ok-rows-in-Rows-clause-is
+evaluate_counted-returns-in_ok-rows-in-Rows-clause-is g t c =
     let cat = g.R.Relations.catalogue c.args.relations.now in
-    let e : plan_form c.args.plan.now ≡ negation (plan_form c.deref-in-Not.result.now) = search (rules, the_lemmas, fold-roll-Plan, fold_out-Plan) in
-    subst (λ f. IsListFor g.T.Theory.holds g.T.Theory.mentions g.T.Theory.lines cat f c.in_ok-complement-in-Not.field-0) (sym e)
-    (complement_for g.T.Theory.holds g.T.Theory.mentions g.T.Theory.lines cat (plan_form c.deref-in-Not.result.now) c.in_ok-list-in-Not.list c.in_ok-complement-in-Not.field-0 c.in_ok-list-in-Not.ensures.is c.in_ok-complement-in-Not.ensures.is)
+    let e : plan_form c.args.plan.now ≡ atom (rows c.in-Rows.tuple) = search (rules, the_lemmas, fold-roll-Plan, fold_out-Plan) in
+    subst (λ f. IsListFor g.T.Theory.holds g.T.Theory.mentions g.T.Theory.lines cat f c.in_ok-rows-in-Rows.field-0) (sym e) (c.in_ok-rows-in-Rows.ensures cat)
 
 pub evaluate_counted-returns-in_ok-distinct-in-Project-clause-is : goal.evaluate_counted-returns-in_ok-distinct-in-Project-clause-is
 evaluate_counted-returns-in_ok-distinct-in-Project-clause-is g t c =
@@ -150,3 +143,23 @@ united-returns-clause-is g t c =
     = subst (λ ps. IsListFor g.T.Theory.holds g.T.Theory.mentions g.T.Theory.lines cat (some_of (plan_forms ps)) c.loop-part.list) (take_all c.loop-part.part-index items c.loop-part-test.false ∙ c.deref-part-items.ensures.value) c.loop-part.invariant.0 in
     distinct_for g.T.Theory.holds g.T.Theory.mentions g.T.Theory.lines cat (some_of (plan_forms c.args.parts.now.items)) c.loop-part.list c.in_ok-distinct.field-0
     c.in_ok-distinct.ensures.holds c.in_ok-distinct.ensures.slots c.in_ok-distinct.ensures.lines all
+
+pub complemented-returns-clause-is : goal.complemented-returns-clause-is
+complemented-returns-clause-is g t c =
+    complement_for g.T.Theory.holds g.T.Theory.mentions g.T.Theory.lines (g.R.Relations.catalogue c.args.relations.now) (plan_form c.args.plan.now) c.in_ok-list.list c.in_ok-complement.field-0 c.in_ok-list.ensures.is c.in_ok-complement.ensures.is
+
+pub complemented-returns-in-Not-clause-is : goal.complemented-returns-in-Not-clause-is
+complemented-returns-in-Not-clause-is g t c =
+    let cat = g.R.Relations.catalogue c.args.relations.now in
+    let f = plan_form c.deref.result.now in
+    let b = c.other-item.result in
+    let out = c.in_ok-minus.field-0 in
+    let first : plan_form c.first-item.result ≡ negation f = search (rules, the_lemmas, fold-roll-Plan, fold_out-Plan) in
+    let union : plan_form c.args.plan.now ≡ some_of (plan_forms c.in-Union.parts.items) = search (rules, the_lemmas, fold-roll-Plan, fold_out-Plan) in
+    let both : c.as_slice.result.now ≡ c.first-item.result ∷ b ∷ [] =
+    two_items c.as_slice.result.now c.first-item.result b (omega (arith, c.in-len2.len_at_least)) (omega (arith, c.in-len2.len_below)) c.first-item.is c.other-item.is in
+    let e : plan_form c.args.plan.now ≡ some_of (logics (negation f ∷ plan_form b ∷ [])) =
+    union ∙ ap (λ ps. some_of (plan_forms ps)) (sym c.as_slice.ensures.value ∙ both) ∙ ap (λ k. some_of (logics (k ∷ plan_form b ∷ []))) first in
+    subst (λ k. IsListFor g.T.Theory.holds g.T.Theory.mentions g.T.Theory.lines cat (negation k) out) (sym e)
+    (implied_for g.T.Theory.holds g.T.Theory.mentions g.T.Theory.lines cat f (plan_form b) out
+    (minus_for g.T.Theory.holds g.T.Theory.mentions g.T.Theory.lines cat f (plan_form b) c.in_ok-from.from c.in_ok-other.other out c.in_ok-from.ensures.is c.in_ok-other.ensures.is c.in_ok-minus.ensures.is))
