@@ -34,7 +34,7 @@ use Rattle.ded_upkeep.specs.Upkeep.{IsTightView}
 use Rattle.ded_upkeep.proofs.Under.{same_name, other_left}
 use Rattle.ded_database.specs.State.{State, catalogue_at, is_kept, IsSound}
 use Rattle.ded_database.specs.Steps.{KeepsLists, Marks, Unmarks}
-use Rattle.ded_session.specs.Histories.{Turn, Takes, AreTaken, last_state, renews, loses, SpellsSome, NoneRenews, IsLost}
+use Rattle.ded_session.specs.Histories.{Turn, IsTurn, AreTurns, last_state, renews, loses, SpellsSome, NoneRenews, IsLost}
 use Rattle.ded_session.specs.Keeping.{Upholds, UpholdsPiece, KeepsUpLists, LosesLists}
 use Rattle.ded_session.specs.Replies.{ReplyForm, done, number, truth, tuples, stored, boxes, steps, refused}
 use Rattle.ded_session.specs.Runs.{next_language}
@@ -181,7 +181,7 @@ decided l piece test = elim (spelling_decided l piece) [
     by x depth k true e = inl (record { command = x; depth = depth; spells = k; passes = e })
     by x depth k false e = inr (λ y. true≢false (sym y.passes ∙ ap test (one_command l piece y.command x y.depth depth y.spells k).0 ∙ e))
 
-module _ (l : Language) (s : State) (x : Turn) (v : List ℕ) (a : IsSound s) (k : Takes l s x) where
+module _ (l : Language) (s : State) (x : Turn) (v : List ℕ) (a : IsSound s) (k : IsTurn l s x) where
   -- an accepted one
   accepted : (reply : ReplyForm) → Accepts l (Whole x.piece) (catalogue_at s) (λ y. Does y (catalogue_at s) reply (catalogue_at x.left)) → UpholdsPiece l x.piece reply s x.left → IsDue s v → IsDue x.left v
   accepted reply y p due = by (renews (catalogue_at s) y.command reply v) refl
@@ -228,7 +228,7 @@ module _ (l : Language) (s : State) (x : Turn) (v : List ℕ) (a : IsSound s) (k
 
 mutual
   -- where the list is due, it is held in the end or lost on the way
-  if_due : (xs : List Turn) (l : Language) (s : State) (v : List ℕ) → IsSound s → AreTaken l s xs → IsDue s v → is_kept (last_state s xs) v ≡ true → IsTightView (catalogue_at (last_state s xs)) v
+  if_due : (xs : List Turn) (l : Language) (s : State) (v : List ℕ) → IsSound s → AreTurns l s xs → IsDue s v → is_kept (last_state s xs) v ≡ true → IsTightView (catalogue_at (last_state s xs)) v
       → held_under (last_state s xs).held v ≡ None → IsLost l s xs v
   if_due [] l s v a k due m i e = absurd (true≢false (sym (due m i) ∙ ap is_some e))
   if_due (x ∷ xs) l s v a k due m i e = elim (decided l x.piece (λ y. loses (catalogue_at s) y x.reply v)) [
@@ -237,7 +237,7 @@ mutual
   ]
 
   -- and else no statement had it made since, or one did and it was lost after that
-  if_none : (xs : List Turn) (l : Language) (s : State) (v : List ℕ) → IsSound s → AreTaken l s xs → is_kept (last_state s xs) v ≡ true → IsTightView (catalogue_at (last_state s xs)) v
+  if_none : (xs : List Turn) (l : Language) (s : State) (v : List ℕ) → IsSound s → AreTurns l s xs → is_kept (last_state s xs) v ≡ true → IsTightView (catalogue_at (last_state s xs)) v
       → held_under (last_state s xs).held v ≡ None → NoneRenews l s xs v ⊎ IsLost l s xs v
   if_none [] l s v a k m i e = inl tt
   if_none (x ∷ xs) l s v a k m i e = elim (decided l x.piece (λ y. renews (catalogue_at s) y x.reply v)) [
@@ -246,6 +246,6 @@ mutual
   ]
 
 -- no list is due of a view that isn't kept
-pub lost_lists : (language : Language) (s : State) (turns : List Turn) (v : List ℕ) → IsSound s → AreTaken language s turns → is_kept s v ≡ false
+pub lost_lists : (language : Language) (s : State) (turns : List Turn) (v : List ℕ) → IsSound s → AreTurns language s turns → is_kept s v ≡ false
     → is_kept (last_state s turns) v ≡ true → IsTightView (catalogue_at (last_state s turns)) v → held_under (last_state s turns).held v ≡ None → IsLost language s turns v
 lost_lists language s turns v a k unmarked m i e = if_due turns language s v a k (λ j h. absurd (true≢false (sym j ∙ unmarked))) m i e

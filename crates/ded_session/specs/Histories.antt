@@ -21,14 +21,14 @@ pub record Turn : Type 0 where
   pub left : State
 
 -- one step of the rules, over a state that is sound, to one that is
-pub record Takes (language : Language) (s : State) (x : Turn) : Type 0 where
+pub record IsTurn (language : Language) (s : State) (x : Turn) : Type 0 where
   pub step : Step language (catalogue_at s) (Whole x.piece) x.reply (catalogue_at x.left)
   pub upholds : UpholdsPiece language x.piece x.reply s x.left
   pub sound : IsSound x.left
 
-abbrev pub AreTaken : Language → State → List Turn → Type 0
-AreTaken language s [] = Unit {0}
-AreTaken language s (x ∷ xs) = Takes language s x × AreTaken (next_language language) x.left xs
+abbrev pub AreTurns : Language → State → List Turn → Type 0
+AreTurns language s [] = Unit {0}
+AreTurns language s (x ∷ xs) = IsTurn language s x × AreTurns (next_language language) x.left xs
 
 abbrev pub last_state : State → List Turn → State
 last_state s [] = s

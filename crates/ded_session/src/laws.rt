@@ -12,7 +12,7 @@ ghost use Rattle.ded_syntax.specs.Spelling.{Spells};
 ghost use Rattle.ded_upkeep.specs.Held.{held_under};
 ghost use Rattle.ded_upkeep.specs.Upkeep.{IsTightView};
 ghost use Rattle.ded_database.specs.State.{State, catalogue_at, is_kept, IsSound};
-ghost use Rattle.ded_session.specs.Histories.{Turn, AreTaken, last_state, IsLost};
+ghost use Rattle.ded_session.specs.Histories.{Turn, AreTurns, last_state, IsLost};
 ghost use Rattle.ded_session.specs.Pairs.{AreOfOne, SpeaksPlainly};
 ghost use Rattle.ded_session.specs.PlainNames.{HasPlainNames, NamesPlainly};
 ghost use Rattle.ded_session.specs.Replies.{ReplyForm, refused, stored};
@@ -68,7 +68,7 @@ pub fn accepted_statements()
 /// Over steps one after another no list is held of a kept view only where its formula isn't tight, or where a list may have been lost: an insert or a
 /// delete in a relation that the view reaches was refused for want of memory, and since then none was accepted there, nor a `keep` of the view.
 pub fn lost_lists()
-    ensures { (language : Language) (s : State) (turns : List Turn) (v : List ℕ) → IsSound s → AreTaken language s turns → is_kept s v ≡ false
+    ensures { (language : Language) (s : State) (turns : List Turn) (v : List ℕ) → IsSound s → AreTurns language s turns → is_kept s v ≡ false
         → is_kept (last_state s turns) v ≡ true → IsTightView (catalogue_at (last_state s turns)) v → held_under (last_state s turns).held v ≡ None
         → IsLost language s turns v }
 {}
