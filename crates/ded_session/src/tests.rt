@@ -205,7 +205,7 @@ fn point(tuple: &Tuple) -> Option<i128> {
     }
 }
 
-// Whether a list is held of the view `V`, whose tuples hold at these numbers, one after another.
+// Whether a list is held of the view `V` that holds at these numbers, and nowhere else.
 fn holds_at(alloc: Global, session: &Session, numbers: &[i128]) -> Result<bool, NoMemory> {
     let name = Name {
         bytes: b"V".to_vec(alloc)?,
@@ -213,16 +213,37 @@ fn holds_at(alloc: Global, session: &Session, numbers: &[i128]) -> Result<bool, 
     let Some(list) = session.kept(&name) else {
         return Ok(false);
     };
-    Ok(list.len() == numbers.len() && all_at(list, numbers))
+    Ok(are_points(list, numbers) && have_all(list, numbers))
 }
 
-fn all_at(list: &[Tuple], numbers: &[i128]) -> bool {
-    for (tuple, number) in list.iter().zip(numbers) {
-        if point(tuple) != Some(*number) {
+// Whether each tuple holds at one of the numbers alone.
+fn are_points(list: &[Tuple], numbers: &[i128]) -> bool {
+    for tuple in list {
+        match point(tuple) {
+            Some(number) if numbers.contains(&number) => {}
+            _ => return false,
+        }
+    }
+    true
+}
+
+// Whether each number is that of some tuple.
+fn have_all(list: &[Tuple], numbers: &[i128]) -> bool {
+    for number in numbers {
+        if !has_point(list, *number) {
             return false;
         }
     }
     true
+}
+
+fn has_point(list: &[Tuple], number: i128) -> bool {
+    for tuple in list {
+        if point(tuple) == Some(number) {
+            return true;
+        }
+    }
+    false
 }
 
 #[test]
@@ -266,7 +287,7 @@ fn kept_unions_are_extended(rt: HostRuntime) -> Result<(), Fail> {
             ("keep T", Kind::Refused(Refusal::Kind)),
         ],
     );
-    assert!(rt; holds_at(rt.alloc(), &session, &[9, 1])?);
+    assert!(rt; holds_at(rt.alloc(), &session, &[1, 9])?);
     assert_eq!(rt; session.added(), 1);
     Ok(())
 }
