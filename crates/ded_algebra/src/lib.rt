@@ -13,8 +13,6 @@ mod arguments;
 mod compiling;
 mod evaluation;
 mod scanning;
-#[cfg(test)]
-mod tests;
 
 pub use compiling::compile;
 pub use evaluation::{Evaluate, Relations};

@@ -13,8 +13,6 @@ mod own_slots;
 mod reduction;
 mod repeated;
 mod sameness;
-#[cfg(test)]
-mod tests;
 
 pub use closed::holds_everywhere;
 pub use reduction::reduced;

@@ -6,8 +6,6 @@
 #![tactic(auto)]
 
 pub mod laws;
-#[cfg(test)]
-mod tests;
 
 use ded_linear::Linear;
 use ded_theme::Theme;

@@ -10,8 +10,6 @@
 
 mod bound_box;
 mod interval;
-#[cfg(test)]
-mod tests;
 
 pub use bound_box::{BoundBox, cover, meets};
 pub use interval::{Side, checked, intervals_meet, may_meet, narrower, wider};

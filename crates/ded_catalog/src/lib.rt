@@ -14,7 +14,5 @@ mod hashing;
 mod relation;
 mod stored;
 mod table;
-#[cfg(test)]
-mod tests;
 
 pub use catalogue::Catalogue;

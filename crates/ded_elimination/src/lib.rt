@@ -25,8 +25,6 @@ ghost use Rattle.ded_elimination.specs.Adding.{AreLinear, HoldExtended, Adds};
 mod equality;
 mod keeping;
 mod pairs;
-#[cfg(test)]
-mod tests;
 
 use crate::equality::{by_equality, find_equality};
 use crate::pairs::by_pairs;

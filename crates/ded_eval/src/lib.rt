@@ -22,8 +22,6 @@ mod rows;
 mod sameness;
 mod scanning;
 mod slots;
-#[cfg(test)]
-mod tests;
 
 pub use atoms::{eval, eval_counted};
 pub use engine::{Engine, tuples};

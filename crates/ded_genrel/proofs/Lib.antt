@@ -4,4 +4,3 @@ pub mod Items
 pub mod Laws
 pub mod Projected
 pub mod Renamed
-mod Truths

@@ -12,8 +12,6 @@
 
 mod conjunction;
 mod list;
-#[cfg(test)]
-mod tests;
 
 pub use conjunction::{both_conjs, copy_conj};
 pub use list::GenRel;

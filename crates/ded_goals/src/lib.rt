@@ -14,8 +14,6 @@ pub mod laws;
 mod scope;
 mod slotted;
 mod sums;
-#[cfg(test)]
-mod tests;
 mod texts;
 mod tuples;
 

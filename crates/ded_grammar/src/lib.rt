@@ -14,8 +14,6 @@ mod formula;
 mod laws;
 mod piece;
 mod scan;
-#[cfg(test)]
-mod tests;
 
 pub use fault::ReadFault;
 pub use formula::formula_of;

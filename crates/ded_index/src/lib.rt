@@ -12,8 +12,6 @@
 mod entry;
 mod index;
 mod steps;
-#[cfg(test)]
-mod tests;
 mod tree;
 
 pub use entry::Entry;

@@ -14,8 +14,6 @@ mod memory_sink;
 mod memory_source;
 mod schedule;
 mod standard;
-#[cfg(test)]
-mod tests;
 mod unread;
 
 pub use device::{Failed, Sink, Source, send};

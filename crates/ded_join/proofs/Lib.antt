@@ -2,4 +2,3 @@ pub mod Indexed
 pub mod Joined
 pub mod Kept
 pub mod Nearness
-mod Truths

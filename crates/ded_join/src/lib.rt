@@ -12,8 +12,6 @@
 mod indexing;
 mod inhabited;
 mod joining;
-#[cfg(test)]
-mod tests;
 
 pub use inhabited::join_inhabited;
 pub use joining::{join, join_counted};

@@ -13,8 +13,6 @@ mod additive;
 mod alone;
 mod keeping;
 pub mod laws;
-#[cfg(test)]
-mod tests;
 
 pub use additive::is_additive;
 pub use keeping::{add_tuple, refresh};

@@ -20,8 +20,6 @@ mod laws;
 mod lexer;
 mod splitter;
 mod state;
-#[cfg(test)]
-mod tests;
 mod token;
 
 pub use laws::{

@@ -12,8 +12,6 @@
 mod bounds;
 mod interval;
 mod order;
-#[cfg(test)]
-mod tests;
 mod theory;
 mod verdict;
 

@@ -12,7 +12,5 @@
 pub mod laws;
 mod mark;
 mod reaching;
-#[cfg(test)]
-mod tests;
 
 pub use mark::{Mark, Reach, mark_of};

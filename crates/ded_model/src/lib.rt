@@ -20,6 +20,4 @@ pub mod name;
 pub mod plan;
 pub mod row;
 pub mod slot;
-#[cfg(test)]
-mod tests;
 pub mod tuple;

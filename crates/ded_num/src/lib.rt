@@ -13,8 +13,6 @@ mod divisor;
 mod fraction;
 mod length;
 mod product;
-#[cfg(test)]
-mod tests;
 
 pub use divisor::{gcd, quotient};
 pub use fraction::cmp_frac;

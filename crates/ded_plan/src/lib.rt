@@ -14,7 +14,5 @@ mod joining;
 mod projecting;
 mod rewriting;
 mod slots;
-#[cfg(test)]
-mod tests;
 
 pub use rewriting::rewrite;

@@ -11,8 +11,6 @@
 pub mod laws;
 mod names;
 mod planning;
-#[cfg(test)]
-mod tests;
 
 pub use names::{scanned_names, used_names};
 pub use planning::plan;

@@ -19,8 +19,6 @@ mod number;
 mod plan;
 mod row;
 mod stored;
-#[cfg(test)]
-mod tests;
 mod theme;
 mod tuple;
 

@@ -15,8 +15,6 @@
 mod answering;
 mod engine;
 mod gathering;
-#[cfg(test)]
-mod tests;
 
 pub use answering::{answer, give_names, is_true, view_tuples};
 pub use engine::ReducingEngine;

@@ -24,8 +24,6 @@ mod printed;
 mod row;
 mod slot;
 mod terms;
-#[cfg(test)]
-mod tests;
 mod theme;
 mod tuple;
 

@@ -9,7 +9,5 @@
 #![tactic(auto)]
 
 mod resolving;
-#[cfg(test)]
-mod tests;
 
 pub use resolving::resolve;

@@ -17,8 +17,6 @@ mod mixing;
 mod negation;
 mod ordering;
 mod renaming;
-#[cfg(test)]
-mod tests;
 
 pub use lowest::normal;
 pub use mixing::mix;

@@ -16,8 +16,6 @@ pub mod laws;
 mod made;
 mod program;
 mod reply;
-#[cfg(test)]
-mod tests;
 mod words;
 
 pub use program::{Setup, Status, make, run, serve};

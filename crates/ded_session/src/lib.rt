@@ -21,8 +21,6 @@ mod session;
 mod shown;
 mod statement;
 mod stored;
-#[cfg(test)]
-mod tests;
 
 pub use reply::Reply;
 pub use session::{Piece, Session};

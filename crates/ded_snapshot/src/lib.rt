@@ -9,7 +9,5 @@
 
 mod change;
 mod snapshot;
-#[cfg(test)]
-mod tests;
 
 pub use snapshot::Snapshot;

@@ -19,8 +19,6 @@ mod names;
 mod scope;
 mod shape;
 mod sorts;
-#[cfg(test)]
-mod tests;
 mod uses;
 
 pub use checked::Checked;

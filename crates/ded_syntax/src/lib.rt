@@ -19,8 +19,6 @@ mod operand;
 mod pieces;
 mod statement;
 mod sum;
-#[cfg(test)]
-mod tests;
 
 pub use command::read_command;
 pub use laws::{one_command, some_command, spelled_sums};

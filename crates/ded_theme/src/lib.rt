@@ -11,8 +11,6 @@ mod classes;
 mod elimination;
 mod renaming;
 mod substitution;
-#[cfg(test)]
-mod tests;
 mod theory;
 mod words;
 

@@ -10,8 +10,6 @@
 
 mod answers;
 mod both;
-#[cfg(test)]
-mod tests;
 mod theory;
 
 pub use answers::{Eliminated, Span, Verdict};

@@ -9,8 +9,6 @@
 
 mod normal;
 mod placing;
-#[cfg(test)]
-mod tests;
 
 pub use normal::{is_true, normal_tuple};
 pub use placing::put;

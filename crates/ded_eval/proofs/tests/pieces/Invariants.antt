@@ -1,8 +1,0 @@
-use Rattle.ded_model.specs.Catalogue.{Catalogue}
-use Rattle.ded_model.specs.Logic.{AllAtomsOf}
-use Rattle.ded_model.specs.PlanForm.{plan_forms}
-use Rattle.ded_algebra.specs.Evaluation.{IsAnyAtom, IsScannable}
-use Rattle.ded_eval.proofs.tests.pieces.Given as goal
-
-abbrev pub invariant-loop-i : goal.invariant-loop-i
-invariant-loop-i l = (c : Catalogue) → AllAtomsOf (IsScannable IsAnyAtom c) (plan_forms l.parts.items)

@@ -1,7 +1,0 @@
-use Rattle.std.proofs.Common.{◌∙◌, sym}
-use Rattle.ded_model.specs.Cell.{conj_holds}
-use Rattle.ded_join.proofs.Truths.{truth_somewhere}
-use Rattle.ded_join.proofs.tests.TruthTheory.refute.Goals as goal
-
-pub returns-then-all_true : goal.returns-then-all_true
-returns-then-all_true c = truth_somewhere (conj_holds (λ a p. a) c.args.atoms.now) (λ q. sym c.all_true.ensures ∙ c.if-all_true.true)

@@ -1,5 +1,0 @@
-use Rattle.ded_catalog.proofs.Simplest.{whole_over}
-use Rattle.ded_snapshot.proofs.tests.insert.Goals as goal
-
-pub insert-requires-clause-over : goal.insert-requires-clause-over
-insert-requires-clause-over c = whole_over _ c.whole_space.result c.whole_space.ensures
