@@ -22,7 +22,7 @@ pub trait Relations {
     ghost catalogue: { Self → Catalogue };
 
     /// The tuples of the name, none exactly where the name isn't given. Only relations are given, and their names are distinct. It
-    /// takes no memory.
+    /// doesn't allocate.
     fn tuples(&self, name: &Name) -> Option<&[Tuple]>
         ensures tuples { option_map (λ ts. ts.now) result ≡ given_tuples (catalogue self.now) name.now }
         ensures given { AreGiven (catalogue self.now).entries };
@@ -35,7 +35,7 @@ pub trait Evaluate {
     /// of the scan's slots.
     ///
     /// # Errors
-    /// `Wide` only where the plan clashes over the given relations, and else want of memory.
+    /// `Wide` only where the plan clashes over the given relations, otherwise out of memory.
     fn evaluate<R: Relations>(
         &self,
         alloc: Global,

@@ -6,7 +6,7 @@ ghost use Rattle.ded_model.specs.Row.{tuple_holds, tuple_mentions, tuples_hold, 
 
 use ded_model::tuple::Tuple;
 
-/// Whether the tuples, which mention no slot, hold; they do so everywhere or nowhere. It takes no memory.
+/// Whether the tuples, which mention no slot, hold; they do so everywhere or nowhere. It does not allocate.
 pub fn holds_everywhere(tuples: &[Tuple]) -> bool
     requires closed { (s : Slot) → tuples_mention tuples.now s ≡ false }
     ensures { (p : Point) → tuples_hold tuples.now p ≡ result }

@@ -1,4 +1,4 @@
--- The bounds that a theory gives are a box round a conjunction.
+-- The bounds that a theory gives are a box around a conjunction.
 --
 -- Where no point satisfies the atoms there is nothing to show. Else the value of each point is not outside of either bound,
 -- and where a bound isn't attained it is not the bound's value either, so it lies strictly within. Bounds of atoms that aren't

@@ -39,7 +39,7 @@ AreSharp test [] (i ∷ is) = ⊥
 AreSharp test (s ∷ ss) [] = ⊥
 AreSharp test (s ∷ ss) (i ∷ is) = ((v : Fraction) → is_within i v ≡ true → AreExact test s i) × AreSharp test ss is
 
--- a box round the atoms, of their exact bounds where they aren't wide
+-- a box around the atoms, of their exact bounds where they aren't wide
 pub record IsBoxOf {A : Type 0} (holds : A → Point → Bool) (mentions : A → Slot → Bool) (lines : A → List Line) (ss : List Slot) (c : List A) (x : List (Bound × Bound)) : Type 0 where
   pub round : IsRound holds ss c x
   pub sharp : (IsWide mentions lines c → ⊥) → AreSharp (conj_holds holds c) ss x

@@ -1,6 +1,6 @@
 //! Boxes of bounds round conjunctions of any theory.
 //!
-//! [`box_round`] puts a box round a conjunction: on given rational slots, the bounds that its atoms give each slot. All points that
+//! [`box_round`] puts a box around a conjunction: on given rational slots, the bounds that its atoms give each slot. All points that
 //! satisfy the atoms have their values in it, and it is exact where the atoms aren't wide. So where two boxes share no value, no
 //! point satisfies both conjunctions, and that is told by a few comparisons.
 //!

@@ -41,7 +41,7 @@ impl BoundBox {
         Ok(BoundBox { list })
     }
 
-    /// The intervals. It takes no memory.
+    /// The intervals. It does not allocate.
     pub fn spans(&self) -> &[(Bound, Bound)]
         ensures spans { result.now ≡ self.now }
         ensures intervals { AreIntervals self.now }
@@ -62,7 +62,7 @@ impl BoundBox {
     }
 }
 
-/// Whether some list of values lies in both boxes. It takes no memory.
+/// Whether some list of values lies in both boxes. It does not allocate.
 pub fn meets(a: &BoundBox, b: &BoundBox) -> bool
     ensures value { result ≡ boxes_meet a.now b.now }
     ensures shared { IsTrue result ↔ Shared a.now b.now }

@@ -57,7 +57,7 @@ impl Catalogue {
     ghost use Rattle.ded_model.specs.Entries.{known, tuples_in, columns_in, entry_uses};
     ghost use Rattle.ded_catalog.specs.State.{catalogue_of};
 
-    /// A catalogue without entries, whose relations may have `limit` tuples, 1 to 1,000,000. It takes no memory yet.
+    /// A catalogue without entries, whose relations may have `limit` tuples, 1 to 1,000,000. It does not allocate yet.
     ///
     /// # Errors
     /// None: the first name that is defined takes memory.
@@ -70,7 +70,7 @@ impl Catalogue {
         Ok(Catalogue::hashed_with(alloc, limit, (0, 0)))
     }
 
-    /// The same, with keys by which the names are hashed. Where names come from strangers, draw the keys at random: then
+    /// The same, with keys by which the names are hashed. Where names are untrusted, draw the keys at random: then
     /// nobody can choose names that are slow to find.
     pub fn hashed_with(alloc: Global, limit: u32, keys: (u64, u64)) -> Catalogue
         requires low { 1 ≤ limit }
@@ -132,7 +132,7 @@ impl Catalogue {
         insert_into(&mut self.names, name, self.limit, t)
     }
 
-    /// Deletes the tuple of the number, which has to be there, from the relation of the name. It takes no memory.
+    /// Deletes the tuple of the number, which has to be there, from the relation of the name. It does not allocate.
     pub fn delete(&mut self, name: &Name, number: u64)
         requires { list_any (λ t. t.0 == number) (tuples_in (catalogue_of self.old) name.now) ≡ true }
         ensures { Deletes (catalogue_of self.old) (catalogue_of self.new) name.now number }
@@ -168,7 +168,7 @@ impl Catalogue {
         add(&mut self.names, name, view)
     }
 
-    /// Drops a name that is defined and that no view uses. The others keep their order. It takes no memory.
+    /// Drops a name that is defined and that no view uses. The others keep their order. It does not allocate.
     pub fn drop_name(&mut self, name: &Name)
         requires defined { is_some (known (catalogue_of self.old) name.now) ≡ true }
         requires unused { list_any (entry_uses name.now) (catalogue_of self.old).entries ≡ false }

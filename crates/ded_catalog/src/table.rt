@@ -26,7 +26,7 @@ use indexmap::IndexMap;
 /// What stands under each name, in order of definition.
 pub(crate) type Table = IndexMap<Name, Stored, NameHashing>;
 
-/// Puts what stands under a new name at the end. On want of memory nothing is changed.
+/// Puts what stands under a new name at the end. Where there is no memory, nothing is changed.
 pub(crate) fn add(table: &mut Table, name: Name, stored: Stored) -> Result<(), NoMemory>
     requires { lookup (bytes_eq name) table.old.entries ≡ None }
     ensures ok { OnOk result (table.new.entries ≡ table.old.entries ++ (name, stored) ∷ []) }

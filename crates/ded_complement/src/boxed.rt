@@ -21,7 +21,7 @@ const FEW: usize = 8;
 /// Slots of higher numbers get no intervals. The columns of a relation and the variables of a formula are numbered from 0 on.
 const SLOTS: u32 = 8;
 
-/// A conjunction, and a box round it on some slots.
+/// A conjunction, and a box around it on some slots.
 #[derive(Drop)]
 pub(crate) struct Boxed<A> {
     pub(crate) conj: Vec<A>,

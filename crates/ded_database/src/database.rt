@@ -70,7 +70,7 @@ impl Database {
     ghost use Rattle.ded_database.specs.Steps.{KeepsMarks, KeepsLists, Marks, Unmarks};
 
     /// A database with an empty catalogue whose relations have at most `limit` tuples, 1 to 1,000,000, and no kept view. The names are hashed
-    /// with the keys: where names come from strangers, draw these at random. It takes no memory yet.
+    /// with the keys: where names are untrusted, draw these at random. It does not allocate yet.
     pub fn new(alloc: Global, limit: u32, keys: (u64, u64)) -> Database
         requires low { 1 ≤ limit }
         requires high { limit ≤ 1000000 }
@@ -88,7 +88,7 @@ impl Database {
         }
     }
 
-    /// The present catalogue. It takes no memory.
+    /// The present catalogue. It does not allocate.
     pub fn catalogue(&self) -> &Catalogue
         ensures { catalogue_of result.now ≡ (catalogue_at self.now) }
     {
@@ -103,7 +103,7 @@ impl Database {
         let _ = &self.held;
     }
 
-    /// The list that is held of a kept view: its tuples hold exactly where the view's formula does. None where none is held. It takes no memory.
+    /// The list that is held of a kept view: its tuples hold exactly where the view's formula does. None where none is held. It does not allocate.
     pub fn kept(&self, name: &Name) -> Option<&[Tuple]>
         ensures held { option_map (λ ts. ts.now) result ≡ held_under self.now.held name.now }
         ensures list { IfSome result (λ ts. IsListOf (catalogue_at self.now) name.now ts.now) }
@@ -113,7 +113,7 @@ impl Database {
         self.held.tuples(name)
     }
 
-    /// How often a list was extended by a tuple alone, up to the greatest number. It takes no memory.
+    /// How often a list was extended by a tuple alone, up to the greatest number. It does not allocate.
     pub fn added(&self) -> u64
         ensures { result ≡ self.now.added }
     {
@@ -162,7 +162,7 @@ impl Database {
         defined
     }
 
-    /// Drops a name that is defined and that no view uses, with its mark and its list. It takes no memory.
+    /// Drops a name that is defined and that no view uses, with its mark and its list. It does not allocate.
     pub fn drop_name(&mut self, name: &Name)
         requires defined { is_some (known (catalogue_at self.old) name.now) ≡ true }
         requires unused { list_any (entry_uses name.now) (catalogue_at self.old).entries ≡ false }
@@ -250,7 +250,7 @@ impl Database {
     /// Whether a closed formula, given as its goal, is true. Of views whose lists are held it reads these.
     ///
     /// # Errors
-    /// `Wide` only where the formula isn't tight, and else want of memory.
+    /// `Wide` only where the formula isn't tight, otherwise out of memory.
     pub fn is_true(&mut self, goal: &Goal) -> Result<bool, Refused>
         requires question { (f : Form) × IsQuestion (catalogue_at self.old) [] (goal_form goal.now) f }
         ensures truth { (f : Form) → IsQuestion (catalogue_at self.old) [] (goal_form goal.now) f
@@ -267,7 +267,7 @@ impl Database {
     /// views whose lists are held it reads these.
     ///
     /// # Errors
-    /// `Wide` only where the formula isn't tight, and else want of memory.
+    /// `Wide` only where the formula isn't tight, otherwise out of memory.
     pub fn answer(&mut self, heading: &Heading, goal: &Goal) -> Result<Tuples, Refused>
         requires question { (f : Form) × IsQuestion (catalogue_at self.old) heading.now (goal_form goal.now) f }
         ensures is { (f : Form) → IsQuestion (catalogue_at self.old) heading.now (goal_form goal.now) f

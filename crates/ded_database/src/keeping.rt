@@ -122,7 +122,7 @@ fn first_above(marks: &[Mark], name: &Name) -> usize
     marks.len()
 }
 
-/// Drops the mark of the name and its list, where there are such.
+/// Drops the mark of the name and its list, if there are any.
 pub(crate) fn drop_kept(marks: &mut Vec<Mark>, held: &mut Given, name: &Name)
     ensures marks { marks.new.items ≡ without_mark name.now marks.old.items }
     ensures held { held.new ≡ without_name name.now held.old }

@@ -39,7 +39,7 @@ use std::alloc::Global;
 /// elimination makes of the given rows' lines.
 ///
 /// # Errors
-/// `Wide` only where two lines of the rows clash at the slot, and want of memory.
+/// `Wide` only where two lines of the rows clash at the slot, otherwise out of memory.
 pub fn eliminate(alloc: Global, rows: &[Row], slot: Slot) -> Result<Eliminated<Row>, Refused>
     requires normal { AllByRecursion IsLinearAtom rows.now }
     ensures holds { IfOk result (λ e. (p : Point) → IsPoint p → IsTrue (eliminated_holds row_holds e p) ↔ SomeExtension slot (conj_holds row_holds rows.now) p) }

@@ -20,7 +20,7 @@ use std::alloc::Global;
 /// scan's slots.
 ///
 /// # Errors
-/// `Wide` only where the plan clashes over the given relations, and else want of memory.
+/// `Wide` only where the plan clashes over the given relations, otherwise out of memory.
 pub fn eval<R: Relations>(
     alloc: Global,
     plan: &Plan,

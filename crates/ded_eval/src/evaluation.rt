@@ -33,7 +33,7 @@ use std::alloc::Global;
 /// scan's slots, and the theory reads all atoms. `met` grows by the count of pairs that joins meet, up to the greatest `u64`.
 ///
 /// # Errors
-/// `Wide` only where the plan clashes over the given relations, and else want of memory.
+/// `Wide` only where the plan clashes over the given relations, otherwise out of memory.
 #[cycle(evaluate)]
 pub fn evaluate_counted<T: OfTuples, R: Relations>(
     alloc: Global,

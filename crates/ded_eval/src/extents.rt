@@ -30,7 +30,7 @@ use std::alloc::Global;
 /// else `NoRational` where no column is rational.
 ///
 /// # Errors
-/// `Wide` only where the tuples aren't narrow with all rational columns of the heading, and else want of memory.
+/// `Wide` only where the tuples aren't narrow with all rational columns of the heading, otherwise out of memory.
 pub fn extent(alloc: Global, heading: &Heading, tuples: &[Tuple]) -> Result<BoxReply, Refused>
     requires { AllByRecursion (IsTupleOver heading.now) tuples.now }
     ensures is { IfOk result (λ r. IsBox (tuples_hold tuples.now) heading.now r) }
@@ -46,7 +46,7 @@ pub fn extent(alloc: Global, heading: &Heading, tuples: &[Tuple]) -> Result<BoxR
 /// From the bounds over some points those over these and all points of the tuple.
 ///
 /// # Errors
-/// `Wide` only where the tuple alone isn't narrow with all rational columns of the heading, and else want of memory.
+/// `Wide` only where the tuple alone isn't narrow with all rational columns of the heading, otherwise out of memory.
 pub fn extended(
     alloc: Global,
     heading: &Heading,
@@ -104,7 +104,7 @@ fn hull(a: (Bound, Bound), b: (Bound, Bound)) -> (Bound, Bound)
 /// The exact bounds of each rational column over the points that satisfy all the atoms.
 ///
 /// # Errors
-/// `Wide` only where the atoms are wide, and else want of memory.
+/// `Wide` only where the atoms are wide, otherwise out of memory.
 fn conj_extent<T: Theory>(
     alloc: Global,
     columns: &[Column],

@@ -38,7 +38,7 @@ impl Model for Given {
 impl Given {
     ghost use Rattle.ded_eval.specs.Given.{has_name, given_under, without_name, IsPlace};
 
-    /// No relations. It takes no memory.
+    /// No relations. It does not allocate.
     pub fn new(alloc: Global) -> Given
         ensures { result ≡ [] }
     {
@@ -67,14 +67,14 @@ impl Given {
         self.relations.len()
     }
 
-    /// Keeps the first `count` relations alone. It takes no memory.
+    /// Keeps the first `count` relations alone. It does not allocate.
     pub fn keep_first(&mut self, count: usize)
         ensures { self.new ≡ take count self.old }
     {
         self.relations.truncate(count);
     }
 
-    /// Takes the relation of the name out. The others keep their order. It takes no memory.
+    /// Takes the relation of the name out. The others keep their order. It does not allocate.
     pub fn take(&mut self, name: &Name) -> Option<GivenRelation>
         ensures taken { result ≡ given_under name.now self.old }
         ensures left { self.new ≡ without_name name.now self.old }

@@ -5,8 +5,9 @@
 //! Conjunctions that no point satisfies are dropped at once, and of equal ones that a union or a projection makes only the first
 //! is kept. It is written over any theory whose atoms stand for rows and text atoms ([`OfTuples`]).
 //!
-//! It stands on `ded_algebra` for what a plan is evaluated over and what an evaluation promises, and on `ded_join`,
-//! `ded_complement` and `ded_genrel` for the operations. The list that it gives holds exactly where the plan does, mentions only
+//! It stands on `ded_algebra` for what a plan is evaluated over and what an evaluation promises, on `ded_join`,
+//! `ded_complement` and `ded_genrel` for the operations, on `ded_theory`, `ded_linear`, `ded_theme` and `ded_atoms` for the atoms,
+//! on `ded_tuple` for stored tuples, and on `ded_box` for extents. The list that it gives holds exactly where the plan does, mentions only
 //! slots that the plan mentions freely, and has lines among the plan's; it gives up only where the plan clashes. That no two of
 //! its conjunctions are equal is a matter of speed and is promised nowhere.
 #![tactic(auto)]

@@ -30,11 +30,11 @@ pub trait OfRows: OfNumbers {
         ensures stands { IfOk result (λ a. StandsFor Self.holds Self.mentions Self.lines a (First row.now)) }
         ensures normal { IfOk result Self.normal };
 
-    /// Whether the atoms are equal. It takes no memory.
+    /// Whether the atoms are equal. It does not allocate.
     fn is_same(a: &Self::Atom, b: &Self::Atom) -> bool
         ensures { result ≡ true → a.now ≡ b.now };
 
-    /// A hash of the atom: equal atoms have the same one, on which nothing but speed rests. It takes no memory.
+    /// A hash of the atom: equal atoms have the same one, on which nothing but speed rests. It does not allocate.
     fn hash(atom: &Self::Atom) -> u64;
 
     /// The lines of an atom in normal form have rational slots in order.

@@ -29,7 +29,7 @@ impl<T: Theory> Model for GenRel<T> {
 }
 
 impl<T: Theory> GenRel<T> {
-    /// The empty list, which holds nowhere. It takes no memory.
+    /// The empty list, which holds nowhere. It does not allocate.
     pub fn new(alloc: Global) -> Self
         ensures { result ≡ [] }
     {
@@ -38,7 +38,7 @@ impl<T: Theory> GenRel<T> {
         }
     }
 
-    /// The conjunctions. It takes no memory.
+    /// The conjunctions. It does not allocate.
     pub fn list(&self) -> &[Vec<T::Atom>]
         ensures list { conjs_of result.now ≡ self.now }
         ensures normal { AreNormal T.normal (conjs_of result.now) }
@@ -104,7 +104,7 @@ impl<T: Theory> GenRel<T> {
     /// one of this list.
     ///
     /// # Errors
-    /// `Wide` only where two lines of one conjunction clash at the slot, and else want of memory.
+    /// `Wide` only where two lines of one conjunction clash at the slot, otherwise out of memory.
     pub fn project(&self, slot: Slot) -> Result<Self, Refused>
         ensures is { IfOk result (λ r. IsProjection T.holds T.mentions T.lines self.now slot r) }
         ensures wide { IsErrOf result Wide → conjs_clash T.lines slot self.now ≡ true }

@@ -26,7 +26,7 @@ impl<'a> Model for Bound<'a> {
     ghost view = { λ b. (name b.variable.now, b.slot) };
 }
 
-/// The columns and quantifiers round a place, each with its slot. Contracts see them with the nearest first.
+/// The columns and quantifiers around a place, each with its slot. Contracts see them with the nearest first.
 #[derive(Drop)]
 pub struct Scope<'a> {
     names: Vec<Bound<'a>>,

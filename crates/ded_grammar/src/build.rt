@@ -205,7 +205,7 @@ fn both(alloc: Global, pieces: &[Piece], room: u32) -> Result<(Formula, u32, &[P
     let mut parts = Vec::new(alloc);
     let mut nesting = 0;
     let mut rest = pieces;
-    // Each member has an piece at least.
+    // Each member has a piece at least.
     for _ in 0..pieces.len() {
         let (part, inner, after) = one(alloc, rest, room)?;
         parts.push(part)?;
@@ -226,7 +226,7 @@ fn either(alloc: Global, pieces: &[Piece], room: u32) -> Result<(Formula, u32, &
     let mut parts = Vec::new(alloc);
     let mut nesting = 0;
     let mut rest = pieces;
-    // Each member has an piece at least.
+    // Each member has a piece at least.
     for _ in 0..pieces.len() {
         let (part, inner, after) = both(alloc, rest, room)?;
         parts.push(part)?;

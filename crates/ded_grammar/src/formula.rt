@@ -16,7 +16,7 @@ use std::alloc::Global;
 /// The formula that pieces spell, of those that spell one.
 ///
 /// # Errors
-/// `Deep` where its nesting is above 64; `Memory` where no memory is had.
+/// `Deep` where its nesting is above 64; `Memory` where there is no memory.
 pub fn formula_of(alloc: Global, pieces: &[Piece]) -> Result<Formula, Refusal>
     requires { (tree : Whole) × (spell tree ≡ piece_forms pieces.now) }
     ensures built { IfOk result (λ f. (depth : ℕ) × Spells (piece_forms pieces.now) (form f) depth × (depth ≤ 64)) }

@@ -75,7 +75,7 @@ impl BoxIndex {
         Ok(())
     }
 
-    /// Takes the entry with the number out, and tells whether it was there. All others stay. It takes no memory.
+    /// Takes the entry with the number out, and tells whether it was there. All others stay. It does not allocate.
     pub fn remove(&mut self, id: u32) -> bool
         ensures value { result ≡ has_id id self.old }
         ensures removed { self.new ≡ without id self.old }
@@ -107,7 +107,7 @@ impl BoxIndex {
         Ok(found)
     }
 
-    /// The same, with steps that nobody counts.
+    /// The same, without counting steps.
     ///
     /// # Errors
     /// Want of memory.

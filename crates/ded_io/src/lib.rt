@@ -6,7 +6,7 @@
 //! of which it is known what each call does, and `StdSource` and `StdSink` over the readers and
 //! writers of the standard library, for a program's own streams.
 //!
-//! It stands on the standard library, and on `ded_model` for want of memory.
+//! It stands on the standard library, and on `ded_model` for the error of an allocation.
 #![tactic(auto)]
 
 mod device;

@@ -42,7 +42,7 @@ impl Model for BytesSink {
 }
 
 impl BytesSink {
-    /// Reserves room for so many bytes. A `piece` of 0 counts as 1. The error is want of memory.
+    /// Reserves room for so many bytes. A `piece` of 0 counts as 1. The error is out of memory.
     pub fn new(
         alloc: Global,
         room: usize,

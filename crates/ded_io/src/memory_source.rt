@@ -36,7 +36,7 @@ impl Model for BytesSource {
 }
 
 impl BytesSource {
-    /// Copies the bytes and the numbers. A `piece` of 0 counts as 1. The error is want of memory.
+    /// Copies the bytes and the numbers. A `piece` of 0 counts as 1. The error is out of memory.
     pub fn new(
         alloc: Global,
         bytes: &[u8],
@@ -96,7 +96,7 @@ impl Model for SureSource {
 }
 
 impl SureSource {
-    /// Copies the bytes. The error is want of memory.
+    /// Copies the bytes. The error is out of memory.
     pub fn new(alloc: Global, bytes: &[u8]) -> Result<SureSource, NoMemory>
         ensures { IfOk result (λ s. s ≡ bytes.now) }
     {

@@ -1,4 +1,4 @@
--- Indexes over the boxes round conjunctions, and the pairs that they pick.
+-- Indexes over the boxes around conjunctions, and the pairs that they pick.
 use Rattle.std.specs.Prelude.{◌≡◌, ◌<◌, ℕ, Bool, List, [], ◌∷◌, ◌++◌, length, slice_index_or}
 use Rattle.std.specs.List.{AllByRecursion}
 use Rattle.ded_model.specs.declared.slot.Slot.{Slot}

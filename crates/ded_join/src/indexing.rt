@@ -1,4 +1,4 @@
-//! An index over the boxes round conjunctions.
+//! An index over the boxes around conjunctions.
 ghost use Rattle.std.specs.Prelude.{◌<◌, ◌^◌, length, IfOk};
 ghost use Rattle.ded_bounds.specs.Rounds.{AreRational};
 ghost use Rattle.ded_join.specs.Picks.{IsIndexOf};
@@ -11,7 +11,7 @@ use ded_model::slot::Slot;
 use ded_theory::Theory;
 use std::alloc::Global;
 
-/// The index over the boxes round the conjunctions, under their places.
+/// The index over the boxes around the conjunctions, under their places.
 ///
 /// # Errors
 /// Want of memory.

@@ -25,7 +25,7 @@ use std::alloc::Global;
 /// slots.
 ///
 /// # Errors
-/// `Wide` only where the plan clashes over the given relations, and else want of memory.
+/// `Wide` only where the plan clashes over the given relations, otherwise out of memory.
 pub fn refresh<E: Evaluate, R: Relations>(
     alloc: Global,
     engine: &E,
@@ -45,7 +45,7 @@ pub fn refresh<E: Evaluate, R: Relations>(
 /// that the plan scans, with tuples over columns of the sorts of the scan's slots.
 ///
 /// # Errors
-/// `Wide` only where the plan clashes with `added` alone as the tuples of `changed`, and else want of memory. `kept` is given up then.
+/// `Wide` only where the plan clashes with `added` alone as the tuples of `changed`, otherwise out of memory. `kept` is lost then.
 pub fn add_tuple<E: Evaluate, R: Relations>(
     alloc: Global,
     engine: &E,

@@ -2,8 +2,9 @@
 //!
 //! Where a plan scans the changed relation exactly once, under no complement and not in what a difference takes away
 //! ([`is_additive`]), a kept answer only has to be extended by what the plan gives for the new tuple alone ([`add_tuple`]). So an
-//! insert costs nothing of the size of the changed relation. Every other change computes the answer anew ([`refresh`]). `laws` says
-//! why this is right: an additive plan holds, where the name gains tuples, exactly where it did or where it does for these alone.
+//! insert costs nothing of the size of the changed relation. [`refresh`] computes an answer anew; a database does the same through
+//! `ded_query`, which gathers what the plan scans. `laws` says why adding is right: an additive plan holds, where the name gains
+//! tuples, exactly where it did or where it does for these alone.
 //!
 //! It stands on `ded_algebra` for what evaluates plans, and on `ded_views` for plans over catalogues that agree. What evaluates is
 //! passed by the caller.

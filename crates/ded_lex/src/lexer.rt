@@ -28,7 +28,7 @@ fn add(tokens: &mut Vec<Token>, front: Front, at: usize) -> Result<(), AllocErro
 /// The tokens of the bytes, in order; blanks and comments between them are dropped.
 ///
 /// # Errors
-/// `NoToken` where the bytes aren't tokens, blanks and comments; `Memory` where no memory is had for the list.
+/// `NoToken` where the bytes aren't tokens, blanks and comments; `Memory` where there is no memory for the list.
 pub fn tokens(alloc: Global, bytes: &[u8]) -> Result<TokenList, LexFault>
     requires { length bytes.now < 4294967296 }
     ensures tokens { IfOk result (λ list. AreTokens bytes.now list) }

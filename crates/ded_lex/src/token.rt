@@ -18,7 +18,7 @@ pub enum TokenKind {
     Sign,
 }
 
-/// A token, with the place of its first byte and the place behind its last one.
+/// A token, with the place of its first byte and the place after its last one.
 #[derive(Clone, Copy, Debug, PartialEq, Eq)]
 pub struct Token {
     pub kind: TokenKind,

@@ -61,7 +61,7 @@ pub fn mark_of(alloc: Global, catalogue: &Catalogue, name: &Name) -> Result<Mark
 }
 
 impl Mark {
-    /// Whether some name in the view's formula reaches the name. It takes no memory.
+    /// Whether some name in the view's formula reaches the name. It does not allocate.
     pub fn reaches(&self, name: &Name) -> bool
         ensures { result ≡ mark_reaches self.now name.now }
     {
@@ -73,7 +73,7 @@ impl Mark {
         false
     }
 
-    /// Whether the view's answer is only extended where the relation of the name gets one tuple more. It takes no memory.
+    /// Whether the view's answer is only extended where the relation of the name gets one tuple more. It does not allocate.
     pub fn adds(&self, name: &Name) -> bool
         ensures { result ≡ mark_adds self.now name.now }
     {

@@ -33,7 +33,7 @@ abbrev pub nearest : {V : Type 0} → List (Key × V) → Key → Option V
 nearest [] k = None
 nearest (v ∷ scope) k = if same_key v.0 k then Some v.1 else nearest scope k
 
--- the slots of the columns and quantifiers round a place, the nearest first
+-- the slots of the columns and quantifiers around a place, the nearest first
 abbrev pub SlotScope : Type 0
 SlotScope = List (Key × Slot)
 

@@ -1,4 +1,4 @@
-//! Want of memory, and the one other reason for which exact work is given up.
+//! Out of memory, and the one other reason for which exact work is abandoned.
 ghost use Rattle.std.specs.Prelude.{◌≡◌};
 ghost use Rattle.ded_model.specs.declared.memory.Refused.TheVariants.{Memory};
 

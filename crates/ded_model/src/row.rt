@@ -89,7 +89,7 @@ impl Coefs {
         self.list.as_slice()
     }
 
-    /// Sets the coefficient of a rational slot. 0 takes it away. On want of memory nothing is changed.
+    /// Sets the coefficient of a rational slot. 0 takes it away. Where there is no memory, nothing is changed.
     pub fn put(&mut self, slot: Slot, a: i128) -> Result<(), NoMemory>
         requires rational { slot.sort ≡ Rat }
         requires short { IsShort a }
@@ -127,7 +127,7 @@ impl Coefs {
         *self.list.allocator()
     }
 
-    /// Adds a coefficient at the end, of a rational slot above all others. On want of memory nothing is changed.
+    /// Adds a coefficient at the end, of a rational slot above all others. Where there is no memory, nothing is changed.
     pub fn push(&mut self, slot: Slot, a: i128) -> Result<(), NoMemory>
         requires rational { slot.sort ≡ Rat }
         requires short { IsShort a }
@@ -140,7 +140,7 @@ impl Coefs {
         Ok(())
     }
 
-    /// Divides each coefficient by a number that divides them all. It takes no memory.
+    /// Divides each coefficient by a number that divides them all. It does not allocate.
     pub fn divide(&mut self, by: i128)
         requires nonzero { by ≢ pos 0 }
         requires whole { DivideWhole by self.old }

@@ -20,7 +20,7 @@ use std::alloc::Global;
 /// clashes only where the plan does. It has the same scans, each as often, and is conjunctive where the plan is.
 ///
 /// # Errors
-/// Want of memory; the plan is given up.
+/// Out of memory; the plan is lost.
 pub fn rewrite(alloc: Global, plan: Plan) -> Result<Plan, NoMemory>
     ensures { IfOk result (λ p. IsRewritten (plan_form plan) (plan_form p)) }
 {

@@ -2,7 +2,7 @@
 //!
 //! `specs/` says what the text of each reply is: numbers, rows, tuples, answers, stored tuples, boxes, plans, and the
 //! replies of one line. The calls here print a reply to a sink: it then holds exactly that text more, and where it
-//! failed a front of the text. No call takes memory.
+//! failed a front of the text. No call allocates.
 //!
 //! It stands on `ded_model` for the data and on `ded_io` for the sink.
 #![tactic(auto)]

@@ -32,7 +32,7 @@ const GREATEST_LEVEL: u32 = 16;
 /// the same after it.
 ///
 /// # Errors
-/// `Wide` only where the formula isn't tight, and else want of memory.
+/// `Wide` only where the formula isn't tight, otherwise out of memory.
 pub fn is_true(
     alloc: Global,
     snapshot: &Snapshot<'_>,
@@ -56,7 +56,7 @@ pub fn is_true(
 /// superfluous. What is held of views is read in their place, and is the same after it.
 ///
 /// # Errors
-/// `Wide` only where the formula isn't tight, and else want of memory.
+/// `Wide` only where the formula isn't tight, otherwise out of memory.
 pub fn answer(
     alloc: Global,
     snapshot: &Snapshot<'_>,
@@ -82,7 +82,7 @@ pub fn answer(
 /// their place, and is the same after it.
 ///
 /// # Errors
-/// `Wide` only where the view clashes, and else want of memory.
+/// `Wide` only where the view clashes, otherwise out of memory.
 pub fn view_tuples(
     alloc: Global,
     snapshot: &Snapshot<'_>,
@@ -107,7 +107,7 @@ pub fn view_tuples(
 /// Gives the names as well, which are defined. What was given stays at the front.
 ///
 /// # Errors
-/// `Wide` only where one of the names clashes, and else want of memory. More may be given then.
+/// `Wide` only where one of the names clashes, otherwise out of memory. More may be given then.
 pub fn give_names(
     alloc: Global,
     snapshot: &Snapshot<'_>,
@@ -128,7 +128,7 @@ pub fn give_names(
 /// What the goal of an accepted formula is evaluated to. What is held is the same after it.
 ///
 /// # Errors
-/// `Wide` only where the goal clashes, and else want of memory.
+/// `Wide` only where the goal clashes, otherwise out of memory.
 fn evaluated_over(
     alloc: Global,
     snapshot: &Snapshot<'_>,

@@ -29,7 +29,7 @@ use std::alloc::Global;
 /// the front.
 ///
 /// # Errors
-/// `Wide` only where the goal clashes, and else want of memory. More may be given then.
+/// `Wide` only where the goal clashes, otherwise out of memory. More may be given then.
 #[cycle(evaluated)]
 pub(crate) fn evaluated(
     alloc: Global,
@@ -55,7 +55,7 @@ pub(crate) fn evaluated(
 /// Gives the names, which are defined and have at most the level.
 ///
 /// # Errors
-/// `Wide` only where one of the names clashes, and else want of memory. More may be given then.
+/// `Wide` only where one of the names clashes, otherwise out of memory. More may be given then.
 #[cycle(evaluated)]
 pub(crate) fn give_all(
     alloc: Global,
@@ -81,7 +81,7 @@ pub(crate) fn give_all(
 /// Gives the name, which is defined and has at most the level, unless it is given already.
 ///
 /// # Errors
-/// `Wide` only where the name clashes, and else want of memory. More may be given then.
+/// `Wide` only where the name clashes, otherwise out of memory. More may be given then.
 #[cycle(evaluated)]
 fn give(
     alloc: Global,
@@ -113,7 +113,7 @@ fn give(
 /// Gives a view, which has at most the level, by its goal.
 ///
 /// # Errors
-/// `Wide` only where the view clashes, and else want of memory. More may be given then.
+/// `Wide` only where the view clashes, otherwise out of memory. More may be given then.
 #[cycle(evaluated)]
 fn give_view(
     alloc: Global,

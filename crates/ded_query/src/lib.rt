@@ -6,16 +6,15 @@
 //!
 //! The catalogue is read as a `Snapshot`: as it is, or as a change will make it. Answers of views that are held already are handed
 //! in as relations under the views' names ([`held_view`]). They are read in place of the views, without a copy, and are the same
-//! afterwards. [`give_names`] gathers names alone, and [`ReducingEngine`] reduces what a plan is evaluated to.
+//! afterwards. [`give_names`] gathers names alone.
 //!
-//! It stands on `ded_planner` for plans, on `ded_eval` for their evaluation, on `ded_answers` for reduced tuples, on `ded_snapshot`
-//! for what names stand for, and on `ded_views` for laws on views.
+//! It stands on `ded_goals` for the goals of formulas, on `ded_planner` for plans, on `ded_eval` for their evaluation, on
+//! `ded_answers` for reduced tuples, on `ded_snapshot` for what names stand for, and on `ded_algebra` and `ded_views` for what
+//! plans and views mean.
 #![tactic(auto)]
 
 mod answering;
-mod engine;
 mod gathering;
 
 pub use answering::{answer, give_names, is_true, view_tuples};
-pub use engine::ReducingEngine;
 pub use gathering::held_view;

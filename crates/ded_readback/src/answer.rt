@@ -19,7 +19,7 @@ use std::alloc::Global;
 /// The heading needs distinct names, each a letter or `_` and then letters, digits and `_`.
 ///
 /// # Errors
-/// `NoAnswer` exactly where they spell none; `Memory` for want of memory.
+/// `NoAnswer` exactly where they spell none; `Memory` where there is no memory.
 pub fn read_answer(alloc: Global, heading: &Heading, bytes: &[u8]) -> Result<Answer, AnswerFault>
     requires { IsPlainHeading heading.now }
     ensures heading { IfOk result (λ a. a.heading ≡ heading.now) }

@@ -11,7 +11,7 @@ use ded_model::answer::Answer;
 use ded_print::print_answer;
 use std::alloc::Global;
 
-/// A sink that keeps all that it is given. It fails only for want of memory.
+/// A sink that keeps all that it is given. It fails only where there is no memory.
 #[derive(Drop)]
 pub(crate) struct Text {
     bytes: Vec<u8>,

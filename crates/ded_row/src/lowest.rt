@@ -11,7 +11,7 @@ use ded_model::slot::Slot;
 use ded_num::{gcd, quotient};
 
 /// The normal form of a row: its numbers divided by their greatest common divisor, an equality with a positive first
-/// coefficient, and a row without coefficients as `0 = 0` or `0 < 0`. It takes no memory.
+/// coefficient, and a row without coefficients as `0 = 0` or `0 < 0`. It does not allocate.
 pub fn normal(row: Row) -> Row
     ensures value { result ≡ normal_row row }
     ensures normal { IsNormalRow result }

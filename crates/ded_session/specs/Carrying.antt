@@ -27,7 +27,7 @@ abbrev pub refusal_left : Catalogue → CommandForm → Option Refusal
 refusal_left c (insert n fs) = insert_refusal c n
 refusal_left c _ = None
 
--- it may be refused for that, or else for want of memory; or as too wide, where numbers may become too long
+-- it may be refused for that; as out of memory; or as too wide, where numbers may become too long
 abbrev pub MayStillRefuse : Refusal → CommandForm → Catalogue → Type 0
 MayStillRefuse Wide x c = MayBeWide x c
 MayStillRefuse r x c = r ≡ unwrap_or (refusal_left c x) Memory
@@ -48,7 +48,7 @@ pub record IsFirstCause (r : Refusal) (c : Catalogue) (x : CommandForm) : Type 0
 abbrev pub NoCause : Catalogue → CommandForm → Type 0
 NoCause c x = (q : Refusal) → has_cause q c x ≡ false
 
--- it may be refused for the least of the causes; for want of memory; or as too wide, where no refusal has a cause and numbers
+-- it may be refused for the least of the causes; as out of memory; or as too wide, where no refusal has a cause and numbers
 -- may become too long
 abbrev pub MayRefuseFor : Refusal → CommandForm → Catalogue → Type 0
 MayRefuseFor Wide x c = NoCause c x × MayBeWide x c

@@ -43,7 +43,7 @@ renews c (insert n fs) (number k) v = reaches c v n
 renews c (delete n k) done v = reaches c v n
 renews c _ _ v = false
 
--- an insert or delete there that is refused for want of memory may lose it
+-- an insert or delete there that is refused as out of memory may lose it
 abbrev pub loses : Catalogue → CommandForm → ReplyForm → List ℕ → Bool
 loses c (insert n fs) (refused Memory) v = reaches c v n
 loses c (delete n k) (refused Memory) v = reaches c v n

@@ -60,7 +60,7 @@ abbrev pub Accepts : Language → Statement → Catalogue → (CommandForm → T
 Accepts language (Whole piece) c Fact = Accepted language piece c Fact
 Accepts language (pieces.Unfinished rest) c Fact = ⊥
 
--- want of memory may refuse any whole piece that isn't long
+-- any whole piece may be refused as out of memory, that isn't long
 abbrev pub MayWant : Statement → Type 0
 MayWant (Whole piece) = length piece ≤ 65536
 MayWant (pieces.Unfinished rest) = ⊥

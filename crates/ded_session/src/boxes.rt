@@ -27,7 +27,7 @@ use std::collections::BTreeMap;
 /// The heading of a relation, and the exact bounds of its rational columns over all its points.
 ///
 /// # Errors
-/// `Wide` only where the relation isn't narrow for its box, and else want of memory.
+/// `Wide` only where the relation isn't narrow for its box, otherwise out of memory.
 pub(crate) fn bounds(alloc: Global, catalogue: &Catalogue, name: &Name) -> Result<Reply, Refused>
     requires { is_relation_with (known (catalogue_of catalogue.now) name.now) ≡ true }
     ensures does { IfOk result (λ r. Does (box_of name.now) (catalogue_of catalogue.now) (reply_form r) (catalogue_of catalogue.now)) }

@@ -66,7 +66,7 @@ pub fn accepted_statements()
 {}
 
 /// Over steps one after another no list is held of a kept view only where its formula isn't tight, or where a list may have been lost: an insert or a
-/// delete in a relation that the view reaches was refused for want of memory, and since then none was accepted there, nor a `keep` of the view.
+/// delete in a relation that the view reaches was refused as out of memory, and since then none was accepted there, nor a `keep` of the view.
 pub fn lost_lists()
     ensures { (language : Language) (s : State) (turns : List Turn) (v : List ℕ) → IsSound s → AreTurns language s turns → is_kept s v ≡ false
         → is_kept (last_state s turns) v ≡ true → IsTightView (catalogue_at (last_state s turns)) v → held_under (last_state s turns).held v ≡ None

@@ -24,7 +24,7 @@ use std::alloc::Global;
 /// Whether a closed formula is true, given as its goal.
 ///
 /// # Errors
-/// `Wide` only where the formula isn't tight, and else want of memory.
+/// `Wide` only where the formula isn't tight, otherwise out of memory.
 pub(crate) fn truth(database: &mut Database, goal: &Goal) -> Result<Reply, Refused>
     requires { (f : Form) × IsQuestion (catalogue_at database.old) [] (goal_form goal.now) f }
     ensures does { (f : Form) → IsQuestion (catalogue_at database.old) [] (goal_form goal.now) f
@@ -39,7 +39,7 @@ pub(crate) fn truth(database: &mut Database, goal: &Goal) -> Result<Reply, Refus
 /// The tuples over the heading that hold where a formula does, given as its goal.
 ///
 /// # Errors
-/// `Wide` only where the formula isn't tight, and else want of memory.
+/// `Wide` only where the formula isn't tight, otherwise out of memory.
 pub(crate) fn tuples(
     database: &mut Database,
     heading: Heading,

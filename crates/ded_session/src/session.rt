@@ -111,7 +111,7 @@ impl Session {
     }
 
     /// Answers the next statement and changes the catalogue as the rules say. A refused statement changes nothing.
-    /// Of `Long` and `Cut` it takes no memory.
+    /// Of `Long` and `Cut` it doesn't allocate.
     pub fn step(&mut self, piece: Piece<'_>) -> Reply
         requires { IsShortPiece piece }
         ensures step { StepsPiece piece.entry (language_in self.old) (catalogue_in self.old) (reply_form result) (catalogue_in self.new) }

@@ -61,7 +61,7 @@ impl<'a> Snapshot<'a> {
         }
     }
 
-    /// The catalogue as an insert of the tuple into the relation of the name makes it, which isn't refused but for want of memory.
+    /// The catalogue as an insert of the tuple into the relation of the name makes it, which is refused only where there is no memory.
     pub fn with_tuple(catalogue: &'a Catalogue, name: &'a Name, tuple: &'a Tuple) -> Snapshot<'a>
         requires relation { is_relation_with (known (catalogue_of catalogue.now) name.now) ≡ true }
         requires over { IsTupleOver (columns_in (catalogue_of catalogue.now) name.now) tuple.now }

@@ -1,4 +1,4 @@
-//! Tests of the atoms of a formula, each below the columns and quantifiers round it.
+//! Tests of the atoms of a formula, each below the columns and quantifiers around it.
 ghost use Rattle.std.specs.Prelude.{◌≡◌, IfOk};
 ghost use Rattle.ded_model.specs.Form.{form, forms};
 ghost use Rattle.ded_model.specs.Logic.{some_below, some_below_of};

@@ -59,11 +59,11 @@ pub trait Names {
         ensures value { IfOk result (λ k. known_form k ≡ known (catalogue self.now) name.now) }
         ensures few { IfOk result (λ k. length (columns_with (known_form k)) ≤ 16) };
 
-    /// Whether the formula of a defined view mentions the name. It takes no memory.
+    /// Whether the formula of a defined view mentions the name. It does not allocate.
     fn used(&self, name: &Name) -> bool
         ensures { result ≡ list_any (entry_uses name.now) (catalogue self.now).entries };
 
-    /// Whether the name is a relation with a present tuple of the number. It takes no memory.
+    /// Whether the name is a relation with a present tuple of the number. It does not allocate.
     fn has_tuple(&self, name: &Name, number: u64) -> bool
         ensures { result ≡ list_any (λ t. t.0 == number) (tuples_in (catalogue self.now) name.now) };
 }

@@ -1,4 +1,4 @@
-//! The columns and quantifiers round a place in a formula.
+//! The columns and quantifiers around a place in a formula.
 ghost use Rattle.std.specs.Prelude.{◌≡◌};
 ghost use Rattle.ded_model.specs.Point as point;
 ghost use Rattle.ded_model.specs.Slotted.{nearest};

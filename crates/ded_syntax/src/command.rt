@@ -116,7 +116,7 @@ fn command_by(alloc: Global, items: Rest<'_>) -> Result<Command, Refusal>
 /// # Errors
 /// The least refusal that applies to the bytes: `Syntax` where they spell no command, whatever its nesting; `LongName`
 /// where a name has more than 64 bytes; `LongNumber` where a number, or a number of the normal row of a comparison or
-/// an argument, is above 2^63 - 1 in magnitude; `Deep` where the nesting is above 64. `Memory` where no memory is had.
+/// an argument, is above 2^63 - 1 in magnitude; `Deep` where the nesting is above 64. `Memory` where there is no memory.
 pub fn read_command(alloc: Global, bytes: &[u8], language: Language) -> Result<Command, Refusal>
     requires { length bytes.now ≤ 65536 }
     ensures read { IfOk result (λ c. IsRead language bytes.now (command_form c)) }

@@ -4,7 +4,7 @@
 //! dropping its disequalities, and a conjunction is decided by the classes that its equalities make. It stands on `ded_model`
 //! for text atoms and points, and on `ded_theory` for what a theory promises.
 //!
-//! No answer is given up: only an allocation that fails makes a call fail.
+//! No call gives up: only an allocation that fails makes a call fail.
 #![tactic(auto)]
 
 mod classes;

@@ -23,7 +23,7 @@ use std::alloc::Global;
 
 /// A kind of atoms, what they mean, and what can be done with conjunctions of them.
 ///
-/// Every call that takes atoms needs them in normal form, and gives such atoms. Each answers want of memory besides.
+/// Every call that takes atoms needs them in normal form, and gives such atoms. Each may also answer that there is no memory.
 pub trait Theory {
     /// The atoms.
     type Atom: Drop;
@@ -46,7 +46,7 @@ pub trait Theory {
     /// Whether the atoms may mention slots of a sort.
     ghost owned: { Sort → Bool };
 
-    /// Whether the atoms may mention slots of the sort. It takes no memory.
+    /// Whether the atoms may mention slots of the sort. It does not allocate.
     fn owns(sort: Sort) -> bool
         ensures { result ≡ owned sort };
 

@@ -31,7 +31,7 @@ use std::alloc::Global;
 /// alone. What is held is right over the catalogue as it will be, and stays as it is.
 ///
 /// # Errors
-/// `Wide` only where the view clashes over the catalogue as it will be, and else want of memory. The list is given up then.
+/// `Wide` only where the view clashes over the catalogue as it will be, otherwise out of memory. The list is lost then.
 pub(crate) fn extended(
     alloc: Global,
     change: &Change<'_, '_>,

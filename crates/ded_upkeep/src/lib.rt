@@ -6,7 +6,8 @@
 //! Any other list is made anew. Where memory is wanted nothing is changed, and the lists of these views are dropped.
 //!
 //! It stands on `ded_marks` for what concerns a view, on `ded_keep` for lists that are extended, on `ded_snapshot` for relations as they will
-//! be, on `ded_query` for the answers of views, and on `ded_catalog`.
+//! be, on `ded_query` for the answers of views, on `ded_eval` for the lists that are held, and on `ded_catalog`. Its proofs cite
+//! `ded_views` for what a change leaves alone, and `ded_planner`, `ded_algebra` and `ded_answers` for the plans and lists of views.
 #![tactic(auto)]
 
 mod change;

@@ -87,7 +87,7 @@ fn renew(
 /// formula is evaluated to. What is held stays as it is.
 ///
 /// # Errors
-/// `Wide` only where the view clashes over the catalogue as it will be, and else want of memory.
+/// `Wide` only where the view clashes over the catalogue as it will be, otherwise out of memory.
 fn new_list(
     alloc: Global,
     change: &Change<'_, '_>,

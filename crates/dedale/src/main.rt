@@ -1,7 +1,7 @@
 //! Answers a script from standard input on standard output.
 //!
-//! `dedale [--limit N]` writes one reply for each statement, and nothing to standard error. Its exit status says how the
-//! run ended: 0 done, 1 done with some refusal, 2 words that aren't accepted, 3 a failed read, 4 a failed write, 5 want
+//! `dedale [--limit N] [--make N]` writes one reply for each statement, and nothing to standard error. Its exit status says
+//! how the run ended: 0 done, 1 done with some refusal, 2 words that aren't accepted, 3 a failed read, 4 a failed write, 5 out
 //! of memory before the first read, 6 an input of more than 2^40 bytes. All that it does is `ded_run::run`.
 #![tactic(auto)]
 

@@ -78,7 +78,7 @@ impl Catalogue {
     }
 
     /// Why an insert into the relation would be refused, whatever the tuple: `Full` or `Spent`. None where it would be
-    /// refused for want of memory alone.
+    /// refused only where there is no memory.
     pub fn refuses(&self, name: &Name) -> Option<Refusal>
         requires { is_relation_with (known (catalogue_of self.now) name.now) ≡ true }
         ensures { result ≡ insert_refusal (catalogue_of self.now) name.now }
