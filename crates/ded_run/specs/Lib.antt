@@ -1,7 +1,8 @@
-pub mod Texts
-pub mod Outcome
-pub mod Streams
-pub mod Made
-pub mod Parts
-pub mod Words
 pub mod CommandLine
+pub mod Exits
+pub mod Made
+pub mod Outcome
+pub mod Parts
+pub mod Streams
+pub mod Texts
+pub mod Words

@@ -43,9 +43,31 @@ pub enum Status {
     TooLong,
 }
 
+impl Status {
+    ghost use Rattle.std.specs.Prelude.{◌≡◌};
+    ghost use Rattle.ded_run.specs.Exits.{exit_number};
+
+    /// The exit status of a program whose run ended so, 0 to 6.
+    pub fn exit_number(self) -> u8
+        ensures { result ≡ exit_number self }
+    {
+        match self {
+            Status::Done => 0,
+            Status::DoneWithRefusals => 1,
+            Status::BadWords => 2,
+            Status::ReadFault => 3,
+            Status::WriteFault => 4,
+            Status::NoMemory => 5,
+            Status::TooLong => 6,
+        }
+    }
+}
+
 const READ_AT_ONCE: usize = 4_096;
 
-/// Reads a script to its end, answers each statement before the next read, and writes a reply to each.
+/// Reads a script to its end, and writes a reply to each statement.
+///
+/// What ended in the bytes of a read is answered before more is read: a test that talks to the program shows it, and no clause says so.
 pub fn serve<S: Source, K: Sink>(
     alloc: Global,
     setup: &Setup,

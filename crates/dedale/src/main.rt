@@ -38,30 +38,14 @@ fn key(rt: &impl RandomSource) -> u64 {
     }
 }
 
-fn code(status: Status) -> u8 {
-    match status {
-        Status::Done => 0,
-        Status::DoneWithRefusals => 1,
-        Status::BadWords => 2,
-        Status::ReadFault => 3,
-        Status::WriteFault => 4,
-        Status::NoMemory => 5,
-        Status::TooLong => 6,
-    }
-}
-
 fn main(rt: HostRuntime) -> ExitCode {
     let words = match words(&rt) {
         Ok(words) => words,
-        Err(status) => return ExitCode::from(code(status)),
+        Err(status) => return ExitCode::from(status.exit_number()),
     };
     let mut source = StdSource::new(rt.stdin());
     let mut sink = StdSink::new(rt.stdout());
-    ExitCode::from(code(run(
-        rt.alloc(),
-        &words,
-        (key(&rt), key(&rt)),
-        &mut source,
-        &mut sink,
-    )))
+    let keys = (key(&rt), key(&rt));
+    let status = run(rt.alloc(), &words, keys, &mut source, &mut sink);
+    ExitCode::from(status.exit_number())
 }
