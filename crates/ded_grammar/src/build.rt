@@ -1,4 +1,4 @@
-// The tree of a formula, where its nesting leaves room.
+//! The tree of a formula, where its nesting leaves room.
 ghost use Rattle.std.specs.Prelude.{◌≡◌, ◌<◌, ◌≤◌, length, IfOk, IfSome, IfNone, OnErr, Err, map, [], ◌∷◌};
 ghost use Rattle.ded_grammar.specs.declared.fault.ReadFault.TheVariants as faults;
 ghost use Rattle.ded_model.specs.Form.{form};
@@ -14,7 +14,7 @@ use ded_model::formula::Formula;
 use ded_model::name::Column;
 use std::alloc::Global;
 
-// The first piece, and those behind it.
+/// The first piece and those behind it, or none where there is no piece.
 fn first(pieces: &[Piece]) -> Option<(&Piece, &[Piece])>
     ensures some { IfSome result (λ x. piece_forms pieces.now ≡ piece_form x.0.now ∷ piece_forms x.1.now) }
     ensures none { IfNone result (piece_forms pieces.now ≡ []) }
@@ -22,6 +22,7 @@ fn first(pieces: &[Piece]) -> Option<(&Piece, &[Piece])>
     pieces.split_first()
 }
 
+/// The pieces behind a closing parenthesis, or none where they begin with no such piece.
 fn after_closing(pieces: &[Piece]) -> Option<&[Piece]>
     ensures { GivesAfter (λ rest. rest.now) result (after_closing (piece_forms pieces.now)) }
 {
@@ -31,6 +32,7 @@ fn after_closing(pieces: &[Piece]) -> Option<&[Piece]>
     }
 }
 
+/// The pieces behind an `and`, or none where they begin with no such piece.
 fn after_conjunct(pieces: &[Piece]) -> Option<&[Piece]>
     ensures { GivesAfter (λ rest. rest.now) result (after_conjunct (piece_forms pieces.now)) }
 {
@@ -40,6 +42,7 @@ fn after_conjunct(pieces: &[Piece]) -> Option<&[Piece]>
     }
 }
 
+/// The pieces behind an `or`, or none where they begin with no such piece.
 fn after_disjunct(pieces: &[Piece]) -> Option<&[Piece]>
     ensures { GivesAfter (λ rest. rest.now) result (after_disjunct (piece_forms pieces.now)) }
 {
@@ -49,6 +52,7 @@ fn after_disjunct(pieces: &[Piece]) -> Option<&[Piece]>
     }
 }
 
+/// The pieces behind an `implies`, or none where they begin with no such piece.
 fn after_arrow(pieces: &[Piece]) -> Option<&[Piece]>
     ensures { GivesAfter (λ rest. rest.now) result (after_arrow (piece_forms pieces.now)) }
 {
@@ -58,7 +62,8 @@ fn after_arrow(pieces: &[Piece]) -> Option<&[Piece]>
     }
 }
 
-// Behind the closing parenthesis.
+/// The formula in parentheses and its nesting, as given, and the pieces behind the closing parenthesis. `NotRead` where
+/// the rest begins with no such piece.
 fn closed(
     part: Formula,
     nesting: u32,
@@ -73,7 +78,7 @@ fn closed(
     }
 }
 
-// One member is itself.
+/// The conjunction of the formulas. One formula stands for itself, and of none it is true.
 fn all_of(mut parts: Vec<Formula>) -> Formula
     ensures { form result ≡ all_of (map form parts.items) }
 {
@@ -88,6 +93,7 @@ fn all_of(mut parts: Vec<Formula>) -> Formula
     Formula::And(parts)
 }
 
+/// The disjunction of the formulas. One formula stands for itself, and of none it is true.
 fn any_of(mut parts: Vec<Formula>) -> Formula
     ensures { form result ≡ any_of (map form parts.items) }
 {
@@ -102,6 +108,7 @@ fn any_of(mut parts: Vec<Formula>) -> Formula
     Formula::Or(parts)
 }
 
+/// The negation of the formula. It fails only where there is no memory.
 fn negated(alloc: Global, part: Formula) -> Result<Formula, ReadFault>
     ensures negated { IfOk result (λ f. form f ≡ negation (form part)) }
     ensures memory { OnErr result (result ≡ Err faults.Memory) }
@@ -109,6 +116,7 @@ fn negated(alloc: Global, part: Formula) -> Result<Formula, ReadFault>
     Ok(Formula::Not(Box::new(alloc, part)?))
 }
 
+/// The implication from the left formula to the right one. It fails only where there is no memory.
 fn implied(alloc: Global, left: Formula, right: Formula) -> Result<Formula, ReadFault>
     ensures implied { IfOk result (λ f. form f ≡ implies (form left) (form right)) }
     ensures memory { OnErr result (result ≡ Err faults.Memory) }
@@ -116,6 +124,7 @@ fn implied(alloc: Global, left: Formula, right: Formula) -> Result<Formula, Read
     Ok(Formula::Implies(Box::new(alloc, left)?, Box::new(alloc, right)?))
 }
 
+/// The formula that the quantifier and its variable make of a body. It fails only where there is no memory.
 fn quantified(
     alloc: Global,
     quantifier: Quantifier,
@@ -133,6 +142,7 @@ fn quantified(
     }
 }
 
+/// Reads one unit, of a nesting below the room: its formula, its nesting, and the pieces behind it.
 #[cycle(read)]
 fn one(alloc: Global, pieces: &[Piece], room: u32) -> Result<(Formula, u32, &[Piece]), ReadFault>
     ensures read { Gives (λ x. (form x.0, x.1, piece_forms x.2.now)) result (read_one room (piece_forms pieces.now)) }
@@ -167,6 +177,7 @@ fn one(alloc: Global, pieces: &[Piece], room: u32) -> Result<(Formula, u32, &[Pi
     }
 }
 
+/// Reads the body of a quantifier, of a nesting below the room: its formula, its nesting, and the pieces behind it.
 #[cycle(read)]
 fn body(alloc: Global, pieces: &[Piece], room: u32) -> Result<(Formula, u32, &[Piece]), ReadFault>
     ensures read { Gives (λ x. (form x.0, x.1, piece_forms x.2.now)) result (read_body room (piece_forms pieces.now)) }
@@ -197,6 +208,8 @@ fn body(alloc: Global, pieces: &[Piece], room: u32) -> Result<(Formula, u32, &[P
     }
 }
 
+/// Reads units with `and` between them, of nestings below the room: their conjunction, its nesting, and the pieces
+/// behind it.
 #[cycle(read)]
 fn both(alloc: Global, pieces: &[Piece], room: u32) -> Result<(Formula, u32, &[Piece]), ReadFault>
     ensures read { Gives (λ x. (form x.0, x.1, piece_forms x.2.now)) result (both_by (read_one room) (piece_forms pieces.now)) }
@@ -218,6 +231,8 @@ fn both(alloc: Global, pieces: &[Piece], room: u32) -> Result<(Formula, u32, &[P
     Err(ReadFault::NotRead)
 }
 
+/// Reads conjunctions with `or` between them, of nestings below the room: their disjunction, its nesting, and the
+/// pieces behind it.
 #[cycle(read)]
 fn either(alloc: Global, pieces: &[Piece], room: u32) -> Result<(Formula, u32, &[Piece]), ReadFault>
     ensures read { Gives (λ x. (form x.0, x.1, piece_forms x.2.now)) result (either_by (read_one room) (piece_forms pieces.now)) }
@@ -239,6 +254,10 @@ fn either(alloc: Global, pieces: &[Piece], room: u32) -> Result<(Formula, u32, &
     Err(ReadFault::NotRead)
 }
 
+/// Reads a formula, of a nesting below the room: the formula, its nesting, and the pieces behind it.
+///
+/// # Errors
+/// `NotRead` only where the pieces begin with no formula of such a nesting, otherwise out of memory.
 #[cycle(read)]
 pub fn whole(
     alloc: Global,

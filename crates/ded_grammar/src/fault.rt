@@ -1,4 +1,4 @@
-// Why nothing is read.
+//! Why nothing is read.
 ghost use Rattle.std.specs.Prelude.{◌≡◌};
 ghost use Rattle.ded_grammar.specs.declared.fault.ReadFault.TheVariants.{Memory};
 
@@ -9,7 +9,7 @@ use std::alloc::{AllocError, AllocFailed};
 pub enum ReadFault {
     /// Nothing is spelled there, or nothing for which there is room.
     NotRead,
-    /// Want of memory.
+    /// Out of memory.
     Memory,
 }
 

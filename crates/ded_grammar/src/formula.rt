@@ -1,4 +1,4 @@
-// The formula of pieces.
+//! The formula of pieces.
 ghost use Rattle.std.specs.Prelude.{◌≡◌, ◌≢◌, ◌≤◌, ℕ, IfOk, IfErr};
 ghost use Rattle.ded_model.specs.declared.command.Refusal.TheVariants as refusal;
 ghost use Rattle.ded_model.specs.Form.{form};

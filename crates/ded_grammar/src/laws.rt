@@ -1,4 +1,4 @@
-// Laws of the grammar. Each is the contract of a function that does nothing.
+//! Laws of the grammar. Each is the contract of a function that does nothing.
 ghost use Rattle.std.specs.Prelude.{◌≡◌, ℕ, List, Bool};
 ghost use Rattle.std.specs.List.{list_any};
 ghost use Rattle.ded_model.specs.Form.{Form, FormAtom};

@@ -1,4 +1,4 @@
-// What a formula is made of, in the order in which it is written.
+//! What a formula is made of, in the order in which it is written.
 use ded_model::formula::Formula;
 use ded_model::name::Column;
 

@@ -1,4 +1,4 @@
-// Whether pieces spell a formula.
+//! Whether pieces spell a formula.
 ghost use Rattle.std.specs.Prelude.{◌≡◌, ◌<◌, ◌^◌, Option, Some, None, IfSome, IfNone, IsTrue, ◌↔◌};
 ghost use Rattle.ded_grammar.specs.Trees.{Whole, spell};
 ghost use Rattle.ded_grammar.specs.Forms.{piece_form, piece_forms};
@@ -17,7 +17,8 @@ pub enum Spot {
     After,
 }
 
-// The place behind a piece, and how many parentheses are open there.
+/// What stands before the place behind the piece, and how many parentheses are open there; none where no formula has
+/// the piece at such a spot.
 fn step(spot: Spot, opened: u64, piece: &Piece) -> Option<(Spot, u64)>
     requires { opened < 2 ^ 63 }
     ensures { result ≡ stepped spot opened (piece_form piece.now) }
@@ -54,6 +55,7 @@ fn step(spot: Spot, opened: u64, piece: &Piece) -> Option<(Spot, u64)>
     }
 }
 
+/// Whether the pieces may follow one another from the start of a formula to its end, where no parenthesis is open.
 fn scanned(pieces: &[Piece]) -> bool
     ensures { result ≡ scan Spot.Start 0 (piece_forms pieces.now) }
 {

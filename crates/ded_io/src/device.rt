@@ -1,4 +1,4 @@
-//! What a source and a sink promise, and `send`.
+//! What a source and a sink promise, and the writing of a whole piece.
 ghost use Rattle.std.specs.Prelude.{◌≡◌, [], List, ℕ, Ok};
 ghost use Rattle.std.specs.Io.{ReadsAtMost};
 ghost use Rattle.std.specs.Io.KnownBytes.{ReadConsumes, WriteAppends};
@@ -23,7 +23,9 @@ pub trait Source {
     /// Gives the next bytes into the front of `into`, and answers how many.
     ///
     /// 0 into a buffer that isn't empty is the end of the input.
-    /// `Failed` comes only where the count of faults rose, and then nothing was taken.
+    ///
+    /// # Errors
+    /// `Failed` only where the count of faults rose, and then nothing was taken.
     fn read(&mut self, into: &mut [u8]) -> Result<usize, Failed>
         ensures bound { ReadsAtMost result into.new }
         ensures bytes { ReadConsumes (left self.old) (left self.new) result into.new }
@@ -41,7 +43,9 @@ pub trait Sink {
     /// Takes at least the first of the bytes, and at most all, and answers how many.
     ///
     /// Of an empty piece it answers 0.
-    /// `Failed` comes only where the count of faults rose, and then nothing was taken.
+    ///
+    /// # Errors
+    /// `Failed` only where the count of faults rose, and then nothing was taken.
     fn write(&mut self, bytes: &[u8]) -> Result<usize, Failed>
         ensures bound { TakesSome result bytes.now }
         ensures empty { bytes.now ≡ [] → result ≡ Ok 0 }
@@ -51,7 +55,8 @@ pub trait Sink {
 
 /// Writes all of the bytes, in as many pieces as the sink takes them.
 ///
-/// `Failed` comes only where the sink's count of faults rose, and then it holds a front of the bytes.
+/// # Errors
+/// `Failed` only where the sink's count of faults rose, and then it holds a front of the bytes.
 pub fn send<K: Sink>(sink: &mut K, bytes: &[u8]) -> Result<(), Failed>
     ensures bytes { AddsAll (K.held sink.old) (K.held sink.new) result bytes.now }
     ensures cause { HasCause (K.faults sink.old) (K.faults sink.new) result }

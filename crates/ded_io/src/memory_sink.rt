@@ -42,7 +42,10 @@ impl Model for BytesSink {
 }
 
 impl BytesSink {
-    /// Reserves room for so many bytes. A `piece` of 0 counts as 1. The error is out of memory.
+    /// A sink that holds nothing, with room for so many bytes. A `piece` of 0 counts as 1.
+    ///
+    /// # Errors
+    /// Out of memory.
     pub fn new(
         alloc: Global,
         room: usize,
@@ -109,7 +112,7 @@ impl Sink for BytesSink {
 pub struct SureSink;
 
 impl SureSink {
-    /// Takes no memory.
+    /// A sink that was given nothing. It doesn't allocate.
     pub fn new() -> SureSink {
         SureSink
     }

@@ -36,7 +36,10 @@ impl Model for BytesSource {
 }
 
 impl BytesSource {
-    /// Copies the bytes and the numbers. A `piece` of 0 counts as 1. The error is out of memory.
+    /// A source of copies of the bytes, and of the numbers of the calls that fail. A `piece` of 0 counts as 1.
+    ///
+    /// # Errors
+    /// Out of memory.
     pub fn new(
         alloc: Global,
         bytes: &[u8],
@@ -96,7 +99,10 @@ impl Model for SureSource {
 }
 
 impl SureSource {
-    /// Copies the bytes. The error is out of memory.
+    /// A source of a copy of the bytes.
+    ///
+    /// # Errors
+    /// Out of memory.
     pub fn new(alloc: Global, bytes: &[u8]) -> Result<SureSource, NoMemory>
         ensures { IfOk result (λ s. s ≡ bytes.now) }
     {

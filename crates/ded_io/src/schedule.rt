@@ -25,6 +25,10 @@ impl Model for Schedule {
 }
 
 impl Schedule {
+    /// A schedule with these numbers of calls that fail, before the first call.
+    ///
+    /// # Errors
+    /// Out of memory.
     pub fn new(alloc: Global, fails: &[u64]) -> Result<Schedule, NoMemory>
         ensures { IfOk result (λ s. s ≡ new_schedule fails.now) }
     {
@@ -36,6 +40,10 @@ impl Schedule {
     }
 
     /// Counts one more call, which fails by its number or where the device refuses it.
+    ///
+    /// # Errors
+    /// `Failed` exactly where the number of the call is one that fails, or the device refuses it. The fault is counted
+    /// then.
     pub fn call(&mut self, is_refused: bool) -> Result<(), Failed>
         ensures fails { IsErr result ↔ IsTrue (next_fails self.old || is_refused) }
         ensures cause { HasCause self.old.faults self.new.faults result }
@@ -50,6 +58,7 @@ impl Schedule {
         Ok(())
     }
 
+    /// Whether the next call fails by its number.
     fn is_next_failing(&self) -> bool
         ensures { result ≡ next_fails self.now }
     {

@@ -24,6 +24,10 @@ impl Model for Unread {
 }
 
 impl Unread {
+    /// A copy of the bytes, of which nothing is read.
+    ///
+    /// # Errors
+    /// Out of memory.
     pub fn new(alloc: Global, bytes: &[u8]) -> Result<Unread, NoMemory>
         ensures { IfOk result (λ u. u ≡ bytes.now) }
     {
@@ -33,7 +37,7 @@ impl Unread {
         })
     }
 
-    /// Gives as many of the next bytes as fit, at most so many, and answers how many.
+    /// Gives as many of the next bytes as fit, at most so many, into the front of `into`, and answers how many.
     pub fn give(&mut self, into: &mut [u8], most: usize) -> usize
         ensures count { result ≡ min (min (length into.old) most) (length self.old) }
         ensures into { into.new ≡ filled into.old self.old result }
@@ -45,7 +49,7 @@ impl Unread {
     }
 }
 
-// Copies as many of the first bytes as fit, at most so many, and answers how many.
+/// Copies as many of the first bytes as fit, at most so many, into the front of `into`, and answers how many.
 fn fill(into: &mut [u8], bytes: &[u8], most: usize) -> usize
     ensures count { result ≡ min (min (length into.old) most) (length bytes.now) }
     ensures into { into.new ≡ filled into.old bytes.now result }

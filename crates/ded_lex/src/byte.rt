@@ -1,4 +1,4 @@
-// Kinds of bytes.
+//! Kinds of bytes.
 ghost use Rattle.std.specs.Prelude.{◌≡◌};
 ghost use Rattle.ded_lex.specs.Gaps.{blank_byte};
 ghost use Rattle.ded_lex.specs.Lexemes.{digit_byte, letter_byte, word_byte, text_byte};

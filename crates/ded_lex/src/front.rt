@@ -1,4 +1,4 @@
-// The gap or token with which bytes begin.
+//! The gap or token with which bytes begin.
 ghost use Rattle.std.specs.Prelude.{◌≡◌, ◌≤◌, ◌<◌, length, IfSome, true, false, Bool};
 ghost use Rattle.ded_lex.specs.Fronts.{word_rest, number_rest, quoted_rest, line_length, begins_with, sign_rest, front_with, front_of};
 
@@ -12,7 +12,7 @@ pub struct Front {
     pub length: usize,
 }
 
-// How many bytes of a word follow its first letter.
+/// How many bytes of a word follow its first letter.
 fn word_rest(after: &[u8]) -> usize
     ensures value { result ≡ word_rest after.now }
     ensures within { result ≤ length after.now }
@@ -25,7 +25,7 @@ fn word_rest(after: &[u8]) -> usize
     after.len()
 }
 
-// How many digits of a number follow its first, or none where a letter or `_` follows them.
+/// How many digits of a number follow its first one, or none where a letter or `_` follows them.
 #[tactic(auto, using(crate::proofs::Counting::plus_longer))]
 fn number_rest(after: &[u8]) -> Option<usize>
     ensures value { result ≡ number_rest after.now }
@@ -42,7 +42,8 @@ fn number_rest(after: &[u8]) -> Option<usize>
     Some(after.len())
 }
 
-// How many bytes of a quoted text follow its first quote, or none where it doesn't end or holds a control character.
+/// How many bytes of a quoted text follow its first quote, or none where the text doesn't end or holds a control
+/// character.
 #[tactic(auto, using(crate::proofs::Counting::plus_longer, crate::proofs::Counting::plus_zero))]
 fn quoted_rest(after: &[u8]) -> Option<usize>
     ensures value { result ≡ quoted_rest false after.now }
@@ -64,7 +65,7 @@ fn quoted_rest(after: &[u8]) -> Option<usize>
     if closed { Some(after.len()) } else { None }
 }
 
-// How many bytes there are up to the line feed and with it, or to the end.
+/// How many bytes there are up to the first line feed and with it, or to the end where there is none.
 fn line_length(bytes: &[u8]) -> usize
     ensures value { result ≡ line_length bytes.now }
     ensures within { result ≤ length bytes.now }
@@ -77,6 +78,7 @@ fn line_length(bytes: &[u8]) -> usize
     bytes.len()
 }
 
+/// Whether the bytes begin with the byte.
 fn begins_with(bytes: &[u8], byte: u8) -> bool
     ensures { result ≡ begins_with byte bytes.now }
 {
@@ -86,7 +88,7 @@ fn begins_with(bytes: &[u8], byte: u8) -> bool
     }
 }
 
-// How many bytes of a sign follow its first, or none where no sign begins with that.
+/// How many bytes of a sign follow its first one, or none where no sign begins with the byte.
 fn sign_rest(byte: u8, after: &[u8]) -> Option<usize>
     ensures value { result ≡ sign_rest byte after.now }
     ensures within { IfSome result (λ n. n ≤ length after.now) }
@@ -99,7 +101,7 @@ fn sign_rest(byte: u8, after: &[u8]) -> Option<usize>
     }
 }
 
-// A gap or token by its length behind the first byte.
+/// The gap or token of the kind, given how many bytes of it follow the first one; none where that is none.
 fn front_with(kind: Option<TokenKind>, rest: Option<usize>) -> Option<Front>
     requires { IfSome rest (λ n. n < 4294967296) }
     ensures { result ≡ front_with kind rest }

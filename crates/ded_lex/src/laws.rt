@@ -1,4 +1,4 @@
-// Laws of the cut of an input into statements. Each is the contract of a function that does nothing.
+//! Laws of the cut of an input into statements. Each is the contract of a function that does nothing.
 ghost use Rattle.std.specs.Prelude.{◌≡◌, ◌++◌, ◌∷◌, [], List, ℕ, map, length, ◌↔◌};
 ghost use Rattle.ded_lex.specs.Gaps.{IsBlank};
 ghost use Rattle.ded_lex.specs.Pieces.{IsWhole, IsCut, Statement, Whole, AreStatements};

@@ -1,4 +1,4 @@
-// The tokens of bytes.
+//! The tokens of bytes.
 ghost use Rattle.std.specs.Prelude.{◌≡◌, ◌<◌, ◌≤◌, ◌+◌, ◌++◌, ℕ, List, length, IfOk, IfErr, All};
 ghost use Rattle.ded_lex.specs.declared.token.Token.{Token};
 ghost use Rattle.ded_lex.specs.Fronts.{front_tokens};
@@ -8,7 +8,7 @@ use crate::front::{Front, front_of};
 use crate::token::{LexFault, Token, TokenList};
 use std::alloc::{AllocError, Global};
 
-// Adds the token that the front is at this place, if it is one.
+/// Adds the token that the front at this place is, or nothing where it is a gap.
 fn add(tokens: &mut Vec<Token>, front: Front, at: usize) -> Result<(), AllocError>
     requires { at + front.length < 4294967296 }
     ensures { IfOk result (λ _. tokens.new.items ≡

@@ -5,10 +5,10 @@
 //! machine in the definition, whatever the input and however it comes. It has one buffer of 65,536 bytes: of a longer
 //! piece it only tells that it is longer. Feeding and finishing don't allocate.
 //!
-//! [`tokens`] gives the tokens of bytes with the places where they stand, exactly where the bytes are tokens, blanks and
-//! comments (`specs/Tokens.antt`); there is one list at most. What a token says, a word, the digits of a number, the
-//! value of a quoted text or a sign, is the `lexeme` of its kind and its bytes. That a word is reserved is not decided
-//! here.
+//! [`tokens`] gives the tokens of bytes with the places where they stand, exactly where the bytes are tokens, blanks
+//! and comments (`specs/Tokens.antt`); there is one list at most. What a token says, a word, the digits of a number,
+//! the value of a quoted text or a sign, is the `lexeme` of its kind and its bytes. That a word is reserved is not
+//! decided here.
 //!
 //! The laws of the definitions are the contracts of functions that do nothing. The crate stands on `ded_model` for
 //! `NoMemory` alone.

@@ -1,3 +1,4 @@
+//! The cut of an input into pieces, byte by byte.
 ghost use Rattle.std.specs.Prelude.{◌≡◌, ◌≤◌, vec_len};
 
 use crate::state::{State, is_still_blank, may_end_blank, turn};
@@ -26,6 +27,7 @@ pub enum Rest {
     CutLong,
 }
 
+/// How many bytes of a piece are kept.
 const LONGEST: usize = 65_536;
 
 /// Cuts a stream of bytes into pieces, a byte at a time, in one buffer of 65,536 bytes. Of a longer piece it keeps no
@@ -52,7 +54,7 @@ impl Splitter {
     /// A splitter that was fed nothing.
     ///
     /// # Errors
-    /// `NoMemory` where its buffer isn't had.
+    /// Out of memory for its buffer.
     #[tactic(auto, unfolding(crate::specs::Splits::Since))]
     pub fn new(alloc: Global) -> Result<Splitter, NoMemory>
         ensures { IfOk result (λ s. Since s []) }
@@ -74,7 +76,7 @@ impl Splitter {
         &self.kept[..self.ended]
     }
 
-    /// Takes the next byte. Takes no memory.
+    /// Takes the next byte, and tells what it did. It doesn't allocate.
     #[tactic(auto, unfolding(crate::specs::Splits::Since))]
     pub fn feed(&mut self, byte: u8) -> Fed
         ensures more { result ≡ Fed.More → (bytes : List ℕ) → Since self.old bytes →
@@ -107,14 +109,14 @@ impl Splitter {
         }
     }
 
-    // Whether the bytes since the last end are blanks and comments alone.
+    /// Whether the bytes since the last end are blanks and comments alone.
     fn is_blank(&self) -> bool
         ensures { result ≡ (self.now.blank && ends_blank self.now.state) }
     {
         self.blank && may_end_blank(self.state)
     }
 
-    /// What the bytes are that were fed since the last piece ended. Takes no memory.
+    /// What the bytes are that were fed since the last piece ended. It doesn't allocate.
     pub fn finish(&self) -> Rest
         ensures rest { (bytes : List ℕ) → Since self.now bytes → IsCut bytes [] bytes }
         ensures blank { result ≡ Rest.Blank → (bytes : List ℕ) → Since self.now bytes → IsBlank bytes }

@@ -1,4 +1,4 @@
-// Where in a piece the bytes so far end.
+//! Where in a piece the bytes so far end.
 ghost use Rattle.std.specs.Prelude.{◌≡◌, ◌&&◌};
 ghost use Rattle.ded_lex.specs.Machine.{turned, stays_blank, ends_blank};
 

@@ -1,4 +1,4 @@
-// Tokens and where they stand.
+//! Tokens and where they stand.
 ghost use Rattle.std.specs.Prelude.{◌≡◌, ◌≤◌, List, length};
 ghost use Rattle.ded_lex.specs.declared.token.LexFault.TheVariants.{Memory};
 
@@ -31,7 +31,7 @@ pub struct Token {
 pub enum LexFault {
     /// The bytes aren't tokens, blanks and comments.
     NoToken,
-    /// Want of memory.
+    /// Out of memory.
     Memory,
 }
 
@@ -67,14 +67,14 @@ impl Model for TokenList {
 }
 
 impl TokenList {
-    /// The tokens as a list. Takes no memory.
+    /// The tokens as a list. It doesn't allocate.
     pub fn list(&self) -> &[Token]
         ensures { result.now ≡ self.now }
     {
         &self.tokens
     }
 
-    // The list of these tokens.
+    /// The list of these tokens.
     pub(crate) fn of(tokens: Vec<Token>) -> TokenList
         ensures { result ≡ tokens.items }
     {

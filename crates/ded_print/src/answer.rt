@@ -14,7 +14,10 @@ use ded_io::{Failed, Sink};
 use ded_model::answer::Answer;
 use ded_model::tuple::{Tuple, Tuples};
 
-/// Prints an answer. `Failed` comes only where the sink's count of faults rose.
+/// Prints an answer.
+///
+/// # Errors
+/// `Failed` only where the sink's count of faults rose.
 pub fn print_answer<K: Sink>(answer: &Answer, sink: &mut K) -> Result<(), Failed>
     ensures bytes { AddsAll (K.held sink.old) (K.held sink.new) result
         (answer_text answer.now.heading answer.now.tuples) }
@@ -26,13 +29,14 @@ pub fn print_answer<K: Sink>(answer: &Answer, sink: &mut K) -> Result<(), Failed
     gathered.finish(sink)
 }
 
+/// The tuples of the list.
 fn tuples_of(tuples: &Tuples) -> &[Tuple]
     ensures { result.now ≡ tuples.now }
 {
     tuples.list.as_slice()
 }
 
-/// Puts the count, the tuples, and the end.
+/// Puts an answer: the count of its tuples, the tuples, and the end.
 fn put_answer<N: SlotNames, K: Sink>(
     tuples: &[Tuple],
     names: &N,

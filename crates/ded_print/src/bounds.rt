@@ -19,8 +19,10 @@ use ded_model::name::{Column, Heading, Name};
 use ded_model::slot::Sort;
 use ded_num::{gcd, quotient};
 
-/// Prints the bounds of each rational column of the heading, or that there is no point or no such column. `Failed` comes only
-/// where the sink's count of faults rose.
+/// Prints the bounds of each rational column of the heading, or that there is no point or no such column.
+///
+/// # Errors
+/// `Failed` only where the sink's count of faults rose.
 pub fn print_box<K: Sink>(heading: &Heading, reply: &BoxReply, sink: &mut K) -> Result<(), Failed>
     ensures bytes { AddsAll (K.held sink.old) (K.held sink.new) result (box_text heading.now reply.now) }
     ensures cause { HasCause (K.faults sink.old) (K.faults sink.new) result }
@@ -67,6 +69,7 @@ fn put_spans<K: Sink>(
     }
 }
 
+/// Whether the column ranges over the rationals.
 fn is_rational(column: &Column) -> bool
     ensures { result ≡ same_sort column.now.sort Rat }
 {
@@ -144,7 +147,7 @@ fn put_fraction<K: Sink>(value: Frac, gathered: &mut Gathered, sink: &mut K)
     );
 }
 
-/// Puts the numerator, and the denominator where it isn't 1.
+/// Puts a fraction that is in lowest terms: the numerator, and the denominator where it isn't 1.
 fn put_lowest<K: Sink>(num: i128, den: i128, gathered: &mut Gathered, sink: &mut K)
     ensures { Puts
         (output (K.held sink.old) (K.faults sink.old) gathered.old)

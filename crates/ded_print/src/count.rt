@@ -7,14 +7,15 @@ use crate::gathered::Gathered;
 use arrayvec::ArrayVec;
 use ded_io::Sink;
 
-/// A count in decimal, the ones first. It has as many digits as are ever written of a number, so no plan is too large for it.
+/// A count in decimal, the ones first. It has as many digits as are ever written of a number, so no plan is too large
+/// for it.
 #[derive(Drop)]
 pub(crate) struct Count {
     digits: ArrayVec<u8, 64>,
 }
 
 impl Count {
-    /// Nothing is counted.
+    /// A count of nothing.
     pub(crate) fn new() -> Count
         ensures { result.digits.items ≡ 48 ∷ [] }
     {
@@ -32,7 +33,7 @@ impl Count {
         }
     }
 
-    /// Puts what was counted.
+    /// Puts the count in decimal.
     pub(crate) fn put<K: Sink>(&self, gathered: &mut Gathered, sink: &mut K)
         ensures { Puts
             (output (K.held sink.old) (K.faults sink.old) gathered.old)
@@ -43,7 +44,7 @@ impl Count {
     }
 }
 
-/// Adds one, and answers whether it is carried behind the last digit.
+/// Adds one to the digits, which stand with the ones first. Returns whether it is carried behind the last digit.
 fn add_one(digits: &mut [u8]) -> bool
     ensures digits { digits.new ≡ added digits.old }
     ensures carried { result ≡ carries digits.old }
@@ -58,7 +59,7 @@ fn add_one(digits: &mut [u8]) -> bool
     true
 }
 
-/// Puts the bytes, the last one first.
+/// Puts the bytes in reverse, the last one first.
 fn put_reversed<K: Sink>(bytes: &[u8], gathered: &mut Gathered, sink: &mut K)
     ensures { Puts
         (output (K.held sink.old) (K.faults sink.old) gathered.old)

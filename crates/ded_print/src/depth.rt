@@ -14,7 +14,7 @@ pub(crate) enum Depth<'a> {
     Below(&'a Depth<'a>),
 }
 
-/// Puts two blanks for each level.
+/// Puts the indentation of a line, two blanks for each level of its depth.
 pub(crate) fn put_indent<K: Sink>(depth: &Depth<'_>, gathered: &mut Gathered, sink: &mut K)
     ensures { Puts
         (output (K.held sink.old) (K.faults sink.old) gathered.old)

@@ -16,7 +16,7 @@ pub(crate) struct Gathered {
 }
 
 impl Gathered {
-    /// Nothing is gathered.
+    /// No bytes that wait, before anything was sent.
     pub(crate) fn new() -> Gathered
         ensures pending { result.pending.items ≡ [] }
         ensures sent { result.sent ≡ Ok tt }
@@ -27,7 +27,7 @@ impl Gathered {
         }
     }
 
-    /// Puts the bytes after those that were put before.
+    /// Puts the bytes after those that were put before. Those that wait go to the sink where there is no room for more.
     pub(crate) fn put<K: Sink>(&mut self, sink: &mut K, bytes: &[u8])
         ensures { Puts
             (output (K.held sink.old) (K.faults sink.old) self.old)
@@ -44,7 +44,7 @@ impl Gathered {
         self.sent = send_after(self.sent, sink, bytes);
     }
 
-    /// Gathers the bytes where there is room for them, and answers whether there is.
+    /// Gathers the bytes where there is room for them. Returns whether there is.
     fn keep(&mut self, bytes: &[u8]) -> bool
         ensures pending { self.new.pending.items ≡
             (if result then (self.old.pending.items ++ bytes.now) else self.old.pending.items) }
@@ -53,7 +53,7 @@ impl Gathered {
         self.pending.try_extend_from_slice(bytes).is_ok()
     }
 
-    /// Sends what is pending.
+    /// Sends the bytes that wait, where nothing failed so far. None waits then.
     fn flush<K: Sink>(&mut self, sink: &mut K)
         ensures puts { Puts
             (output (K.held sink.old) (K.faults sink.old) self.old)
@@ -65,7 +65,10 @@ impl Gathered {
         self.pending.clear();
     }
 
-    /// Sends what is pending, and answers whether all went well.
+    /// Sends the bytes that wait, where nothing failed so far.
+    ///
+    /// # Errors
+    /// `Failed` only where the sink's count of faults rose since the first bytes were put.
     pub(crate) fn finish<K: Sink>(self, sink: &mut K) -> Result<(), Failed>
         ensures { Finishes
             (output (K.held sink.old) (K.faults sink.old) self)
@@ -77,7 +80,7 @@ impl Gathered {
     }
 }
 
-/// Sends the bytes where nothing failed so far.
+/// Sends the bytes where nothing failed so far, and otherwise fails as before.
 fn send_after<K: Sink>(so_far: Result<(), Failed>, sink: &mut K, bytes: &[u8]) -> Result<(), Failed>
     ensures { SendsAfter
         so_far

@@ -16,42 +16,43 @@ pub fn one_line()
     ensures { (reply : LineReply) → is_one_line (reply_line reply) ≡ true }
 {}
 
-/// The bytes written tell such replies one after another: where texts begin alike the replies are the same, and what comes
-/// behind them is.
+/// The bytes written tell replies of one line one after another: where the texts of two replies, each with any bytes
+/// behind it, are the same bytes, the replies are the same, and so are the bytes behind them.
 pub fn one_reply()
     ensures { (reply other : LineReply) (xs ys : List ℕ) → IsPrintable reply → IsPrintable other →
         reply_text reply ++ xs ≡ reply_text other ++ ys →
         (reply ≡ other) × (xs ≡ ys) }
 {}
 
-/// And they tell such a reply from the tuples of a relation: no text begins as both do.
+/// The bytes written tell a reply of one line from the tuples of a relation: no bytes begin with both texts.
 pub fn no_line_of_tuples()
     ensures { (columns : List Column) (stored : List (ℕ × List Atom)) (reply : LineReply) (xs ys : List ℕ) →
         stored_text columns stored ++ xs ≡ reply_text reply ++ ys → ⊥ }
 {}
 
-/// Of two answers over one heading no text is a proper front of the other's, where no name has a blank, a line feed or a quote.
-/// Texts in tuples may have any bytes.
+/// Of two answers over one heading no text is a proper front of the other's, where no name has a blank, a line feed or
+/// a quote. Texts in tuples may have any bytes.
 pub fn one_answer()
     ensures { (columns : List Column) (ts us : List (List Atom)) (xs ys : List ℕ) → AreQuiet columns →
         answer_text columns ts ++ xs ≡ answer_text columns us ++ ys →
         (answer_text columns ts ≡ answer_text columns us) × (xs ≡ ys) }
 {}
 
-/// Nor of two plans.
+/// Of two plans no text is a proper front of the other's, where no name has a blank, a line feed or a quote.
 pub fn one_plan()
     ensures { (f g : PlanForm) (xs ys : List ℕ) → IsQuietPlan f → IsQuietPlan g →
         plan_text f ++ xs ≡ plan_text g ++ ys → (plan_text f ≡ plan_text g) × (xs ≡ ys) }
 {}
 
-/// Nor of the bounds of one heading's columns.
+/// Of two lists of bounds, as many in one as in the other, for the columns of one heading no text is a proper front of
+/// the other's, where no name has a blank, a line feed or a quote.
 pub fn one_box()
     ensures { (columns : List Column) (bs cs : List (Bound × Bound)) (xs ys : List ℕ) → AreQuiet columns →
         length bs ≡ length cs → spans_text columns bs ++ xs ≡ spans_text columns cs ++ ys →
         (spans_text columns bs ≡ spans_text columns cs) × (xs ≡ ys) }
 {}
 
-/// No text begins as a refusal's and as that of an answer, a plan or a box.
+/// No bytes begin both with the text of a refusal and with that of an answer, a plan or a box.
 pub fn refusals_apart()
     ensures answers { (columns : List Column) (ts : List (List Atom)) (r : Refusal) (xs ys : List ℕ) →
         answer_text columns ts ++ xs ≡ refusal_text r ++ ys → ⊥ }

@@ -10,7 +10,10 @@ use crate::number::put_natural;
 use ded_io::{Failed, Sink, send};
 use ded_model::command::Refusal;
 
-/// Prints that a statement was done. `Failed` comes only where the sink's count of faults rose.
+/// Prints that a statement was done.
+///
+/// # Errors
+/// `Failed` only where the sink's count of faults rose.
 pub fn print_done<K: Sink>(sink: &mut K) -> Result<(), Failed>
     ensures bytes { AddsAll (K.held sink.old) (K.held sink.new) result done_text }
     ensures cause { HasCause (K.faults sink.old) (K.faults sink.new) result }
@@ -18,7 +21,10 @@ pub fn print_done<K: Sink>(sink: &mut K) -> Result<(), Failed>
     send(sink, b"ok\n")
 }
 
-/// Prints whether what was asked holds. `Failed` comes only where the sink's count of faults rose.
+/// Prints whether what was asked holds.
+///
+/// # Errors
+/// `Failed` only where the sink's count of faults rose.
 pub fn print_truth<K: Sink>(holds: bool, sink: &mut K) -> Result<(), Failed>
     ensures bytes { AddsAll (K.held sink.old) (K.held sink.new) result (truth_text holds) }
     ensures cause { HasCause (K.faults sink.old) (K.faults sink.new) result }
@@ -26,7 +32,10 @@ pub fn print_truth<K: Sink>(holds: bool, sink: &mut K) -> Result<(), Failed>
     send(sink, truth_bytes(holds))
 }
 
-/// Prints the number that a tuple was given. `Failed` comes only where the sink's count of faults rose.
+/// Prints the number that a tuple was given.
+///
+/// # Errors
+/// `Failed` only where the sink's count of faults rose.
 pub fn print_number<K: Sink>(number: u64, sink: &mut K) -> Result<(), Failed>
     ensures bytes { AddsAll (K.held sink.old) (K.held sink.new) result (number_reply_text number) }
     ensures cause { HasCause (K.faults sink.old) (K.faults sink.new) result }
@@ -36,6 +45,7 @@ pub fn print_number<K: Sink>(number: u64, sink: &mut K) -> Result<(), Failed>
     gathered.finish(sink)
 }
 
+/// Puts the number that a tuple was given on a line.
 fn put_number_line<K: Sink>(number: u64, gathered: &mut Gathered, sink: &mut K)
     ensures { Puts
         (output (K.held sink.old) (K.faults sink.old) gathered.old)
@@ -47,7 +57,10 @@ fn put_number_line<K: Sink>(number: u64, gathered: &mut Gathered, sink: &mut K)
     gathered.put(sink, b"\n");
 }
 
-/// Prints why a statement was refused. `Failed` comes only where the sink's count of faults rose.
+/// Prints why a statement was refused.
+///
+/// # Errors
+/// `Failed` only where the sink's count of faults rose.
 pub fn print_refusal<K: Sink>(refusal: &Refusal, sink: &mut K) -> Result<(), Failed>
     ensures bytes { AddsAll (K.held sink.old) (K.held sink.new) result (refusal_text refusal.now) }
     ensures cause { HasCause (K.faults sink.old) (K.faults sink.new) result }
@@ -55,12 +68,14 @@ pub fn print_refusal<K: Sink>(refusal: &Refusal, sink: &mut K) -> Result<(), Fai
     send(sink, refusal_bytes(*refusal))
 }
 
+/// The line that says whether what was asked holds.
 fn truth_bytes(holds: bool) -> &'static [u8]
     ensures { result.now ≡ truth_text holds }
 {
     if holds { b"yes\n" } else { b"no\n" }
 }
 
+/// The line that says why a statement was refused.
 fn refusal_bytes(refusal: Refusal) -> &'static [u8]
     ensures { result.now ≡ refusal_text refusal }
 {

@@ -29,6 +29,7 @@ pub(crate) struct ColumnNames<'a> {
 }
 
 impl<'a> ColumnNames<'a> {
+    /// The names of slots by these columns.
     pub(crate) fn new(columns: &'a [Column]) -> ColumnNames<'a>
         ensures { result.columns.now ≡ columns.now }
     {

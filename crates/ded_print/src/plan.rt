@@ -22,7 +22,10 @@ use ded_model::name::Name;
 use ded_model::plan::Plan;
 use ded_model::slot::{Slot, Slots, Sort};
 
-/// Prints a plan, one node on a line with its parts below it. `Failed` comes only where the sink's count of faults rose.
+/// Prints a plan, one node on a line with its parts below it.
+///
+/// # Errors
+/// `Failed` only where the sink's count of faults rose.
 pub fn print_plan<K: Sink>(plan: &Plan, sink: &mut K) -> Result<(), Failed>
     ensures bytes { AddsAll (K.held sink.old) (K.held sink.new) result (plan_text (plan_form plan.now)) }
     ensures cause { HasCause (K.faults sink.old) (K.faults sink.new) result }
@@ -32,7 +35,7 @@ pub fn print_plan<K: Sink>(plan: &Plan, sink: &mut K) -> Result<(), Failed>
     gathered.finish(sink)
 }
 
-/// Puts the count of the nodes, the nodes, and the end.
+/// Puts a plan: the count of its nodes, the nodes, and the end.
 fn put_plan<K: Sink>(plan: &Plan, gathered: &mut Gathered, sink: &mut K)
     ensures { Puts
         (output (K.held sink.old) (K.faults sink.old) gathered.old)
@@ -58,7 +61,7 @@ fn put_count<K: Sink>(plan: &Plan, gathered: &mut Gathered, sink: &mut K)
     count.put(gathered, sink);
 }
 
-/// Counts the nodes of the plan.
+/// Raises the count by the nodes of the plan.
 #[cycle(nodes)]
 fn count_nodes(plan: &Plan, count: &mut Count)
     ensures { count.new.digits.items ≡ raised_by (nodes (plan_form plan.now)) count.old.digits.items }
@@ -75,6 +78,7 @@ fn count_nodes(plan: &Plan, count: &mut Count)
     }
 }
 
+/// Raises the count by the nodes of all parts.
 #[cycle(nodes)]
 fn count_parts(parts: &Vec<Plan>, count: &mut Count)
     ensures { count.new.digits.items ≡ raised_by (nodes_of (plan_forms parts.now.items)) count.old.digits.items }
@@ -84,7 +88,7 @@ fn count_parts(parts: &Vec<Plan>, count: &mut Count)
     }
 }
 
-/// Puts the node and its parts, one level deeper.
+/// Puts the node on a line at the depth, and its parts one level deeper.
 #[cycle(lines)]
 fn put_node<K: Sink>(plan: &Plan, depth: &Depth<'_>, gathered: &mut Gathered, sink: &mut K)
     ensures { Puts
@@ -108,7 +112,7 @@ fn put_node<K: Sink>(plan: &Plan, depth: &Depth<'_>, gathered: &mut Gathered, si
     }
 }
 
-/// Puts each of the plans.
+/// Puts each of the plans, whose nodes stand at the depth.
 #[cycle(lines)]
 fn put_parts<K: Sink>(parts: &Vec<Plan>, depth: &Depth<'_>, gathered: &mut Gathered, sink: &mut K)
     ensures { Puts
@@ -152,6 +156,7 @@ fn put_node_text<K: Sink>(plan: &Plan, gathered: &mut Gathered, sink: &mut K)
     }
 }
 
+/// What is written behind a slot of the sort: nothing where it is rational.
 fn sort_bytes(sort: Sort) -> &'static [u8]
     ensures { result.now ≡ sort_text sort }
 {
@@ -161,7 +166,7 @@ fn sort_bytes(sort: Sort) -> &'static [u8]
     }
 }
 
-/// Puts a scan.
+/// Puts the scan of a relation: its name, and the slots in parentheses.
 fn put_scan<K: Sink>(name: &Name, slots: &Slots, gathered: &mut Gathered, sink: &mut K)
     ensures { Puts
         (output (K.held sink.old) (K.faults sink.old) gathered.old)

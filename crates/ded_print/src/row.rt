@@ -12,7 +12,7 @@ use ded_io::Sink;
 use ded_model::row::{Row, RowOp};
 use ded_model::slot::Slot;
 
-/// Puts a row.
+/// Puts a row as a comparison of its terms with a number.
 pub(crate) fn put_row<N: SlotNames, K: Sink>(
     row: &Row,
     names: &N,
@@ -61,7 +61,7 @@ fn put_comparison<N: SlotNames, K: Sink>(
     put_integer(turned_if(true, turned_if(turned, constant)), gathered, sink);
 }
 
-/// The number, or where all signs are turned its negative.
+/// The number, or its negative where all signs are turned.
 fn turned_if(turned: bool, a: i128) -> i128
     requires { IsShort a }
     ensures value { result ≡ signed turned a }
@@ -70,6 +70,7 @@ fn turned_if(turned: bool, a: i128) -> i128
     if turned { -a } else { a }
 }
 
+/// The sign of a comparison between blanks, where all signs are turned or not.
 fn op_bytes(turned: bool, op: RowOp) -> &'static [u8]
     ensures { result.now ≡ op_text turned op }
 {
@@ -105,6 +106,7 @@ fn put_term<N: SlotNames, K: Sink>(
     names.put_name(slot, gathered, sink);
 }
 
+/// The sign of a later term between blanks, by its coefficient.
 fn sign_bytes(a: i128) -> &'static [u8]
     ensures { result.now ≡ sign_text a }
 {
@@ -128,7 +130,7 @@ fn put_later_term<N: SlotNames, K: Sink>(
     put_term(slot, a, names, gathered, sink);
 }
 
-/// Puts the terms after the first.
+/// Puts the terms after the first, each after its sign, where all signs are turned or not.
 fn put_later_terms<N: SlotNames, K: Sink>(
     coefs: &[(Slot, i128)],
     turned: bool,

@@ -14,7 +14,10 @@ use ded_io::{Failed, Sink};
 use ded_model::name::Heading;
 use ded_model::tuple::Tuple;
 
-/// Prints the tuples of a relation with their numbers. `Failed` comes only where the sink's count of faults rose.
+/// Prints the tuples of a relation with their numbers.
+///
+/// # Errors
+/// `Failed` only where the sink's count of faults rose.
 pub fn print_stored<K: Sink>(
     heading: &Heading,
     stored: &[(u32, Tuple)],
@@ -29,7 +32,7 @@ pub fn print_stored<K: Sink>(
     gathered.finish(sink)
 }
 
-/// Puts the count, the numbered tuples, and the end.
+/// Puts the tuples of a relation: their count, the numbered tuples, and the end.
 fn put_stored<N: SlotNames, K: Sink>(
     stored: &[(u32, Tuple)],
     names: &N,

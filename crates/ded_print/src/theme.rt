@@ -9,7 +9,7 @@ use crate::naming::{SlotNames, name_bytes};
 use ded_io::Sink;
 use ded_model::tuple::ThemeAtom;
 
-/// Puts a text atom.
+/// Puts a text atom: a slot compared with a text or with another slot.
 pub(crate) fn put_theme<N: SlotNames, K: Sink>(
     atom: &ThemeAtom,
     names: &N,
@@ -69,7 +69,7 @@ fn put_doubled<K: Sink>(text: &[u8], gathered: &mut Gathered, sink: &mut K)
     }
 }
 
-/// Puts a byte, a quote twice.
+/// Puts a byte, twice where it is a quote.
 fn put_byte<K: Sink>(byte: u8, gathered: &mut Gathered, sink: &mut K)
     ensures { Puts
         (output (K.held sink.old) (K.faults sink.old) gathered.old)

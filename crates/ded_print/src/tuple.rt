@@ -13,7 +13,10 @@ use ded_io::{Failed, Sink};
 use ded_model::name::{Column, Heading};
 use ded_model::tuple::{Atom, BothAtom, Tuple};
 
-/// Prints a tuple over the columns of a heading. `Failed` comes only where the sink's count of faults rose.
+/// Prints a tuple over the columns of a heading.
+///
+/// # Errors
+/// `Failed` only where the sink's count of faults rose.
 pub fn print_tuple<K: Sink>(heading: &Heading, tuple: &Tuple, sink: &mut K) -> Result<(), Failed>
     ensures bytes { AddsAll (K.held sink.old) (K.held sink.new) result
         (tuple_text (column_names heading.now) tuple.now) }
@@ -25,12 +28,14 @@ pub fn print_tuple<K: Sink>(heading: &Heading, tuple: &Tuple, sink: &mut K) -> R
     gathered.finish(sink)
 }
 
+/// The columns of a heading.
 pub(crate) fn columns_of(heading: &Heading) -> &[Column]
     ensures { result.now ≡ heading.now }
 {
     heading.columns.as_slice()
 }
 
+/// The atoms of a tuple.
 pub(crate) fn atoms_of(tuple: &Tuple) -> &[Atom]
     ensures { result.now ≡ tuple.now }
 {
@@ -77,7 +82,7 @@ fn put_later_atoms<N: SlotNames, K: Sink>(
     }
 }
 
-/// Puts an atom.
+/// Puts an atom: a row or a text atom.
 fn put_atom<N: SlotNames, K: Sink>(atom: &Atom, names: &N, gathered: &mut Gathered, sink: &mut K)
     ensures { Puts
         (output (K.held sink.old) (K.faults sink.old) gathered.old)

@@ -42,6 +42,7 @@ pub fn read_answer(alloc: Global, heading: &Heading, bytes: &[u8]) -> Result<Ans
     Ok(answer)
 }
 
+/// The columns of a heading.
 fn columns_of(heading: &Heading) -> &[Column]
     ensures { result.now ≡ heading.now }
 {

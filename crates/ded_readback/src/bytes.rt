@@ -4,7 +4,7 @@ ghost use Rattle.ded_lex.specs.Lexemes.{digit_byte, word_byte};
 ghost use Rattle.ded_lex.specs.Fronts.{word_rest};
 ghost use Rattle.ded_readback.specs.Reading.{behind, digits_from, integer_at, behind_line, with_digit};
 
-/// What stands behind the prefix.
+/// What stands behind the prefix, or none where the bytes don't begin with it.
 #[tactic(auto, using(crate::proofs::Prefixes::behind_there, crate::proofs::Prefixes::behind_absent))]
 pub(crate) fn behind<'a>(bytes: &'a [u8], prefix: &[u8]) -> Option<&'a [u8]>
     ensures some { IfSome result (λ rest. behind prefix.now bytes.now ≡ Some rest.now) }
@@ -40,7 +40,7 @@ pub(crate) fn digits(bytes: &[u8]) -> (u128, &[u8])
     (value, &[])
 }
 
-/// Whether a number is negative, its magnitude, and what stands behind it.
+/// Whether the number in front is negative, its magnitude as far as 128 bits hold it, and what stands behind it.
 pub(crate) fn integer(bytes: &[u8]) -> (bool, u128, &[u8])
     ensures { (result.0, result.1, result.2.now) ≡ integer_at bytes.now }
 {
@@ -56,7 +56,7 @@ pub(crate) fn integer(bytes: &[u8]) -> (bool, u128, &[u8])
     }
 }
 
-/// What stands behind the first line.
+/// What stands behind the first line, which is nothing where no line feed ends it.
 pub(crate) fn behind_line(bytes: &[u8]) -> &[u8]
     ensures { result.now ≡ behind_line bytes.now }
 {
@@ -68,7 +68,7 @@ pub(crate) fn behind_line(bytes: &[u8]) -> &[u8]
     &[]
 }
 
-/// One more digit.
+/// The number with one more digit behind its digits, as far as 128 bits hold it.
 fn with_digit(value: u128, byte: u8) -> u128
     ensures { result ≡ with_digit value byte }
 {
@@ -77,6 +77,7 @@ fn with_digit(value: u128, byte: u8) -> u128
         .saturating_add(u128::from(byte.saturating_sub(b'0')))
 }
 
+/// Whether the byte is a digit.
 fn is_digit(byte: u8) -> bool
     ensures { result ≡ digit_byte byte }
 {

@@ -9,7 +9,7 @@ use std::alloc::{AllocError, AllocFailed};
 pub enum AnswerFault {
     /// The bytes spell no answer over the heading.
     NoAnswer,
-    /// Want of memory.
+    /// Out of memory.
     Memory,
 }
 

@@ -36,6 +36,7 @@ fn is_over(columns: &[Column], tuple: &Tuple) -> bool
     are_atoms_over(columns, atoms_of(tuple))
 }
 
+/// The atoms of a tuple, which is in normal form.
 fn atoms_of(tuple: &Tuple) -> &[Atom]
     ensures value { result.now ≡ tuple.now }
     ensures normal { IsNormalTuple tuple.now }
@@ -43,6 +44,7 @@ fn atoms_of(tuple: &Tuple) -> &[Atom]
     tuple.atoms.as_slice()
 }
 
+/// Whether each of the atoms mentions only slots of the columns.
 fn are_atoms_over(columns: &[Column], atoms: &[Atom]) -> bool
     ensures value { result ≡ list_all (atom_over columns.now) atoms.now }
     ensures short { result ≡ true → tuple_length atoms.now ≤ 127 }
@@ -55,6 +57,7 @@ fn are_atoms_over(columns: &[Column], atoms: &[Atom]) -> bool
     true
 }
 
+/// Whether the atom mentions only slots of the columns.
 fn is_atom_over(columns: &[Column], atom: &Atom) -> bool
     ensures value { result ≡ atom_over columns.now atom.now }
     ensures short { IsShortAtom atom.now }
@@ -65,6 +68,7 @@ fn is_atom_over(columns: &[Column], atom: &Atom) -> bool
     }
 }
 
+/// Whether the row mentions only slots of the columns.
 fn is_row_over(columns: &[Column], row: &Row) -> bool
     ensures value { result ≡ coefs_over columns.now row.now.coefs }
     ensures short { row_length row.now ≤ 127 }
@@ -72,6 +76,7 @@ fn is_row_over(columns: &[Column], row: &Row) -> bool
     are_coefs_over(columns, coefs_of(row))
 }
 
+/// The coefficients of a row.
 fn coefs_of(row: &Row) -> &[(Slot, i128)]
     ensures value { result.now ≡ row.now.coefs }
     ensures kept { AreCoefs row.now.coefs }
@@ -81,6 +86,7 @@ fn coefs_of(row: &Row) -> &[(Slot, i128)]
     row.coefs.list()
 }
 
+/// Whether each of the coefficients is of a slot of the columns.
 fn are_coefs_over(columns: &[Column], coefs: &[(Slot, i128)]) -> bool
     ensures { result ≡ coefs_over columns.now coefs.now }
 {
@@ -92,6 +98,7 @@ fn are_coefs_over(columns: &[Column], coefs: &[(Slot, i128)]) -> bool
     true
 }
 
+/// Whether the text atom mentions only slots of the columns.
 fn is_theme_over(columns: &[Column], atom: &ThemeAtom) -> bool
     ensures { result ≡ theme_over columns.now atom.now }
 {
@@ -113,6 +120,7 @@ fn is_column(columns: &[Column], slot: Slot) -> bool
     }
 }
 
+/// Whether the sorts are the same.
 fn is_sort(a: Sort, b: Sort) -> bool
     ensures { result ≡ same_sort a b }
 {

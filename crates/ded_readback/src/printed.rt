@@ -33,6 +33,9 @@ impl Sink for Text {
 }
 
 /// Whether the bytes are the text of the answer.
+///
+/// # Errors
+/// Out of memory.
 pub(crate) fn is_printed(alloc: Global, answer: &Answer, bytes: &[u8]) -> Result<bool, AnswerFault>
     ensures same { IfOk result (λ b. b ≡ bytes_eq (answer_text answer.now.heading answer.now.tuples) bytes.now) }
     ensures memory { IfErr result (λ e. e ≡ Memory) }

@@ -15,7 +15,8 @@ use ded_model::slot::Sort;
 use ded_row::normal;
 use std::alloc::Global;
 
-/// How a sum is compared, whether all signs are turned, and what stands behind it.
+/// How a sum is compared, whether all signs are turned, and what stands behind that; none where the bytes begin with no
+/// sign of a comparison.
 fn comparison(bytes: &[u8]) -> Option<((RowOp, bool), &[u8])>
     ensures some { IfSome result (λ x. comparison_at bytes.now ≡ Some (x.0, x.1.now)) }
     ensures none { IfNone result (comparison_at bytes.now ≡ None) }
@@ -36,6 +37,7 @@ fn comparison(bytes: &[u8]) -> Option<((RowOp, bool), &[u8])>
     Some(((RowOp::Below, true), rest))
 }
 
+/// Whether the magnitude has at most 127 binary digits.
 fn is_short(magnitude: u128) -> bool
     ensures { result ≡ is_short magnitude }
 {
@@ -52,7 +54,8 @@ fn number_of(turned: bool, minus: bool, magnitude: u128) -> i128
     if turned == minus { number } else { -number }
 }
 
-/// One more coefficient.
+/// Sets the coefficient of the term's slot, with all signs turned or not. `NoAnswer` where the slot isn't rational or
+/// the magnitude has more than 127 binary digits.
 fn put_term(coefs: &mut Coefs, turned: bool, term: Summand) -> Result<(), AnswerFault>
     ensures read { IfOk result (λ _. with_term turned coefs.old term ≡ Some coefs.new) }
     ensures unread { IfErr result (λ e. e ≡ NoAnswer → with_term turned coefs.old term ≡ None) }
@@ -64,7 +67,7 @@ fn put_term(coefs: &mut Coefs, turned: bool, term: Summand) -> Result<(), Answer
     Ok(())
 }
 
-/// The coefficients of terms.
+/// The coefficients of the terms, with all signs turned or not.
 fn coefs_of(alloc: Global, turned: bool, terms: &[Summand]) -> Result<Coefs, AnswerFault>
     ensures read { IfOk result (λ cs. coefs_from turned [] terms.now ≡ Some cs) }
     ensures unread { IfErr result (λ e. e ≡ NoAnswer → coefs_from turned [] terms.now ≡ None) }
@@ -76,7 +79,7 @@ fn coefs_of(alloc: Global, turned: bool, terms: &[Summand]) -> Result<Coefs, Ans
     Ok(coefs)
 }
 
-/// The row in normal form of these terms and a number on the other side.
+/// The row in normal form of these terms, compared with a number on the other side, with all signs turned or not.
 fn row_of(
     alloc: Global,
     terms: &[Summand],
@@ -101,6 +104,9 @@ fn row_of(
 }
 
 /// The row that begins with this term, and what stands behind it.
+///
+/// # Errors
+/// `NoAnswer` only where the term and the bytes behind it begin with no row, otherwise out of memory.
 pub(crate) fn row<'a>(
     alloc: Global,
     columns: &[Column],

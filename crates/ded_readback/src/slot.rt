@@ -7,7 +7,7 @@ use crate::bytes::word_length;
 use ded_model::name::{Column, Name};
 use ded_model::slot::{Slot, Sort};
 
-/// The slot of the column that is named in front, and what stands behind the name.
+/// The slot of the column that is named in front, and what stands behind the name; none where no column is.
 pub(crate) fn slot<'a>(columns: &[Column], bytes: &'a [u8]) -> Option<(Slot, &'a [u8])>
     ensures some { IfSome result (λ x. slot_at columns.now bytes.now ≡ Some (x.0, x.1.now)) }
     ensures none { IfNone result (slot_at columns.now bytes.now ≡ None) }
@@ -17,7 +17,7 @@ pub(crate) fn slot<'a>(columns: &[Column], bytes: &'a [u8]) -> Option<(Slot, &'a
     Some((slot, &bytes[length..]))
 }
 
-/// The slot of the column of this name.
+/// The slot of the column of this name, or none where no column has the name.
 fn column_slot(columns: &[Column], word: &[u8]) -> Option<Slot>
     ensures { result ≡ column_slot 0 columns.now word.now }
 {
@@ -29,7 +29,7 @@ fn column_slot(columns: &[Column], word: &[u8]) -> Option<Slot>
     None
 }
 
-/// The slot of column number i.
+/// The slot of column number i, or none where the number has more than 32 binary digits.
 fn numbered(i: usize, sort: Sort) -> Option<Slot>
     ensures { result ≡ numbered i sort }
 {
@@ -42,6 +42,7 @@ fn numbered(i: usize, sort: Sort) -> Option<Slot>
     None
 }
 
+/// Whether the word is the name.
 fn is_named(name: &Name, word: &[u8]) -> bool
     ensures { result ≡ bytes_eq name.now word.now }
 {

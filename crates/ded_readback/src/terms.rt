@@ -17,7 +17,8 @@ pub(crate) struct Summand {
     pub magnitude: u128,
 }
 
-/// A column, which a number and `*` may stand before, and what stands behind it.
+/// A column, which a number and `*` may stand before, and what stands behind it; none where the bytes begin with no
+/// such term.
 pub(crate) fn term<'a>(
     columns: &[Column],
     minus: bool,
@@ -33,7 +34,7 @@ pub(crate) fn term<'a>(
     }
 }
 
-/// So many times a column.
+/// So many times the column that is named in front, and what stands behind the name; none where no column is.
 fn multiple<'a>(
     columns: &[Column],
     minus: bool,
@@ -52,7 +53,8 @@ fn multiple<'a>(
     Some((term, rest))
 }
 
-/// The sign of one more term, true where it is taken away, and what stands behind it.
+/// The sign of one more term, true where the term is taken away, and what stands behind it; none where the bytes begin
+/// with no such sign.
 fn sign(bytes: &[u8]) -> Option<(bool, &[u8])>
     ensures some { IfSome result (λ x. sign_at bytes.now ≡ Some (x.0, x.1.now)) }
     ensures none { IfNone result (sign_at bytes.now ≡ None) }
@@ -64,7 +66,7 @@ fn sign(bytes: &[u8]) -> Option<(bool, &[u8])>
     Some((true, rest))
 }
 
-/// One more term.
+/// One more term with its sign, and what stands behind it; none where the bytes begin with no such term.
 fn later<'a>(columns: &[Column], bytes: &'a [u8]) -> Option<(Summand, &'a [u8])>
     ensures some { IfSome result (λ x. later_at columns.now bytes.now ≡ Some (x.0, x.1.now)) }
     ensures none { IfNone result (later_at columns.now bytes.now ≡ None) }
@@ -74,6 +76,9 @@ fn later<'a>(columns: &[Column], bytes: &'a [u8]) -> Option<(Summand, &'a [u8])>
 }
 
 /// The terms that begin with this one, and what stands behind them.
+///
+/// # Errors
+/// Out of memory.
 pub(crate) fn terms<'a>(
     alloc: Global,
     columns: &[Column],

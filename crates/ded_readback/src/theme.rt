@@ -40,7 +40,8 @@ fn unquoted(alloc: Global, bytes: &[u8]) -> Result<(Name, &[u8]), AnswerFault>
     Ok((Name { bytes: text }, &[]))
 }
 
-/// Whether it is an equality, and what stands behind it.
+/// Whether the sign in front is that of an equality, or of its negation, and what stands behind it; none where the
+/// bytes begin with neither.
 fn equality(bytes: &[u8]) -> Option<(bool, &[u8])>
     ensures some { IfSome result (λ x. equality_at bytes.now ≡ Some (x.0, x.1.now)) }
     ensures none { IfNone result (equality_at bytes.now ≡ None) }
@@ -52,7 +53,7 @@ fn equality(bytes: &[u8]) -> Option<(bool, &[u8])>
     Some((false, rest))
 }
 
-/// A slot compared with a text.
+/// The text atom of a slot and a text, which are equal or not.
 fn text_atom(equal: bool, slot: Slot, text: Name) -> ThemeAtom
     ensures { result ≡ text_atom equal slot text }
 {
@@ -62,7 +63,7 @@ fn text_atom(equal: bool, slot: Slot, text: Name) -> ThemeAtom
     ThemeAtom::NeText(slot, text)
 }
 
-/// Two text slots compared, the one of lesser number first.
+/// The text atom of two slots, which are equal or not; none where the right one isn't a text slot of greater number.
 fn slots_atom(equal: bool, left: Slot, right: Slot) -> Option<ThemeAtom>
     requires { left.sort ≡ Text }
     ensures value { result ≡ slots_atom equal left right }
@@ -77,7 +78,7 @@ fn slots_atom(equal: bool, left: Slot, right: Slot) -> Option<ThemeAtom>
     Some(ThemeAtom::NeSlot(left, right))
 }
 
-/// The text atom of a slot and a quoted text, whose opening quote is behind.
+/// The text atom of a slot and a quoted text, whose opening quote is behind, and what stands behind it.
 fn with_text<'a>(
     alloc: Global,
     slot: Slot,
@@ -93,7 +94,8 @@ fn with_text<'a>(
     Ok((text_atom(equal, slot, text), rest))
 }
 
-/// The text atom of two slots.
+/// The text atom of the left slot and the one that is named in front, and what stands behind it; none where they make
+/// no atom.
 fn with_slot<'a>(
     columns: &[Column],
     left: Slot,
@@ -111,6 +113,9 @@ fn with_slot<'a>(
 }
 
 /// The text atom that begins with this slot, and what stands behind it.
+///
+/// # Errors
+/// `NoAnswer` only where the slot and the bytes behind it begin with no text atom, otherwise out of memory.
 pub(crate) fn theme<'a>(
     alloc: Global,
     columns: &[Column],

@@ -35,7 +35,7 @@ fn false_row(alloc: Global) -> Row
     row
 }
 
-/// The false row, and what stands behind it.
+/// The row `0 < 0` as an atom, and what stands behind it; none where the bytes begin otherwise.
 fn falsehood(alloc: Global, bytes: &[u8]) -> Option<(Atom, &[u8])>
     ensures some { IfSome result (λ x. false_at (behind (codes "0 < 0") bytes.now) ≡ Some (x.0, x.1.now)) }
     ensures none { IfNone result (false_at (behind (codes "0 < 0") bytes.now) ≡ None) }
@@ -45,7 +45,7 @@ fn falsehood(alloc: Global, bytes: &[u8]) -> Option<(Atom, &[u8])>
     Some((BothAtom::First(false_row(alloc)), rest))
 }
 
-/// An atom, and what stands behind it.
+/// The atom in front, and what stands behind it.
 fn atom<'a>(
     alloc: Global,
     columns: &[Column],
@@ -66,7 +66,7 @@ fn atom<'a>(
     Ok((BothAtom::First(row), rest))
 }
 
-/// What stands behind a blank, or a comma and a blank.
+/// What stands behind a blank, or behind a comma and a blank; none where the bytes begin with neither.
 fn separated(bytes: &[u8]) -> Option<&[u8]>
     ensures some { IfSome result (λ rest. separated bytes.now ≡ Some rest.now) }
     ensures none { IfNone result (separated bytes.now ≡ None) }
@@ -77,7 +77,7 @@ fn separated(bytes: &[u8]) -> Option<&[u8]>
     behind(bytes, b" ")
 }
 
-/// One more atom, and what stands behind it.
+/// The atom behind a blank, or behind a comma and a blank, and what stands behind it.
 fn next_atom<'a>(
     alloc: Global,
     columns: &[Column],
@@ -132,6 +132,9 @@ fn tuple<'a>(
 }
 
 /// The tuples on the lines behind the first one. The first line, and what stands behind the tuples, isn't looked at.
+///
+/// # Errors
+/// `NoAnswer` only where what stands behind the first line doesn't begin with tuples, otherwise out of memory.
 pub(crate) fn answer_tuples(
     alloc: Global,
     columns: &[Column],
@@ -143,7 +146,7 @@ pub(crate) fn answer_tuples(
     tuples(alloc, columns, behind_line(bytes))
 }
 
-/// The tuples on the lines that begin with a brace.
+/// The tuples on the lines in front that begin with a brace.
 fn tuples(alloc: Global, columns: &[Column], bytes: &[u8]) -> Result<Vec<Tuple>, AnswerFault>
     ensures read { IfOk result (λ list. tuples_at columns.now bytes.now ≡ Some list.items) }
     ensures unread { IfErr result (λ e. e ≡ NoAnswer → tuples_at columns.now bytes.now ≡ None) }

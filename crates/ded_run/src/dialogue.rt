@@ -28,10 +28,10 @@ impl Dialogue {
     ghost use Rattle.ded_run.specs.Outcome.{Concluded, Interrupted};
     ghost use Rattle.ded_run.specs.Streams.{IsFresh, Streamed, Grows, Breaks};
 
-    /// Nothing came in yet, and the first `silent` replies won't be written.
+    /// A dialogue to which nothing came in yet, and whose first `silent` replies won't be written.
     ///
     /// # Errors
-    /// `NoMemory` where the splitter's buffer isn't had.
+    /// Out of memory for the splitter's buffer.
     pub fn new(
         alloc: Global,
         limit: u32,
@@ -57,7 +57,7 @@ impl Dialogue {
         self.refused
     }
 
-    // Takes the next byte, and answers the statement that ends there.
+    /// Takes the next byte, and answers the statement that ends there, where one does.
     fn feed_byte<K: Sink>(&mut self, byte: u8, sink: &mut K) -> Result<(), Failed>
         ensures grows { IfOk result (λ _. Grows self.old self.new (K.held sink.old) (K.held sink.new) (byte ∷ [])) }
         ensures breaks { OnErr result (Breaks self.old (K.held sink.old) (K.held sink.new) (byte ∷ [])) }
@@ -133,7 +133,7 @@ impl Dialogue {
     }
 }
 
-// Answers a piece, notes whether the reply is a refusal, and writes it unless it is one of those that aren't written.
+/// Answers a piece, notes whether the reply is a refusal, and writes it unless it is one of those that aren't written.
 fn answer<K: Sink>(
     session: &mut Session,
     piece: Piece<'_>,

@@ -8,9 +8,9 @@ ghost use Rattle.ded_session.specs.PlainNames.{HasPlainNames};
 ghost use Rattle.ded_session.specs.Replies.{ReplyForm};
 ghost use Rattle.ded_session.specs.Steps.{Step};
 
-/// The bytes written tell the replies one after another: of two replies that a statement may get over a catalogue no text
-/// is a proper front of the other's. The names of the catalogue are words of the grammar, as those of each catalogue are to
-/// which statements lead from the empty one.
+/// The bytes written tell the replies one after another: of two replies that a statement may get over a catalogue no
+/// text is a proper front of the other's. The names of the catalogue are words of the grammar, as those of each
+/// catalogue are to which statements lead from the empty one.
 pub fn one_text()
     ensures { (language : Language) (c d e : Catalogue) (s : Statement) (reply other : ReplyForm) (xs ys : List ℕ) →
         HasPlainNames c → Step language c s reply d → Step language c s other e →

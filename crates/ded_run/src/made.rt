@@ -17,7 +17,7 @@ enum Part<'a> {
     Number(u32),
 }
 
-/// Feeds the whole script of a size of 1 to 100.
+/// Feeds the whole made script of a size of 1 to 100.
 ///
 /// # Errors
 /// `Failed` only where the sink's count of faults rose.
@@ -41,7 +41,7 @@ pub fn feed_script<K: Sink>(dialogue: &mut Dialogue, size: u32, sink: &mut K) ->
 const VIEW: &[u8] =
     b"view Cross(n text, k text) := exists x exists y (Land(n, x, y) and Road(k, x, y));\n";
 
-// Feeds the rectangles, row by row.
+/// Feeds the inserts of all rectangles, row by row.
 fn feed_lands<K: Sink>(dialogue: &mut Dialogue, size: u32, sink: &mut K) -> Result<(), Failed>
     requires { size ≤ 100 }
     ensures grows { IfOk result (λ _. Grows dialogue.old dialogue.new (K.held sink.old) (K.held sink.new) (lines (flat_map (land_row size) (below size)))) }
@@ -54,7 +54,7 @@ fn feed_lands<K: Sink>(dialogue: &mut Dialogue, size: u32, sink: &mut K) -> Resu
     Ok(())
 }
 
-// Feeds the rectangles of a row.
+/// Feeds the inserts of the rectangles of a row.
 fn feed_land_row<K: Sink>(
     dialogue: &mut Dialogue,
     row: u32,
@@ -73,7 +73,7 @@ fn feed_land_row<K: Sink>(
     Ok(())
 }
 
-// Feeds a rectangle.
+/// Feeds the insert of the rectangle in this row and column.
 fn feed_land<K: Sink>(
     dialogue: &mut Dialogue,
     row: u32,
@@ -104,7 +104,7 @@ fn feed_land<K: Sink>(
     feed_statement(dialogue, &parts, sink)
 }
 
-// Feeds the bands.
+/// Feeds the inserts of all bands.
 fn feed_roads<K: Sink>(dialogue: &mut Dialogue, size: u32, sink: &mut K) -> Result<(), Failed>
     requires { size ≤ 100 }
     ensures grows { IfOk result (λ _. Grows dialogue.old dialogue.new (K.held sink.old) (K.held sink.new) (lines (map road_insert (below size)))) }
@@ -117,7 +117,7 @@ fn feed_roads<K: Sink>(dialogue: &mut Dialogue, size: u32, sink: &mut K) -> Resu
     Ok(())
 }
 
-// Feeds a band.
+/// Feeds the insert of a band.
 fn feed_road<K: Sink>(dialogue: &mut Dialogue, band: u32, sink: &mut K) -> Result<(), Failed>
     requires { band < 100 }
     ensures grows { IfOk result (λ _. Grows dialogue.old dialogue.new (K.held sink.old) (K.held sink.new) (line (road_insert band))) }
@@ -136,7 +136,7 @@ fn feed_road<K: Sink>(dialogue: &mut Dialogue, band: u32, sink: &mut K) -> Resul
     feed_statement(dialogue, &parts, sink)
 }
 
-// Feeds the questions.
+/// Feeds the questions of the made script.
 fn feed_questions<K: Sink>(dialogue: &mut Dialogue, size: u32, sink: &mut K) -> Result<(), Failed>
     requires low { 1 ≤ size }
     requires high { size ≤ 100 }
@@ -159,7 +159,7 @@ fn feed_questions<K: Sink>(dialogue: &mut Dialogue, size: u32, sink: &mut K) -> 
     dialogue.feed(b"box Land;\nbox Road;\n", sink)
 }
 
-// Feeds a statement of these parts, with a `;` and a line feed.
+/// Feeds a statement of these parts, with a `;` and a line feed.
 fn feed_statement<K: Sink>(
     dialogue: &mut Dialogue,
     parts: &[Part<'_>],
@@ -173,7 +173,7 @@ fn feed_statement<K: Sink>(
     dialogue.feed(b";\n", sink)
 }
 
-// Feeds the parts in turn.
+/// Feeds the parts of a statement in turn.
 fn feed_parts<K: Sink>(
     dialogue: &mut Dialogue,
     parts: &[Part<'_>],
@@ -189,7 +189,7 @@ fn feed_parts<K: Sink>(
     Ok(())
 }
 
-// Feeds a part.
+/// Feeds a part of a statement.
 fn feed_part<K: Sink>(dialogue: &mut Dialogue, part: Part<'_>, sink: &mut K) -> Result<(), Failed>
     ensures grows { IfOk result (λ _. Grows dialogue.old dialogue.new (K.held sink.old) (K.held sink.new) (part_bytes part.entry)) }
     ensures breaks { OnErr result (Breaks dialogue.old (K.held sink.old) (K.held sink.new) (part_bytes part.entry)) }

@@ -20,7 +20,8 @@ pub struct Setup {
     pub limit: u32,
     /// The most bytes that a script has.
     pub input_limit: u64,
-    /// The keys by which names are hashed. They change no reply; where they are drawn at random, nobody can choose names that are slow to find.
+    /// The keys by which names are hashed. They change no reply; where they are drawn at random, nobody can choose
+    /// names that are slow to find.
     pub keys: (u64, u64),
 }
 
@@ -67,7 +68,8 @@ const READ_AT_ONCE: usize = 4_096;
 
 /// Reads a script to its end, and writes a reply to each statement.
 ///
-/// What ended in the bytes of a read is answered before more is read: a test that talks to the program shows it, and no clause says so.
+/// What ended in the bytes of a read is answered before more is read: a test that talks to the program shows it, and no
+/// clause says so.
 pub fn serve<S: Source, K: Sink>(
     alloc: Global,
     setup: &Setup,
@@ -113,7 +115,7 @@ pub fn serve<S: Source, K: Sink>(
     }
 }
 
-// Answers the last statement of an input that ended.
+/// Answers the last statement of an input that ended, where the end cuts one, and says how the run ended.
 fn conclude<K: Sink>(dialogue: &mut Dialogue, sink: &mut K) -> Status
     ensures kinds { (result ≡ Status.Done) ⊎ (result ≡ Status.DoneWithRefusals) ⊎ (result ≡ Status.WriteFault) }
     ensures done { result ≡ Status.Done → (limit silent : ℕ) (taken : List ℕ) (held : Option (List ℕ)) →
@@ -161,7 +163,8 @@ pub fn make<K: Sink>(alloc: Global, setup: &Setup, size: u32, sink: &mut K) -> S
 
 const INPUT_LIMIT: u64 = 1 << 40;
 
-/// All that the program does: reads the words, and then serves, or makes a script where they ask for one. Names are hashed by the keys.
+/// All that the program does: reads the words, and then serves, or makes a script where they ask for one. Names are
+/// hashed by the keys.
 pub fn run<S: Source, K: Sink>(
     alloc: Global,
     words: &Words,

@@ -12,7 +12,7 @@ use ded_print::{
 };
 use ded_session::Reply;
 
-/// Writes the text of a reply, or a front of it where the sink fails. Takes no memory.
+/// Writes the text of a reply, or a front of it where the sink fails. It doesn't allocate.
 ///
 /// # Errors
 /// `Failed` only where the sink's count of faults rose.

@@ -60,6 +60,9 @@ struct Values<'a> {
 }
 
 /// The options that the words give.
+///
+/// # Errors
+/// `Bad` only where the words are no accepted list, otherwise out of memory.
 pub fn options_in(alloc: Global, words: &[String]) -> Result<Options, WordFault>
     ensures accepted { IfOk result (λ options. AcceptedWords (map string_bytes words.now) options) }
     ensures bad { result ≡ Err WordFault.Bad →
@@ -78,7 +81,7 @@ pub fn options_in(alloc: Global, words: &[String]) -> Result<Options, WordFault>
     Ok(Options { limit, size })
 }
 
-// Whether some word is `--`.
+/// Whether some word is `--`.
 fn has_dashes(words: &[String]) -> bool
     ensures { result ≡ has_dashes (map string_bytes words.now) }
 {
@@ -90,7 +93,8 @@ fn has_dashes(words: &[String]) -> bool
     false
 }
 
-// `--limit` and `--make` take one value each. There is no other option, and no argument without a name.
+/// The command line as `clap` reads it: `--limit` and `--make` take one value each. There is no other option, and no
+/// argument without a name.
 fn command<'a>(alloc: Global) -> Result<Command<'a>, NoMemory>
     ensures { IfOk result (λ command. app_of command ≡ dedale) }
 {
@@ -105,7 +109,7 @@ fn command<'a>(alloc: Global) -> Result<Command<'a>, NoMemory>
         .arg(size)
 }
 
-// The values of the two options, where the words have them.
+/// The values of the two options, where the words have them. `Bad` only where `clap` finds a fault in the words.
 fn values_in<'a>(alloc: Global, words: &'a [String]) -> Result<Values<'a>, WordFault>
     ensures none { IfOk result (λ _. fault_of dedale (map string_bytes words.entry.now) ≡ []) }
     ensures limit { IfOk result (λ values. option_map (λ t. t.now) values.limit
@@ -124,7 +128,7 @@ fn values_in<'a>(alloc: Global, words: &'a [String]) -> Result<Values<'a>, WordF
     }
 }
 
-// The limit, where its value is one.
+/// The limit that the value gives, or the default one where there is no value; none where the value isn't one.
 fn limit_of(value: Option<&str>) -> Option<u32>
     ensures { MatchOption result
         ((limit : ℕ) → LimitValue (option_map (λ t. t.now) value.entry) limit → ⊥)
@@ -136,7 +140,7 @@ fn limit_of(value: Option<&str>) -> Option<u32>
     }
 }
 
-// The size, where its value is one.
+/// The size that the value gives, where there is a value; none where the value isn't one.
 fn size_of(value: Option<&str>) -> Option<Option<u32>>
     ensures { MatchOption result
         ((size : Option ℕ) → SizeValue (option_map (λ t. t.now) value.entry) size → ⊥)
@@ -148,7 +152,7 @@ fn size_of(value: Option<&str>) -> Option<Option<u32>>
     }
 }
 
-// 1 to 7 digits whose number is 1 to the greatest.
+/// The number of 1 to 7 digits, from 1 to the greatest; none where the value is no such number.
 fn number_of(value: &str, greatest: u32) -> Option<u32>
     ensures { MatchOption result
         ((number : ℕ) → IsNumber greatest value.now number → ⊥)

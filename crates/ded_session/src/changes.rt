@@ -36,7 +36,7 @@ pub(crate) fn define(database: &mut Database, name: Name, heading: Heading) -> R
     done(database.define(name, heading))
 }
 
-/// Inserts a tuple, whose number is the reply.
+/// Inserts a tuple into a relation. The reply is its number.
 pub(crate) fn insert(database: &mut Database, name: &Name, tuple: Tuple) -> Reply
     requires relation { is_relation_with (known (catalogue_at database.old) name.now) ≡ true }
     requires over { IsTupleOver (columns_in (catalogue_at database.old) name.now) tuple }
@@ -52,7 +52,7 @@ pub(crate) fn insert(database: &mut Database, name: &Name, tuple: Tuple) -> Repl
     }
 }
 
-/// Deletes the tuple of the number.
+/// Deletes the tuple of the number from a relation.
 pub(crate) fn delete(database: &mut Database, name: &Name, number: u64) -> Reply
     requires { list_any (λ t. t.0 == number) (tuples_in (catalogue_at database.old) name.now) ≡ true }
     ensures carries { Carries (delete name.now number) (catalogue_at database.old) (reply_form result) (catalogue_at database.new) }
@@ -61,7 +61,7 @@ pub(crate) fn delete(database: &mut Database, name: &Name, number: u64) -> Reply
     done(database.delete(name, number))
 }
 
-/// Drops a name.
+/// Drops a defined name that no view uses.
 pub(crate) fn drop_name(database: &mut Database, name: &Name) -> Reply
     requires defined { is_some (known (catalogue_at database.old) name.now) ≡ true }
     requires unused { list_any (entry_uses name.now) (catalogue_at database.old).entries ≡ false }
@@ -99,7 +99,7 @@ pub(crate) fn keep(database: &mut Database, name: &Name) -> Reply
     done(database.keep(name))
 }
 
-/// What a change is answered that may want memory.
+/// The reply to a change: that it was done, or that it was refused as out of memory.
 fn done(changed: Result<(), NoMemory>) -> Reply
     ensures done { OnOk changed (reply_form result ≡ done) }
     ensures wants { OnErr changed (reply_form result ≡ refused Refusal.Memory) }

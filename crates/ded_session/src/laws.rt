@@ -32,7 +32,8 @@ pub fn spelled_names()
         Spells language bytes command depth → NamesPlainly command }
 {}
 
-/// So each catalogue that a step leads to from one whose names are such words has such names too, and each that a run leads to.
+/// Each catalogue to which a step leads from one whose names are words of the grammar has such names too, and so has
+/// each to which a run leads.
 pub fn plain_names()
     ensures step { (language : Language) (c d : Catalogue) (s : Statement) (reply : ReplyForm) → HasPlainNames c →
         Step language c s reply d → HasPlainNames d }
@@ -42,8 +43,8 @@ pub fn plain_names()
         Run limit script replies last → HasPlainNames last }
 {}
 
-/// Of two replies that a statement may get over a catalogue of such names: the names in each are such words, and both are of one
-/// kind where none is a refusal.
+/// Of two replies that a statement may get over a catalogue whose names are words of the grammar: the names in each are
+/// such words, and both are of one kind where none is a refusal.
 pub fn two_replies()
     ensures plain { (language : Language) (c d : Catalogue) (s : Statement) (reply : ReplyForm) → HasPlainNames c →
         Step language c s reply d → SpeaksPlainly reply }
@@ -51,7 +52,8 @@ pub fn two_replies()
         Step language c s reply d → Step language c s other e → AreOfOne reply other }
 {}
 
-/// A statement over a well formed catalogue is refused as too wide only where it is accepted, and what it asks isn't narrow.
+/// A statement over a well formed catalogue is refused as too wide only where it is accepted, and what it asks isn't
+/// narrow.
 pub fn wide_questions()
     ensures { (language : Language) (c d : Catalogue) (s : Statement) → IsWellFormed c → Step language c s (refused Wide) d
         → Accepts language s c (λ command. IsNotNarrow command c) }
@@ -65,8 +67,9 @@ pub fn accepted_statements()
         Run limit (script_of (accepted run.statements replies)) (accepted_replies replies) last }
 {}
 
-/// Over steps one after another no list is held of a kept view only where its formula isn't tight, or where a list may have been lost: an insert or a
-/// delete in a relation that the view reaches was refused as out of memory, and since then none was accepted there, nor a `keep` of the view.
+/// Over steps one after another no list is held of a kept view only where its formula isn't tight, or where a list may
+/// have been lost: an insert or a delete in a relation that the view reaches was refused as out of memory, and since
+/// then none was accepted there, nor a `keep` of the view.
 pub fn lost_lists()
     ensures { (language : Language) (s : State) (turns : List Turn) (v : List ℕ) → IsSound s → AreTurns language s turns → is_kept s v ≡ false
         → is_kept (last_state s turns) v ≡ true → IsTightView (catalogue_at (last_state s turns)) v → held_under (last_state s turns).held v ≡ None

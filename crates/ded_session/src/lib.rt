@@ -1,14 +1,15 @@
 //! One statement at a time: what it is answered, and what it makes of the catalogue.
 //!
-//! `specs/` has the rules of the language. `Causes` says when a statement is refused and with which number, `Steps` what
-//! an accepted one is answered and what it changes, `Runs` which replies a whole script may get, `Keeping` what a statement
-//! makes of kept views and their lists, `Histories` what many statements make of them, and `Carrying` what is left to refuse
-//! a command that the names accept. [`Session::step`] takes one step of these rules: it reads the command, checks it over the
-//! names (`command`), and then changes the database (`changes`), shows what a relation stores (`shown`) or its bounds
-//! (`boxes`), or answers what a formula asks (`questions`).
+//! `specs/` has the rules of the language. `Causes` says when a statement is refused and with which number, `Steps`
+//! what an accepted one is answered and what it changes, `Runs` which replies a whole script may get, `Keeping` what a
+//! statement makes of kept views and their lists, `Histories` what many statements make of them, and `Carrying` what is
+//! left to refuse a command that the names accept. [`Session::step`] takes one step of these rules: it reads the
+//! command, checks it over the names (`command`), and then changes the database (`changes`), shows what a relation
+//! stores (`shown`) or its bounds (`boxes`), or answers what a formula asks (`questions`).
 //!
-//! It stands on `ded_syntax` for commands, on `ded_resolve` for commands by slots, on `ded_database` for the catalogue and the
-//! lists of kept views, on `ded_planner` for plans, on `ded_eval` for bounds and on `ded_model` for what formulas mean.
+//! It stands on `ded_syntax` for commands, on `ded_resolve` for commands by slots, on `ded_database` for the catalogue
+//! and the lists of kept views, on `ded_planner` for plans, on `ded_eval` for bounds and on `ded_model` for what
+//! formulas mean.
 #![tactic(auto)]
 
 mod boxes;

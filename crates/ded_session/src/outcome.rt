@@ -11,7 +11,7 @@ use crate::reply::Reply;
 use ded_model::command::Refusal;
 use ded_model::memory::Refused;
 
-/// The reply that was found to a command that changes nothing, or the refusal for which there is none.
+/// The reply that was found to a command that changes nothing, or the refusal where none was found.
 pub(crate) fn reply_of(found: Result<Reply, Refused>) -> Reply
     ensures { (x : CommandForm) (c : model.Catalogue) → refusal_left c x ≡ None
         → IfOk found (λ r. Does x c (reply_form r) c) → (IsErrOf found Wide → MayBeWide x c)

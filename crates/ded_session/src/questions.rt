@@ -21,7 +21,7 @@ use ded_model::name::Heading;
 use ded_planner::plan;
 use std::alloc::Global;
 
-/// Whether a closed formula is true, given as its goal.
+/// The reply that says whether a closed formula, given as its goal, is true.
 ///
 /// # Errors
 /// `Wide` only where the formula isn't tight, otherwise out of memory.
@@ -36,7 +36,7 @@ pub(crate) fn truth(database: &mut Database, goal: &Goal) -> Result<Reply, Refus
     Ok(Reply::Truth(database.is_true(goal)?))
 }
 
-/// The tuples over the heading that hold where a formula does, given as its goal.
+/// The reply with the tuples over the heading that hold where a formula does, given as its goal.
 ///
 /// # Errors
 /// `Wide` only where the formula isn't tight, otherwise out of memory.
@@ -56,10 +56,10 @@ pub(crate) fn tuples(
     Ok(Reply::Tuples(Answer { heading, tuples }))
 }
 
-/// The plan of a formula, given as its goal.
+/// The reply with the plan of a formula, given as its goal.
 ///
 /// # Errors
-/// Want of memory.
+/// Out of memory. It is never `Wide`.
 pub(crate) fn steps(alloc: Global, goal: &Goal) -> Result<Reply, Refused>
     requires { (c : model.Catalogue) × (h : List Column) × (f : Form) × IsQuestion c h (goal_form goal.now) f }
     ensures does { (c : model.Catalogue) (h : List Column) (f : Form) → IsQuestion c h (goal_form goal.now) f

@@ -33,7 +33,7 @@ pub enum Reply {
 }
 
 impl Reply {
-    /// Whether it is a refusal.
+    /// Whether the reply is a refusal.
     pub fn is_refusal(&self) -> bool
         ensures { result ≡ is_refusal (reply_form self.now) }
     {

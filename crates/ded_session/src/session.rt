@@ -47,11 +47,11 @@ impl Session {
     ghost use Rattle.ded_session.specs.State.{catalogue_in, language_in, state_in, IsFreshSession};
     ghost use Rattle.ded_session.specs.Steps.{Step};
 
-    /// A session with an empty catalogue whose relations have at most `limit` tuples, 1 to 1,000,000, and no kept view. Names are hashed with
-    /// keys that are known to all.
+    /// A session with an empty catalogue whose relations have at most `limit` tuples, 1 to 1,000,000, and no kept view.
+    /// Names are hashed with keys that are known to all.
     ///
     /// # Errors
-    /// None: the first name that is defined takes memory.
+    /// None: nothing is allocated before the first name is defined.
     pub fn new(alloc: Global, limit: u32) -> Result<Session, NoMemory>
         requires low { 1 ≤ limit }
         requires high { limit ≤ 1000000 }
@@ -61,7 +61,8 @@ impl Session {
         Ok(Session::hashed_with(alloc, limit, (0, 0)))
     }
 
-    /// The same, with keys by which the names are hashed. Where these are drawn at random, nobody can choose names that are slow to find.
+    /// A session with an empty catalogue whose relations have at most `limit` tuples, 1 to 1,000,000, and no kept view.
+    /// Names are hashed with these keys: where they are drawn at random, nobody can choose names that are slow to find.
     #[tactic(auto, unfolding(crate::specs::State::catalogue_in, crate::specs::State::language_in, crate::specs::State::state_in))]
     pub fn hashed_with(alloc: Global, limit: u32, keys: (u64, u64)) -> Session
         requires low { 1 ≤ limit }
@@ -75,7 +76,7 @@ impl Session {
         }
     }
 
-    /// The present catalogue. Takes no memory.
+    /// The present catalogue. It doesn't allocate.
     #[tactic(auto, unfolding(crate::specs::State::catalogue_in))]
     pub fn catalogue(&self) -> &Catalogue
         ensures { catalogue_of result.now ≡ catalogue_in self.now }
@@ -83,7 +84,8 @@ impl Session {
         self.database.catalogue()
     }
 
-    /// Every session is sound: its catalogue is well formed, and marks and lists are right over it. It does nothing.
+    /// Says that every session is sound: its catalogue is well formed, and marks and lists are right over it. It does
+    /// nothing.
     #[tactic(auto, unfolding(crate::specs::State::state_in))]
     pub fn sound(&self)
         ensures { IsSound (state_in self.now) }
@@ -91,8 +93,8 @@ impl Session {
         self.database.sound()
     }
 
-    /// The list that is held of a kept view: its tuples hold exactly where the view's formula does over the present catalogue. None where no list
-    /// is held. Takes no memory.
+    /// The list that is held of a kept view: its tuples hold exactly where the view's formula does over the present
+    /// catalogue. None where no list is held. It doesn't allocate.
     #[tactic(auto, unfolding(crate::specs::State::catalogue_in, crate::specs::State::state_in))]
     pub fn kept(&self, name: &Name) -> Option<&[Tuple]>
         ensures held { option_map (λ ts. ts.now) result ≡ held_under (state_in self.now).held name.now }
@@ -102,7 +104,7 @@ impl Session {
         self.database.kept(name)
     }
 
-    /// How often a list was extended by one tuple alone, up to the greatest number. Takes no memory.
+    /// How often a list was extended by one tuple alone, up to the greatest number. It doesn't allocate.
     #[tactic(auto, unfolding(crate::specs::State::state_in))]
     pub fn added(&self) -> u64
         ensures { result ≡ (state_in self.now).added }
@@ -110,8 +112,8 @@ impl Session {
         self.database.added()
     }
 
-    /// Answers the next statement and changes the catalogue as the rules say. A refused statement changes nothing.
-    /// Of `Long` and `Cut` it doesn't allocate.
+    /// Answers the next statement and changes the catalogue as the rules say. A refused statement changes nothing. Of
+    /// `Long` and `Cut` it doesn't allocate.
     pub fn step(&mut self, piece: Piece<'_>) -> Reply
         requires { IsShortPiece piece }
         ensures step { StepsPiece piece.entry (language_in self.old) (catalogue_in self.old) (reply_form result) (catalogue_in self.new) }
@@ -125,6 +127,7 @@ impl Session {
         }
     }
 
+    /// Answers the next statement with the refusal, and changes nothing but the language.
     #[tactic(auto, unfolding(crate::specs::State::catalogue_in, crate::specs::State::language_in, crate::specs::State::state_in))]
     fn refuse(&mut self, refusal: Refusal) -> Reply
         ensures reply { reply_form result ≡ refused refusal }
@@ -136,6 +139,7 @@ impl Session {
         Reply::Refused(refusal)
     }
 
+    /// Answers the next statement, given by its bytes, and changes the catalogue as the rules say.
     #[tactic(auto, unfolding(crate::specs::State::catalogue_in, crate::specs::State::language_in, crate::specs::State::state_in))]
     fn step_whole(&mut self, bytes: &[u8]) -> Reply
         requires { length bytes.now ≤ 65536 }
@@ -149,7 +153,7 @@ impl Session {
     }
 }
 
-/// The language after a statement.
+/// The language of the statements that follow one in this language.
 fn after(language: Language) -> Language
     ensures { result ≡ next_language language }
 {

@@ -16,7 +16,7 @@ use ded_model::memory::NoMemory;
 use ded_model::name::Name;
 use std::alloc::Global;
 
-/// The heading of a relation and its tuples.
+/// The reply with the heading of a relation and its tuples, or the refusal where there is no memory for it.
 pub(crate) fn show(alloc: Global, catalogue: &Catalogue, name: &Name) -> Reply
     requires { is_relation_with (known (catalogue_of catalogue.now) name.now) ≡ true }
     ensures { Carries (show name.now) (catalogue_of catalogue.now) (reply_form result) (catalogue_of catalogue.now) }
@@ -27,7 +27,7 @@ pub(crate) fn show(alloc: Global, catalogue: &Catalogue, name: &Name) -> Reply
     }
 }
 
-/// A copy of them.
+/// The reply with copies of the heading of a relation and of its tuples.
 fn copied(alloc: Global, catalogue: &Catalogue, name: &Name) -> Result<Reply, NoMemory>
     requires { is_relation_with (known (catalogue_of catalogue.now) name.now) ≡ true }
     ensures { IfOk result (λ r. reply_form r ≡ stored (columns_in (catalogue_of catalogue.now) name.now) (tuples_in (catalogue_of catalogue.now) name.now)) }

@@ -24,6 +24,9 @@ impl Model for StoredTuples {
 
 impl StoredTuples {
     /// A copy of these tuples.
+    ///
+    /// # Errors
+    /// Out of memory.
     pub fn copy_of(alloc: Global, stored: &BTreeMap<u32, Tuple>) -> Result<StoredTuples, NoMemory>
         ensures { IfOk result (λ t. t ≡ stored.now.entries) }
     {

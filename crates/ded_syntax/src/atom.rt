@@ -1,4 +1,4 @@
-// Comparisons, members and columns.
+//! Comparisons, members and columns.
 ghost use Rattle.std.specs.Prelude.{◌≡◌, ◌≤◌, ◌<◌, length, Some, None, IfSome, IfNone, IfOk, IfErr};
 ghost use Rattle.ded_grammar.specs.declared.fault.ReadFault.TheVariants.{NotRead};
 ghost use Rattle.ded_model.specs.Form.{form};
@@ -13,7 +13,7 @@ use ded_model::name::Column;
 use ded_model::slot::Sort;
 use std::alloc::Global;
 
-// The sign of a comparison, and what stands behind it.
+/// The sign of a comparison, and what stands behind it; none where the rest begins with no such sign.
 fn relation(rest: Rest<'_>) -> Option<(CompareOp, Rest<'_>)>
     ensures some { IfSome result (λ x. relation_at (left rest.entry) ≡ Some (x.0, left x.1)) }
     ensures none { IfNone result (relation_at (left rest.entry) ≡ None) }
@@ -25,7 +25,10 @@ fn relation(rest: Rest<'_>) -> Option<(CompareOp, Rest<'_>)>
     }
 }
 
-/// A comparison, and what stands behind it.
+/// The comparison with which the rest begins, and what stands behind it.
+///
+/// # Errors
+/// `NotRead` only where the rest begins with no comparison, otherwise out of memory.
 pub fn comparison(alloc: Global, rest: Rest<'_>) -> Result<(Formula, Rest<'_>), ReadFault>
     requires few { length (left rest) ≤ 65536 }
     ensures read { IfOk result (λ x. compare_at capped_of (left rest.entry) ≡ Some (form x.0, left x.1)) }
@@ -40,7 +43,8 @@ pub fn comparison(alloc: Global, rest: Rest<'_>) -> Result<(Formula, Rest<'_>), 
     Ok((Formula::Compare(first, op, second), rest))
 }
 
-/// What stands behind an item of a list in parentheses: true where another one is to come.
+/// What stands behind an item of a list in parentheses: true behind a comma, where another item is to come, and false
+/// behind the closing parenthesis; then the rest behind that. None where the rest begins with neither.
 pub fn comma(rest: Rest<'_>) -> Option<(bool, Rest<'_>)>
     ensures some { IfSome result (λ x. comma_at (left rest.entry) ≡ Some (x.0, left x.1)) }
     ensures none { IfNone result (comma_at (left rest.entry) ≡ None) }
@@ -53,7 +57,7 @@ pub fn comma(rest: Rest<'_>) -> Option<(bool, Rest<'_>)>
     }
 }
 
-// The operands of a member, and what stands behind the closing parenthesis.
+/// The operands of a member, up to the closing parenthesis, and what stands behind that.
 fn operands(alloc: Global, items: Rest<'_>) -> Result<(Vec<Operand>, Rest<'_>), ReadFault>
     requires few { length (left items) ≤ 65536 }
     ensures read { IfOk result (λ x. operands_at capped_of (left items.entry) ≡ Some (x.0.items, left x.1)) }
@@ -77,7 +81,7 @@ fn operands(alloc: Global, items: Rest<'_>) -> Result<(Vec<Operand>, Rest<'_>), 
     Err(ReadFault::NotRead)
 }
 
-// A name and a parenthesis, and what stands behind them.
+/// A name before an opening parenthesis, and what stands behind both; none where the rest begins otherwise.
 fn called(rest: Rest<'_>) -> Option<(&[u8], Rest<'_>)>
     ensures some { IfSome result (λ x. called_at (left rest.entry) ≡ Some (x.0.now, left x.1)) }
     ensures none { IfNone result (called_at (left rest.entry) ≡ None) }
@@ -91,7 +95,10 @@ fn called(rest: Rest<'_>) -> Option<(&[u8], Rest<'_>)>
     }
 }
 
-/// A comparison or a member, and what stands behind it.
+/// The comparison or the member with which the rest begins, and what stands behind it.
+///
+/// # Errors
+/// `NotRead` only where the rest begins with neither, otherwise out of memory.
 pub fn atom(alloc: Global, rest: Rest<'_>) -> Result<(Formula, Rest<'_>), ReadFault>
     requires few { length (left rest) ≤ 65536 }
     ensures read { IfOk result (λ x. atom_at capped_of (left rest.entry) ≡ Some (form x.0, left x.1)) }
@@ -108,7 +115,8 @@ pub fn atom(alloc: Global, rest: Rest<'_>) -> Result<(Formula, Rest<'_>), ReadFa
     ))
 }
 
-// What a column ranges over, and what stands behind that.
+/// The sort of a column whose name stands before, text where the word `text` follows and rational otherwise, and what
+/// stands behind it.
 fn sort(rest: Rest<'_>) -> (Sort, Rest<'_>)
     ensures read { sort_at (left rest.entry) ≡ (result.0, left result.1) }
     ensures low { length (left result.1) ≤ length (left rest.entry) }
@@ -119,7 +127,10 @@ fn sort(rest: Rest<'_>) -> (Sort, Rest<'_>)
     }
 }
 
-/// A column, and what stands behind it.
+/// The column with which the rest begins, and what stands behind it.
+///
+/// # Errors
+/// `NotRead` only where the rest begins with no column, otherwise out of memory.
 pub fn column(alloc: Global, rest: Rest<'_>) -> Result<(Column, Rest<'_>), ReadFault>
     ensures read { IfOk result (λ x. column_at (left rest.entry) ≡ Some (x.0, left x.1)) }
     ensures unread { IfErr result (λ e. e ≡ NotRead → column_at (left rest.entry) ≡ None) }

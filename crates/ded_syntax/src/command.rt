@@ -1,4 +1,4 @@
-// Commands of bytes.
+//! Commands of bytes.
 ghost use Rattle.std.specs.Prelude.{◌≡◌, ◌≢◌, ◌≤◌, ℕ, List, Some, true, length, IfOk, IfErr, IfSome, IfNone};
 ghost use Rattle.ded_grammar.specs.declared.fault.ReadFault.TheVariants.{NotRead};
 ghost use Rattle.ded_model.specs.declared.command.Language.{Language as LanguageForm};
@@ -22,7 +22,7 @@ use ded_model::command::{Command, Language, Refusal};
 use ded_model::formula::Formula;
 use std::alloc::Global;
 
-// Whether the pieces of the draft spell a formula.
+/// Whether the pieces of the draft spell a formula, where it has pieces.
 fn is_spelled(draft: &Draft) -> bool
     ensures { result ≡ scans (seen_draft draft.now) }
 {
@@ -32,7 +32,7 @@ fn is_spelled(draft: &Draft) -> bool
     }
 }
 
-// The draft that the items spell.
+/// The draft that the items spell, with pieces that spell a formula where it has pieces.
 fn spelled_draft(alloc: Global, items: Rest<'_>) -> Result<Draft, ReadFault>
     requires few { length (left items) ≤ 65536 }
     ensures read { IfOk result (λ d. draft_at capped_of (left items.entry) ≡ Some (seen_draft d)) }
@@ -47,7 +47,7 @@ fn spelled_draft(alloc: Global, items: Rest<'_>) -> Result<Draft, ReadFault>
     }
 }
 
-// The command of a head and its formula.
+/// The command of a head and its formula.
 fn headed(head: Head, formula: Formula) -> Command
     ensures { command_form result ≡ head_form (seen_head head) (form formula) }
 {
@@ -59,7 +59,7 @@ fn headed(head: Head, formula: Formula) -> Command
     }
 }
 
-// The command for which a draft stands.
+/// The command for which a draft stands, whose formula nests at most 64 deep. `Deep` where it nests deeper.
 fn command_of(alloc: Global, draft: Draft) -> Result<Command, Refusal>
     requires { scans (seen_draft draft) ≡ true }
     ensures made { IfOk result (λ c. (depth : ℕ) × Means (seen_draft draft) (command_form c) depth × (depth ≤ 64)) }
@@ -76,7 +76,8 @@ fn command_of(alloc: Global, draft: Draft) -> Result<Command, Refusal>
     }
 }
 
-// The refusal of the items for what is long in them, where something is.
+/// The refusal of the items, which spell the draft, for the first kind of thing that is too long in them: a name, a
+/// number, or a normal row. None where nothing is.
 fn long_refusal(items: Rest<'_>, draft: &Draft) -> Option<Refusal>
     requires read { draft_at capped_of (left items) ≡ Some (seen_draft draft.now) }
     requires scanned { scans (seen_draft draft.now) ≡ true }
@@ -94,7 +95,7 @@ fn long_refusal(items: Rest<'_>, draft: &Draft) -> Option<Refusal>
     }
 }
 
-// The command that the items spell.
+/// The command that the items spell, or the least refusal that applies to them.
 fn command_by(alloc: Global, items: Rest<'_>) -> Result<Command, Refusal>
     requires few { length (left items) ≤ 65536 }
     ensures read { IfOk result (λ c. (language : LanguageForm) (bytes : List ℕ) → AreSymbols bytes (left items.entry) → IsRead language bytes (command_form c)) }
@@ -116,7 +117,8 @@ fn command_by(alloc: Global, items: Rest<'_>) -> Result<Command, Refusal>
 /// # Errors
 /// The least refusal that applies to the bytes: `Syntax` where they spell no command, whatever its nesting; `LongName`
 /// where a name has more than 64 bytes; `LongNumber` where a number, or a number of the normal row of a comparison or
-/// an argument, is above 2^63 - 1 in magnitude; `Deep` where the nesting is above 64. `Memory` where there is no memory.
+/// an argument, is above 2^63 - 1 in magnitude; `Deep` where the nesting is above 64. `Memory` where there is no
+/// memory.
 pub fn read_command(alloc: Global, bytes: &[u8], language: Language) -> Result<Command, Refusal>
     requires { length bytes.now ≤ 65536 }
     ensures read { IfOk result (λ c. IsRead language bytes.now (command_form c)) }

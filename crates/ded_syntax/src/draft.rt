@@ -1,4 +1,4 @@
-// Commands up to the tree of their formula.
+//! Commands up to the tree of their formula.
 ghost use Rattle.std.specs.Prelude.{◌≡◌, ◌≤◌, ◌<◌, ℕ, length, map, Some, None, IfSome, IfNone, IfOk, IfErr};
 ghost use Rattle.ded_grammar.specs.declared.fault.ReadFault.TheVariants.{NotRead};
 ghost use Rattle.ded_model.specs.Command.{command_form};
@@ -33,7 +33,7 @@ pub enum Draft {
     Formed(Head, Vec<Piece>),
 }
 
-// What stands behind an opening parenthesis.
+/// What stands behind an opening parenthesis; none where the rest begins with no such item.
 fn open(rest: Rest<'_>) -> Option<Rest<'_>>
     ensures some { IfSome result (λ x. open_at (left rest.entry) ≡ Some (left x)) }
     ensures none { IfNone result (open_at (left rest.entry) ≡ None) }
@@ -45,7 +45,7 @@ fn open(rest: Rest<'_>) -> Option<Rest<'_>>
     }
 }
 
-// The columns of a heading, and what stands behind the closing parenthesis.
+/// The columns of a heading, up to the closing parenthesis, and what stands behind that.
 fn columns(alloc: Global, items: Rest<'_>) -> Result<(Vec<Column>, Rest<'_>), ReadFault>
     ensures read { IfOk result (λ x. columns_at (left items.entry) ≡ Some (x.0.items, left x.1)) }
     ensures unread { IfErr result (λ e. e ≡ NotRead → columns_at (left items.entry) ≡ None) }
@@ -68,7 +68,10 @@ fn columns(alloc: Global, items: Rest<'_>) -> Result<(Vec<Column>, Rest<'_>), Re
     Err(ReadFault::NotRead)
 }
 
-/// A heading, and what stands behind it.
+/// The heading with which the rest begins, in parentheses, and what stands behind it.
+///
+/// # Errors
+/// `NotRead` only where the rest begins with no heading, otherwise out of memory.
 pub fn heading(alloc: Global, rest: Rest<'_>) -> Result<(Heading, Rest<'_>), ReadFault>
     ensures read { IfOk result (λ x. heading_at (left rest.entry) ≡ Some (x.0, left x.1)) }
     ensures unread { IfErr result (λ e. e ≡ NotRead → heading_at (left rest.entry) ≡ None) }
@@ -81,7 +84,7 @@ pub fn heading(alloc: Global, rest: Rest<'_>) -> Result<(Heading, Rest<'_>), Rea
     Ok((Heading { columns }, rest))
 }
 
-// What stands behind two braces with nothing in them.
+/// What stands behind two braces with nothing in them; none where the rest begins otherwise.
 fn empty(rest: Rest<'_>) -> Option<Rest<'_>>
     ensures some { IfSome result (λ x. empty_at (left rest.entry) ≡ Some (left x)) }
     ensures none { IfNone result (empty_at (left rest.entry) ≡ None) }
@@ -93,7 +96,7 @@ fn empty(rest: Rest<'_>) -> Option<Rest<'_>>
     }
 }
 
-// What stands behind an opening brace.
+/// What stands behind an opening brace; none where the rest begins with no such item.
 fn open_brace(rest: Rest<'_>) -> Option<Rest<'_>>
     ensures some { IfSome result (λ x. open_brace_at (left rest.entry) ≡ Some (left x)) }
     ensures none { IfNone result (open_brace_at (left rest.entry) ≡ None) }
@@ -105,7 +108,8 @@ fn open_brace(rest: Rest<'_>) -> Option<Rest<'_>>
     }
 }
 
-// What stands behind an item of a list in braces: true where another one is to come.
+/// What stands behind an item of a list in braces: true behind a comma, where another item is to come, and false behind
+/// the closing brace; then the rest behind that. None where the rest begins with neither.
 fn brace(rest: Rest<'_>) -> Option<(bool, Rest<'_>)>
     ensures some { IfSome result (λ x. brace_at (left rest.entry) ≡ Some (x.0, left x.1)) }
     ensures none { IfNone result (brace_at (left rest.entry) ≡ None) }
@@ -118,7 +122,7 @@ fn brace(rest: Rest<'_>) -> Option<(bool, Rest<'_>)>
     }
 }
 
-// The comparisons of an insert, and what stands behind the closing brace.
+/// The comparisons of an insert, up to the closing brace, and what stands behind that.
 fn comparisons(alloc: Global, items: Rest<'_>) -> Result<(Vec<Formula>, Rest<'_>), ReadFault>
     requires few { length (left items) ≤ 65536 }
     ensures read { IfOk result (λ x. forms_at capped_of (left items.entry) ≡ Some (map form x.0.items, left x.1)) }
@@ -141,7 +145,11 @@ fn comparisons(alloc: Global, items: Rest<'_>) -> Result<(Vec<Formula>, Rest<'_>
     Err(ReadFault::NotRead)
 }
 
-/// What stands in braces, and what stands behind them.
+/// The comparisons, if any, in the braces with which the rest begins, and what stands behind the braces.
+///
+/// # Errors
+/// `NotRead` only where the rest begins with no braces that are empty or have comparisons in them, otherwise out of
+/// memory.
 pub fn braces(alloc: Global, rest: Rest<'_>) -> Result<(Vec<Formula>, Rest<'_>), ReadFault>
     requires few { length (left rest) ≤ 65536 }
     ensures read { IfOk result (λ x. braces_at capped_of (left rest.entry) ≡ Some (map form x.0.items, left x.1)) }
@@ -156,7 +164,7 @@ pub fn braces(alloc: Global, rest: Rest<'_>) -> Result<(Vec<Formula>, Rest<'_>),
     comparisons(alloc, rest)
 }
 
-/// What stands behind a colon.
+/// What stands behind a colon; none where the rest begins with no such item.
 pub fn colon(rest: Rest<'_>) -> Option<Rest<'_>>
     ensures some { IfSome result (λ x. colon_at (left rest.entry) ≡ Some (left x)) }
     ensures none { IfNone result (colon_at (left rest.entry) ≡ None) }
@@ -168,7 +176,7 @@ pub fn colon(rest: Rest<'_>) -> Option<Rest<'_>>
     }
 }
 
-/// What stands behind the sign of a definition.
+/// What stands behind the sign `:=` of a definition; none where the rest begins with no such item.
 pub fn define(rest: Rest<'_>) -> Option<Rest<'_>>
     ensures some { IfSome result (λ x. define_at (left rest.entry) ≡ Some (left x)) }
     ensures none { IfNone result (define_at (left rest.entry) ≡ None) }
@@ -180,7 +188,10 @@ pub fn define(rest: Rest<'_>) -> Option<Rest<'_>>
     }
 }
 
-/// The draft, where nothing stands behind it.
+/// The draft of a command without a formula, where nothing stands behind it.
+///
+/// # Errors
+/// `NotRead` only where something stands behind the command.
 pub fn ended(command: Command, rest: Rest<'_>) -> Result<Draft, ReadFault>
     ensures read { IfOk result (λ d. ended (plain (command_form command)) (left rest.entry) ≡ Some (seen_draft d)) }
     ensures unread { IfErr result (λ e. e ≡ NotRead → ended (plain (command_form command)) (left rest.entry) ≡ None) }
@@ -192,7 +203,10 @@ pub fn ended(command: Command, rest: Rest<'_>) -> Result<Draft, ReadFault>
     }
 }
 
-/// The pieces of a formula behind a head.
+/// The draft of a head and the pieces of the formula behind it.
+///
+/// # Errors
+/// `NotRead` only where what stands behind the head isn't pieces of a formula, otherwise out of memory.
 pub fn formed(alloc: Global, head: Head, rest: Rest<'_>) -> Result<Draft, ReadFault>
     requires few { length (left rest) ≤ 65536 }
     ensures read { IfOk result (λ d. formed_at capped_of (seen_head head) (left rest.entry) ≡ Some (seen_draft d)) }

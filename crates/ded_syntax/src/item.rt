@@ -1,4 +1,4 @@
-// What the reader sees of the tokens of bytes.
+//! What the reader sees of the tokens of bytes.
 ghost use Rattle.std.specs.Prelude.{◌≡◌, ℕ, List, map, IfOk};
 ghost use Rattle.std.specs.List.{list_any};
 ghost use Rattle.ded_lex.specs.Tokens.{lexeme, token_text};
@@ -79,10 +79,10 @@ pub fn text(bytes: &[u8], token: Token) -> &[u8]
     }
 }
 
-// The least number that is too great for a command.
+/// The least number that is too great for a command.
 const TOO_GREAT: u64 = 1 << 63;
 
-/// What digits stand for, up to the least number that is too great.
+/// The number for which digits stand, or 2^63, the least that is too great for a command, where it is above that.
 pub fn value_of(digits: &[u8]) -> u64
     ensures { result ≡ capped_of digits.now }
 {
@@ -96,6 +96,7 @@ pub fn value_of(digits: &[u8]) -> u64
     value
 }
 
+/// The item of a word that is reserved in formulas or headings, or the other item where the text isn't such a word.
 fn formula_word(other: Item, text: &[u8]) -> Item
     ensures { (bytes : List ℕ) → seen bytes result ≡ formula_word (seen bytes other) text.now }
 {
@@ -122,6 +123,7 @@ fn formula_word(other: Item, text: &[u8]) -> Item
     }
 }
 
+/// The item of a word with which a command begins, or the other item where the text isn't such a word.
 fn command_word(other: Item, text: &[u8]) -> Item
     ensures { (bytes : List ℕ) → seen bytes result ≡ command_word (seen bytes other) text.now }
 {
@@ -152,7 +154,7 @@ fn command_word(other: Item, text: &[u8]) -> Item
     }
 }
 
-// Whether the word is reserved and stands in no command.
+/// Whether the word is reserved and stands in no command.
 fn is_unused(text: &[u8]) -> bool
     ensures { result ≡ is_unused text.now }
 {
@@ -167,6 +169,7 @@ fn is_unused(text: &[u8]) -> bool
         || text == b"dedale".as_slice()
 }
 
+/// The item of a reserved word that stands in no command, or the other item where the text isn't such a word.
 fn unused_word(other: Item, text: &[u8]) -> Item
     ensures { (bytes : List ℕ) → seen bytes result ≡ unused_word (seen bytes other) text.now }
 {
@@ -177,6 +180,7 @@ fn unused_word(other: Item, text: &[u8]) -> Item
     }
 }
 
+/// The item of a word: a reserved word, or a name.
 fn word_item(bytes: &[u8], token: Token) -> Item
     ensures { seen bytes.now result ≡ word_symbol (token_text bytes.now token) }
 {
@@ -185,6 +189,7 @@ fn word_item(bytes: &[u8], token: Token) -> Item
     formula_word(other, text)
 }
 
+/// The item of a sign in sums or between the sides of a comparison, or the other item where the text isn't such a sign.
 fn sum_sign(other: Item, text: &[u8]) -> Item
     ensures { (bytes : List ℕ) → seen bytes result ≡ sum_sign (seen bytes other) text.now }
 {
@@ -211,7 +216,7 @@ fn sum_sign(other: Item, text: &[u8]) -> Item
     }
 }
 
-// Parentheses, braces and what stands between parts.
+/// The item of a parenthesis, a brace, or a sign between parts. That of any other text stands in no command.
 fn other_sign(text: &[u8]) -> Item
     ensures { (bytes : List ℕ) → seen bytes result ≡ other_sign text.now }
 {
@@ -234,12 +239,14 @@ fn other_sign(text: &[u8]) -> Item
     }
 }
 
+/// The item of a sign.
 fn sign_item(text: &[u8]) -> Item
     ensures { (bytes : List ℕ) → seen bytes result ≡ sign_symbol text.now }
 {
     sum_sign(other_sign(text), text)
 }
 
+/// The item of a token.
 fn item_of(bytes: &[u8], token: Token) -> Item
     ensures { seen bytes.now result ≡ symbol (lexeme bytes.now token) }
 {
@@ -252,6 +259,9 @@ fn item_of(bytes: &[u8], token: Token) -> Item
 }
 
 /// The items of the tokens, one for each.
+///
+/// # Errors
+/// Out of memory.
 pub fn items_of(alloc: Global, bytes: &[u8], tokens: &[Token]) -> Result<Vec<Item>, NoMemory>
     ensures { IfOk result (λ items. symbols bytes.now items.items ≡ map symbol (map (lexeme bytes.now) tokens.now)) }
 {
@@ -262,6 +272,7 @@ pub fn items_of(alloc: Global, bytes: &[u8], tokens: &[Token]) -> Result<Vec<Ite
     Ok(items)
 }
 
+/// Whether the item is a name of more than 64 bytes.
 fn is_long_name(bytes: &[u8], item: Item) -> bool
     ensures { result ≡ is_long_name (seen bytes.now item) }
 {
@@ -283,6 +294,7 @@ pub fn has_long_name(bytes: &[u8], items: &[Item]) -> bool
     false
 }
 
+/// Whether the item is a number above 2^63 - 1.
 fn is_long_literal(bytes: &[u8], item: Item) -> bool
     ensures { result ≡ is_long_literal (seen bytes.now item) }
 {
@@ -292,7 +304,7 @@ fn is_long_literal(bytes: &[u8], item: Item) -> bool
     }
 }
 
-/// Whether a number among the items is too great.
+/// Whether a number among the items is above 2^63 - 1.
 pub fn has_long_literal(bytes: &[u8], items: &[Item]) -> bool
     ensures { result ≡ list_any is_long_literal (symbols bytes.now items.now) }
 {

@@ -4,9 +4,9 @@
 //! stands in `specs/` over symbols (`Symbols`, `Operands`, `Atoms`, `Commands`), with what each part means; `Spelling`
 //! says when bytes spell a command, and when a refusal applies.
 //!
-//! Answers are exact both ways, so what is spelled is read, and what is read is spelled. Reading goes from left to right,
-//! by loops, up to the pieces of a formula; `ded_grammar` makes its tree of them. The crate stands on `ded_lex` for
-//! tokens, on `ded_num` for divisors and on `ded_model` for commands.
+//! Answers are exact both ways, so what is spelled is read, and what is read is spelled. Reading goes from left to
+//! right, by loops, up to the pieces of a formula; `ded_grammar` makes its tree of them. The crate stands on `ded_lex`
+//! for tokens, on `ded_num` for divisors and on `ded_model` for commands.
 #![tactic(auto)]
 
 mod atom;

@@ -1,4 +1,4 @@
-// Comparisons and arguments whose normal rows have a number above 2^63 - 1 in magnitude.
+//! Comparisons and arguments whose normal rows have a number above 2^63 - 1 in magnitude.
 ghost use Rattle.std.specs.Prelude.{◌≡◌, ◌-ℤ◌, ◌∷◌, unsigned_abs};
 ghost use Rattle.std.specs.List.{list_any};
 ghost use Rattle.ded_grammar.specs.Forms.{piece_form, piece_forms};
@@ -19,11 +19,12 @@ use ded_model::formula::{Formula, Operand, Parts};
 use ded_model::name::Name;
 use ded_num::gcd;
 
-// The least number that is too great for a row.
+/// The least number that is too great for a row.
 const TOO_GREAT: u128 = 1 << 63;
 
 // ---- rows by names
 
+/// The coefficient of the name among the parts, which is 0 where they don't have the name.
 fn coefficient(parts: &Parts, name: &Name) -> i128
     ensures { result ≡ coefficient parts.now name.now }
 {
@@ -35,6 +36,7 @@ fn coefficient(parts: &Parts, name: &Name) -> i128
     0
 }
 
+/// The coefficient of the name in the operand, which is 0 where the operand doesn't have the name.
 fn coefficient_of(operand: &Operand, name: &Name) -> i128
     ensures value { result ≡ coefficient (parts_of operand.now) name.now }
     ensures short { IsWithin 112 result }
@@ -46,6 +48,7 @@ fn coefficient_of(operand: &Operand, name: &Name) -> i128
     }
 }
 
+/// The constant of the operand, which is 0 where it isn't a sum.
 fn constant_of(operand: &Operand) -> i128
     ensures value { result ≡ constant_of operand.now }
     ensures short { IsWithin 112 result }
@@ -56,6 +59,7 @@ fn constant_of(operand: &Operand) -> i128
     }
 }
 
+/// The first number less the second one.
 fn minus(a: i128, b: i128) -> i128
     requires short_a { IsWithin 112 a }
     requires short_b { IsWithin 112 b }
@@ -65,7 +69,7 @@ fn minus(a: i128, b: i128) -> i128
     a - b
 }
 
-// The coefficient of the name in the difference of the sides.
+/// The coefficient of the name in the difference of the two sides.
 fn difference(left: &Operand, right: &Operand, name: &Name) -> i128
     ensures value { result ≡ difference left.now right.now name.now }
     ensures short { IsShort result }
@@ -75,6 +79,8 @@ fn difference(left: &Operand, right: &Operand, name: &Name) -> i128
 
 // ---- the greatest common divisor
 
+/// The greatest common divisor, up to its sign, of a number and of the coefficients that the parts' names have in the
+/// difference of the two sides.
 fn divisor_of_parts(first: i128, parts: &[(Name, i128)], left: &Operand, right: &Operand) -> i128
     requires short { IsShort first }
     ensures value { unsigned_abs result ≡ gcd_from (unsigned_abs first) (differences left.now right.now parts.now) }
@@ -87,7 +93,8 @@ fn divisor_of_parts(first: i128, parts: &[(Name, i128)], left: &Operand, right: 
     by
 }
 
-// The greatest common divisor of a number and of the coefficients of the operand's names.
+/// The greatest common divisor, up to its sign, of a number and of the coefficients that the operand's names have in
+/// the difference of the two sides.
 fn divisor(first: i128, operand: &Operand, left: &Operand, right: &Operand) -> i128
     requires short { IsShort first }
     ensures value { unsigned_abs result ≡ gcd_from (unsigned_abs first) (differences left.now right.now (parts_of operand.now)) }
@@ -102,6 +109,7 @@ fn divisor(first: i128, operand: &Operand, left: &Operand, right: &Operand) -> i
 
 // ---- tests
 
+/// Whether a name of the parts has a coefficient other than 0 in the difference of the two sides.
 fn some_part(parts: &[(Name, i128)], left: &Operand, right: &Operand) -> bool
     ensures { result ≡ list_any is_nonzero (differences left.now right.now parts.now) }
 {
@@ -113,7 +121,7 @@ fn some_part(parts: &[(Name, i128)], left: &Operand, right: &Operand) -> bool
     false
 }
 
-// Whether a name of the operand has a coefficient.
+/// Whether a name of the operand has a coefficient other than 0 in the difference of the two sides.
 fn some_coefficient(operand: &Operand, left: &Operand, right: &Operand) -> bool
     ensures { result ≡ list_any is_nonzero (differences left.now right.now (parts_of operand.now)) }
 {
@@ -124,12 +132,15 @@ fn some_coefficient(operand: &Operand, left: &Operand, right: &Operand) -> bool
     }
 }
 
+/// Whether the number is above 2^63 - 1 in magnitude when it is divided by a divisor that isn't 0.
 fn is_long_over(by: u128, number: i128) -> bool
     ensures { result ≡ is_long_over by number }
 {
     by != 0 && number.unsigned_abs() / by >= TOO_GREAT
 }
 
+/// Whether a name of the parts has a coefficient, in the difference of the two sides, that is above 2^63 - 1 in
+/// magnitude when it is divided by the divisor.
 fn long_part(by: u128, parts: &[(Name, i128)], left: &Operand, right: &Operand) -> bool
     ensures { result ≡ list_any (is_long_over by) (differences left.now right.now parts.now) }
 {
@@ -141,7 +152,8 @@ fn long_part(by: u128, parts: &[(Name, i128)], left: &Operand, right: &Operand) 
     false
 }
 
-// Whether a coefficient of the operand's names is long.
+/// Whether a name of the operand has a coefficient, in the difference of the two sides, that is above 2^63 - 1 in
+/// magnitude when it is divided by the divisor.
 fn long_coefficient(by: u128, operand: &Operand, left: &Operand, right: &Operand) -> bool
     ensures { result ≡ list_any (is_long_over by) (differences left.now right.now (parts_of operand.now)) }
 {
@@ -154,6 +166,7 @@ fn long_coefficient(by: u128, operand: &Operand, left: &Operand, right: &Operand
 
 // ---- rows
 
+/// Whether some name has a coefficient other than 0 in the difference of the two sides.
 #[tactic(auto, using(crate::proofs::LongLists::any_split))]
 fn has_coefficient(left: &Operand, right: &Operand) -> bool
     ensures { result ≡ list_any is_nonzero (row_coefs left.now right.now) }
@@ -161,7 +174,7 @@ fn has_coefficient(left: &Operand, right: &Operand) -> bool
     some_coefficient(left, left, right) || some_coefficient(right, left, right)
 }
 
-// The greatest common divisor of the constant and of all coefficients.
+/// The greatest common divisor of the constant and of all coefficients in the difference of the two sides.
 #[tactic(auto, using(crate::proofs::LongLists::gcd_split))]
 fn row_divisor(constant: i128, left: &Operand, right: &Operand) -> u128
     requires short { IsShort constant }
@@ -171,6 +184,8 @@ fn row_divisor(constant: i128, left: &Operand, right: &Operand) -> u128
     divisor(by, right, left, right).unsigned_abs()
 }
 
+/// Whether some coefficient in the difference of the two sides is above 2^63 - 1 in magnitude when it is divided by the
+/// divisor.
 #[tactic(auto, using(crate::proofs::LongLists::any_split))]
 fn has_long_coefficient(by: u128, left: &Operand, right: &Operand) -> bool
     ensures { result ≡ list_any (is_long_over by) (row_coefs left.now right.now) }
@@ -178,6 +193,8 @@ fn has_long_coefficient(by: u128, left: &Operand, right: &Operand) -> bool
     long_coefficient(by, left, left, right) || long_coefficient(by, right, left, right)
 }
 
+/// Whether the normal row of the difference of the two sides has a number above 2^63 - 1 in magnitude. A row without
+/// coefficients has none.
 fn is_long_row(left: &Operand, right: &Operand) -> bool
     ensures { result ≡ is_long_row (row_coefs left.now right.now) (row_constant left.now right.now) }
 {
@@ -189,6 +206,7 @@ fn is_long_row(left: &Operand, right: &Operand) -> bool
     is_long_over(by, constant) || has_long_coefficient(by, left, right)
 }
 
+/// Whether the operand is a quoted text.
 fn is_quoted(operand: &Operand) -> bool
     ensures { result ≡ is_quoted operand.now }
 {
@@ -198,18 +216,21 @@ fn is_quoted(operand: &Operand) -> bool
     }
 }
 
+/// Whether neither side of a comparison is a quoted text, and its normal row has a number above 2^63 - 1 in magnitude.
 fn is_long_comparison(left: &Operand, right: &Operand) -> bool
     ensures { result ≡ is_long_comparison left.now right.now }
 {
     !is_quoted(left) && !is_quoted(right) && is_long_row(left, right)
 }
 
+/// Whether the number is above 2^63 - 1 in magnitude.
 fn is_long(number: i128) -> bool
     ensures { result ≡ is_long number }
 {
     number.unsigned_abs() >= TOO_GREAT
 }
 
+/// Whether a coefficient among the parts is above 2^63 - 1 in magnitude.
 fn some_long_part(parts: &[(Name, i128)]) -> bool
     ensures { result ≡ list_any (λ p. is_long p.1) parts.now }
 {
@@ -221,6 +242,7 @@ fn some_long_part(parts: &[(Name, i128)]) -> bool
     false
 }
 
+/// Whether the operand is a sum with a number above 2^63 - 1 in magnitude.
 fn is_long_argument(operand: &Operand) -> bool
     ensures { result ≡ is_long_argument operand.now }
 {
@@ -230,6 +252,7 @@ fn is_long_argument(operand: &Operand) -> bool
     }
 }
 
+/// Whether one of the operands is a sum with a number above 2^63 - 1 in magnitude.
 fn some_long_argument(operands: &[Operand]) -> bool
     ensures { result ≡ list_any is_long_argument operands.now }
 {
@@ -243,6 +266,7 @@ fn some_long_argument(operands: &[Operand]) -> bool
 
 // ---- formulas
 
+/// Whether a comparison or an argument of the formula has a row with a number above 2^63 - 1 in magnitude.
 #[cycle(long)]
 fn has_long_atom(formula: &Formula) -> bool
     ensures { result ≡ some_atom is_long_atom (form formula.now) }
@@ -259,6 +283,7 @@ fn has_long_atom(formula: &Formula) -> bool
     }
 }
 
+/// Whether a comparison or an argument of one of the formulas has a row with a number above 2^63 - 1 in magnitude.
 #[cycle(long)]
 fn some_long_atom(formulas: &Vec<Formula>) -> bool
     ensures { result ≡ some_atom_of is_long_atom (forms formulas.now.items) }
@@ -271,6 +296,8 @@ fn some_long_atom(formulas: &Vec<Formula>) -> bool
     false
 }
 
+/// Whether the piece is a formula of which a comparison or an argument has a row with a number above 2^63 - 1 in
+/// magnitude.
 fn is_long_piece(piece: &Piece) -> bool
     ensures { result ≡ piece_atom is_long_atom (piece_form piece.now) }
 {
@@ -280,6 +307,7 @@ fn is_long_piece(piece: &Piece) -> bool
     }
 }
 
+/// Whether a comparison or an argument of one of the pieces has a row with a number above 2^63 - 1 in magnitude.
 fn some_long_piece(pieces: &[Piece]) -> bool
     ensures { result ≡ list_any (piece_atom is_long_atom) (piece_forms pieces.now) }
 {
@@ -291,6 +319,7 @@ fn some_long_piece(pieces: &[Piece]) -> bool
     false
 }
 
+/// Whether a comparison or an argument of the command has a row with a number above 2^63 - 1 in magnitude.
 fn is_long_command(command: &Command) -> bool
     ensures { result ≡ has_long_row (command_form command.now) }
 {
@@ -304,7 +333,7 @@ fn is_long_command(command: &Command) -> bool
     }
 }
 
-/// Whether a comparison or an argument of the draft has a long row.
+/// Whether a comparison or an argument of the draft has a row with a number above 2^63 - 1 in magnitude.
 pub fn has_long_row(draft: &Draft) -> bool
     ensures { result ≡ long_draft (seen_draft draft.now) }
 {

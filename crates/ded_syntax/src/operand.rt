@@ -1,4 +1,4 @@
-// Operands: quoted texts, names, and sums.
+//! Operands: quoted texts, names, and sums.
 ghost use Rattle.std.specs.Prelude.{◌≡◌, ◌≤◌, ◌<◌, ◌^◌, ◌-◌, ◌*◌, length, Some, None, IfSome, IfNone, IfOk, IfErr};
 ghost use Rattle.ded_grammar.specs.declared.fault.ReadFault.TheVariants.{NotRead};
 ghost use Rattle.ded_lex.specs.Tokens.{quoted_value};
@@ -21,7 +21,7 @@ pub struct Factor<'a> {
     pub name: Option<&'a [u8]>,
 }
 
-/// A name, and what stands behind it.
+/// The name with which the rest begins, and what stands behind it; none where the rest begins with no name.
 pub fn name(rest: Rest<'_>) -> Option<(&[u8], Rest<'_>)>
     ensures some { IfSome result (λ x. name_at (left rest.entry) ≡ Some (x.0.now, left x.1)) }
     ensures none { IfNone result (name_at (left rest.entry) ≡ None) }
@@ -33,7 +33,8 @@ pub fn name(rest: Rest<'_>) -> Option<(&[u8], Rest<'_>)>
     }
 }
 
-/// The digits of a number, and what stands behind them.
+/// The digits of the number with which the rest begins, and what stands behind them; none where the rest begins with no
+/// number.
 pub fn number(rest: Rest<'_>) -> Option<(&[u8], Rest<'_>)>
     ensures some { IfSome result (λ x. number_at (left rest.entry) ≡ Some (x.0.now, left x.1)) }
     ensures none { IfNone result (number_at (left rest.entry) ≡ None) }
@@ -47,7 +48,8 @@ pub fn number(rest: Rest<'_>) -> Option<(&[u8], Rest<'_>)>
     }
 }
 
-// A text with its quotes, and what stands behind it.
+/// The text with its quotes with which the rest begins, and what stands behind it; none where the rest begins with no
+/// such text.
 fn quoted(rest: Rest<'_>) -> Option<(&[u8], Rest<'_>)>
     ensures some { IfSome result (λ x. quoted_at (left rest.entry) ≡ Some (quoted_value x.0.now, left x.1)) }
     ensures none { IfNone result (quoted_at (left rest.entry) ≡ None) }
@@ -61,7 +63,7 @@ fn quoted(rest: Rest<'_>) -> Option<(&[u8], Rest<'_>)>
     }
 }
 
-// What stands behind a minus sign.
+/// What stands behind a minus sign; none where the rest begins with no such sign.
 fn minus(rest: Rest<'_>) -> Option<Rest<'_>>
     ensures some { IfSome result (λ x. minus_at (left rest.entry) ≡ Some (left x)) }
     ensures none { IfNone result (minus_at (left rest.entry) ≡ None) }
@@ -73,7 +75,8 @@ fn minus(rest: Rest<'_>) -> Option<Rest<'_>>
     }
 }
 
-// The sign of a further product, true where it is taken away, and what stands behind it.
+/// The sign of a further product, true where the product is taken away, and what stands behind the sign; none where the
+/// rest begins with no such sign.
 fn sign(rest: Rest<'_>) -> Option<(bool, Rest<'_>)>
     ensures some { IfSome result (λ x. sign_at (left rest.entry) ≡ Some (x.0, left x.1)) }
     ensures none { IfNone result (sign_at (left rest.entry) ≡ None) }
@@ -86,7 +89,8 @@ fn sign(rest: Rest<'_>) -> Option<(bool, Rest<'_>)>
     }
 }
 
-// The factor of a number, which a name may follow.
+/// The factor of a number that stands before, with the name that it multiplies where `*` and a name follow, and what
+/// stands behind it. None where `*` follows without a name.
 fn behind_number(number: u64, rest: Rest<'_>) -> Option<(Factor<'_>, Rest<'_>)>
     ensures some { IfSome result (λ x. behind_number number (left rest.entry) ≡ Some (seen_factor x.0, left x.1)) }
     ensures none { IfNone result (behind_number number (left rest.entry) ≡ None) }
@@ -102,7 +106,7 @@ fn behind_number(number: u64, rest: Rest<'_>) -> Option<(Factor<'_>, Rest<'_>)>
     }
 }
 
-// A product, and what stands behind it.
+/// The product with which the rest begins, and what stands behind it; none where the rest begins with no product.
 fn product(rest: Rest<'_>) -> Option<(Factor<'_>, Rest<'_>)>
     ensures some { IfSome result (λ x. product_at capped_of (left rest.entry) ≡ Some (seen_factor x.0, left x.1)) }
     ensures none { IfNone result (product_at capped_of (left rest.entry) ≡ None) }
@@ -119,7 +123,8 @@ fn product(rest: Rest<'_>) -> Option<(Factor<'_>, Rest<'_>)>
     Some((factor, rest))
 }
 
-// Adds one more product to the totals, or takes it away, and gives what stands behind it.
+/// Adds the product with which the rest begins to the totals, or takes it away from them, and gives what stands behind
+/// it.
 fn next<'a>(
     alloc: Global,
     totals: &mut Totals,
@@ -138,7 +143,7 @@ fn next<'a>(
     Ok(rest)
 }
 
-// Adds all products that follow to the totals, and gives what stands behind them.
+/// Adds all further products to the totals, or takes them away by their signs, and gives what stands behind them.
 fn more<'a>(alloc: Global, totals: &mut Totals, items: Rest<'a>) -> Result<Rest<'a>, ReadFault>
     requires few { length (left items) ≤ 65536 }
     requires bound { IsBounded ((65537 - length (left items)) * 2 ^ 63) (seen_totals totals.now) }
@@ -154,7 +159,7 @@ fn more<'a>(alloc: Global, totals: &mut Totals, items: Rest<'a>) -> Result<Rest<
     Ok(rest)
 }
 
-// A sum whose first product is taken away or not, and what stands behind it.
+/// The sum with which the rest begins, whose first product is taken away or not, and what stands behind it.
 fn summed(alloc: Global, minus: bool, rest: Rest<'_>) -> Result<(Operand, Rest<'_>), ReadFault>
     requires few { length (left rest) ≤ 65536 }
     ensures read { IfOk result (λ x. summed_at capped_of minus (left rest.entry) ≡ Some (x.0, left x.1)) }
@@ -171,6 +176,9 @@ fn summed(alloc: Global, minus: bool, rest: Rest<'_>) -> Result<(Operand, Rest<'
 }
 
 /// A name of these bytes.
+///
+/// # Errors
+/// Out of memory.
 pub fn name_of(alloc: Global, bytes: &[u8]) -> Result<Name, NoMemory>
     ensures { IfOk result (λ n. n ≡ bytes.now) }
 {
@@ -179,7 +187,7 @@ pub fn name_of(alloc: Global, bytes: &[u8]) -> Result<Name, NoMemory>
     })
 }
 
-// The value of a text between quotes, in which each quote is doubled.
+/// The value of a quoted text, given with its quotes: each quote between them is doubled.
 fn quoted_of(alloc: Global, text: &[u8]) -> Result<Name, NoMemory>
     ensures { IfOk result (λ n. n ≡ quoted_value text.now) }
 {
@@ -192,7 +200,8 @@ fn quoted_of(alloc: Global, text: &[u8]) -> Result<Name, NoMemory>
     Ok(Name { bytes })
 }
 
-// A name alone, where no sign follows it; else the sum that it begins, and what stands behind it.
+/// The name alone, with which the items begin, where no sign follows it, and otherwise the sum that it begins; then
+/// what stands behind that.
 fn behind_name<'a>(
     alloc: Global,
     items: Rest<'a>,
@@ -211,7 +220,7 @@ fn behind_name<'a>(
     }
 }
 
-// An operand that is no text.
+/// The operand with which the rest begins, which is no quoted text, and what stands behind it.
 fn unquoted(alloc: Global, rest: Rest<'_>) -> Result<(Operand, Rest<'_>), ReadFault>
     requires few { length (left rest) ≤ 65536 }
     ensures read { IfOk result (λ x. operand_by_minus capped_of (left rest.entry) (minus_at (left rest.entry)) ≡ Some (x.0, left x.1)) }
@@ -227,7 +236,10 @@ fn unquoted(alloc: Global, rest: Rest<'_>) -> Result<(Operand, Rest<'_>), ReadFa
     }
 }
 
-/// An operand, and what stands behind it.
+/// The operand with which the rest begins, and what stands behind it.
+///
+/// # Errors
+/// `NotRead` only where the rest begins with no operand, otherwise out of memory.
 pub fn operand(alloc: Global, rest: Rest<'_>) -> Result<(Operand, Rest<'_>), ReadFault>
     requires few { length (left rest) ≤ 65536 }
     ensures read { IfOk result (λ x. operand_at capped_of (left rest.entry) ≡ Some (x.0, left x.1)) }

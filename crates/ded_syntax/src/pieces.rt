@@ -1,4 +1,4 @@
-// The pieces of a formula.
+//! The pieces of a formula.
 ghost use Rattle.std.specs.Prelude.{◌≡◌, ◌≤◌, ◌<◌, length, Some, None, IfSome, IfNone, IfOk, IfErr};
 ghost use Rattle.ded_grammar.specs.declared.fault.ReadFault.TheVariants.{NotRead};
 ghost use Rattle.ded_grammar.specs.Forms.{piece_form, piece_forms};
@@ -11,7 +11,8 @@ use ded_grammar::{Piece, Quantifier, ReadFault};
 use ded_model::formula::Formula;
 use std::alloc::Global;
 
-/// A reserved word, and what stands behind it.
+/// The reserved word with which the rest begins, and what stands behind it; none where the rest begins with no such
+/// word.
 pub fn keyword(rest: Rest<'_>) -> Option<(Keyword, Rest<'_>)>
     ensures some { IfSome result (λ x. keyword_at (left rest.entry) ≡ Some (x.0, left x.1)) }
     ensures none { IfNone result (keyword_at (left rest.entry) ≡ None) }
@@ -23,7 +24,8 @@ pub fn keyword(rest: Rest<'_>) -> Option<(Keyword, Rest<'_>)>
     }
 }
 
-// A parenthesis, and what stands behind it.
+/// The parenthesis with which the rest begins, and what stands behind it; none where the rest begins with no
+/// parenthesis.
 fn parenthesis(rest: Rest<'_>) -> Option<(Piece, Rest<'_>)>
     ensures some { IfSome result (λ x. parenthesis_at (left rest.entry) ≡ Some (piece_form x.0, left x.1)) }
     ensures none { IfNone result (parenthesis_at (left rest.entry) ≡ None) }
@@ -36,7 +38,7 @@ fn parenthesis(rest: Rest<'_>) -> Option<(Piece, Rest<'_>)>
     }
 }
 
-// The word as a piece by itself.
+/// The piece that a reserved word is by itself, or none where it isn't one.
 fn word_piece(word: Keyword) -> Option<Piece>
     ensures some { IfSome result (λ p. word_piece word ≡ Some (piece_form p)) }
     ensures none { IfNone result (word_piece word ≡ None) }
@@ -52,6 +54,7 @@ fn word_piece(word: Keyword) -> Option<Piece>
     }
 }
 
+/// The quantifier that a reserved word is, or none where it isn't one.
 fn quantifier_of(word: Keyword) -> Option<Quantifier>
     ensures some { IfSome result (λ q. quantifier_of word ≡ Some q) }
     ensures none { IfNone result (quantifier_of word ≡ None) }
@@ -63,7 +66,7 @@ fn quantifier_of(word: Keyword) -> Option<Quantifier>
     }
 }
 
-// The piece that begins with a word, and what stands behind it.
+/// The piece that begins with the reserved word, behind which the rest stands, and what stands behind the piece.
 fn word(alloc: Global, word: Keyword, rest: Rest<'_>) -> Result<(Piece, Rest<'_>), ReadFault>
     ensures read { IfOk result (λ x. word_at word (left rest.entry) ≡ Some (piece_form x.0, left x.1)) }
     ensures unread { IfErr result (λ e. e ≡ NotRead → word_at word (left rest.entry) ≡ None) }
@@ -79,7 +82,7 @@ fn word(alloc: Global, word: Keyword, rest: Rest<'_>) -> Result<(Piece, Rest<'_>
     Ok((Piece::Bind(quantifier, column), behind))
 }
 
-// The piece that is no word, and what stands behind it.
+/// The piece with which the rest begins, where that is no reserved word, and what stands behind it.
 fn other(alloc: Global, rest: Rest<'_>) -> Result<(Piece, Rest<'_>), ReadFault>
     requires few { length (left rest) ≤ 65536 }
     ensures read { IfOk result (λ x. piece_by_parenthesis capped_of (left rest.entry) (parenthesis_at (left rest.entry)) ≡ Some (piece_form x.0, left x.1)) }
@@ -93,7 +96,7 @@ fn other(alloc: Global, rest: Rest<'_>) -> Result<(Piece, Rest<'_>), ReadFault>
     Ok((Piece::Atom(formula), behind))
 }
 
-// A piece, and what stands behind it.
+/// The piece with which the rest begins, and what stands behind it.
 fn piece(alloc: Global, rest: Rest<'_>) -> Result<(Piece, Rest<'_>), ReadFault>
     requires few { length (left rest) ≤ 65536 }
     ensures read { IfOk result (λ x. piece_at capped_of (left rest.entry) ≡ Some (piece_form x.0, left x.1)) }
@@ -106,7 +109,10 @@ fn piece(alloc: Global, rest: Rest<'_>) -> Result<(Piece, Rest<'_>), ReadFault>
     }
 }
 
-/// All pieces that are left.
+/// The pieces that all items are.
+///
+/// # Errors
+/// `NotRead` only where the items aren't pieces, otherwise out of memory.
 pub fn pieces(alloc: Global, items: Rest<'_>) -> Result<Vec<Piece>, ReadFault>
     requires few { length (left items) ≤ 65536 }
     ensures read { IfOk result (λ list. pieces_at capped_of (left items.entry) ≡ Some (piece_forms list.items)) }

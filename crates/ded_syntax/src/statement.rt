@@ -1,4 +1,4 @@
-// What a statement is, up to the tree of its formula.
+//! What a statement is, up to the tree of its formula.
 ghost use Rattle.std.specs.Prelude.{◌≡◌, ◌≤◌, length, Some, None, IfOk, IfErr};
 ghost use Rattle.ded_grammar.specs.declared.fault.ReadFault.TheVariants.{NotRead};
 ghost use Rattle.ded_syntax.specs.Items.{capped_of, left};
@@ -14,7 +14,7 @@ use ded_model::command::Command;
 use ded_model::name::Name;
 use std::alloc::Global;
 
-// A name with nothing behind it.
+/// The name with which the rest begins, where nothing stands behind it.
 fn last_name(alloc: Global, rest: Rest<'_>) -> Result<Name, ReadFault>
     ensures read { IfOk result (λ n. last_name (left rest.entry) ≡ Some n) }
     ensures unread { IfErr result (λ e. e ≡ NotRead → last_name (left rest.entry) ≡ None) }
@@ -25,6 +25,7 @@ fn last_name(alloc: Global, rest: Rest<'_>) -> Result<Name, ReadFault>
     }
 }
 
+/// The draft of a command whose word `relation` stands before the rest.
 fn relation(alloc: Global, rest: Rest<'_>) -> Result<Draft, ReadFault>
     ensures read { IfOk result (λ d. relation_draft (left rest.entry) ≡ Some (seen_draft d)) }
     ensures unread { IfErr result (λ e. e ≡ NotRead → relation_draft (left rest.entry) ≡ None) }
@@ -37,6 +38,7 @@ fn relation(alloc: Global, rest: Rest<'_>) -> Result<Draft, ReadFault>
     ended(Command::Relation(name, heading), rest)
 }
 
+/// The draft of a command whose word `insert` stands before the rest.
 fn insert(alloc: Global, rest: Rest<'_>) -> Result<Draft, ReadFault>
     requires few { length (left rest) ≤ 65536 }
     ensures read { IfOk result (λ d. insert_draft capped_of (left rest.entry) ≡ Some (seen_draft d)) }
@@ -50,6 +52,7 @@ fn insert(alloc: Global, rest: Rest<'_>) -> Result<Draft, ReadFault>
     ended(Command::Insert(name, formulas), rest)
 }
 
+/// The draft of a command whose word `delete` stands before the rest.
 fn delete(alloc: Global, rest: Rest<'_>) -> Result<Draft, ReadFault>
     ensures read { IfOk result (λ d. delete_draft capped_of (left rest.entry) ≡ Some (seen_draft d)) }
     ensures unread { IfErr result (λ e. e ≡ NotRead → delete_draft capped_of (left rest.entry) ≡ None) }
@@ -64,6 +67,7 @@ fn delete(alloc: Global, rest: Rest<'_>) -> Result<Draft, ReadFault>
     ended(Command::Delete(name, value_of(digits)), rest)
 }
 
+/// The draft of a command whose word `view` stands before the rest.
 fn view(alloc: Global, rest: Rest<'_>) -> Result<Draft, ReadFault>
     requires few { length (left rest) ≤ 65536 }
     ensures read { IfOk result (λ d. view_draft capped_of (left rest.entry) ≡ Some (seen_draft d)) }
@@ -80,6 +84,7 @@ fn view(alloc: Global, rest: Rest<'_>) -> Result<Draft, ReadFault>
     formed(alloc, Head::View(name, heading), rest)
 }
 
+/// The draft of a command whose word `query` stands before the rest.
 fn query(alloc: Global, rest: Rest<'_>) -> Result<Draft, ReadFault>
     requires few { length (left rest) ≤ 65536 }
     ensures read { IfOk result (λ d. over_draft capped_of query_head (left rest.entry) ≡ Some (seen_draft d)) }
@@ -92,6 +97,7 @@ fn query(alloc: Global, rest: Rest<'_>) -> Result<Draft, ReadFault>
     formed(alloc, Head::Query(heading), rest)
 }
 
+/// The draft of a command whose word `explain` stands before the rest.
 fn explain(alloc: Global, rest: Rest<'_>) -> Result<Draft, ReadFault>
     requires few { length (left rest) ≤ 65536 }
     ensures read { IfOk result (λ d. over_draft capped_of explain_head (left rest.entry) ≡ Some (seen_draft d)) }
@@ -104,7 +110,7 @@ fn explain(alloc: Global, rest: Rest<'_>) -> Result<Draft, ReadFault>
     formed(alloc, Head::Explain(heading), rest)
 }
 
-// The draft of a command that begins with the word and goes on with the rest.
+/// The draft of the command that begins with the word and goes on with the rest.
 fn behind(alloc: Global, word: Keyword, rest: Rest<'_>) -> Result<Draft, ReadFault>
     requires few { length (left rest) ≤ 65536 }
     ensures read { IfOk result (λ d. draft_behind capped_of word (left rest.entry) ≡ Some (seen_draft d)) }
@@ -127,6 +133,9 @@ fn behind(alloc: Global, word: Keyword, rest: Rest<'_>) -> Result<Draft, ReadFau
 }
 
 /// The draft of the command that all items spell.
+///
+/// # Errors
+/// `NotRead` only where the items spell no draft, otherwise out of memory.
 pub fn draft(alloc: Global, items: Rest<'_>) -> Result<Draft, ReadFault>
     requires few { length (left items) ≤ 65536 }
     ensures read { IfOk result (λ d. draft_at capped_of (left items.entry) ≡ Some (seen_draft d)) }

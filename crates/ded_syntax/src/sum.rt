@@ -1,4 +1,4 @@
-// Sums of products, each coefficient added up.
+//! Sums of products, each coefficient added up.
 ghost use Rattle.std.specs.Prelude.{◌≡◌, ◌≤◌, ◌<◌, ◌^◌, ◌+ℤ◌, unsigned_abs, IfOk};
 ghost use Rattle.std.specs.List.{AllByRecursion};
 ghost use Rattle.std.specs.Str.{bytes_eq};
@@ -18,6 +18,7 @@ pub struct Totals {
     pub constant: i128,
 }
 
+/// The sum of two numbers.
 fn sum(a: i128, b: i128) -> i128
     requires small_a { unsigned_abs a ≤ 2 ^ 100 }
     requires small_b { unsigned_abs b ≤ 2 ^ 100 }
@@ -26,6 +27,7 @@ fn sum(a: i128, b: i128) -> i128
     a + b
 }
 
+/// The number, or its negative where it is taken away.
 fn signed(minus: bool, number: u64) -> i128
     ensures { result ≡ signed minus number }
 {
@@ -33,13 +35,14 @@ fn signed(minus: bool, number: u64) -> i128
     if minus { -number } else { number }
 }
 
+/// Whether the bytes are those of the name.
 fn is_name(name: &Name, bytes: &[u8]) -> bool
     ensures { result ≡ bytes_eq name.now bytes.now }
 {
     name.bytes.as_slice() == bytes
 }
 
-// The amount more at the name.
+/// Adds the amount to the coefficient of the name, which is set at the end where no part has it.
 fn put(
     alloc: Global,
     parts: &mut Vec<(Name, i128)>,
@@ -65,7 +68,10 @@ fn put(
     Ok(())
 }
 
-/// Adds the factor, or takes it away.
+/// Adds the factor to the totals, or takes it away from them.
+///
+/// # Errors
+/// Out of memory.
 pub fn add(
     alloc: Global,
     totals: &mut Totals,
@@ -86,7 +92,7 @@ pub fn add(
     }
 }
 
-/// The sum of these totals.
+/// The sum that the totals make, over 1.
 pub fn as_sum(totals: Totals) -> Operand
     requires { IsBounded (2 ^ 100) (seen_totals totals) }
     ensures { result ≡ as_sum (seen_totals totals) }

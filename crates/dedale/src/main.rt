@@ -1,8 +1,9 @@
 //! Answers a script from standard input on standard output.
 //!
-//! `dedale [--limit N] [--make N]` writes one reply for each statement, and nothing to standard error. Its exit status says
-//! how the run ended: 0 done, 1 done with some refusal, 2 words that aren't accepted, 3 a failed read, 4 a failed write, 5 out
-//! of memory before the first read, 6 an input of more than 2^40 bytes. All that it does is `ded_run::run`.
+//! `dedale [--limit N] [--make N]` writes one reply for each statement, and nothing to standard error. Its exit status
+//! says how the run ended: 0 done, 1 done with some refusal, 2 words that aren't accepted, 3 a failed read, 4 a failed
+//! write, 5 out of memory before the first read, 6 an input of more than 2^40 bytes. All that it does is
+//! `ded_run::run`.
 #![tactic(auto)]
 
 use ded_io::{StdSink, StdSource};
@@ -13,7 +14,8 @@ use std::process::ExitCode;
 use std::random::RandomSource;
 use std::rt::Env;
 
-// The words behind the program's name. Where they aren't all texts, they are no accepted list.
+/// The words behind the program's name, or how a run without them ends: where they aren't all texts, they are no
+/// accepted list.
 fn words(rt: &(impl Env + AllocGlobal)) -> Result<Words, Status> {
     let mut list = Vec::new(rt.alloc());
     let args = match env::args(rt) {
@@ -29,7 +31,8 @@ fn words(rt: &(impl Env + AllocGlobal)) -> Result<Words, Status> {
     Ok(Words { list })
 }
 
-// A key by which names are hashed, that nobody who writes a script knows: one drawn at random, and 0 where the system gives none.
+/// A key by which names are hashed, that nobody who writes a script knows: one drawn at random, and 0 where the system
+/// gives none.
 fn key(rt: &impl RandomSource) -> u64 {
     let mut bytes = [0; 8];
     match rt.fill_bytes(&mut bytes) {
@@ -38,6 +41,7 @@ fn key(rt: &impl RandomSource) -> u64 {
     }
 }
 
+/// Runs the program on its words, its standard input and its standard output, and gives its exit status.
 fn main(rt: HostRuntime) -> ExitCode {
     let words = match words(&rt) {
         Ok(words) => words,
