@@ -18,6 +18,9 @@ use ded_row::normal;
 use std::alloc::Global;
 
 /// The normal row that says that a rational slot above those of the sum has its value.
+///
+/// # Errors
+/// Out of memory.
 pub fn argument_row(slot: Slot, sum: &SlotTerm) -> Result<Row, NoMemory>
     requires rational { slot.sort ≡ Rat }
     requires above { above_coefs sum.now.coefs ≤ slot.number }
@@ -29,7 +32,7 @@ pub fn argument_row(slot: Slot, sum: &SlotTerm) -> Result<Row, NoMemory>
         constant: -sum.constant,
         op: RowOp::Zero,
     });
-    let _ = row.coefs.list();
+    let _ = row.coefs.list(); // for its invariant
     Ok(row)
 }
 
@@ -39,7 +42,7 @@ fn argument_coefs(slot: Slot, sum: &SlotTerm) -> Result<Coefs, NoMemory>
     requires above { above_coefs sum.now.coefs ≤ slot.number }
     ensures { IfOk result (λ cs. cs ≡ put slot (pos (denominator sum.now.over)) (put_all (neg_ℤ (pos 1)) sum.now.coefs [])) }
 {
-    let _ = sum.coefs.list();
+    let _ = sum.coefs.list(); // for its invariant
     let mut coefs = sum.coefs.copy()?;
     coefs.divide(-1);
     coefs.push(slot, sum.over)?;
@@ -47,6 +50,9 @@ fn argument_coefs(slot: Slot, sum: &SlotTerm) -> Result<Coefs, NoMemory>
 }
 
 /// The normal row that says that two rational slots have the same value.
+///
+/// # Errors
+/// Out of memory.
 pub fn same_row(alloc: Global, slot: Slot, other: Slot) -> Result<Row, NoMemory>
     requires rational { slot.sort ≡ Rat }
     requires other { other.sort ≡ Rat }
@@ -64,7 +70,10 @@ pub fn same_row(alloc: Global, slot: Slot, other: Slot) -> Result<Row, NoMemory>
     argument_row(slot, &sum)
 }
 
-/// A text of these bytes.
+/// A text of the given bytes.
+///
+/// # Errors
+/// Out of memory.
 pub fn quoted(alloc: Global, bytes: &[u8]) -> Result<Name, NoMemory>
     ensures text { IfOk result (λ n. n ≡ bytes.now) }
     ensures bytes { IfOk result (λ n. AllBytes n) }
@@ -86,6 +95,7 @@ pub fn first_free(places: &[Place]) -> u64
     above
 }
 
+/// One above the numbers of the slots of an argument, 0 where it has none.
 fn above_place(place: &Place) -> u64
     ensures value { result ≡ above_place place.now }
     ensures short { result ≤ 2 ^ 32 }
@@ -97,6 +107,7 @@ fn above_place(place: &Place) -> u64
     }
 }
 
+/// One above the numbers of the slots of coefficients, 0 where there are none.
 fn above_coefs(coefs: &[(Slot, i128)]) -> u64
     ensures value { result ≡ above_coefs coefs.now }
     ensures short { result ≤ 2 ^ 32 }

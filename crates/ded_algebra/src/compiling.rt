@@ -29,7 +29,7 @@ use std::alloc::Global;
 /// arguments; of a conjunctive goal it is conjunctive and scans each name as often as the goal has it.
 ///
 /// # Errors
-/// Want of memory, also where an atom has a slot of the greatest number and an argument that needs a new one.
+/// Out of memory, also where an atom has a slot of the greatest number and an argument that needs a new one.
 pub fn compile(alloc: Global, goal: &Goal) -> Result<Plan, NoMemory>
     requires normal { IsNormalGoal (goal_form goal.now) }
     ensures { IfOk result (λ p. IsCompiled (goal_form goal.now) (plan_form p)) }
@@ -37,6 +37,7 @@ pub fn compile(alloc: Global, goal: &Goal) -> Result<Plan, NoMemory>
     Ok(plan(alloc, goal)?)
 }
 
+/// The plan of a goal, made of the plans of its parts.
 #[cycle(plan)]
 fn plan(alloc: Global, goal: &Goal) -> Result<Plan, NoMemory>
     requires normal { IsNormalGoal (goal_form goal.now) }
@@ -66,6 +67,7 @@ fn plan(alloc: Global, goal: &Goal) -> Result<Plan, NoMemory>
     }
 }
 
+/// The plans of goals, one for each.
 #[cycle(plan)]
 fn plans(alloc: Global, goals: &Vec<Goal>) -> Result<Vec<Plan>, NoMemory>
     requires normal { AllAtomsOf IsNormalGoalAtom (goal_forms goals.now.items) }
@@ -79,19 +81,21 @@ fn plans(alloc: Global, goals: &Vec<Goal>) -> Result<Vec<Plan>, NoMemory>
     Ok(plans)
 }
 
+/// The complement of the plan.
 fn negation_of(alloc: Global, plan: Plan) -> Result<Plan, NoMemory>
     ensures { IfOk result (λ p. plan_form p ≡ negation (plan_form plan)) }
 {
     Ok(Plan::Not(Box::new(alloc, plan)?))
 }
 
+/// The plan without the slot, which may have any value.
 fn projection_of(alloc: Global, at: Slot, plan: Plan) -> Result<Plan, NoMemory>
     ensures { IfOk result (λ p. plan_form p ≡ exists at.sort (slot at) (plan_form plan)) }
 {
     Ok(Plan::Project(at, Box::new(alloc, plan)?))
 }
 
-/// A row, if it isn't true everywhere.
+/// The plan of a row: the points at which it holds, or the whole space where the row is true everywhere.
 fn row_plan(alloc: Global, row: &Row) -> Result<Plan, NoMemory>
     requires { IsNormalRow row.now }
     ensures { IfOk result (λ p. plan_form p ≡ atom (rows (goal_atoms (atom (linear row.now))))) }
@@ -105,6 +109,7 @@ fn row_plan(alloc: Global, row: &Row) -> Result<Plan, NoMemory>
     }
 }
 
+/// The plan of a text atom: the points at which it holds.
 fn theme_plan(alloc: Global, theme: &ThemeAtom) -> Result<Plan, NoMemory>
     requires { IsOrderedTheme theme.now }
     ensures { IfOk result (λ p. plan_form p ≡ row_plan (Second theme.now)) }
@@ -118,7 +123,7 @@ fn theme_plan(alloc: Global, theme: &ThemeAtom) -> Result<Plan, NoMemory>
     rows_of(alloc, BothAtom::Second(atom))
 }
 
-/// The scan of a name at its arguments.
+/// The plan of an atom of a name: the scan of the name at its arguments, with the new slots tied and projected.
 fn member_plan(alloc: Global, name: &Name, places: &[Place]) -> Result<Plan, NoMemory>
     ensures plan { IfOk result (λ p. plan_form p ≡ member_plan name.now places.now) }
     ensures bytes { IfOk result (λ p. AreByteTexts places.now) }
@@ -142,6 +147,7 @@ fn member_plan(alloc: Global, name: &Name, places: &[Place]) -> Result<Plan, NoM
     projected(alloc, &fresh, joined(alloc, scan, ties)?)
 }
 
+/// The scan of a name at distinct slots.
 fn scan_of(name: Name, list: Vec<Slot>) -> Plan
     requires { AreDistinctSlots list.items }
     ensures { plan_form result ≡ atom (scan name list.items) }
@@ -149,7 +155,7 @@ fn scan_of(name: Name, list: Vec<Slot>) -> Plan
     Plan::Scan(name, Slots { list })
 }
 
-/// The plan together with others.
+/// The join of the plan with others; the plan as it is where there are none.
 fn joined(alloc: Global, plan: Plan, others: Vec<Plan>) -> Result<Plan, NoMemory>
     ensures { IfOk result (λ p. plan_form p ≡ joined (plan_form plan) (map plan_form others.items)) }
 {

@@ -32,7 +32,7 @@ impl Scanning {
     /// One argument more: at its own slot where it has one that doesn't stand there yet, else at a new one.
     ///
     /// # Errors
-    /// Want of memory, also where no slot has the number.
+    /// Out of memory, also where no slot has the number.
     pub fn add(&mut self, alloc: Global, place: &Place) -> Result<(), NoMemory>
         requires above { above_place place.now ≤ self.old.next }
         requires apart { IsApart self.old.next self.old.slots.items }
@@ -62,7 +62,7 @@ impl Scanning {
         }
     }
 
-    /// The next new slot, of a sort.
+    /// The next new slot, with the sort.
     fn fresh_slot(&self, sort: Sort) -> Result<Slot, NoMemory>
         ensures { IfOk result (λ s. s ≡ record { number = self.now.next; sort = sort }) }
     {
@@ -72,7 +72,7 @@ impl Scanning {
         }
     }
 
-    /// A new slot with the atom that ties it.
+    /// Adds a new slot with the atom that ties it to its value.
     fn tie(&mut self, alloc: Global, fresh: Slot, atom: Atom) -> Result<(), NoMemory>
         requires next { fresh.number ≡ self.old.next }
         requires normal { IsNormalAtom atom }
@@ -106,6 +106,9 @@ fn same_atom(alloc: Global, fresh: Slot, slot: Slot) -> Result<Atom, NoMemory>
 }
 
 /// The plan of the points at which the atom holds.
+///
+/// # Errors
+/// Out of memory.
 pub fn rows_of(alloc: Global, atom: Atom) -> Result<Plan, NoMemory>
     requires { IsNormalAtom atom }
     ensures { IfOk result (λ p. plan_form p ≡ row_plan atom) }

@@ -31,6 +31,7 @@ fn has_own_slot(before: &[Atom], atom: &Atom, after: &[Atom]) -> bool
     }
 }
 
+/// Whether the row mentions a slot that none of the atoms before and after does.
 fn row_has_own_slot(before: &[Atom], row: &Row, after: &[Atom]) -> bool
     ensures { result ≡ true → (s : Slot) × (row_mentions row.now s ≡ true) × (tuple_mentions (before.now ++ after.now) s ≡ false) }
 {
@@ -42,12 +43,14 @@ fn row_has_own_slot(before: &[Atom], row: &Row, after: &[Atom]) -> bool
     false
 }
 
+/// Whether the text atom mentions a slot that none of the atoms before and after does.
 fn theme_has_own_slot(before: &[Atom], atom: &ThemeAtom, after: &[Atom]) -> bool
     ensures { result ≡ true → (s : Slot) × (theme_mentions atom.now s ≡ true) × (tuple_mentions (before.now ++ after.now) s ≡ false) }
 {
     is_free(before, first_slot(atom), after) || is_free(before, last_slot(atom), after)
 }
 
+/// The first slot of a text atom.
 fn first_slot(atom: &ThemeAtom) -> Slot
     ensures { result ≡ first_slot atom.now }
 {
@@ -59,7 +62,7 @@ fn first_slot(atom: &ThemeAtom) -> Slot
     }
 }
 
-/// The second one of two slots, and else the only one.
+/// The second slot of a text atom of two slots, and else its only one.
 fn last_slot(atom: &ThemeAtom) -> Slot
     ensures { result ≡ last_slot atom.now }
 {
@@ -71,7 +74,7 @@ fn last_slot(atom: &ThemeAtom) -> Slot
     }
 }
 
-/// Whether no atom mentions the slot.
+/// Whether none of the atoms before and after mentions the slot.
 fn is_free(before: &[Atom], slot: Slot, after: &[Atom]) -> bool
     ensures { result ≡ true → tuple_mentions (before.now ++ after.now) slot ≡ false }
 {

@@ -24,7 +24,7 @@ use std::alloc::Global;
 /// doesn't.
 ///
 /// # Errors
-/// Want of memory.
+/// Out of memory.
 pub fn reduced(alloc: Global, tuples: Tuples) -> Result<Tuples, NoMemory>
     ensures holds { IfOk result (λ ts. (p : Point) → IsPoint p → tuples_hold ts p ≡ tuples_hold tuples p) }
     ensures kept { IfOk result (λ ts. ArePartsOf ts tuples) }

@@ -17,7 +17,7 @@ use std::collections::BTreeSet;
 /// The tuples in the same order, without those that are equal to an earlier one.
 ///
 /// # Errors
-/// Want of memory.
+/// Out of memory.
 pub fn distinct(alloc: Global, tuples: Tuples) -> Result<Tuples, NoMemory>
     ensures holds { IfOk result (λ ts. (p : Point) → tuples_hold ts p ≡ tuples_hold tuples p) }
     ensures kept { IfOk result (λ ts. IsSublist ts tuples) }

@@ -90,6 +90,7 @@ pub(crate) fn hash_of(tuple: &Tuple) -> u64 {
     state.finish()
 }
 
+/// Feeds a row to the hash.
 fn feed_row(state: &mut DefaultHasher, row: &Row) {
     for (slot, a) in row.coefs.list() {
         state.write_u32(slot.number);
@@ -103,6 +104,7 @@ fn feed_row(state: &mut DefaultHasher, row: &Row) {
     });
 }
 
+/// Feeds a text atom to the hash.
 fn feed_theme(state: &mut DefaultHasher, atom: &ThemeAtom) {
     match atom {
         ThemeAtom::EqText(slot, text) => {
@@ -124,7 +126,7 @@ fn feed_theme(state: &mut DefaultHasher, atom: &ThemeAtom) {
     }
 }
 
-/// Feeds the kind of a text atom and its first slot.
+/// Feeds the kind of a text atom and its first slot to the hash.
 fn feed_kind(state: &mut DefaultHasher, kind: u8, slot: Slot) {
     state.write_u8(kind);
     state.write_u32(slot.number);

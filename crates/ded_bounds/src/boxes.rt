@@ -14,7 +14,7 @@ use std::alloc::Global;
 /// aren't wide are exact.
 ///
 /// # Errors
-/// Want of memory.
+/// Out of memory.
 pub fn box_round<T: Theory>(
     alloc: Global,
     atoms: &[T::Atom],

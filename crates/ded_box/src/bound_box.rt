@@ -30,7 +30,7 @@ impl BoundBox {
     /// The box with these intervals, in order.
     ///
     /// # Errors
-    /// Want of memory.
+    /// Out of memory.
     pub fn new(alloc: Global, spans: &[(Bound, Bound)]) -> Result<BoundBox, NoMemory>
         ensures { IfOk result (λ b. b ≡ spans.now) }
     {
@@ -52,7 +52,7 @@ impl BoundBox {
     /// An equal box.
     ///
     /// # Errors
-    /// Want of memory.
+    /// Out of memory.
     pub fn copy(&self) -> Result<BoundBox, NoMemory>
         ensures { IfOk result (λ b. b ≡ self.now) }
     {
@@ -88,7 +88,7 @@ fn all_meet(a: &[(Bound, Bound)], b: &[(Bound, Bound)]) -> bool
 /// The least box that contains both.
 ///
 /// # Errors
-/// Want of memory.
+/// Out of memory.
 pub fn cover(alloc: Global, a: &BoundBox, b: &BoundBox) -> Result<BoundBox, NoMemory>
     requires { length a.now ≡ length b.now }
     ensures cover { IfOk result (λ c. IsCover a.now b.now c) }
@@ -108,14 +108,14 @@ pub fn cover(alloc: Global, a: &BoundBox, b: &BoundBox) -> Result<BoundBox, NoMe
     Ok(BoundBox { list })
 }
 
-/// Whether no interval is empty.
+/// Whether none of the intervals is empty.
 fn are_full(spans: &[(Bound, Bound)]) -> bool
     ensures { result ≡ has_values spans.now }
 {
     spans.iter().all(|span| may_meet(&span.0, &span.1))
 }
 
-/// The least interval that contains both, where none of them is empty.
+/// The least interval that contains both intervals, where none of them is empty.
 fn hull(a: &(Bound, Bound), b: &(Bound, Bound)) -> (Bound, Bound)
     ensures { result ≡ hull a.now b.now }
 {

@@ -15,7 +15,7 @@ pub enum Side {
     Upper,
 }
 
-/// The bound that lets through what both let through.
+/// The narrower of two bounds on the side: it lets through what both let through.
 pub fn narrower(side: Side, a: Bound, b: Bound) -> Bound
     ensures { result ≡ narrower (end_of side) a b }
 {
@@ -26,7 +26,7 @@ pub fn narrower(side: Side, a: Bound, b: Bound) -> Bound
     }
 }
 
-/// The same, of a bound that isn't attained.
+/// The narrower of two bounds on the side, the first of which is at `f` and isn't attained.
 fn narrower_than_excluded(side: Side, f: Frac, b: Bound) -> Bound
     ensures { result ≡ narrower (end_of side) (Excluded f) b }
 {
@@ -37,7 +37,7 @@ fn narrower_than_excluded(side: Side, f: Frac, b: Bound) -> Bound
     }
 }
 
-/// The same, of one that is.
+/// The narrower of two bounds on the side, the first of which is at `f` and is attained.
 fn narrower_than_included(side: Side, f: Frac, b: Bound) -> Bound
     ensures { result ≡ narrower (end_of side) (Included f) b }
 {
@@ -48,7 +48,7 @@ fn narrower_than_included(side: Side, f: Frac, b: Bound) -> Bound
     }
 }
 
-/// The bound that lets through what one of them does.
+/// The wider of two bounds on the side: it lets through what one of them lets through.
 pub fn wider(side: Side, a: Bound, b: Bound) -> Bound
     ensures { result ≡ wider (end_of side) a b }
 {
@@ -59,7 +59,7 @@ pub fn wider(side: Side, a: Bound, b: Bound) -> Bound
     }
 }
 
-/// The same, of a bound that isn't attained.
+/// The wider of two bounds on the side, the first of which is at `f` and isn't attained.
 fn wider_than_excluded(side: Side, f: Frac, b: Bound) -> Bound
     ensures { result ≡ wider (end_of side) (Excluded f) b }
 {
@@ -71,7 +71,7 @@ fn wider_than_excluded(side: Side, f: Frac, b: Bound) -> Bound
     }
 }
 
-/// The same, of one that is.
+/// The wider of two bounds on the side, the first of which is at `f` and is attained.
 fn wider_than_included(side: Side, f: Frac, b: Bound) -> Bound
     ensures { result ≡ wider (end_of side) (Included f) b }
 {
@@ -83,7 +83,7 @@ fn wider_than_included(side: Side, f: Frac, b: Bound) -> Bound
     }
 }
 
-/// Whether some value is within both bounds.
+/// Whether some value is within both a lower and an upper bound.
 pub fn may_meet(lower: &Bound, upper: &Bound) -> bool
     ensures { result ≡ may_meet lower.now upper.now }
 {
@@ -109,7 +109,7 @@ pub fn intervals_meet(a: &(Bound, Bound), b: &(Bound, Bound)) -> bool
     may_meet(&a.0, &a.1) && may_meet(&b.0, &b.1) && may_meet(&a.0, &b.1) && may_meet(&b.0, &a.1)
 }
 
-/// Whether `f` lies outside of `g`.
+/// Whether `f` lies further out than `g` on the side.
 fn is_outside(side: Side, f: Frac, g: Frac) -> bool
     ensures { result ≡ is_outside (end_of side) f g }
 {
@@ -120,7 +120,7 @@ fn is_outside(side: Side, f: Frac, g: Frac) -> bool
     }
 }
 
-/// The same interval, of whose fractions it is then known that their denominators are above 0.
+/// An equal interval, of whose fractions it is then known that their denominators are above 0.
 pub fn checked(interval: &(Bound, Bound)) -> (Bound, Bound)
     ensures same { result ≡ interval.now }
     ensures intervals { IsInterval result }
@@ -128,7 +128,7 @@ pub fn checked(interval: &(Bound, Bound)) -> (Bound, Bound)
     (checked_bound(interval.0), checked_bound(interval.1))
 }
 
-/// The same bound, likewise.
+/// An equal bound, of whose fraction it is then known that its denominator is above 0.
 fn checked_bound(bound: Bound) -> Bound
     ensures same { result ≡ bound }
     ensures positive { HasPositive bound }

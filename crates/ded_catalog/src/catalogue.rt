@@ -60,7 +60,7 @@ impl Catalogue {
     /// A catalogue without entries, whose relations may have `limit` tuples, 1 to 1,000,000. It does not allocate yet.
     ///
     /// # Errors
-    /// None: the first name that is defined takes memory.
+    /// None: memory is allocated for the first name that is defined.
     pub fn new(alloc: Global, limit: u32) -> Result<Catalogue, NoMemory>
         requires low { 1 ≤ limit }
         requires high { limit ≤ 1000000 }
@@ -70,8 +70,9 @@ impl Catalogue {
         Ok(Catalogue::hashed_with(alloc, limit, (0, 0)))
     }
 
-    /// The same, with keys by which the names are hashed. Where names are untrusted, draw the keys at random: then
-    /// nobody can choose names that are slow to find.
+    /// A catalogue without entries, whose relations may have `limit` tuples, 1 to 1,000,000, and whose names are hashed
+    /// with the keys. Where names are untrusted, draw the keys at random: then nobody can choose names that are slow to
+    /// find.
     pub fn hashed_with(alloc: Global, limit: u32, keys: (u64, u64)) -> Catalogue
         requires low { 1 ≤ limit }
         requires high { limit ≤ 1000000 }
@@ -86,7 +87,7 @@ impl Catalogue {
     /// Defines a relation without tuples, of at most 16 columns, under a new name.
     ///
     /// # Errors
-    /// `NoMemory`, where nothing is changed.
+    /// Out of memory; nothing is changed then.
     pub fn define(&mut self, name: Name, heading: Heading) -> Result<(), NoMemory>
         requires new { known (catalogue_of self.old) name ≡ None }
         requires few { length heading ≤ 16 }
@@ -99,7 +100,7 @@ impl Catalogue {
     /// Defines a relation without tuples, of at most 16 columns, under a new name, which counts as one that has accepted `inserts` inserts.
     ///
     /// # Errors
-    /// `NoMemory`, where nothing is changed.
+    /// Out of memory; nothing is changed then.
     pub fn define_at(&mut self, name: Name, heading: Heading, inserts: u32) -> Result<(), NoMemory>
         requires new { known (catalogue_of self.old) name ≡ None }
         requires few { length heading ≤ 16 }
@@ -143,7 +144,7 @@ impl Catalogue {
     /// Defines a view under a new name: its formula as written, and the goal of that.
     ///
     /// # Errors
-    /// `NoMemory`, where nothing is changed.
+    /// Out of memory; nothing is changed then.
     pub fn define_view(
         &mut self,
         name: Name,

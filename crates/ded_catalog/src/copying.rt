@@ -32,6 +32,7 @@ impl Clone for Stored {
     }
 }
 
+/// Copies of the tuples, under the same numbers.
 fn copy_tuples(
     alloc: Global,
     tuples: &BTreeMap<u32, Tuple>,

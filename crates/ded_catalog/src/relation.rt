@@ -23,7 +23,10 @@ impl Relation {
         }
     }
 
-    /// Takes one tuple more, and gives its number. A refused one changes nothing.
+    /// Takes one tuple more, and gives its number.
+    ///
+    /// # Errors
+    /// `Full` or `Spent` as [`Relation::refusal`] says, otherwise out of memory. Nothing is changed then.
     pub(crate) fn push(&mut self, limit: u32, tuple: Tuple) -> Result<u32, Refusal>
         requires { AreUpTo self.old.inserts self.old.tuples.entries }
         ensures ok { IfOk result (λ k. Pushes self.old self.new tuple k) }
@@ -42,7 +45,7 @@ impl Relation {
         Ok(number)
     }
 
-    /// Whether a tuple has the number.
+    /// Whether a tuple of the relation has the number.
     pub(crate) fn has(&self, number: u64) -> bool
         requires { AreUpTo self.now.inserts self.now.tuples.entries }
         ensures { result ≡ list_any (λ t. t.0 == number) self.now.tuples.entries }
@@ -50,7 +53,7 @@ impl Relation {
         number <= u64::from(self.inserts) && self.tuples.contains_key(&(number as u32))
     }
 
-    /// Gives up the tuple of the number.
+    /// Takes the tuple of the number out of the relation.
     pub(crate) fn remove(&mut self, number: u64)
         requires numbers { AreUpTo self.old.inserts self.old.tuples.entries }
         requires present { list_any (λ t. t.0 == number) self.old.tuples.entries ≡ true }

@@ -40,7 +40,7 @@ impl Stored {
     ghost use Rattle.ded_catalog.specs.State.{stored_uses};
     ghost use Rattle.ded_catalog.specs.Tuples.{AreUpTo, refusal_of, IsSame, Pushes, Removes};
 
-    /// Whether it is a view whose formula uses the name.
+    /// Whether this is a view whose formula uses the name.
     pub(crate) fn uses(&self, name: &Name) -> bool
         ensures { result ≡ stored_uses name.now self.now }
     {
@@ -50,7 +50,10 @@ impl Stored {
         }
     }
 
-    /// Inserts into the relation, and gives the tuple's number. A refused insert changes nothing.
+    /// Inserts a tuple into the relation, and gives the tuple's number.
+    ///
+    /// # Errors
+    /// `Full` or `Spent` as [`Relation::refusal`] says, otherwise out of memory. Nothing is changed then.
     pub(crate) fn insert(&mut self, limit: u32, tuple: Tuple) -> Result<u32, Refusal>
         requires { AreRelations self.old self.old (λ old new. AreUpTo old.inserts old.tuples.entries) }
         ensures ok { IfOk result (λ k. AreRelations self.old self.new (λ old new. Pushes old new tuple k × (refusal_of limit old ≡ None))) }

@@ -26,7 +26,10 @@ use indexmap::IndexMap;
 /// What stands under each name, in order of definition.
 pub(crate) type Table = IndexMap<Name, Stored, NameHashing>;
 
-/// Puts what stands under a new name at the end. Where there is no memory, nothing is changed.
+/// Puts what stands under a new name at the end.
+///
+/// # Errors
+/// Out of memory; nothing is changed then.
 pub(crate) fn add(table: &mut Table, name: Name, stored: Stored) -> Result<(), NoMemory>
     requires { lookup (bytes_eq name) table.old.entries ≡ None }
     ensures ok { OnOk result (table.new.entries ≡ table.old.entries ++ (name, stored) ∷ []) }
@@ -37,12 +40,13 @@ pub(crate) fn add(table: &mut Table, name: Name, stored: Stored) -> Result<(), N
     Ok(())
 }
 
-// In a function of its own, so that no other proof goes through all that may stand under a name.
+/// Gives up what stood under a name. It is a function of its own, so that no other proof goes through all that may
+/// stand under a name.
 fn give_up(stored: Option<Stored>) {
     let _ = stored;
 }
 
-/// The relation of the name.
+/// The relation of the name, none where it is no relation.
 pub(crate) fn relation_of<'a>(table: &'a Table, name: &Name) -> Option<&'a Relation>
     ensures { option_map (λ r. r.now) result ≡ relation_at (lookup (bytes_eq name.now) table.now.entries) }
 {
@@ -52,7 +56,10 @@ pub(crate) fn relation_of<'a>(table: &'a Table, name: &Name) -> Option<&'a Relat
     }
 }
 
-/// What is known of the name.
+/// What is known of the name, none where it isn't defined.
+///
+/// # Errors
+/// Out of memory.
 pub(crate) fn known_of(table: &Table, name: &Name) -> Result<Option<Known>, NoMemory>
     ensures { IfOk result (λ k. known_form k ≡ known_with (lookup (bytes_eq name.now) table.now.entries) None) }
 {
@@ -63,7 +70,7 @@ pub(crate) fn known_of(table: &Table, name: &Name) -> Result<Option<Known>, NoMe
     }
 }
 
-/// The heading of the name.
+/// The heading of the name, none where it isn't defined.
 pub(crate) fn heading_of<'a>(table: &'a Table, name: &Name) -> Option<&'a Heading>
     ensures { option_map (λ h. h.now) result ≡ heading_at (lookup (bytes_eq name.now) table.now.entries) }
 {
@@ -74,7 +81,7 @@ pub(crate) fn heading_of<'a>(table: &'a Table, name: &Name) -> Option<&'a Headin
     }
 }
 
-/// The view of the name.
+/// The view of the name, none where it is no view.
 pub(crate) fn view_of<'a>(table: &'a Table, name: &Name) -> Option<&'a View>
     ensures { option_map (λ v. v.now) result ≡ view_at (lookup (bytes_eq name.now) table.now.entries) }
 {
@@ -84,7 +91,11 @@ pub(crate) fn view_of<'a>(table: &'a Table, name: &Name) -> Option<&'a View>
     }
 }
 
-/// Inserts into the relation of the name, and gives the tuple's number. A refused insert changes nothing.
+/// Inserts a tuple into the relation of the name, and gives the tuple's number.
+///
+/// # Errors
+/// `Full` or `Spent` as [`Relation::refusal`](crate::stored::Relation::refusal) says, otherwise out of memory. The
+/// relation stays as it is then.
 pub(crate) fn insert_into(
     table: &mut Table,
     name: &Name,
@@ -147,6 +158,7 @@ pub(crate) fn level_in(table: &Table, formula: &Formula) -> u32
     }
 }
 
+/// The greatest level of a name that one of the formulas uses, 0 where they use none.
 #[cycle(level)]
 fn greatest_level(table: &Table, parts: &Vec<Formula>) -> u32
     ensures { result ≡ greatest_of (atom_level_in table.now.entries) (forms parts.now.items) }
@@ -158,12 +170,14 @@ fn greatest_level(table: &Table, parts: &Vec<Formula>) -> u32
     level
 }
 
+/// The larger of two numbers.
 fn larger(a: u32, b: u32) -> u32
     ensures { result ≡ max a b }
 {
     if a < b { b } else { a }
 }
 
+/// The level of a name: 0 for one that is no view.
 fn level_of(table: &Table, name: &Name) -> u32
     ensures { result ≡ level_at (lookup (bytes_eq name.now) table.now.entries) }
 {

@@ -31,7 +31,7 @@ pub(crate) struct Boxed<A> {
 /// Rational slots that the first conjunctions of the list bound; none where the list has few.
 ///
 /// # Errors
-/// Want of memory.
+/// Out of memory.
 pub(crate) fn bounded_slots<T: Theory>(
     alloc: Global,
     list: &GenRel<T>,
@@ -72,7 +72,7 @@ fn some_bounds<T: Theory>(
     Ok(false)
 }
 
-/// Whether there is a bound.
+/// Whether the span has a bound: false where no point satisfies the conjunction.
 fn is_bounded(span: Span) -> bool {
     match span {
         Span::Nothing => false,
@@ -82,7 +82,7 @@ fn is_bounded(span: Span) -> bool {
     }
 }
 
-/// The conjunction in its box.
+/// The conjunction with a box around it on the slots.
 fn with_box<T: Theory>(
     alloc: Global,
     conj: Vec<T::Atom>,
@@ -100,7 +100,7 @@ fn with_box<T: Theory>(
 /// Each conjunction of the list in its box.
 ///
 /// # Errors
-/// Want of memory.
+/// Out of memory.
 pub(crate) fn boxed_list<T: Theory>(
     alloc: Global,
     list: &GenRel<T>,
@@ -118,7 +118,7 @@ pub(crate) fn boxed_list<T: Theory>(
 /// Sets each conjunction of the list, in its box, at the end.
 ///
 /// # Errors
-/// Want of memory.
+/// Out of memory.
 pub(crate) fn push_boxed<T: Theory>(
     out: &mut Vec<Boxed<T::Atom>>,
     list: GenRel<T>,
@@ -139,7 +139,7 @@ pub(crate) fn push_boxed<T: Theory>(
 /// The conjunctions without their boxes.
 ///
 /// # Errors
-/// Want of memory.
+/// Out of memory.
 pub(crate) fn unboxed<T: Theory>(
     alloc: Global,
     list: Vec<Boxed<T::Atom>>,

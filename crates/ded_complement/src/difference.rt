@@ -24,7 +24,7 @@ use std::alloc::Global;
 /// atoms aren't wide, each of them holds somewhere, and they are at most as many as the cells that those atoms realise.
 ///
 /// # Errors
-/// Want of memory.
+/// Out of memory.
 pub fn complement<T: Theory>(alloc: Global, rel: &GenRel<T>) -> Result<GenRel<T>, NoMemory>
     ensures is { IfOk result (λ out. IsOperation T.holds T.mentions T.lines (λ p. not (conjs_hold T.holds rel.now p)) (conjs_mention T.mentions rel.now) (conjs_lines T.lines rel.now) out) }
     ensures disjoint { IfOk result (λ out. AreDisjoint T.holds out) }
@@ -41,7 +41,7 @@ pub fn complement<T: Theory>(alloc: Global, rel: &GenRel<T>) -> Result<GenRel<T>
 /// somewhere.
 ///
 /// # Errors
-/// Want of memory.
+/// Out of memory.
 pub fn minus<T: Theory>(
     alloc: Global,
     from: &GenRel<T>,
@@ -60,7 +60,7 @@ pub fn minus<T: Theory>(
     Ok(out)
 }
 
-/// What of the piece is outside of the list.
+/// The pieces of what satisfies the piece and is outside of the list.
 fn outside<T: Theory>(
     alloc: Global,
     piece: Vec<T::Atom>,

@@ -22,7 +22,7 @@ use std::alloc::Global;
 /// The pieces without the points of the conjunction.
 ///
 /// # Errors
-/// Want of memory.
+/// Out of memory.
 pub(crate) fn without<T: Theory>(
     alloc: Global,
     pieces: Vec<Boxed<T::Atom>>,

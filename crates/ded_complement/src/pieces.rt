@@ -16,6 +16,9 @@ use std::alloc::Global;
 
 /// Sets pieces of what satisfies the piece and not the conjunction at the end: for each atom what satisfies those before it and
 /// not the atom. An atom that the piece implies gives none, and isn't added to it.
+///
+/// # Errors
+/// Out of memory.
 pub(crate) fn push_outside<T: Theory>(
     out: &mut GenRel<T>,
     piece: Vec<T::Atom>,
@@ -39,7 +42,7 @@ pub(crate) fn push_outside<T: Theory>(
     Ok(())
 }
 
-/// Sets pieces of what satisfies the rest and not the atom at the end, and answers whether there are any.
+/// Sets pieces of what satisfies the rest and not the atom at the end. Returns whether there are any.
 fn push_negated<T: Theory>(
     out: &mut GenRel<T>,
     rest: Vec<T::Atom>,
@@ -61,7 +64,7 @@ fn push_negated<T: Theory>(
     }
 }
 
-/// Sets the rest with one more atom at the end where it may hold somewhere, and answers whether it did.
+/// Sets the rest with one more atom at the end where it may hold somewhere. Returns whether it was set.
 fn push_with<T: Theory>(
     out: &mut GenRel<T>,
     rest: Vec<T::Atom>,
@@ -76,7 +79,10 @@ fn push_with<T: Theory>(
     push_piece(out, piece)
 }
 
-/// Sets the piece at the end where it may hold somewhere, and answers whether it did.
+/// Sets the piece at the end where it may hold somewhere. Returns whether it was set.
+///
+/// # Errors
+/// Out of memory.
 pub(crate) fn push_piece<T: Theory>(
     out: &mut GenRel<T>,
     piece: Vec<T::Atom>,

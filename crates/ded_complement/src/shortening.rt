@@ -16,7 +16,7 @@ const LONG: usize = 8;
 /// The conjunction with one more atom. Where it is long, it is without those that this one implies.
 ///
 /// # Errors
-/// Want of memory.
+/// Out of memory.
 pub(crate) fn with_last<T: Theory>(
     mut rest: Vec<T::Atom>,
     last: T::Atom,

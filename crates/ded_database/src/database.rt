@@ -100,7 +100,7 @@ impl Database {
         ensures { IsSound self.now }
     {
         self.catalogue.formed();
-        let _ = &self.held;
+        let _ = &self.held; // for its invariant
     }
 
     /// The list that is held of a kept view: its tuples hold exactly where the view's formula does. None where none is held. It does not allocate.
@@ -123,7 +123,7 @@ impl Database {
     /// Defines a relation without tuples, of at most 16 columns, under a new name.
     ///
     /// # Errors
-    /// `NoMemory`, where nothing is changed.
+    /// Out of memory; nothing is changed then.
     pub fn define(&mut self, name: Name, heading: Heading) -> Result<(), NoMemory>
         requires new { known (catalogue_at self.old) name ≡ None }
         requires few { length heading ≤ 16 }
@@ -140,7 +140,7 @@ impl Database {
     /// Defines a view under a new name: its formula as written, and the goal of that.
     ///
     /// # Errors
-    /// `NoMemory`, where nothing is changed.
+    /// Out of memory; nothing is changed then.
     pub fn define_view(
         &mut self,
         name: Name,
@@ -208,7 +208,7 @@ impl Database {
     /// Deletes the tuple of the number, which has to be there, from the relation of the name, and brings the lists of kept views up to date.
     ///
     /// # Errors
-    /// Want of memory: the catalogue is as before, and lists of views that reach the relation may be gone.
+    /// Out of memory: the catalogue is as before, and lists of views that reach the relation may be gone.
     pub fn delete(&mut self, name: &Name, number: u64) -> Result<(), NoMemory>
         requires { list_any (λ t. t.0 == number) (tuples_in (catalogue_at self.old) name.now) ≡ true }
         ensures ok { OnOk result (Deletes (catalogue_at self.old) (catalogue_at self.new) name.now number) }
@@ -231,7 +231,7 @@ impl Database {
     /// Marks a view, and makes its list where none is held. Where numbers get too long for it, none is held.
     ///
     /// # Errors
-    /// Want of memory; nothing is changed then.
+    /// Out of memory; nothing is changed then.
     pub fn keep(&mut self, name: &Name) -> Result<(), NoMemory>
         requires { is_view_with (known (catalogue_at self.old) name.now) ≡ true }
         ensures catalogue { (catalogue_at self.new) ≡ (catalogue_at self.old) }

@@ -23,7 +23,7 @@ use std::alloc::{AllocError, Global};
 /// Marks a view, and makes its list where none is held. Where numbers get too long for it, none is held.
 ///
 /// # Errors
-/// Want of memory; nothing is changed then.
+/// Out of memory; nothing is changed then.
 pub(crate) fn keep_view(
     alloc: Global,
     catalogue: &Catalogue,
@@ -53,7 +53,7 @@ pub(crate) fn keep_view(
 /// Makes the list of a view, unless one is held or numbers get too long for it.
 ///
 /// # Errors
-/// Want of memory; nothing is changed then.
+/// Out of memory; nothing is changed then.
 fn hold(alloc: Global, catalogue: &Catalogue, held: &mut Given, name: &Name) -> Result<(), NoMemory>
     requires view { is_view_with (known (catalogue_of catalogue.now) name.now) ≡ true }
     requires held { AllByRecursion (IsHeld (catalogue_of catalogue.now)) held.old }
@@ -78,7 +78,7 @@ fn hold(alloc: Global, catalogue: &Catalogue, held: &mut Given, name: &Name) -> 
 /// Marks a view, unless it is marked, in front of the marks that reach it. So a list is made before those that may read it.
 ///
 /// # Errors
-/// Want of memory; nothing is changed then.
+/// Out of memory; nothing is changed then.
 fn mark(
     alloc: Global,
     catalogue: &Catalogue,

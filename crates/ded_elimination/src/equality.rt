@@ -32,7 +32,7 @@ pub fn find_equality(rows: &[Row], slot: Slot) -> Option<usize>
     if least == 0 { None } else { Some(place) }
 }
 
-/// The magnitude of the slot's coefficient in an equality; 0 in another row.
+/// The magnitude of the slot's coefficient in an equality; 0 in a row that is none.
 fn equal_size(row: &Row, slot: Slot) -> u128
     ensures { result ≡ equal_size slot row.now }
 {
@@ -42,8 +42,11 @@ fn equal_size(row: &Row, slot: Slot) -> u128
     }
 }
 
-/// Adds the rows without the slot, and the combinations of the equality at a place with the others. Whether something may
-/// satisfy them.
+/// Adds the rows without the slot, and the combinations of the equality at a place with the other rows. Returns whether
+/// something may satisfy the rows.
+///
+/// # Errors
+/// `Wide` only where two lines of the rows clash at the slot, otherwise out of memory.
 pub fn by_equality(
     out: &mut Vec<Row>,
     rows: &[Row],
@@ -64,7 +67,8 @@ pub fn by_equality(
     Ok(true)
 }
 
-/// Adds what is left of a row after the equality has taken the slot from it.
+/// Adds what is left of a row after the equality has taken the slot from it. Returns whether something may satisfy the
+/// rows.
 fn add_settled(out: &mut Vec<Row>, equal: &Row, row: &Row, slot: Slot) -> Result<bool, Refused>
     requires equality { equal.now.op ≡ Zero }
     requires mentions { coef_at equal.now.coefs slot ≢ pos 0 }

@@ -18,8 +18,11 @@ enum Rival {
     Weaker(usize),
 }
 
-/// Adds a row, so that the rows hold where they held and the row does. Of two rows with the same coefficients the stronger
-/// is kept. Whether the row holds anywhere: a false row is not added, nor is a true one.
+/// Adds a row, so that the rows hold where they held and the row does. Of two rows with the same coefficients the
+/// stronger is kept; a row without coefficients is not added. Returns whether the row holds anywhere.
+///
+/// # Errors
+/// Out of memory.
 pub fn keep(out: &mut Vec<Row>, row: Row) -> Result<bool, NoMemory>
     requires normal { IsNormalRow row }
     ensures keeps { IfOk result (λ more. Keeps row out.old.items more out.new.items) }
@@ -46,7 +49,7 @@ fn is_truth(op: RowOp) -> bool
     }
 }
 
-/// The first of the rows that implies the row or that it implies, by coefficients that are the same.
+/// The first of the rows that has the same coefficients as the row and implies it or is implied by it.
 fn find_rival(rows: &[Row], row: &Row) -> Rival
     ensures { IsRival rows.now row.now result }
 {
@@ -68,7 +71,8 @@ fn implies(a: &Row, b: &Row) -> bool
     same_coefs(a.coefs.list(), b.coefs.list()) && is_at_least(a, b)
 }
 
-/// Whether a row with the constant and op of the first one holds only where one with those of the second one does.
+/// Whether, over the same coefficients, a row with the constant and op of the first row holds only where one with those
+/// of the second does.
 fn is_at_least(a: &Row, b: &Row) -> bool
     ensures { result ≡ at_least a.now b.now }
 {
@@ -80,7 +84,7 @@ fn is_at_least(a: &Row, b: &Row) -> bool
     }
 }
 
-/// Whether the two lists are equal.
+/// Whether the two lists of coefficients are equal.
 fn same_coefs(a: &[(Slot, i128)], b: &[(Slot, i128)]) -> bool
     ensures { result ≡ true → a.now ≡ b.now }
 {

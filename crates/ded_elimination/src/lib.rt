@@ -56,7 +56,7 @@ pub fn eliminate(alloc: Global, rows: &[Row], slot: Slot) -> Result<Eliminated<R
     }
 }
 
-/// Adds what is left of the rows without the slot. Whether something may satisfy them.
+/// Adds what is left of the rows without the slot. Returns whether something may satisfy the rows.
 fn eliminate_into(out: &mut Vec<Row>, rows: &[Row], slot: Slot) -> Result<bool, Refused>
     requires normal { AreLinear rows.now }
     ensures adds { IfOk result (λ more. Adds slot rows.now (HoldExtended slot rows.now) out.old.items more out.new.items) }

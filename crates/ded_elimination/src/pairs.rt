@@ -16,8 +16,11 @@ use ded_model::row::Row;
 use ded_model::slot::Slot;
 use ded_row::mix;
 
-/// Adds the rows without the slot, and the combinations of each row that bounds the slot from above with each one that bounds it
-/// from below. Whether something may satisfy them.
+/// Adds the rows without the slot, and the combinations of each row that bounds the slot from above with each one that
+/// bounds it from below. Returns whether something may satisfy the rows.
+///
+/// # Errors
+/// `Wide` only where two lines of the rows clash at the slot, otherwise out of memory.
 pub fn by_pairs(out: &mut Vec<Row>, rows: &[Row], slot: Slot) -> Result<bool, Refused>
     requires normal { AreLinear rows.now }
     requires none { NoEquality slot rows.now (length rows.now) }
@@ -31,7 +34,7 @@ pub fn by_pairs(out: &mut Vec<Row>, rows: &[Row], slot: Slot) -> Result<bool, Re
     }
 }
 
-/// Adds the rows without the slot.
+/// Adds the rows without the slot. Returns whether something may satisfy the rows.
 fn keep_level(out: &mut Vec<Row>, rows: &[Row], slot: Slot) -> Result<bool, NoMemory>
     requires { AreLinear rows.now }
     ensures { IfOk result (λ more. Adds slot rows.now (OfFirst (LevelHolds slot) rows.now (length rows.now)) out.old.items more out.new.items) }
@@ -44,7 +47,7 @@ fn keep_level(out: &mut Vec<Row>, rows: &[Row], slot: Slot) -> Result<bool, NoMe
     Ok(true)
 }
 
-/// Adds the row if it is without the slot.
+/// Adds the row if it is without the slot. Returns whether something may satisfy the rows that it is one of.
 fn add_level(out: &mut Vec<Row>, row: &Row, slot: Slot) -> Result<bool, NoMemory>
     requires { IsLinearAtom row.now }
     ensures { IfOk result (λ more. (rows : List LinearConstraint) → AreLinear rows → In row.now rows → Adds slot rows (LevelHolds slot row.now) out.old.items more out.new.items) }
@@ -56,7 +59,8 @@ fn add_level(out: &mut Vec<Row>, row: &Row, slot: Slot) -> Result<bool, NoMemory
     }
 }
 
-/// Adds the combinations of each row that bounds the slot from above.
+/// Adds the combinations of each row that bounds the slot from above with each one that bounds it from below. Returns
+/// whether something may satisfy the rows.
 fn mix_uppers(out: &mut Vec<Row>, rows: &[Row], slot: Slot) -> Result<bool, Refused>
     requires { AreLinear rows.now }
     ensures adds { IfOk result (λ more. Adds slot rows.now (OfFirst (UpperHolds slot rows.now) rows.now (length rows.now)) out.old.items more out.new.items) }
@@ -70,7 +74,8 @@ fn mix_uppers(out: &mut Vec<Row>, rows: &[Row], slot: Slot) -> Result<bool, Refu
     Ok(true)
 }
 
-/// Adds the combinations of the row if it bounds the slot from above.
+/// Adds the combinations of the row with each one that bounds the slot from below, if it bounds the slot from above.
+/// Returns whether something may satisfy the rows.
 fn add_upper(out: &mut Vec<Row>, upper: &Row, rows: &[Row], slot: Slot) -> Result<bool, Refused>
     requires normal { AreLinear rows.now }
     requires inside { In upper.now rows.now }
@@ -84,7 +89,8 @@ fn add_upper(out: &mut Vec<Row>, upper: &Row, rows: &[Row], slot: Slot) -> Resul
     }
 }
 
-/// Adds the combinations of an upper row with each row that bounds the slot from below.
+/// Adds the combinations of an upper row with each row that bounds the slot from below. Returns whether something may
+/// satisfy the rows.
 fn mix_lowers(out: &mut Vec<Row>, upper: &Row, rows: &[Row], slot: Slot) -> Result<bool, Refused>
     requires normal { AreLinear rows.now }
     requires inside { In upper.now rows.now }
@@ -100,7 +106,8 @@ fn mix_lowers(out: &mut Vec<Row>, upper: &Row, rows: &[Row], slot: Slot) -> Resu
     Ok(true)
 }
 
-/// Adds the combination of an upper row with a row if that bounds the slot from below.
+/// Adds the combination of an upper row with a row if that bounds the slot from below. Returns whether something may
+/// satisfy the rows that both are of.
 fn add_pair(out: &mut Vec<Row>, upper: &Row, lower: &Row, slot: Slot) -> Result<bool, Refused>
     requires above { pos 0 <ℤ coef_at upper.now.coefs slot }
     ensures adds { IfOk result (λ more. (rows : List LinearConstraint) → AreLinear rows → In upper.now rows → In lower.now rows

@@ -34,7 +34,8 @@ pub fn eval<R: Relations>(
     eval_counted(alloc, plan, relations, &mut met)
 }
 
-/// The same, and `met` grows by the count of pairs that joins meet, up to the greatest `u64`.
+/// A list that holds exactly where the plan does over the given relations, as [`eval`] gives it. `met` grows by the
+/// count of pairs that joins meet, up to the greatest `u64`.
 ///
 /// # Errors
 /// As [`eval`].

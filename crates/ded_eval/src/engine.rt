@@ -33,7 +33,7 @@ impl Evaluate for Engine {
 /// The normal tuples of the conjunctions of a list.
 ///
 /// # Errors
-/// Want of memory.
+/// Out of memory.
 pub fn tuples(alloc: Global, list: GenRel<Atoms>) -> Result<Tuples, NoMemory>
     ensures { IfOk result (λ ts. IsWrittenAs list ts) }
 {

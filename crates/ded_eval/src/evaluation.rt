@@ -66,8 +66,8 @@ pub fn evaluate_counted<T: OfTuples, R: Relations>(
     }
 }
 
-/// The complement of the plan. That of a complement or another plan, as `implies` makes it, is what the first one's part leaves of the other: so
-/// nothing is complemented twice.
+/// The complement of the plan. Where the plan is a union of a complement and another plan, as `implies` makes it, that
+/// is what the other plan leaves of the complement's part: so nothing is complemented twice.
 #[cycle(evaluate)]
 fn complemented<T: OfTuples, R: Relations>(
     alloc: Global,

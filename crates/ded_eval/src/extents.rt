@@ -43,7 +43,7 @@ pub fn extent(alloc: Global, heading: &Heading, tuples: &[Tuple]) -> Result<BoxR
     Ok(extent)
 }
 
-/// From the bounds over some points those over these and all points of the tuple.
+/// The bounds over some points and all points of the tuple, from those over the points.
 ///
 /// # Errors
 /// `Wide` only where the tuple alone isn't narrow with all rational columns of the heading, otherwise out of memory.
@@ -61,7 +61,7 @@ pub fn extended(
     Ok(covering(alloc, extent, more)?)
 }
 
-/// The least box that contains both.
+/// The least box that contains both boxes.
 fn covering(alloc: Global, extent: BoxReply, more: BoxReply) -> Result<BoxReply, NoMemory>
     ensures { IfOk result (λ r. r ≡ covering extent more) }
 {
@@ -77,7 +77,7 @@ fn covering(alloc: Global, extent: BoxReply, more: BoxReply) -> Result<BoxReply,
     }
 }
 
-/// At each place the least interval that contains both, as far as both lists go.
+/// At each place the least interval that contains the intervals of both lists, as far as both lists go.
 fn hulls(
     alloc: Global,
     first: &[(Bound, Bound)],
@@ -94,7 +94,7 @@ fn hulls(
     Ok(list)
 }
 
-/// The least interval that contains both, where none of them is empty.
+/// The least interval that contains both intervals, where none of them is empty.
 fn hull(a: (Bound, Bound), b: (Bound, Bound)) -> (Bound, Bound)
     ensures { result ≡ hull a b }
 {
@@ -150,7 +150,7 @@ fn spans<T: Theory>(
     Ok(spans)
 }
 
-/// The bounds of the rational column of a number, likewise.
+/// The exact bounds of the rational column of a number, over atoms that some point satisfies.
 fn span<T: Theory>(alloc: Global, atoms: &[T::Atom], number: u32) -> Result<(Bound, Bound), Refused>
     requires normal { AllByRecursion T.normal atoms.now }
     requires inhabited { HoldsSomewhere (conj_holds T.holds atoms.now) }

@@ -50,7 +50,7 @@ impl Given {
     /// One relation more, of a name that isn't given yet.
     ///
     /// # Errors
-    /// Want of memory; nothing is changed then.
+    /// Out of memory; nothing is changed then.
     pub fn add(&mut self, relation: GivenRelation) -> Result<(), NoMemory>
         requires new { has_name relation.name self.old ≡ false }
         ensures ok { OnOk result (self.new ≡ self.old ++ relation ∷ []) }

@@ -22,6 +22,9 @@ pub trait OfTuples: Theory {
     ghost reads: { Atom → Type 0 };
 
     /// The atom that stands for a normal row or text atom.
+    ///
+    /// # Errors
+    /// Out of memory.
     fn read(atom: &Atom) -> Result<Self::Atom, NoMemory>
         requires normal { IsNormalAtom atom.now }
         requires reads { reads atom.now }
@@ -42,7 +45,7 @@ pub trait OfTuples: Theory {
 /// The conjunction that stands for a tuple.
 ///
 /// # Errors
-/// Want of memory.
+/// Out of memory.
 pub(crate) fn conjunction<T: OfTuples>(
     alloc: Global,
     tuple: &Tuple,
@@ -61,7 +64,7 @@ pub(crate) fn conjunction<T: OfTuples>(
 /// The list of conjunctions that stands for a list of tuples.
 ///
 /// # Errors
-/// Want of memory.
+/// Out of memory.
 pub(crate) fn conjunctions<T: OfTuples>(
     alloc: Global,
     tuples: &[Tuple],

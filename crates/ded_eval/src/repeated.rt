@@ -17,7 +17,7 @@ use std::hash::{DefaultHasher, Hasher};
 /// The conjunctions in the same order, without those that are equal to an earlier one.
 ///
 /// # Errors
-/// Want of memory.
+/// Out of memory.
 pub(crate) fn distinct<T: OfTuples>(alloc: Global, list: GenRel<T>) -> Result<GenRel<T>, NoMemory>
     ensures holds { IfOk result (λ r. (p : Point) → conjs_hold T.holds r p ≡ conjs_hold T.holds list p) }
     ensures slots { IfOk result (λ r. (s : Slot) → conjs_mention T.mentions r s ≡ true → conjs_mention T.mentions list s ≡ true) }
@@ -96,7 +96,7 @@ fn are_same<T: OfTuples>(a: &[T::Atom], b: &[T::Atom]) -> bool
     true
 }
 
-/// A hash of the conjunction: equal ones have the same.
+/// A hash of the conjunction: equal conjunctions have the same one.
 fn hash_of<T: OfTuples>(conj: &[T::Atom]) -> u64 {
     let mut state = DefaultHasher::new();
     for atom in conj {

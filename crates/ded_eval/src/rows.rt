@@ -24,6 +24,9 @@ pub trait OfRows: OfNumbers {
     ghost rows: { LinearConstraint → Type 0 };
 
     /// The atom that stands for a normal row.
+    ///
+    /// # Errors
+    /// Out of memory.
     fn from_row(row: &Row) -> Result<Self::Atom, NoMemory>
         requires normal { IsNormalAtom (First row.now) }
         requires rows { rows row.now }

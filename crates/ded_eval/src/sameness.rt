@@ -85,7 +85,7 @@ pub(crate) fn theme_hash(atom: &ThemeAtom) -> u64 {
     state.finish()
 }
 
-/// Feeds the kind of a text atom and its first slot.
+/// Feeds the kind of a text atom and its first slot to the hash.
 fn feed_kind(state: &mut DefaultHasher, kind: u8, slot: Slot) {
     state.write_u8(kind);
     state.write_u32(slot.number);

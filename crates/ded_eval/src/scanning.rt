@@ -22,7 +22,7 @@ use std::alloc::{AllocError, Global};
 /// The tuples of a name, its columns read into the slots.
 ///
 /// # Errors
-/// Want of memory.
+/// Out of memory.
 pub(crate) fn scanned<T: OfTuples, R: Relations>(
     alloc: Global,
     name: &Name,
@@ -44,7 +44,7 @@ pub(crate) fn scanned<T: OfTuples, R: Relations>(
 /// Each column, by number from 0, with the slot that it is read into.
 ///
 /// # Errors
-/// Want of memory, also where a column would have no number.
+/// Out of memory, also where a column would have no number.
 fn column_pairs(alloc: Global, slots: &[Slot]) -> Result<Vec<(Slot, Slot)>, NoMemory>
     ensures { IfOk result (λ v. v.items ≡ column_pairs 0 slots.now) }
 {
@@ -61,7 +61,10 @@ fn column_pairs(alloc: Global, slots: &[Slot]) -> Result<Vec<(Slot, Slot)>, NoMe
     Ok(pairs)
 }
 
-/// The next number; the greatest one has none.
+/// The next number.
+///
+/// # Errors
+/// Out of memory, where the number is the greatest one and has no next.
 pub(crate) fn following(number: u32) -> Result<u32, NoMemory>
     ensures { IfOk result (λ n. n ≡ number + 1) }
 {

@@ -11,7 +11,7 @@ use std::alloc::Global;
 /// Rational slots: those that the plan mentions freely, each once.
 ///
 /// # Errors
-/// Want of memory.
+/// Out of memory.
 #[cycle(rational_slots)]
 pub(crate) fn rational_slots(alloc: Global, plan: &Plan) -> Result<Vec<Slot>, NoMemory>
     ensures { IfOk result (λ v. AreRational v.items) }
@@ -30,7 +30,7 @@ pub(crate) fn rational_slots(alloc: Global, plan: &Plan) -> Result<Vec<Slot>, No
     }
 }
 
-/// The slots of all parts.
+/// The rational slots that some of the parts mention freely, each once.
 #[cycle(rational_slots)]
 fn slots_of_parts(alloc: Global, parts: &Vec<Plan>) -> Result<Vec<Slot>, NoMemory>
     ensures { IfOk result (λ v. AreRational v.items) }
@@ -42,7 +42,7 @@ fn slots_of_parts(alloc: Global, parts: &Vec<Plan>) -> Result<Vec<Slot>, NoMemor
     Ok(slots)
 }
 
-/// The slots of all rows among the atoms.
+/// The rational slots that rows among the atoms mention, each once.
 fn slots_of_atoms(alloc: Global, atoms: &[Atom]) -> Result<Vec<Slot>, NoMemory>
     ensures { IfOk result (λ v. AreRational v.items) }
 {
@@ -55,7 +55,7 @@ fn slots_of_atoms(alloc: Global, atoms: &[Atom]) -> Result<Vec<Slot>, NoMemory>
     Ok(slots)
 }
 
-/// Those slots of the list that are rational.
+/// The slots of the list that are rational.
 fn rationals(alloc: Global, list: &[Slot]) -> Result<Vec<Slot>, NoMemory>
     ensures { IfOk result (λ v. AreRational v.items) }
 {
@@ -64,7 +64,7 @@ fn rationals(alloc: Global, list: &[Slot]) -> Result<Vec<Slot>, NoMemory>
     Ok(slots)
 }
 
-/// The slots of the list but one.
+/// The slots of the list, but for the given one.
 fn others(alloc: Global, list: &[Slot], but: Slot) -> Result<Vec<Slot>, NoMemory>
     ensures { IfOk result (λ v. AreRational v.items) }
 {
@@ -80,7 +80,7 @@ fn others(alloc: Global, list: &[Slot], but: Slot) -> Result<Vec<Slot>, NoMemory
 /// Those slots of the one list that stand in the other.
 ///
 /// # Errors
-/// Want of memory.
+/// Out of memory.
 pub(crate) fn shared(alloc: Global, list: &[Slot], other: &[Slot]) -> Result<Vec<Slot>, NoMemory>
     ensures { IfOk result (λ v. AreRational v.items) }
 {
@@ -96,7 +96,7 @@ pub(crate) fn shared(alloc: Global, list: &[Slot], other: &[Slot]) -> Result<Vec
 /// Adds the slots that aren't there yet and are rational.
 ///
 /// # Errors
-/// Want of memory.
+/// Out of memory.
 pub(crate) fn add_all(slots: &mut Vec<Slot>, more: &[Slot]) -> Result<(), NoMemory>
     requires { AreRational slots.old.items }
     ensures { OnOk result (AreRational slots.new.items) }

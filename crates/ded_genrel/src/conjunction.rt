@@ -14,7 +14,7 @@ use std::alloc::Global;
 /// Copies of the atoms.
 ///
 /// # Errors
-/// Want of memory.
+/// Out of memory.
 pub fn copy_conj<T: Theory>(alloc: Global, atoms: &[T::Atom]) -> Result<Vec<T::Atom>, NoMemory>
     ensures { IfOk result (λ v. v.items ≡ atoms.now) }
 {
@@ -26,7 +26,7 @@ pub fn copy_conj<T: Theory>(alloc: Global, atoms: &[T::Atom]) -> Result<Vec<T::A
 /// Copies of the atoms of both conjunctions, those of the first one first.
 ///
 /// # Errors
-/// Want of memory.
+/// Out of memory.
 pub fn both_conjs<T: Theory>(
     alloc: Global,
     first: &[T::Atom],
@@ -50,6 +50,9 @@ fn push_atoms<T: Theory>(conj: &mut Vec<T::Atom>, atoms: &[T::Atom]) -> Result<(
 }
 
 /// The atoms with each slot replaced as the pairs say.
+///
+/// # Errors
+/// Out of memory.
 pub(crate) fn renamed_conj<T: Theory>(
     alloc: Global,
     atoms: &[T::Atom],

@@ -49,7 +49,7 @@ impl<T: Theory> GenRel<T> {
     /// Sets one more conjunction at the end.
     ///
     /// # Errors
-    /// Want of memory; the list is as it was then.
+    /// Out of memory; the list is as it was then.
     pub fn push(&mut self, conj: Vec<T::Atom>) -> Result<(), NoMemory>
         requires normal { AllByRecursion T.normal conj.items }
         ensures pushed { IfOk result (λ _. self.new ≡ self.old ++ conj.items ∷ []) }
@@ -62,7 +62,7 @@ impl<T: Theory> GenRel<T> {
     /// An equal list.
     ///
     /// # Errors
-    /// Want of memory.
+    /// Out of memory.
     pub fn copy(&self) -> Result<Self, NoMemory>
         ensures { IfOk result (λ r. r ≡ self.now) }
     {
@@ -74,7 +74,7 @@ impl<T: Theory> GenRel<T> {
     /// The conjunctions of this list, then those of the other: it holds where one of the lists does.
     ///
     /// # Errors
-    /// Want of memory.
+    /// Out of memory.
     pub fn union(&self, other: &Self) -> Result<Self, NoMemory>
         ensures list { IfOk result (λ r. r ≡ self.now ++ other.now) }
         ensures is { IfOk result (λ r. IsUnion T.holds T.mentions T.lines self.now other.now r) }
@@ -87,7 +87,7 @@ impl<T: Theory> GenRel<T> {
     /// Each conjunction of this list together with each of the other: it holds where both lists do.
     ///
     /// # Errors
-    /// Want of memory.
+    /// Out of memory.
     pub fn meet(&self, other: &Self) -> Result<Self, NoMemory>
         ensures list { IfOk result (λ r. r ≡ pairs self.now other.now) }
         ensures is { IfOk result (λ r. IsMeet T.holds T.mentions T.lines self.now other.now r) }
@@ -124,7 +124,7 @@ impl<T: Theory> GenRel<T> {
     /// the same values at the slots before, and has the list's lines over the new slots.
     ///
     /// # Errors
-    /// Want of memory.
+    /// Out of memory.
     pub fn rename(&self, map: &[(Slot, Slot)]) -> Result<Self, NoMemory>
         requires one { IsOneToOne map.now (conjs_mention T.mentions self.now) }
         requires sorts { KeepsSorts map.now (conjs_mention T.mentions self.now) }
@@ -141,7 +141,7 @@ impl<T: Theory> GenRel<T> {
     /// Whether the list holds somewhere. `Unknown` only where some conjunction is wide.
     ///
     /// # Errors
-    /// Want of memory.
+    /// Out of memory.
     pub fn is_empty(&self, alloc: Global) -> Result<Verdict, NoMemory>
         ensures { IfOk result (λ v. IsVerdictOn T.holds T.mentions T.lines self.now v) }
     {
@@ -159,7 +159,7 @@ impl<T: Theory> GenRel<T> {
     /// The list without conjunctions that no point satisfies: each that is kept is wide or holds somewhere.
     ///
     /// # Errors
-    /// Want of memory.
+    /// Out of memory.
     pub fn inhabited(self) -> Result<Self, NoMemory>
         ensures { IfOk result (λ r. IsInhabitedPart T.holds T.mentions T.lines self r) }
     {
@@ -173,7 +173,7 @@ impl<T: Theory> GenRel<T> {
     /// Sets the conjunctions of another list at the end.
     ///
     /// # Errors
-    /// Want of memory.
+    /// Out of memory.
     pub fn append(&mut self, more: Self) -> Result<(), NoMemory>
         ensures { IfOk result (λ _. self.new ≡ self.old ++ more) }
     {

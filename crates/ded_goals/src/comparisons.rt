@@ -21,6 +21,9 @@ use ded_model::slot::Sort;
 use std::alloc::Global;
 
 /// The goal of a comparison: of texts where a side is one, of sums where none is.
+///
+/// # Errors
+/// Out of memory.
 pub fn comparison(
     alloc: Global,
     scope: &Scope,
@@ -85,6 +88,9 @@ fn row(left: SlotTerm, op: CompareOp, right: SlotTerm) -> Result<Row, NoMemory>
 }
 
 /// The arguments of an atom by slots.
+///
+/// # Errors
+/// Out of memory.
 pub fn places(alloc: Global, scope: &Scope, operands: &Operands) -> Result<Places, NoMemory>
     requires { ArePlaceable scope.now operands.now }
     ensures { IfOk result (λ ps. ps ≡ map (place_of scope.now) operands.now) }
@@ -96,7 +102,7 @@ pub fn places(alloc: Global, scope: &Scope, operands: &Operands) -> Result<Place
     Ok(Places { list })
 }
 
-/// One argument by its slot.
+/// One argument of an atom, by its slot.
 fn place(alloc: Global, scope: &Scope, operand: &Operand) -> Result<Place, NoMemory>
     requires { IsPlaceable scope.now operand.now }
     ensures { IfOk result (λ p. p ≡ place_of scope.now operand.now) }

@@ -43,7 +43,10 @@ impl<'a> Model for Scope<'a> {
 }
 
 impl<'a> Scope<'a> {
-    /// The columns of a heading, at the slots from 0 on.
+    /// The scope of the columns of a heading, at the slots from 0 on.
+    ///
+    /// # Errors
+    /// Out of memory.
     pub fn new(alloc: Global, heading: &'a Heading) -> Result<Scope<'a>, NoMemory>
         requires { length heading.now < 2 ^ 32 }
         ensures { IfOk result (λ s. s ≡ heading_scope 0 heading.now) }
@@ -66,7 +69,10 @@ impl<'a> Scope<'a> {
         Ok(scope)
     }
 
-    /// The name with its slot is nearest now.
+    /// Binds the name to the slot; it is the nearest name then.
+    ///
+    /// # Errors
+    /// Out of memory.
     pub fn bind(&mut self, variable: &'a Name, slot: Slot) -> Result<(), NoMemory>
         ensures { OnOk result (self.new ≡ (name variable.now, slot) ∷ self.old) }
     {
@@ -74,14 +80,14 @@ impl<'a> Scope<'a> {
         Ok(())
     }
 
-    /// Leaves the nearest name out.
+    /// Leaves the nearest name out of the scope.
     pub fn unbind(&mut self)
         ensures { self.new ≡ without_nearest self.old }
     {
         let _ = self.names.pop();
     }
 
-    /// The slot of the nearest such name, 0 for a name that isn't bound.
+    /// The slot of the nearest column or quantifier of the name, 0 for a name that isn't bound.
     pub fn slot(&self, variable: &Name) -> Slot
         ensures { result ≡ slot_of self.now variable.now }
     {

@@ -21,6 +21,9 @@ use std::alloc::Global;
 
 /// The goal of a formula over a heading, none for a closed one. Each variable of the formula is a column of the heading or
 /// bound by a quantifier, each sum is over 1 and has each name once, and no sum has a text variable.
+///
+/// # Errors
+/// Out of memory.
 pub fn goal(alloc: Global, heading: &Heading, formula: &Formula) -> Result<Goal, NoMemory>
     requires plain { IsPlain (form formula.now) }
     requires bound { has_unbound heading.now (form formula.now) ≡ false }
@@ -100,7 +103,7 @@ fn read_all<'a>(
     Ok(goals)
 }
 
-/// Binds the variable of a quantifier to the next slot, which is the answer.
+/// Binds the variable of a quantifier to the next slot. Returns the slot.
 fn quantify<'a>(scope: &mut Scope<'a>, next: &mut u32, column: &'a Column) -> Result<Slot, NoMemory>
     requires { next.old + 1 < 2 ^ 32 }
     ensures slot { IfOk result (λ s. s ≡ record { number = next.old; sort = column.now.sort }) }

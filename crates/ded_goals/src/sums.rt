@@ -17,6 +17,9 @@ use ded_row::normal;
 use std::alloc::Global;
 
 /// The sum of slots that an operand is. A quoted text is no number, and gives an empty sum.
+///
+/// # Errors
+/// Out of memory.
 pub fn slot_sum(alloc: Global, scope: &Scope, operand: &Operand) -> Result<SlotTerm, NoMemory>
     requires { IsSummable scope.now operand.now }
     ensures value { IfOk result (λ t. t ≡ slot_sum scope.now operand.now) }
@@ -41,7 +44,7 @@ pub fn slot_sum(alloc: Global, scope: &Scope, operand: &Operand) -> Result<SlotT
     }
 }
 
-/// The slot alone.
+/// The coefficients of a sum that is the slot alone.
 fn one_slot(alloc: Global, slot: Slot) -> Result<Coefs, NoMemory>
     requires { slot.sort ≡ Rat }
     ensures { IfOk result (λ cs. cs ≡ (slot, pos 1) ∷ []) }
@@ -70,6 +73,9 @@ fn slot_coefs(alloc: Global, scope: &Scope, parts: &Parts) -> Result<Coefs, NoMe
 }
 
 /// The normal row of the difference of two sums.
+///
+/// # Errors
+/// Out of memory.
 pub fn difference(left: SlotTerm, right: &SlotTerm, op: RowOp) -> Result<Row, NoMemory>
     requires left { IsSmall left }
     requires right { IsSmall right.now }
@@ -84,7 +90,7 @@ pub fn difference(left: SlotTerm, right: &SlotTerm, op: RowOp) -> Result<Row, No
     }))
 }
 
-/// The coefficients of the one list with those of the other taken off.
+/// The coefficients of the first list with those of the second taken off.
 fn without(left: Coefs, right: &Coefs) -> Result<Coefs, NoMemory>
     requires left { AreSmall left }
     requires right { AreSmall right.now }

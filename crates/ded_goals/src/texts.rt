@@ -35,6 +35,9 @@ pub fn text_side<'a>(scope: &Scope, operand: &'a Operand) -> Side<'a>
 }
 
 /// The goal of a comparison of texts, which have no order.
+///
+/// # Errors
+/// Out of memory.
 pub fn texts(alloc: Global, left: Side, op: CompareOp, right: Side) -> Result<Goal, NoMemory>
     ensures goal { IfOk result (λ g. goal_form g ≡ texts_goal (side_form left.entry) op (side_form right.entry)) }
     ensures normal { IsTextSide (side_form left.entry) → IsTextSide (side_form right.entry) → IfOk result (λ g. IsNormalComparison (goal_form g)) }
@@ -107,7 +110,7 @@ fn truth(holds: bool) -> Goal
     if holds { Goal::True } else { Goal::False }
 }
 
-/// A text of these bytes.
+/// A text of the given bytes.
 fn quoted(alloc: Global, bytes: &[u8]) -> Result<Name, NoMemory>
     ensures text { IfOk result (λ n. n ≡ bytes.now) }
     ensures bytes { IfOk result (λ n. AllBytes n) }

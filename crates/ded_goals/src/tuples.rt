@@ -24,6 +24,9 @@ use std::alloc::Global;
 /// The normal tuple of comparisons over a heading. Each variable is a column of the heading, each sum is over 1 and has each
 /// name once, and no text stands where a number has to, or a number where a text has to. What has no atom, as `!=` between
 /// numbers, is left out.
+///
+/// # Errors
+/// Out of memory.
 pub fn tuple(alloc: Global, heading: &Heading, comparisons: &[Formula]) -> Result<Tuple, NoMemory>
     requires few { length heading.now < 2 ^ 32 }
     requires plain { IsPlain (every_of (forms comparisons.now)) }

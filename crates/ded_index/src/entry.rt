@@ -37,14 +37,14 @@ pub(crate) fn is_full(bounds: &BoundBox) -> bool
     may_meet(&low, &high)
 }
 
-/// The order of entries by the low ends of their first intervals.
+/// The order of two entries by the low ends of their first intervals.
 pub(crate) fn order(a: &Entry, b: &Entry) -> Ordering
     ensures { result ≡ entry_order a.now b.now }
 {
     low_order(first_interval(&a.bounds).0, first_interval(&b.bounds).0)
 }
 
-/// The order of lower bounds. One that is attained begins before one with the same fraction that isn't.
+/// The order of two lower bounds. One that is attained begins before one with the same fraction that isn't.
 fn low_order(a: Bound, b: Bound) -> Ordering
     ensures { result ≡ low_order (sound a) (sound b) }
 {
@@ -66,14 +66,14 @@ fn low_order(a: Bound, b: Bound) -> Ordering
     }
 }
 
-/// The order of fractions.
+/// The order of two fractions.
 fn fraction_order(f: Frac, g: Frac) -> Ordering
     ensures { result ≡ fraction_order (sound_fraction f) (sound_fraction g) }
 {
     compare(f, g)
 }
 
-/// The same, with what is known of the fractions.
+/// The order of two fractions, of which it is then known that their denominators are above 0.
 fn compare(f: Frac, g: Frac) -> Ordering
     ensures value { result ≡ fraction_order f g }
     ensures first { IsPositive f }

@@ -40,7 +40,7 @@ impl BoxIndex {
     /// The index of the boxes under their positions. All boxes are of one length of at least 1, if there are any.
     ///
     /// # Errors
-    /// Want of memory.
+    /// Out of memory.
     pub fn build(alloc: Global, boxes: &[BoundBox]) -> Result<BoxIndex, NoMemory>
         requires { length boxes.now < 2 ^ 32 }
         ensures { IfOk result (λ x. IsPermutation (numbered 0 boxes.now) x) }
@@ -61,7 +61,7 @@ impl BoxIndex {
     /// Adds an entry.
     ///
     /// # Errors
-    /// Want of memory; the index is as it was then.
+    /// Out of memory; the index is as it was then.
     pub fn insert(&mut self, id: u32, bounds: &BoundBox) -> Result<(), NoMemory>
         ensures inserted { IfOk result (λ _. IsPermutation (record { id = id; bounds = bounds.now } ∷ self.old) self.new) }
         ensures unchanged { OnErr result (self.new ≡ self.old) }
@@ -90,7 +90,7 @@ impl BoxIndex {
     /// The numbers of the entries whose boxes share values with the window, ascending.
     ///
     /// # Errors
-    /// Want of memory.
+    /// Out of memory.
     pub fn look_up<L: Ledger>(
         &self,
         alloc: Global,
@@ -107,17 +107,18 @@ impl BoxIndex {
         Ok(found)
     }
 
-    /// The same, without counting steps.
+    /// The numbers of the entries whose boxes share values with the window, ascending, without counting steps.
     ///
     /// # Errors
-    /// Want of memory.
+    /// Out of memory.
     pub fn find(&self, alloc: Global, window: &BoundBox) -> Result<Vec<u32>, NoMemory>
         ensures { IfOk result (λ ids. AreFound window.now self.now ids.items) }
     {
         self.find_over::<Brand>(alloc, window, Blank::new(1))
     }
 
-    /// A look-up over a new ledger.
+    /// The numbers of the entries whose boxes share values with the window, ascending, with the steps counted on a new
+    /// ledger.
     fn find_over<L: Ledger>(
         &self,
         alloc: Global,
@@ -137,7 +138,7 @@ impl BoxIndex {
 /// Adds an entry to the nodes, or beside them where its first interval is empty.
 ///
 /// # Errors
-/// Want of memory; nothing is added then.
+/// Out of memory; nothing is added then.
 fn add(tree: &mut Vec<Node>, apart: &mut Vec<Entry>, entry: Entry) -> Result<(), NoMemory>
     requires full { AreFull (entries_of tree.old.items) }
     requires sound { AreSound (entries_of tree.old.items) }
@@ -161,21 +162,21 @@ fn add(tree: &mut Vec<Node>, apart: &mut Vec<Entry>, entry: Entry) -> Result<(),
     Ok(())
 }
 
-/// Whether some entry has the number.
+/// Whether some entry, among the nodes or beside them, has the number.
 fn has_number(tree: &[Node], apart: &[Entry], id: u32) -> bool
     ensures { result ≡ (list_any (λ n. nat_eq n.entry.id id) tree.now || list_any (λ e. nat_eq e.id id) apart.now) }
 {
     has_node(tree, id) || has_entry(apart, id)
 }
 
-/// The same of nodes.
+/// Whether the entry of some node has the number.
 fn has_node(tree: &[Node], id: u32) -> bool
     ensures { result ≡ list_any (λ n. nat_eq n.entry.id id) tree.now }
 {
     tree.iter().any(|node| node.entry.id == id)
 }
 
-/// The same of entries.
+/// Whether some entry beside the nodes has the number.
 fn has_entry(apart: &[Entry], id: u32) -> bool
     ensures { result ≡ list_any (λ e. nat_eq e.id id) apart.now }
 {

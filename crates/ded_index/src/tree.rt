@@ -74,7 +74,7 @@ fn later(bound: Bound, other: Option<Bound>) -> Bound
 /// Adds the numbers of the entries whose boxes meet the window, in order. A window whose first interval is empty takes no step.
 ///
 /// # Errors
-/// Want of memory.
+/// Out of memory.
 pub(crate) fn visit_all<L: Ledger>(
     nodes: &[Node],
     window: &BoundBox,
@@ -97,7 +97,7 @@ pub(crate) fn visit_all<L: Ledger>(
 /// in which all intervals end before the window begins is passed over, and so is what begins after the window ends.
 ///
 /// # Errors
-/// Want of memory.
+/// Out of memory.
 fn visit<L: Ledger>(
     nodes: &[Node],
     window: &BoundBox,

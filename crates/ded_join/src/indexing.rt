@@ -14,7 +14,7 @@ use std::alloc::Global;
 /// The index over the boxes around the conjunctions, under their places.
 ///
 /// # Errors
-/// Want of memory.
+/// Out of memory.
 pub(crate) fn index_of<T: Theory>(
     alloc: Global,
     list: &GenRel<T>,

@@ -24,7 +24,7 @@ use std::alloc::Global;
 /// count of pairs that are met, those that are left out among them, up to the greatest `u64`.
 ///
 /// # Errors
-/// Want of memory.
+/// Out of memory.
 pub fn join_inhabited<T: Theory>(
     alloc: Global,
     a: &GenRel<T>,
@@ -64,7 +64,7 @@ fn meet_inhabited<T: Theory>(
     Ok(out)
 }
 
-/// The join through an index over the second list, without pairs that no point satisfies.
+/// The join of two lists through an index over the second one, without pairs that no point satisfies.
 fn near_inhabited<T: Theory>(
     alloc: Global,
     a: &GenRel<T>,
@@ -105,7 +105,8 @@ fn push_met<T: Theory>(
     Ok(())
 }
 
-/// Sets the conjunction together with those at the places at the end, but for pairs that no point satisfies.
+/// Sets the conjunction together with each one that stands at one of the places in the list at the end, but for pairs
+/// that no point satisfies.
 fn push_near<T: Theory>(
     alloc: Global,
     out: &mut GenRel<T>,

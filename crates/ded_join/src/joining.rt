@@ -22,7 +22,7 @@ pub(crate) const TOO_MANY: usize = 1 << 32;
 /// that aren't wide, it pairs only those that hold somewhere and whose exact bounds at each slot share a value.
 ///
 /// # Errors
-/// Want of memory.
+/// Out of memory.
 pub fn join<T: Theory>(
     alloc: Global,
     a: &GenRel<T>,
@@ -40,10 +40,11 @@ pub fn join<T: Theory>(
     }
 }
 
-/// The same, and `met` grows by the count of pairs that are met, up to the greatest `u64`.
+/// A list that holds where both do, as [`join`] makes it. `met` grows by the count of pairs that are met, up to the
+/// greatest `u64`.
 ///
 /// # Errors
-/// Want of memory.
+/// Out of memory.
 pub fn join_counted<T: Theory>(
     alloc: Global,
     a: &GenRel<T>,
@@ -61,7 +62,7 @@ pub fn join_counted<T: Theory>(
     Ok(joined)
 }
 
-/// The join through an index over the second list.
+/// The join of two lists through an index over the second one.
 fn join_by_index<T: Theory>(
     alloc: Global,
     a: &GenRel<T>,
@@ -83,7 +84,7 @@ fn join_by_index<T: Theory>(
     Ok(out)
 }
 
-/// Sets the conjunction together with those at the places at the end.
+/// Sets the conjunction together with each one that stands at one of the places in the list at the end.
 fn push_picked<T: Theory>(
     alloc: Global,
     out: &mut GenRel<T>,

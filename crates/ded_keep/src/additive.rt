@@ -85,7 +85,7 @@ fn hides(plan: &Plan, name: &Name) -> bool
     }
 }
 
-/// The same of one of the plans.
+/// Whether in one of the plans some scan of the name stands under a complement, or in what a difference takes away.
 #[cycle(hides)]
 fn some_hides(plans: &Vec<Plan>, name: &Name) -> bool
     ensures { result ≡ some_hides name.now (plan_forms plans.now.items) }

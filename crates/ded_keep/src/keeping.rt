@@ -79,10 +79,10 @@ pub fn add_tuple<E: Evaluate, R: Relations>(
     Ok(extended(kept, more)?)
 }
 
-/// The tuples of the one list, and behind them those of the other.
+/// The tuples of the first list, and behind them those of the second.
 ///
 /// # Errors
-/// Want of memory.
+/// Out of memory.
 fn extended(kept: Tuples, more: Tuples) -> Result<Tuples, NoMemory>
     ensures { IfOk result (λ ts. ts ≡ kept ++ more) }
 {

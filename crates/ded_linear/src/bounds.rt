@@ -20,6 +20,9 @@ use std::alloc::{AllocError, Global};
 
 /// The exact bounds of the slot, `Nothing` where no point satisfies the rows, and no bounds at all where a number on the way
 /// got too long. Other slots are eliminated, that with the fewest pairs of rows first, until each row mentions at most one.
+///
+/// # Errors
+/// Out of memory.
 pub fn bounds(alloc: Global, rows: &[Row], slot: Slot) -> Result<Span, NoMemory>
     requires normal { AllByRecursion IsLinearAtom rows.now }
     ensures span { IfOk result (λ s. IsSpan row_holds row_mentions row_lines rows.now slot s) }
@@ -32,7 +35,7 @@ pub fn bounds(alloc: Global, rows: &[Row], slot: Slot) -> Result<Span, NoMemory>
     bounds_past(alloc, rows, others, slot)
 }
 
-/// The same, with the other slots of the rows at hand.
+/// The exact bounds of the slot as [`bounds`] gives them, with the other slots that the rows mention at hand.
 fn bounds_past(
     alloc: Global,
     rows: &[Row],

@@ -25,7 +25,8 @@ pub fn are_single(rows: &[Row]) -> bool
     rows.iter().all(|row| row.coefs.list().len() < 2)
 }
 
-/// The exact bounds of a slot, where each row mentions at most one slot.
+/// The exact bounds of a slot over all points that satisfy rows each of which mentions at most one slot. It does not
+/// allocate.
 pub fn interval(rows: &[Row], slot: Slot) -> Span
     requires normal { AllByRecursion IsLinearAtom rows.now }
     requires single { list_all is_single rows.now ≡ true }
@@ -44,7 +45,8 @@ pub fn interval(rows: &[Row], slot: Slot) -> Span
     }
 }
 
-/// Whether the rows without slots hold, and each slot but the one has some value. Each slot is looked at where it stands first.
+/// Whether the rows without slots hold, and each slot but the one has some value. A slot is looked at in the first row
+/// that mentions it.
 fn all_fit(rows: &[Row], slot: Slot) -> bool
     ensures { result ≡ list_all (row_fits rows.now slot) rows.now }
 {
@@ -84,7 +86,7 @@ fn row_fits(rows: &[Row], slot: Slot, row: &Row) -> bool
     }
 }
 
-/// Whether the bounds of the slot may meet.
+/// Whether the bounds that the rows give the slot leave a value between them.
 fn has_value(rows: &[Row], slot: Slot) -> bool
     ensures { result ≡ may_meet (narrowed lower slot Infinite rows.now) (narrowed upper slot Infinite rows.now) }
 {
@@ -105,7 +107,7 @@ fn meets_zero(row: &Row) -> bool
     }
 }
 
-/// The bound that the rows give together.
+/// The bound that all the rows together give the slot on the side.
 fn bound_of(side: Side, rows: &[Row], slot: Slot) -> Bound
     ensures { result ≡ narrowed (end_of side) slot Infinite rows.now }
 {
@@ -116,7 +118,7 @@ fn bound_of(side: Side, rows: &[Row], slot: Slot) -> Bound
     bound
 }
 
-/// The bound that a row gives a slot, none where it doesn't mention the slot.
+/// The bound that a row gives the slot on the side, none where it does not mention the slot.
 fn row_bound(side: Side, row: &Row, slot: Slot) -> Bound
     ensures { result ≡ row_bound (end_of side) slot row.now }
 {

@@ -11,6 +11,9 @@ use ded_model::slot::Slot;
 use std::alloc::Global;
 
 /// The slots that the rows mention, but for the one, each once.
+///
+/// # Errors
+/// Out of memory.
 pub fn other_slots(alloc: Global, rows: &[Row], slot: Slot) -> Result<Vec<Slot>, NoMemory>
     ensures { IfOk result (λ others. others.items ≡ with_all_slots slot [] rows.now) }
 {
@@ -21,7 +24,7 @@ pub fn other_slots(alloc: Global, rows: &[Row], slot: Slot) -> Result<Vec<Slot>,
     Ok(others)
 }
 
-/// Adds those of a row.
+/// Adds the slots that a row mentions, but for the one and those that are there already.
 fn add_slots(others: &mut Vec<Slot>, slot: Slot, row: &Row) -> Result<(), NoMemory>
     ensures { OnOk result (others.new.items ≡ with_slots slot others.old.items row.now.coefs) }
 {
@@ -64,7 +67,7 @@ pub fn take_cheapest(rows: &[Row], slots: &mut Vec<Slot>) -> Slot
     slots.swap_remove(at)
 }
 
-/// Where it stands.
+/// The place in the list of the slot whose elimination pairs the fewest rows.
 fn cheapest(rows: &[Row], slots: &[Slot]) -> usize
     requires { 0 < length slots.now }
     ensures { result < length slots.now }
@@ -82,6 +85,9 @@ fn cheapest(rows: &[Row], slots: &[Slot]) -> usize
 }
 
 /// The slot whose elimination pairs the most rows, to be kept to the end: one that the rows mention, where they mention any.
+///
+/// # Errors
+/// Out of memory.
 pub fn costliest(alloc: Global, rows: &[Row]) -> Result<Slot, NoMemory> {
     let mut best = some_slot(rows);
     let mut most = pairs(rows, best);

@@ -17,6 +17,9 @@ use ded_theory::{Span, Verdict};
 use std::alloc::Global;
 
 /// Whether some point satisfies all the rows. `Unknown` only where a number on the way got too long.
+///
+/// # Errors
+/// Out of memory.
 pub fn refute(alloc: Global, rows: &[Row]) -> Result<Verdict, NoMemory>
     requires normal { AllByRecursion IsLinearAtom rows.now }
     ensures { IfOk result (λ v. IsVerdict row_holds row_mentions row_lines rows.now v) }
@@ -31,7 +34,7 @@ pub fn refute(alloc: Global, rows: &[Row]) -> Result<Verdict, NoMemory>
     }
 }
 
-/// What the bounds of any slot tell.
+/// What the bounds of a slot tell of whether some point satisfies the rows.
 fn verdict_of(span: &Span) -> Verdict
     ensures { result ≡ verdict_of span.now }
 {

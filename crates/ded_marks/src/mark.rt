@@ -42,7 +42,7 @@ pub struct Mark {
 /// The mark of a view.
 ///
 /// # Errors
-/// Want of memory.
+/// Out of memory.
 pub fn mark_of(alloc: Global, catalogue: &Catalogue, name: &Name) -> Result<Mark, NoMemory>
     requires view { is_some (view_in (entry_of (catalogue_of catalogue.now).entries name.now)) ≡ true }
     ensures name { IfOk result (λ m. m.name ≡ name.now) }

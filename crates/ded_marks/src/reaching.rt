@@ -25,7 +25,7 @@ const GREATEST_LEVEL: u32 = 16;
 /// The names that a goal uses, each with all names that it reaches. All of them are defined.
 ///
 /// # Errors
-/// Want of memory.
+/// Out of memory.
 pub(crate) fn uses_of(
     alloc: Global,
     catalogue: &Catalogue,
@@ -47,7 +47,7 @@ pub(crate) fn uses_of(
 /// Adds all names that the name reaches, which is defined and has at most the level.
 ///
 /// # Errors
-/// Want of memory. Some may be added then.
+/// Out of memory. Some may be added then.
 #[cycle(reached)]
 fn add_reached(
     alloc: Global,
@@ -75,7 +75,7 @@ fn add_reached(
 /// Adds all names that those of the goal reach. They are defined and have lesser levels.
 ///
 /// # Errors
-/// Want of memory. Some may be added then.
+/// Out of memory. Some may be added then.
 #[cycle(reached)]
 fn add_used(
     alloc: Global,

@@ -14,6 +14,9 @@ pub struct Answer {
 
 impl Answer {
     /// An equal answer.
+    ///
+    /// # Errors
+    /// Out of memory.
     pub fn copy(&self) -> Result<Answer, NoMemory>
         ensures { IfOk result (λ a. a ≡ self.now) }
     {

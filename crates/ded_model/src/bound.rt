@@ -61,6 +61,9 @@ pub enum BoxReply {
 
 impl Spans {
     /// An equal list.
+    ///
+    /// # Errors
+    /// Out of memory.
     pub fn copy(&self) -> Result<Spans, NoMemory>
         ensures { IfOk result (λ s. s ≡ self.now) }
     {
@@ -72,6 +75,9 @@ impl Spans {
 
 impl BoxReply {
     /// An equal reply.
+    ///
+    /// # Errors
+    /// Out of memory.
     pub fn copy(&self) -> Result<BoxReply, NoMemory>
         ensures { IfOk result (λ r. r ≡ self.now) }
     {

@@ -60,6 +60,9 @@ pub enum Refusal {
 
 impl Command {
     /// A command that stands for the same.
+    ///
+    /// # Errors
+    /// Out of memory.
     pub fn copy(&self) -> Result<Command, NoMemory>
         ensures { IfOk result (λ c. command_form c ≡ command_form self.now) }
     {

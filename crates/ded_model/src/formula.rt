@@ -93,6 +93,9 @@ pub enum Formula {
 
 impl Parts {
     /// Equal parts.
+    ///
+    /// # Errors
+    /// Out of memory.
     pub fn copy(&self) -> Result<Parts, NoMemory>
         ensures { IfOk result (λ p. p ≡ self.now) }
     {
@@ -106,6 +109,9 @@ impl Parts {
 
 impl Term {
     /// An equal sum.
+    ///
+    /// # Errors
+    /// Out of memory.
     pub fn copy(&self) -> Result<Term, NoMemory>
         ensures { IfOk result (λ t. t ≡ self.now) }
     {
@@ -119,6 +125,9 @@ impl Term {
 
 impl Operand {
     /// An equal operand.
+    ///
+    /// # Errors
+    /// Out of memory.
     pub fn copy(&self) -> Result<Operand, NoMemory>
         ensures { IfOk result (λ t. t ≡ self.now) }
     {
@@ -132,6 +141,9 @@ impl Operand {
 
 impl Operands {
     /// Equal operands.
+    ///
+    /// # Errors
+    /// Out of memory.
     pub fn copy(&self) -> Result<Operands, NoMemory>
         ensures { IfOk result (λ ts. ts ≡ self.now) }
     {
@@ -145,6 +157,9 @@ impl Operands {
 
 impl Formula {
     /// A formula that stands for the same.
+    ///
+    /// # Errors
+    /// Out of memory.
     #[cycle(copy)]
     pub fn copy(&self) -> Result<Formula, NoMemory>
         ensures { IfOk result (λ f. form f ≡ form self.now) }
@@ -196,6 +211,9 @@ impl Formula {
 }
 
 /// Formulas that stand for the same, one for each.
+///
+/// # Errors
+/// Out of memory.
 #[cycle(copy)]
 pub fn copy_formulas(parts: &Vec<Formula>) -> Result<Vec<Formula>, NoMemory>
     ensures { IfOk result (λ fs. forms fs.items ≡ forms parts.now.items) }
@@ -207,6 +225,7 @@ pub fn copy_formulas(parts: &Vec<Formula>) -> Result<Vec<Formula>, NoMemory>
     Ok(copies)
 }
 
+/// Whether an atom of one of the formulas has the name.
 #[cycle(uses)]
 fn some_uses(parts: &Vec<Formula>, name: &Name) -> bool
     ensures { result ≡ some_atom_of (atom_uses name.now) (forms parts.now.items) }

@@ -71,6 +71,9 @@ pub enum Goal {
 
 impl SlotTerm {
     /// An equal sum.
+    ///
+    /// # Errors
+    /// Out of memory.
     pub fn copy(&self) -> Result<SlotTerm, NoMemory>
         ensures { IfOk result (λ t. t ≡ self.now) }
     {
@@ -84,6 +87,9 @@ impl SlotTerm {
 
 impl Place {
     /// An equal place.
+    ///
+    /// # Errors
+    /// Out of memory.
     pub fn copy(&self) -> Result<Place, NoMemory>
         ensures { IfOk result (λ t. t ≡ self.now) }
     {
@@ -97,6 +103,9 @@ impl Place {
 
 impl Places {
     /// Equal places.
+    ///
+    /// # Errors
+    /// Out of memory.
     pub fn copy(&self) -> Result<Places, NoMemory>
         ensures { IfOk result (λ ts. ts ≡ self.now) }
     {
@@ -110,6 +119,9 @@ impl Places {
 
 impl Goal {
     /// A goal that stands for the same.
+    ///
+    /// # Errors
+    /// Out of memory.
     #[cycle(copy)]
     pub fn copy(&self) -> Result<Goal, NoMemory>
         ensures { IfOk result (λ f. goal_form f ≡ goal_form self.now) }
@@ -137,6 +149,7 @@ impl Goal {
     }
 }
 
+/// Goals that stand for the same, one for each.
 #[cycle(copy)]
 fn copy_goals(parts: &Vec<Goal>) -> Result<Vec<Goal>, NoMemory>
     ensures { IfOk result (λ fs. goal_forms fs.items ≡ goal_forms parts.now.items) }

@@ -6,7 +6,7 @@
 //! `laws` states what all crates above rest on, as contracts of functions that do nothing.
 //!
 //! It stands on `ded_num` for lengths and divisors and on `smallvec`, in which coefficients are kept. Every type that
-//! owns memory has `copy`, which gives an equal value, or answers that there is no memory.
+//! owns memory has `copy`, which gives an equal value, or fails where memory runs out.
 #![tactic(auto)]
 
 pub mod answer;

@@ -4,7 +4,7 @@ ghost use Rattle.ded_model.specs.declared.memory.Refused.TheVariants.{Memory};
 
 use std::alloc::{AllocError, AllocFailed};
 
-/// Want of memory: no allocation was had. It is the one answer that any call which allocates may give.
+/// Out of memory: an allocation failed. It is the one answer that any call which allocates may give.
 pub type NoMemory = AllocError;
 
 /// Why a call that works on rows gives no list.
@@ -12,7 +12,7 @@ pub type NoMemory = AllocError;
 pub enum Refused {
     /// A number of the result has more than 127 binary digits.
     Wide,
-    /// Want of memory.
+    /// Out of memory.
     Memory,
 }
 

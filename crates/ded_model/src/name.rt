@@ -29,6 +29,9 @@ impl Model for Name {
 
 impl Name {
     /// An equal name.
+    ///
+    /// # Errors
+    /// Out of memory.
     pub fn copy(&self) -> Result<Name, NoMemory>
         ensures { IfOk result (λ n. n ≡ self.now) }
     {
@@ -37,7 +40,7 @@ impl Name {
         })
     }
 
-    /// Whether the bytes are the same.
+    /// Whether both names have the same bytes.
     pub fn is_same(&self, other: &Name) -> bool
         ensures { result ≡ bytes_eq self.now other.now }
     {
@@ -86,6 +89,9 @@ pub struct Column {
 
 impl Column {
     /// An equal column.
+    ///
+    /// # Errors
+    /// Out of memory.
     pub fn copy(&self) -> Result<Column, NoMemory>
         ensures { IfOk result (λ c. c ≡ self.now) }
     {
@@ -113,6 +119,9 @@ impl Model for Heading {
 
 impl Heading {
     /// An equal heading.
+    ///
+    /// # Errors
+    /// Out of memory.
     pub fn copy(&self) -> Result<Heading, NoMemory>
         ensures { IfOk result (λ h. h ≡ self.now) }
     {

@@ -25,6 +25,9 @@ pub enum Plan {
 
 impl Plan {
     /// A plan that stands for the same.
+    ///
+    /// # Errors
+    /// Out of memory.
     #[cycle(copy)]
     pub fn copy(&self) -> Result<Plan, NoMemory>
         ensures { IfOk result (λ p. plan_form p ≡ plan_form self.now) }
@@ -46,6 +49,7 @@ impl Plan {
     }
 }
 
+/// Plans that stand for the same, one for each.
 #[cycle(copy)]
 fn copy_plans(parts: &Vec<Plan>) -> Result<Vec<Plan>, NoMemory>
     ensures { IfOk result (λ ps. plan_forms ps.items ≡ plan_forms parts.now.items) }

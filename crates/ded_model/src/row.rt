@@ -80,16 +80,19 @@ impl Coefs {
         coef_in(self.list(), slot)
     }
 
-    /// The pairs of a slot and its coefficient.
+    /// The pairs of a slot and its coefficient. It does not allocate.
     pub fn list(&self) -> &[(Slot, i128)]
         ensures value { result.now ≡ self.now }
         ensures kept { AreCoefs self.now }
     {
-        let _ = &self.list;
+        let _ = &self.list; // for its invariant
         self.list.as_slice()
     }
 
-    /// Sets the coefficient of a rational slot. 0 takes it away. Where there is no memory, nothing is changed.
+    /// Sets the coefficient of a rational slot. 0 takes it away.
+    ///
+    /// # Errors
+    /// Out of memory; nothing is changed then.
     pub fn put(&mut self, slot: Slot, a: i128) -> Result<(), NoMemory>
         requires rational { slot.sort ≡ Rat }
         requires short { IsShort a }
@@ -108,6 +111,7 @@ impl Coefs {
         Ok(())
     }
 
+    /// Inserts the coefficient of a slot that has none, at the place where the slot would have to stand; 0 is left out.
     fn insert_at(&mut self, at: usize, slot: Slot, a: i128) -> Result<(), NoMemory>
         requires rational { slot.sort ≡ Rat }
         requires short { IsShort a }
@@ -127,7 +131,10 @@ impl Coefs {
         *self.list.allocator()
     }
 
-    /// Adds a coefficient at the end, of a rational slot above all others. Where there is no memory, nothing is changed.
+    /// Adds a coefficient that is not 0 at the end, of a rational slot above all others.
+    ///
+    /// # Errors
+    /// Out of memory; nothing is changed then.
     pub fn push(&mut self, slot: Slot, a: i128) -> Result<(), NoMemory>
         requires rational { slot.sort ≡ Rat }
         requires short { IsShort a }
@@ -150,6 +157,9 @@ impl Coefs {
     }
 
     /// Equal coefficients.
+    ///
+    /// # Errors
+    /// Out of memory.
     pub fn copy(&self) -> Result<Coefs, NoMemory>
         ensures { IfOk result (λ c. c ≡ self.now) }
     {
@@ -161,6 +171,9 @@ impl Coefs {
 
 impl Row {
     /// An equal row.
+    ///
+    /// # Errors
+    /// Out of memory.
     pub fn copy(&self) -> Result<Row, NoMemory>
         ensures { IfOk result (λ r. r ≡ self.now) }
     {
@@ -181,6 +194,7 @@ struct Place {
     taken: bool,
 }
 
+/// The place of a slot in a list of pairs, and whether the slot stands there.
 fn find(list: &[(Slot, i128)], slot: Slot) -> Place
     ensures at { result.at ≡ place_of slot list.now }
     ensures taken { result.taken ≡ is_taken slot list.now }
@@ -195,7 +209,7 @@ fn find(list: &[(Slot, i128)], slot: Slot) -> Place
     }
 }
 
-/// The coefficient of the slot in a list.
+/// The coefficient of the slot in a list of pairs, 0 where it has none.
 fn coef_in(list: &[(Slot, i128)], slot: Slot) -> i128
     requires { AreCoefs list.now }
     ensures value { result ≡ coef_at list.now slot }
@@ -209,6 +223,7 @@ fn coef_in(list: &[(Slot, i128)], slot: Slot) -> i128
     0
 }
 
+/// Puts a pair at a place of the list.
 fn set_entry(list: &mut [(Slot, i128)], at: usize, entry: (Slot, i128))
     requires { at < length list.old }
     ensures { list.new ≡ slice_set list.old at entry }
@@ -216,6 +231,7 @@ fn set_entry(list: &mut [(Slot, i128)], at: usize, entry: (Slot, i128))
     list[at] = entry;
 }
 
+/// Divides each coefficient of the list by the number.
 fn divide_all(list: &mut [(Slot, i128)], by: i128)
     requires nonzero { by ≢ pos 0 }
     requires short { AreCoefs list.old }

@@ -22,7 +22,7 @@ pub struct Slot {
 }
 
 impl Slot {
-    /// Whether both slots have the same number and range over the same.
+    /// Whether both slots have the same number and the same sort.
     pub fn is_same(self, other: Slot) -> bool
         ensures { result ≡ same_slot self other }
     {
@@ -30,7 +30,7 @@ impl Slot {
     }
 }
 
-/// The slot that the pairs give a slot; one that they don't name stays.
+/// The slot that the pairs put in the place of a slot; one that no pair names stays.
 pub fn renamed(map: &[(Slot, Slot)], slot: Slot) -> Slot
     ensures { result ≡ renamed map.now slot }
 {
@@ -63,6 +63,9 @@ impl Model for Slots {
 
 impl Slots {
     /// An equal list of slots.
+    ///
+    /// # Errors
+    /// Out of memory.
     pub fn copy(&self) -> Result<Slots, NoMemory>
         ensures { IfOk result (λ s. s ≡ self.now) }
     {

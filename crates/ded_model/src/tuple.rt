@@ -72,6 +72,9 @@ pub enum Negated<A> {
 
 impl ThemeAtom {
     /// An equal text atom.
+    ///
+    /// # Errors
+    /// Out of memory.
     pub fn copy(&self) -> Result<ThemeAtom, NoMemory>
         ensures { IfOk result (λ a. a ≡ self.now) }
     {
@@ -86,6 +89,9 @@ impl ThemeAtom {
 
 impl BothAtom<Row, ThemeAtom> {
     /// An equal atom.
+    ///
+    /// # Errors
+    /// Out of memory.
     pub fn copy(&self) -> Result<Atom, NoMemory>
         ensures { IfOk result (λ a. a ≡ self.now) }
     {
@@ -98,6 +104,9 @@ impl BothAtom<Row, ThemeAtom> {
 
 impl Tuple {
     /// An equal tuple.
+    ///
+    /// # Errors
+    /// Out of memory.
     pub fn copy(&self) -> Result<Tuple, NoMemory>
         ensures { IfOk result (λ t. t ≡ self.now) }
     {
@@ -111,6 +120,9 @@ impl Tuple {
 
 impl Tuples {
     /// An equal list.
+    ///
+    /// # Errors
+    /// Out of memory.
     pub fn copy(&self) -> Result<Tuples, NoMemory>
         ensures { IfOk result (λ t. t ≡ self.now) }
     {

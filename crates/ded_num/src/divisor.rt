@@ -17,7 +17,7 @@ pub fn gcd(a: i128, b: i128) -> i128
     gcd_of(a.unsigned_abs(), b.unsigned_abs()) as i128
 }
 
-/// Euclid's steps.
+/// The greatest common divisor of two magnitudes of at most 127 binary digits, by Euclid's steps.
 fn gcd_of(a: u128, b: u128) -> u128
     requires short_a { a < 2 ^ 127 }
     requires short_b { b < 2 ^ 127 }

@@ -17,7 +17,7 @@ pub fn cmp_frac(n1: i128, d1: i128, n2: i128, d2: i128) -> Ordering
     }
 }
 
-/// The same, by the whole parts and what they leave.
+/// The exact order of `n1 / d1` and `n2 / d2`, by the whole parts of both and what these leave.
 fn cmp_by_parts(n1: i128, d1: i128, n2: i128, d2: i128) -> Ordering
     requires positive_1 { pos 0 <ℤ d1 }
     requires positive_2 { pos 0 <ℤ d2 }

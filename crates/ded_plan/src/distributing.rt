@@ -11,6 +11,9 @@ use ded_model::tuple::Tuple;
 use std::alloc::Global;
 
 /// The members of a join with the rows among them put into a union, where there is one.
+///
+/// # Errors
+/// Out of memory.
 pub fn distributed(alloc: Global, plans: Vec<Plan>) -> Result<Vec<Plan>, NoMemory>
     ensures { IfOk result (λ ps. plan_forms ps.items ≡ distributed (plan_forms plans.items)) }
 {
@@ -28,6 +31,7 @@ pub fn distributed(alloc: Global, plans: Vec<Plan>) -> Result<Vec<Plan>, NoMemor
     also_all_rows(alloc, &tuples, members)
 }
 
+/// Whether one of the plans is a tuple.
 fn some_is_rows(plans: &Vec<Plan>) -> bool
     ensures { result ≡ some_member is_rows (plan_forms plans.now.items) }
 {
@@ -39,6 +43,7 @@ fn some_is_rows(plans: &Vec<Plan>) -> bool
     false
 }
 
+/// Whether one of the plans is a union.
 fn some_is_union(plans: &Vec<Plan>) -> bool
     ensures { result ≡ some_member is_union (plan_forms plans.now.items) }
 {
@@ -50,12 +55,14 @@ fn some_is_union(plans: &Vec<Plan>) -> bool
     false
 }
 
+/// Whether the plan is a tuple.
 fn is_rows(plan: &Plan) -> bool
     ensures { result ≡ is_rows (plan_form plan.now) }
 {
     matches!(plan, Plan::Rows(_))
 }
 
+/// Whether the plan is a union.
 fn is_union(plan: &Plan) -> bool
     ensures { result ≡ is_union (plan_form plan.now) }
 {
@@ -91,6 +98,7 @@ fn with_rows(alloc: Global, tuple: &Tuple, plan: Plan) -> Result<Plan, NoMemory>
     }
 }
 
+/// The plans, each at the points at which the tuple holds as well.
 #[cycle(with_rows)]
 fn each_with_rows(alloc: Global, tuple: &Tuple, plans: Vec<Plan>) -> Result<Vec<Plan>, NoMemory>
     ensures { IfOk result (λ ps. plan_forms ps.items ≡ each_with_rows tuple.now (plan_forms plans.items)) }

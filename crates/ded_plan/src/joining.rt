@@ -9,6 +9,9 @@ use ded_model::plan::Plan;
 use std::alloc::Global;
 
 /// The join of the plans: the members of joins among them in the joins' places, and without the parts of complements.
+///
+/// # Errors
+/// Out of memory.
 pub fn joined(alloc: Global, plans: Vec<Plan>) -> Result<Plan, NoMemory>
     ensures { IfOk result (λ p. plan_form p ≡ joined (plan_forms plans.items)) }
 {
@@ -64,6 +67,9 @@ fn difference_of(alloc: Global, kept: Vec<Plan>, taken: Vec<Plan>) -> Result<Pla
 }
 
 /// The complement of the plan.
+///
+/// # Errors
+/// Out of memory.
 pub fn negated(alloc: Global, plan: Plan) -> Result<Plan, NoMemory>
     ensures { IfOk result (λ p. plan_form p ≡ negated (plan_form plan)) }
 {

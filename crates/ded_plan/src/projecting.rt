@@ -12,6 +12,9 @@ use ded_model::slot::Slot;
 use std::alloc::Global;
 
 /// The plan without the slot, which may have any value.
+///
+/// # Errors
+/// Out of memory.
 #[cycle(projected)]
 pub fn projected(alloc: Global, at: Slot, plan: Plan) -> Result<Plan, NoMemory>
     ensures { IfOk result (λ p. plan_form p ≡ projected at.sort (slot at) (plan_form plan)) }
@@ -35,6 +38,7 @@ fn projected_down(alloc: Global, at: Slot, plan: Plan) -> Result<Plan, NoMemory>
     }
 }
 
+/// The join of the parts without the slot: only parts that mention it are projected.
 #[cycle(projected)]
 fn projected_join(alloc: Global, at: Slot, parts: Vec<Plan>) -> Result<Plan, NoMemory>
     ensures { IfOk result (λ p. let fs = plan_forms parts.items in
@@ -50,6 +54,7 @@ fn projected_join(alloc: Global, at: Slot, parts: Vec<Plan>) -> Result<Plan, NoM
     }
 }
 
+/// The plans, each without the slot.
 #[cycle(projected)]
 fn each_projected(alloc: Global, at: Slot, plans: Vec<Plan>) -> Result<Vec<Plan>, NoMemory>
     ensures { IfOk result (λ ps. plan_forms ps.items ≡ each_projected at.sort (slot at) (plan_forms plans.items)) }
@@ -61,6 +66,7 @@ fn each_projected(alloc: Global, at: Slot, plans: Vec<Plan>) -> Result<Vec<Plan>
     Ok(parts)
 }
 
+/// The projection of the whole plan: the plan without the slot.
 fn projection_of(alloc: Global, at: Slot, plan: Plan) -> Result<Plan, NoMemory>
     ensures { IfOk result (λ p. plan_form p ≡ exists at.sort (slot at) (plan_form plan)) }
 {

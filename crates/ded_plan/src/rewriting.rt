@@ -27,6 +27,7 @@ pub fn rewrite(alloc: Global, plan: Plan) -> Result<Plan, NoMemory>
     Ok(rewritten(alloc, plan)?)
 }
 
+/// The plan with its parts rewritten first, and then itself.
 #[cycle(rewritten)]
 fn rewritten(alloc: Global, plan: Plan) -> Result<Plan, NoMemory>
     ensures plan { IfOk result (λ p. plan_form p ≡ rewritten (plan_form plan)) }
@@ -51,6 +52,7 @@ fn rewritten(alloc: Global, plan: Plan) -> Result<Plan, NoMemory>
     }
 }
 
+/// The plans, each rewritten.
 #[cycle(rewritten)]
 fn each_rewritten(alloc: Global, plans: Vec<Plan>) -> Result<Vec<Plan>, NoMemory>
     ensures plans { IfOk result (λ ps. plan_forms ps.items ≡ each_rewritten (plan_forms plans.items)) }
@@ -68,6 +70,6 @@ fn rows_of(tuple: Tuple) -> Plan
     ensures plan { plan_form result ≡ atom (rows tuple) }
     ensures rational { AreRationalAtoms tuple }
 {
-    let _ = &tuple.atoms;
+    let _ = &tuple.atoms; // for its invariant
     Plan::Rows(tuple)
 }

@@ -25,7 +25,7 @@ pub fn mentions(plan: &Plan, at: Slot) -> bool
     }
 }
 
-/// Whether one of the plans does.
+/// Whether one of the plans mentions the slot freely.
 #[cycle(mentions)]
 fn some_mentions(plans: &Vec<Plan>, at: Slot) -> bool
     ensures { result ≡ any_mentions in_plan_atom (plan_forms plans.now.items) (slot at) }
@@ -45,6 +45,7 @@ fn stands_in(slots: &[Slot], slot: Slot) -> bool
     slots.iter().any(|other| other.is_same(slot))
 }
 
+/// Whether the tuple mentions the slot.
 #[tactic(auto, unfolding(ded_model::specs::Row::tuple_mentions))]
 fn tuple_mentions(tuple: &Tuple, slot: Slot) -> bool
     ensures { result ≡ tuple_mentions tuple.now slot }
@@ -52,6 +53,7 @@ fn tuple_mentions(tuple: &Tuple, slot: Slot) -> bool
     tuple.atoms.iter().any(|atom| atom_mentions(atom, slot))
 }
 
+/// Whether the atom mentions the slot.
 #[tactic(auto, unfolding(ded_model::specs::Row::atom_mentions))]
 fn atom_mentions(atom: &Atom, slot: Slot) -> bool
     ensures { result ≡ atom_mentions atom.now slot }
@@ -62,6 +64,7 @@ fn atom_mentions(atom: &Atom, slot: Slot) -> bool
     }
 }
 
+/// Whether the row mentions the slot.
 #[tactic(auto, unfolding(ded_model::specs::Row::row_mentions))]
 fn row_mentions(row: &Row, slot: Slot) -> bool
     ensures { result ≡ row_mentions row.now slot }
@@ -69,6 +72,7 @@ fn row_mentions(row: &Row, slot: Slot) -> bool
     row.coefs.list().iter().any(|entry| entry.0.is_same(slot))
 }
 
+/// Whether the text atom mentions the slot.
 #[tactic(auto, unfolding(ded_model::specs::Row::theme_mentions))]
 fn theme_mentions(theme: &ThemeAtom, slot: Slot) -> bool
     ensures { result ≡ theme_mentions theme.now slot }

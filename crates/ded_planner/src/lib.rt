@@ -5,7 +5,7 @@
 //! gives the names that a plan scans, and [`used_names`] those that a goal uses.
 //!
 //! It stands on `ded_algebra` for the plan of a goal, on `ded_plan` for the rewriting, and on `ded_sorts` for what is true of the
-//! goals of formulas. Want of memory is the only reason to give no plan and no names.
+//! goals of formulas. Running out of memory is the only reason to give no plan and no names.
 #![tactic(auto)]
 
 pub mod laws;

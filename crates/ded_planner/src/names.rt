@@ -16,7 +16,7 @@ use std::alloc::Global;
 /// The names that the plan scans, each once.
 ///
 /// # Errors
-/// Want of memory.
+/// Out of memory.
 pub fn scanned_names(alloc: Global, plan: &Plan) -> Result<Vec<Name>, NoMemory>
     ensures all { IfOk result (λ v. (n : List ℕ) → plan_uses n (plan_form plan.now) ≡ list_any (bytes_eq n) v.items) }
     ensures once { IfOk result (λ v. AreDistinctNames v.items) }
@@ -29,7 +29,7 @@ pub fn scanned_names(alloc: Global, plan: &Plan) -> Result<Vec<Name>, NoMemory>
 /// The names that the goal uses, each once.
 ///
 /// # Errors
-/// Want of memory.
+/// Out of memory.
 pub fn used_names(alloc: Global, goal: &Goal) -> Result<Vec<Name>, NoMemory>
     ensures all { IfOk result (λ v. (n : List ℕ) → goal_uses n (goal_form goal.now) ≡ list_any (bytes_eq n) v.items) }
     ensures once { IfOk result (λ v. AreDistinctNames v.items) }
@@ -56,7 +56,7 @@ fn add_names(names: &mut Vec<Name>, plan: &Plan) -> Result<(), NoMemory>
     }
 }
 
-/// Adds those of all the plans.
+/// Adds the names that one of the plans scans and that aren't there yet.
 #[cycle(add_names)]
 fn add_all_names(names: &mut Vec<Name>, plans: &Vec<Plan>) -> Result<(), NoMemory>
     ensures { OnOk result (names.new.items ≡ with_all_names scanned_name names.old.items (plan_forms plans.now.items)) }
@@ -85,7 +85,7 @@ fn add_used_names(names: &mut Vec<Name>, goal: &Goal) -> Result<(), NoMemory>
     }
 }
 
-/// Adds those of all the goals.
+/// Adds the names that one of the goals uses and that aren't there yet.
 #[cycle(add_used_names)]
 fn add_all_used_names(names: &mut Vec<Name>, goals: &Vec<Goal>) -> Result<(), NoMemory>
     ensures { OnOk result (names.new.items ≡ with_all_names used_name names.old.items (goal_forms goals.now.items)) }

@@ -1,4 +1,4 @@
-//! Compiled and rewritten.
+//! The plan of a goal: compiled, then rewritten.
 ghost use Rattle.std.specs.Prelude.{IfOk};
 ghost use Rattle.ded_model.specs.Goal.{goal_form};
 ghost use Rattle.ded_model.specs.NormalGoal.{IsNormalGoal};
@@ -18,7 +18,7 @@ use std::alloc::Global;
 /// goal, at slots of the sorts of its arguments; of a conjunctive goal it is conjunctive and scans each name as often as the goal has it.
 ///
 /// # Errors
-/// Want of memory, also where an atom has a slot of the greatest number and an argument that needs a new one.
+/// Out of memory, also where an atom has a slot of the greatest number and an argument that needs a new one.
 pub fn plan(alloc: Global, goal: &Goal) -> Result<Plan, NoMemory>
     requires normal { IsNormalGoal (goal_form goal.now) }
     ensures { IfOk result (λ p. IsPlanned (goal_form goal.now) (plan_form p)) }

@@ -73,7 +73,7 @@ pub fn answer(
         → IsTight (snapshot_of snapshot.now) heading.now f → ⊥ }
 {
     snapshot.formed();
-    let _ = &heading.columns;
+    let _ = &heading.columns; // for its invariant
     let tuples = evaluated_over(alloc, snapshot, goal, held)?;
     Ok(reduced(alloc, tuples)?)
 }

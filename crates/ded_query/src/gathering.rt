@@ -147,7 +147,7 @@ fn is_given(given: &Given, name: &Name) -> bool
 /// Adds the relation, unless one of its name is given.
 ///
 /// # Errors
-/// Want of memory; nothing is changed then.
+/// Out of memory; nothing is changed then.
 fn add(snapshot: &Snapshot<'_>, given: &mut Given, relation: GivenRelation) -> Result<(), NoMemory>
     requires given { AllByRecursion (IsGivenOf (snapshot_of snapshot.now)) given.old }
     requires of { IsGivenOf (snapshot_of snapshot.now) relation }
@@ -155,7 +155,7 @@ fn add(snapshot: &Snapshot<'_>, given: &mut Given, relation: GivenRelation) -> R
     ensures is { OnOk result (has_name relation.name given.new ≡ true) }
     ensures front { IsFront given.old given.new }
 {
-    let _ = snapshot;
+    let _ = snapshot; // for its invariant
     if is_given(given, &relation.name) {
         return Ok(());
     }
@@ -165,7 +165,7 @@ fn add(snapshot: &Snapshot<'_>, given: &mut Given, relation: GivenRelation) -> R
 /// A view as a relation under its name, with tuples that its goal is evaluated to.
 ///
 /// # Errors
-/// Want of memory.
+/// Out of memory.
 pub fn held_view(
     snapshot: &Snapshot<'_>,
     name: &Name,
@@ -188,7 +188,7 @@ pub fn held_view(
 /// A relation under its name, with copies of its tuples.
 ///
 /// # Errors
-/// Want of memory.
+/// Out of memory.
 fn relation(alloc: Global, snapshot: &Snapshot<'_>, name: &Name) -> Result<GivenRelation, NoMemory>
     requires { is_some (relation_in (entry_of (snapshot_of snapshot.now).entries name.now)) ≡ true }
     ensures { IfOk result (λ r. IsGivenAs (snapshot_of snapshot.now) name.now r) }

@@ -29,7 +29,7 @@ pub enum Reduced<A> {
 /// at a point at which it doesn't.
 ///
 /// # Errors
-/// Want of memory.
+/// Out of memory.
 pub fn reduce<T: Theory>(alloc: Global, conj: &[T::Atom]) -> Result<Reduced<T::Atom>, NoMemory>
     requires normal { AllByRecursion T.normal conj.now }
     ensures gone { IfOk result (λ r. IfGone (HoldsNowhere (conj_holds T.holds conj.now)) r) }

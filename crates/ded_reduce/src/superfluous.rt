@@ -12,8 +12,11 @@ use ded_model::tuple::Negated;
 use ded_theory::{Theory, Verdict};
 use std::alloc::Global;
 
-/// Removes atoms that the others imply, one after another, and answers whether there were any. After a removal the atoms before it
-/// aren't tried again.
+/// Removes atoms that the others imply, one after another. Returns whether there were any. After a removal the atoms
+/// before it aren't tried again.
+///
+/// # Errors
+/// Out of memory.
 pub(crate) fn sift<T: Theory>(alloc: Global, conj: &mut Vec<T::Atom>) -> Result<bool, NoMemory>
     requires normal { AllByRecursion T.normal conj.old.items }
     ensures { IfOk result (λ removed. IsSifted T.holds T.mentions T.lines T.normal conj.old.items conj.new.items removed) }

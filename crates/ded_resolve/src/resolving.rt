@@ -24,10 +24,11 @@ use ded_model::tuple::Tuple;
 use ded_sorts::{Checked, Known, Names, check};
 use std::alloc::Global;
 
-/// The command by slots, over the names. Each sum of the command is over 1 and has each name once, and no row of its formula
-/// has a number above 2^63 - 1 in magnitude.
+/// The command by slots, over the names. Each sum of the command is over 1 and has each name once, and no row of its
+/// formula has a number above 2^63 - 1 in magnitude.
 ///
-/// Refused for the least of the reasons that the command and the names decide; or for `Memory`, where an allocation failed.
+/// # Errors
+/// The least of the refusals that the command and the names decide; or else `Memory`, where an allocation failed.
 pub fn resolve<N: Names>(alloc: Global, command: Command, names: &N) -> Result<Checked, Refusal>
     requires plain { IsPlainCommand (command_form command) }
     requires short { has_long_row (command_form command) ≡ false }
@@ -43,7 +44,7 @@ pub fn resolve<N: Names>(alloc: Global, command: Command, names: &N) -> Result<C
     }
 }
 
-/// The same of a command that is accepted.
+/// The command by slots, where it is accepted over the names.
 fn by_slots<N: Names>(alloc: Global, command: Command, names: &N) -> Result<Checked, NoMemory>
     requires plain { IsPlainCommand (command_form command) }
     requires short { has_long_row (command_form command) ≡ false }
@@ -66,7 +67,7 @@ fn by_slots<N: Names>(alloc: Global, command: Command, names: &N) -> Result<Chec
     }
 }
 
-/// An insert: its tuple, over the columns of the relation.
+/// An insert by slots: its tuple, over the columns of the relation.
 fn insertion<N: Names>(
     alloc: Global,
     name: Name,
@@ -106,7 +107,7 @@ fn short_tuple(alloc: Global, heading: &Heading, comparisons: &[Formula]) -> Res
     tuple(alloc, heading, comparisons)
 }
 
-/// A view: its formula as written, and its goal.
+/// A view by slots: its formula as written, and its goal.
 fn view(alloc: Global, name: Name, heading: Heading, formula: Formula) -> Result<Checked, NoMemory>
     requires { IsReady heading (form formula) }
     ensures resolved { (c : Catalogue) → IfOk result (λ k. IsResolved c (view name heading (form formula)) k) }
@@ -116,7 +117,7 @@ fn view(alloc: Global, name: Name, heading: Heading, formula: Formula) -> Result
     Ok(Checked::View(name, heading, formula, goal))
 }
 
-/// A question: the goal of a closed formula.
+/// A question by slots: the goal of its closed formula.
 fn question(alloc: Global, formula: Formula) -> Result<Checked, NoMemory>
     requires { IsReady [] (form formula) }
     ensures resolved { (c : Catalogue) → IfOk result (λ k. IsResolved c (ask (form formula)) k) }
@@ -128,7 +129,7 @@ fn question(alloc: Global, formula: Formula) -> Result<Checked, NoMemory>
     Ok(Checked::Ask(ready_goal(alloc, &heading, &formula)?))
 }
 
-/// A query: the goal of its formula.
+/// A query by slots: the goal of its formula.
 fn query(alloc: Global, heading: Heading, formula: Formula) -> Result<Checked, NoMemory>
     requires { IsReady heading (form formula) }
     ensures resolved { (c : Catalogue) → IfOk result (λ k. IsResolved c (query heading (form formula)) k) }
@@ -138,7 +139,7 @@ fn query(alloc: Global, heading: Heading, formula: Formula) -> Result<Checked, N
     Ok(Checked::Query(heading, goal))
 }
 
-/// An explanation of a query: the same.
+/// An explanation of a query by slots: the goal of the formula of the query.
 fn explanation(alloc: Global, heading: Heading, formula: Formula) -> Result<Checked, NoMemory>
     requires { IsReady heading (form formula) }
     ensures resolved { (c : Catalogue) → IfOk result (λ k. IsResolved c (explain heading (form formula)) k) }

@@ -7,7 +7,8 @@
 //!
 //! It stands on `ded_num` for exact arithmetic and on `ded_model` for rows and their meaning. Each answer is the value of a
 //! function of `ded_model` or of `specs/`, and holds at the points that its contract says; `laws` has what is true of
-//! normal rows alone. Want of memory, and numbers that get too long in [`mix`], are the only reasons to give no row.
+//! normal rows alone. Running out of memory, and numbers that get
+//! too long in [`mix`], are the only reasons to give no row.
 #![tactic(auto)]
 
 pub mod laws;

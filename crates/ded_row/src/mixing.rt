@@ -17,9 +17,13 @@ use ded_model::row::{Coefs, Row, RowOp};
 use ded_model::slot::Slot;
 use ded_num::checked_mix;
 
-/// Adds the two rows, each times the size of the other's coefficient of the slot, so that the slot falls out, and gives the
-/// normal form of the sum. The first row bounds the slot from above, the second one from below; an equality counts with
-/// either sign. `Wide` exactly where a product or a sum of them is too long at another slot or at the constant.
+/// Adds the two rows, each times the size of the other's coefficient of the slot, so that the slot falls out, and gives
+/// the normal form of the sum. The first row bounds the slot from above, the second one from below; an equality counts
+/// with either sign.
+///
+/// # Errors
+/// `Wide` only where a product or a sum of them is too long at another slot or at the constant, otherwise out of
+/// memory. Where one is too long, no row is given.
 pub fn mix(r1: &Row, r2: &Row, slot: Slot) -> Result<Row, Refused>
     requires above { BoundsAbove r1.now.op (coef_at r1.now.coefs slot) }
     requires below { BoundsBelow r2.now.op (coef_at r2.now.coefs slot) }
@@ -38,7 +42,7 @@ pub fn mix(r1: &Row, r2: &Row, slot: Slot) -> Result<Row, Refused>
     Ok(normal(sum))
 }
 
-/// The magnitude of `b`, with the sign of `a`.
+/// The magnitude of `b`, with the sign of `a`: what the one row is multiplied by.
 fn factor(a: i128, b: i128) -> i128
     requires { IsShort b }
     ensures { result ≡ factor a b }
@@ -46,7 +50,7 @@ fn factor(a: i128, b: i128) -> i128
     if a > 0 { b.abs() } else { -b.abs() }
 }
 
-/// The magnitude of `a`, with the sign that `b` hasn't.
+/// The magnitude of `a`, with the sign that `b` hasn't: what the other row is multiplied by.
 fn turned_factor(b: i128, a: i128) -> i128
     requires { IsShort a }
     ensures { result ≡ factor (neg_ℤ b) a }
@@ -54,7 +58,7 @@ fn turned_factor(b: i128, a: i128) -> i128
     if b < 0 { a.abs() } else { -a.abs() }
 }
 
-/// The sum of `k` times the one row and `m` times the other, without the slot.
+/// The sum of `k` times the first row and `m` times the second, without the slot.
 fn combined(r1: &Row, k: i128, r2: &Row, m: i128, slot: Slot) -> Result<Row, Refused>
     ensures value { IfOk result (λ r. r ≡ mixed_row slot k r1.now m r2.now) }
     ensures short { IfOk result (λ r. (coefs_are_long slot k r1.now.coefs m r2.now.coefs || sum_is_long k r1.now.constant m r2.now.constant) ≡ false) }
@@ -72,7 +76,7 @@ fn combined(r1: &Row, k: i128, r2: &Row, m: i128, slot: Slot) -> Result<Row, Ref
     })
 }
 
-/// The op of a sum of two rows.
+/// The op of a sum of two rows, from their ops.
 fn joined(a: RowOp, b: RowOp) -> RowOp
     ensures { result ≡ join_op a b }
 {
@@ -83,7 +87,8 @@ fn joined(a: RowOp, b: RowOp) -> RowOp
     }
 }
 
-/// The sum of `k` times the one list and `m` times the other, without the slot, put into `out`, in which nothing is yet.
+/// The sum of `k` times the first list of coefficients and `m` times the second, without the slot. It is put into
+/// `out`, in which nothing is yet.
 fn combined_coefs(
     mut out: Coefs,
     xs: &[(Slot, i128)],
@@ -112,7 +117,7 @@ fn combined_coefs(
     Ok(out)
 }
 
-/// Adds the coefficient of the next slot at the end, unless it is 0.
+/// Adds `k` times the one coefficient and `m` times the other of the next slot at the end, unless the sum is 0.
 fn push_sum(out: &mut Coefs, k: i128, m: i128, next: Next) -> Result<(), Refused>
     requires rational { next.slot.sort ≡ Rat }
     requires last { AllBelow next.slot.number out.old }

@@ -18,6 +18,9 @@ use ded_model::tuple::Negated;
 
 /// The negation of a normal row: normal rows that exclude each other and hold together exactly where the row doesn't. They
 /// mention its slots and have its lines. An equality gives two rows, each other row gives one.
+///
+/// # Errors
+/// Out of memory.
 pub fn negate(row: &Row) -> Result<Negated<Row>, NoMemory>
     requires normal { IsNormalRow row.now }
     ensures value { IfOk result (λ n. n ≡ negated_row row.now) }
@@ -30,7 +33,7 @@ pub fn negate(row: &Row) -> Result<Negated<Row>, NoMemory>
     negation_of(row)
 }
 
-/// The pieces, by op.
+/// The pieces of the negation of a row, by the op of the row.
 fn negation_of(row: &Row) -> Result<Negated<Row>, NoMemory>
     ensures value { IfOk result (λ n. n ≡ negated_row row.now) }
     ensures kept { AreCoefs row.now.coefs }
@@ -46,7 +49,7 @@ fn negation_of(row: &Row) -> Result<Negated<Row>, NoMemory>
     }
 }
 
-/// The row's sum, below zero.
+/// The row's sum, compared as below zero.
 fn below(row: &Row) -> Result<Row, NoMemory>
     ensures { IfOk result (λ r. r ≡ with_op Below row.now) }
 {

@@ -39,7 +39,7 @@ fn order_coefs(xs: &[(Slot, i128)], ys: &[(Slot, i128)]) -> Ordering
     Ordering::Equal
 }
 
-/// The place of an op in the order.
+/// The place of an op in the order of ops.
 fn place(op: RowOp) -> u8
     ensures { result ≡ op_place op }
 {

@@ -18,6 +18,9 @@ use ded_model::slot::{Slot, renamed};
 /// The normal form of the row with each slot replaced as the pairs say; a slot that no pair names stays. The pairs are one
 /// to one on the row's slots and keep their sorts. The result holds at a point exactly where the row does at a point that has
 /// the same numbers at the slots before. Its lines are the row's over the new slots.
+///
+/// # Errors
+/// Out of memory.
 pub fn rename(row: &Row, map: &[(Slot, Slot)]) -> Result<Row, NoMemory>
     requires one { IsOneToOne map.now (row_mentions row.now) }
     requires sorts { KeepsSorts map.now (row_mentions row.now) }
@@ -36,7 +39,7 @@ pub fn rename(row: &Row, map: &[(Slot, Slot)]) -> Result<Row, NoMemory>
     }))
 }
 
-/// The coefficients at their new slots.
+/// The coefficients of the row, each at the slot that the pairs put in the place of its own.
 fn renamed_coefs(row: &Row, map: &[(Slot, Slot)]) -> Result<Coefs, NoMemory>
     requires sorts { KeepsSorts map.now (row_mentions row.now) }
     ensures value { IfOk result (λ cs. cs ≡ renamed_onto map.now [] row.now.coefs) }

@@ -21,7 +21,7 @@ pub(crate) enum Change<'a> {
 impl<'a> Change<'a> {
     ghost use Rattle.ded_snapshot.specs.Forms.{change_form};
 
-    /// The tuple that is inserted into the relation of the name.
+    /// The tuple that is inserted into the relation of the name, if one is.
     pub(crate) fn inserted(&self, name: &Name) -> Option<&Tuple>
         ensures { option_map (λ t. t.now) result ≡ inserted_in (change_form self.now) name.now }
     {
@@ -37,7 +37,7 @@ impl<'a> Change<'a> {
         }
     }
 
-    /// The number of the tuple that is deleted from the relation of the name.
+    /// The number of the tuple that is deleted from the relation of the name, if one is.
     pub(crate) fn deleted(&self, name: &Name) -> Option<u64>
         ensures { result ≡ deleted_in (change_form self.now) name.now }
     {
@@ -57,7 +57,7 @@ impl<'a> Change<'a> {
 /// Copies of the tuples but that of the number, in order.
 ///
 /// # Errors
-/// Want of memory.
+/// Out of memory.
 pub(crate) fn copies(
     alloc: Global,
     stored: &BTreeMap<u32, Tuple>,
@@ -87,7 +87,7 @@ fn is_left_out(left_out: Option<u64>, number: u32) -> bool
 /// The tuples, and a copy of the last one at the end where there is one.
 ///
 /// # Errors
-/// Want of memory.
+/// Out of memory.
 pub(crate) fn ended(mut list: Vec<Tuple>, last: Option<&Tuple>) -> Result<Tuples, NoMemory>
     ensures { IfOk result (λ ts. ts ≡ with_last list.items (option_map (λ t. t.now) last.entry)) }
 {

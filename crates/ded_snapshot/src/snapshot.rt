@@ -61,7 +61,8 @@ impl<'a> Snapshot<'a> {
         }
     }
 
-    /// The catalogue as an insert of the tuple into the relation of the name makes it, which is refused only where there is no memory.
+    /// The catalogue as an insert of the tuple into the relation of the name makes it. The relation has room for it, so
+    /// the insert would be refused only for running out of memory.
     pub fn with_tuple(catalogue: &'a Catalogue, name: &'a Name, tuple: &'a Tuple) -> Snapshot<'a>
         requires relation { is_relation_with (known (catalogue_of catalogue.now) name.now) ≡ true }
         requires over { IsTupleOver (columns_in (catalogue_of catalogue.now) name.now) tuple.now }
@@ -115,7 +116,7 @@ impl<'a> Snapshot<'a> {
     /// Copies of the tuples of a relation, in order of their numbers. None exactly where the name is no relation.
     ///
     /// # Errors
-    /// Want of memory.
+    /// Out of memory.
     pub fn tuples(&self, alloc: Global, name: &Name) -> Result<Option<Tuples>, NoMemory>
         ensures { IfOk result (λ ts. ts ≡ option_map tuples_of (relation_in (entry_of (snapshot_of self.now).entries name.now))) }
     {

@@ -19,6 +19,9 @@ pub(crate) trait AtomTest {
     ghost passes: { Self → logic.Scope → FormAtom → Bool };
 
     /// Whether the comparison passes.
+    ///
+    /// # Errors
+    /// Out of memory.
     fn on_comparison(
         &self,
         scope: &Scope<'_>,
@@ -29,6 +32,9 @@ pub(crate) trait AtomTest {
         ensures { IfOk result (λ b. b ≡ passes self.now (scope_form scope.now) (compare left.now op right.now)) };
 
     /// Whether the atom of a relation or a view passes.
+    ///
+    /// # Errors
+    /// Out of memory.
     fn on_member(
         &self,
         scope: &Scope<'_>,
@@ -39,6 +45,9 @@ pub(crate) trait AtomTest {
 }
 
 /// Whether some atom of the formula passes, below the scope.
+///
+/// # Errors
+/// Out of memory.
 #[cycle(atoms)]
 pub(crate) fn some_atom<T: AtomTest>(
     test: &T,
@@ -63,6 +72,9 @@ pub(crate) fn some_atom<T: AtomTest>(
 }
 
 /// Whether some atom of some of the formulas passes, below the scope.
+///
+/// # Errors
+/// Out of memory.
 #[cycle(atoms)]
 pub(crate) fn some_atom_of<T: AtomTest>(
     test: &T,

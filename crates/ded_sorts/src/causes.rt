@@ -49,6 +49,9 @@ pub(crate) fn names_twice(command: &Command) -> bool
 }
 
 /// Whether the command, or an atom in its formula, uses a name that isn't defined.
+///
+/// # Errors
+/// Out of memory.
 pub(crate) fn names_unknown<N: Names>(command: &Command, names: &N) -> Result<bool, NoMemory>
     ensures { IfOk result (λ b. b ≡ cause.names_unknown (N.catalogue names.now) (command_form command.now)) }
 {
@@ -68,6 +71,9 @@ pub(crate) fn names_unknown<N: Names>(command: &Command, names: &N) -> Result<bo
 }
 
 /// Whether a relation or a view is given a name that is defined.
+///
+/// # Errors
+/// Out of memory.
 pub(crate) fn takes_name<N: Names>(command: &Command, names: &N) -> Result<bool, NoMemory>
     ensures { IfOk result (λ b. b ≡ cause.takes_name (N.catalogue names.now) (command_form command.now)) }
 {
@@ -79,6 +85,9 @@ pub(crate) fn takes_name<N: Names>(command: &Command, names: &N) -> Result<bool,
 }
 
 /// Whether a view is named where a relation has to be, or a relation where a view has to be.
+///
+/// # Errors
+/// Out of memory.
 pub(crate) fn names_other_kind<N: Names>(command: &Command, names: &N) -> Result<bool, NoMemory>
     ensures { IfOk result (λ b. b ≡ cause.names_other_kind (N.catalogue names.now) (command_form command.now)) }
 {
@@ -93,6 +102,9 @@ pub(crate) fn names_other_kind<N: Names>(command: &Command, names: &N) -> Result
 }
 
 /// Whether an atom has another number of arguments than its relation or view has columns.
+///
+/// # Errors
+/// Out of memory.
 pub(crate) fn has_wrong_arity<N: Names>(command: &Command, names: &N) -> Result<bool, NoMemory>
     ensures { IfOk result (λ b. b ≡ cause.has_wrong_arity (N.catalogue names.now) (command_form command.now)) }
 {
@@ -100,6 +112,9 @@ pub(crate) fn has_wrong_arity<N: Names>(command: &Command, names: &N) -> Result<
 }
 
 /// Whether a variable is in no quantifier round it, not in the heading, and in an insert isn't a column.
+///
+/// # Errors
+/// Out of memory.
 pub(crate) fn has_unbound<N: Names>(command: &Command, names: &N) -> Result<bool, NoMemory>
     ensures { IfOk result (λ b. b ≡ cause.has_unbound_name (N.catalogue names.now) (command_form command.now)) }
 {
@@ -107,6 +122,9 @@ pub(crate) fn has_unbound<N: Names>(command: &Command, names: &N) -> Result<bool
 }
 
 /// Whether a text stands where a number has to, or a number where a text has to, or `!=` between numbers in an insert.
+///
+/// # Errors
+/// Out of memory.
 pub(crate) fn has_wrong_sort<N: Names>(command: &Command, names: &N) -> Result<bool, NoMemory>
     ensures { IfOk result (λ b. b ≡ cause.has_wrong_sort (N.catalogue names.now) (command_form command.now)) }
 {
@@ -134,6 +152,9 @@ pub(crate) fn deletes_none<N: Names>(command: &Command, names: &N) -> bool
 }
 
 /// Whether the view would have a level above 16.
+///
+/// # Errors
+/// Out of memory.
 pub(crate) fn is_too_high<N: Names>(command: &Command, names: &N) -> Result<bool, NoMemory>
     ensures { IfOk result (λ b. b ≡ cause.is_too_high (N.catalogue names.now) (command_form command.now)) }
 {
@@ -143,21 +164,21 @@ pub(crate) fn is_too_high<N: Names>(command: &Command, names: &N) -> Result<bool
     }
 }
 
-// Whether no entry has the name.
+/// Whether no relation or view has the name.
 fn is_undefined<N: Names>(name: &Name, names: &N) -> Result<bool, NoMemory>
     ensures { IfOk result (λ b. b ≡ is_none (known (N.catalogue names.now) name.now)) }
 {
     Ok(names.known(name)?.is_none())
 }
 
-// Whether an entry has the name.
+/// Whether a relation or a view has the name.
 fn is_defined<N: Names>(name: &Name, names: &N) -> Result<bool, NoMemory>
     ensures { IfOk result (λ b. b ≡ is_some (known (N.catalogue names.now) name.now)) }
 {
     Ok(names.known(name)?.is_some())
 }
 
-// Whether the name is a view's.
+/// Whether the name is that of a view.
 fn is_view<N: Names>(name: &Name, names: &N) -> Result<bool, NoMemory>
     ensures { IfOk result (λ b. b ≡ cause.is_view_with (known (N.catalogue names.now) name.now)) }
 {
@@ -167,7 +188,7 @@ fn is_view<N: Names>(name: &Name, names: &N) -> Result<bool, NoMemory>
     }
 }
 
-// Whether the name is a relation's.
+/// Whether the name is that of a relation.
 fn is_relation<N: Names>(name: &Name, names: &N) -> Result<bool, NoMemory>
     ensures { IfOk result (λ b. b ≡ cause.is_relation_with (known (N.catalogue names.now) name.now)) }
 {
@@ -177,14 +198,14 @@ fn is_relation<N: Names>(name: &Name, names: &N) -> Result<bool, NoMemory>
     }
 }
 
-// Whether an atom of the formula uses a name that isn't defined.
+/// Whether an atom of the formula uses a name that isn't defined.
 fn uses_undefined<N: Names>(formula: &Formula, names: &N) -> Result<bool, NoMemory>
     ensures { IfOk result (λ b. b ≡ uses_unknown (known (N.catalogue names.now)) (form formula.now)) }
 {
     some_atom(&Undefined { names }, &Scope::Heading(&[]), formula)
 }
 
-// Whether the command is an insert with `!=` between numbers.
+/// Whether the command is an insert with `!=` between numbers.
 fn has_inequality<N: Names>(command: &Command, names: &N) -> Result<bool, NoMemory>
     ensures { IfOk result (λ b. b ≡ cause.has_inequality (N.catalogue names.now) (command_form command.now)) }
 {
@@ -199,7 +220,7 @@ fn has_inequality<N: Names>(command: &Command, names: &N) -> Result<bool, NoMemo
     }
 }
 
-// Whether some atom of the command's formula passes below its heading, for an insert below the relation's columns.
+/// Whether some atom of the command's formula passes below its heading; for an insert, below the relation's columns.
 fn some_in_command<T: AtomTest, N: Names>(
     test: &T,
     command: &Command,
@@ -229,7 +250,7 @@ fn some_in_command<T: AtomTest, N: Names>(
     }
 }
 
-// Whether some atom of the comparisons of an insert passes below the columns of the name.
+/// Whether some atom of the comparisons of an insert passes below the columns of the name.
 fn some_in_insert<T: AtomTest, N: Names>(
     test: &T,
     name: &Name,

@@ -13,10 +13,12 @@ use crate::names::Names;
 use ded_model::command::{Command, Refusal};
 use ded_model::memory::NoMemory;
 
-/// Whether the command is accepted over the names, up to what the number of a relation's tuples and inserts decides.
+/// Checks that the command is accepted over the names, up to what the number of a relation's tuples and inserts
+/// decides.
 ///
-/// Refused for the least of the reasons that apply: from `Many` to `NoTuple`, and `Level`; or for `Memory`, where an
-/// allocation failed.
+/// # Errors
+/// The least of the refusals that apply, from `Many` to `NoTuple`, and `Level`; or else `Memory`, where an allocation
+/// failed.
 pub fn check<N: Names>(command: &Command, names: &N) -> Result<(), Refusal>
     ensures ok { IfOk result (λ _. HasNoCause (N.catalogue names.now) (command_form command.now)) }
     ensures refused { IfErr result (λ r. r ≢ Refusal.Memory → IsLeastCause r (N.catalogue names.now) (command_form command.now)) }
@@ -34,7 +36,7 @@ pub fn check<N: Names>(command: &Command, names: &N) -> Result<(), Refusal>
     refuse(Refusal::Level, command, names)
 }
 
-// Refuses the command where the refusal applies, and none of a lesser number does.
+/// Refuses the command for the refusal where that applies, and none of a lesser number does.
 fn refuse<N: Names>(refusal: Refusal, command: &Command, names: &N) -> Result<(), Refusal>
     requires checked { is_checked refusal ≡ true }
     requires past { HasNoneBelow (refusal_number refusal) (N.catalogue names.now) (command_form command.now) }
@@ -48,7 +50,7 @@ fn refuse<N: Names>(refusal: Refusal, command: &Command, names: &N) -> Result<()
     }
 }
 
-// Whether the refusal applies to the command.
+/// Whether the refusal applies to the command.
 fn applies<N: Names>(refusal: Refusal, command: &Command, names: &N) -> Result<bool, NoMemory>
     requires { is_checked refusal ≡ true }
     ensures { IfOk result (λ b. b ≡ has_cause refusal (N.catalogue names.now) (command_form command.now)) }

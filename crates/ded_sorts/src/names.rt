@@ -17,7 +17,7 @@ pub enum Known {
 }
 
 impl Known {
-    /// Whether it is a view.
+    /// Whether the name is a view.
     pub fn is_view(&self) -> bool
         ensures { result ≡ is_view_with (known_form (Some self.now)) }
     {
@@ -27,7 +27,7 @@ impl Known {
         }
     }
 
-    /// The columns of its heading.
+    /// The columns of the name's heading.
     pub fn columns(&self) -> &[Column]
         ensures { result.now ≡ columns_with (known_form (Some self.now)) }
     {
@@ -36,7 +36,7 @@ impl Known {
         }
     }
 
-    /// Its level: 0 for a relation.
+    /// The level of the name: 0 for a relation.
     pub fn level(&self) -> u32
         ensures { result ≡ level_with (known_form (Some self.now)) }
     {
@@ -55,6 +55,9 @@ pub trait Names {
     ghost catalogue: { Self → Catalogue };
 
     /// What is known of the name, none exactly where no entry has it. A heading that is known has at most 16 columns.
+    ///
+    /// # Errors
+    /// Out of memory.
     fn known(&self, name: &Name) -> Result<Option<Known>, NoMemory>
         ensures value { IfOk result (λ k. known_form k ≡ known (catalogue self.now) name.now) }
         ensures few { IfOk result (λ k. length (columns_with (known_form k)) ≤ 16) };

@@ -33,7 +33,7 @@ impl Scope<'_> {
     }
 }
 
-// What the first column of the name ranges over.
+/// What the first column of the name among the columns ranges over, none where no column has the name.
 fn sort_among(columns: &[Column], name: &Name) -> Option<Sort>
     ensures { result ≡ nearest (scope_of columns.now) (point.name name.now) }
 {

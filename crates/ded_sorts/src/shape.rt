@@ -35,14 +35,14 @@ pub(crate) fn has_twice(columns: &[Column]) -> bool
     false
 }
 
-// Whether one of the columns has the name.
+/// Whether one of the columns has the name.
 fn are_named(columns: &[Column], name: &Name) -> bool
     ensures { result ≡ list_any (λ c. bytes_eq name.now c.name) columns.now }
 {
     columns.iter().any(|column| name.is_same(&column.name))
 }
 
-// How many of the places are left after the formula's quantifiers have one each, none where they are too few.
+/// How many places are left of `room` after the formula's quantifiers have one each, none where there are too few.
 #[cycle(places)]
 fn room_after(formula: &Formula, room: usize) -> Option<usize>
     ensures { MatchOption result (room < quantifiers (form formula.now)) (λ left. left + quantifiers (form formula.now) ≡ room) }
@@ -60,7 +60,8 @@ fn room_after(formula: &Formula, room: usize) -> Option<usize>
     }
 }
 
-// The same after the quantifiers of all the formulas.
+/// How many places are left of `room` after the quantifiers of all the formulas have one each, none where there are too
+/// few.
 #[cycle(places)]
 fn room_after_all(formulas: &Vec<Formula>, room: usize) -> Option<usize>
     ensures { MatchOption result (room < quantifiers_of (forms formulas.now.items)) (λ left. left + quantifiers_of (forms formulas.now.items) ≡ room) }

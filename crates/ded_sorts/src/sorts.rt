@@ -116,7 +116,7 @@ impl AtomTest for RationalInequality {
     }
 }
 
-// Whether a variable of the operand has no column in the scope.
+/// Whether a variable of the operand has no column in the scope.
 fn is_unbound(scope: &Scope<'_>, operand: &Operand) -> bool
     ensures { result ≡ is_unbound_operand (scope_form scope.now) operand.now }
 {
@@ -127,14 +127,14 @@ fn is_unbound(scope: &Scope<'_>, operand: &Operand) -> bool
     }
 }
 
-// Whether a name with a coefficient has no column in the scope.
+/// Whether one of the names with coefficients has no column in the scope.
 fn have_unbound(scope: &Scope<'_>, parts: &[(Name, i128)]) -> bool
     ensures { result ≡ list_any (λ c. model.is_unbound_name (scope_form scope.now) c.0) parts.now }
 {
     parts.iter().any(|part| scope.sort_of(&part.0).is_none())
 }
 
-// What the variable ranges over; one that nothing binds counts as a number.
+/// What the variable ranges over; one that nothing binds counts as a number.
 fn sort_in(scope: &Scope<'_>, name: &Name) -> Sort
     ensures { result ≡ model.sort_in (scope_form scope.now) name.now }
 {
@@ -144,7 +144,7 @@ fn sort_in(scope: &Scope<'_>, name: &Name) -> Sort
     }
 }
 
-// Whether the operand is a text or a number.
+/// What the operand is: a text, or a number.
 fn sort_of(scope: &Scope<'_>, operand: &Operand) -> Sort
     ensures { result ≡ model.operand_sort (scope_form scope.now) operand.now }
 {
@@ -155,13 +155,14 @@ fn sort_of(scope: &Scope<'_>, operand: &Operand) -> Sort
     }
 }
 
+/// Whether both sorts are the same.
 fn is_same(left: Sort, right: Sort) -> bool
     ensures { result ≡ same_sort left right }
 {
     left == right
 }
 
-// Whether a name with a coefficient is a text variable.
+/// Whether one of the names with coefficients is a text variable.
 fn have_text(scope: &Scope<'_>, parts: &[(Name, i128)]) -> bool
     ensures { result ≡ list_any (λ c. same_sort (model.sort_in (scope_form scope.now) c.0) Text) parts.now }
 {
@@ -170,7 +171,7 @@ fn have_text(scope: &Scope<'_>, parts: &[(Name, i128)]) -> bool
         .any(|part| is_same(sort_in(scope, &part.0), Sort::Text))
 }
 
-// Whether the operand is a sum with a text variable.
+/// Whether the operand is a sum with a text variable.
 fn is_text_sum(scope: &Scope<'_>, operand: &Operand) -> bool
     ensures { result ≡ model.is_text_sum (scope_form scope.now) operand.now }
 {
@@ -180,14 +181,14 @@ fn is_text_sum(scope: &Scope<'_>, operand: &Operand) -> bool
     }
 }
 
-// Whether one of the operands is a sum with a text variable.
+/// Whether one of the operands is a sum with a text variable.
 fn have_text_sum(scope: &Scope<'_>, operands: &[Operand]) -> bool
     ensures { result ≡ list_any (model.is_text_sum (scope_form scope.now)) operands.now }
 {
     operands.iter().any(|operand| is_text_sum(scope, operand))
 }
 
-// Whether the comparison is of a text and a number, or is one of order and of a text.
+/// Whether the comparison is of a text with a number, or orders texts.
 fn do_sorts_differ(op: CompareOp, left: Sort, right: Sort) -> bool
     ensures { result ≡ model.sorts_differ op left right }
 {
@@ -199,7 +200,7 @@ fn do_sorts_differ(op: CompareOp, left: Sort, right: Sort) -> bool
     }
 }
 
-// Whether an argument is a text for a column of numbers, or a number for one of texts.
+/// Whether one of the arguments is a text for a column of numbers, or a number for a column of texts.
 fn do_arguments_differ(scope: &Scope<'_>, columns: &[Column], operands: &[Operand]) -> bool
     ensures { result ≡ model.arguments_differ (scope_form scope.now) columns.now operands.now }
 {

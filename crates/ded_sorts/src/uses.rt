@@ -63,7 +63,7 @@ impl<N: Names> AtomTest for OtherArity<'_, N> {
     }
 }
 
-// The level of the name, 0 where it isn't defined.
+/// The level of the name, 0 where it isn't defined.
 fn level_of_name<N: Names>(name: &Name, names: &N) -> Result<u32, NoMemory>
     ensures { IfOk result (λ n. n ≡ level_with (known (N.catalogue names.now) name.now)) }
 {
@@ -74,6 +74,9 @@ fn level_of_name<N: Names>(name: &Name, names: &N) -> Result<u32, NoMemory>
 }
 
 /// The greatest level of the names that the formula uses, 0 where it uses none.
+///
+/// # Errors
+/// Out of memory.
 #[cycle(levels)]
 pub(crate) fn greatest_level<N: Names>(formula: &Formula, names: &N) -> Result<u32, NoMemory>
     ensures { IfOk result (λ n. n ≡ greatest (atom_level (known (N.catalogue names.now))) (form formula.now)) }
@@ -93,6 +96,7 @@ pub(crate) fn greatest_level<N: Names>(formula: &Formula, names: &N) -> Result<u
     }
 }
 
+/// The greatest level of the names that the formulas use, 0 where they use none.
 #[cycle(levels)]
 fn greatest_level_of<N: Names>(formulas: &Vec<Formula>, names: &N) -> Result<u32, NoMemory>
     ensures { IfOk result (λ n. n ≡ greatest_of (atom_level (known (N.catalogue names.now))) (forms formulas.now.items)) }

@@ -28,6 +28,9 @@ struct Rule<'a> {
 }
 
 /// Whether some point satisfies all the atoms.
+///
+/// # Errors
+/// Out of memory.
 pub(crate) fn hold_somewhere(alloc: Global, atoms: &[ThemeAtom]) -> Result<bool, NoMemory>
     requires { AllByRecursion IsNormalTheme atoms.now }
     ensures somewhere { IfOk result (λ b. IsTrue b → HoldsSomewhere (conj_holds theme_holds atoms.now)) }
@@ -53,7 +56,8 @@ fn rules<'a>(alloc: Global, atoms: &'a [ThemeAtom]) -> Result<Option<Vec<Rule<'a
     Ok(Some(rules))
 }
 
-/// Puts two words into one class by a rule more, where they are in two. False where these have two different texts.
+/// Puts two words into one class, by one more rule where they are in two classes. Returns false where these have two
+/// different texts.
 fn unite<'a>(rules: &mut Vec<Rule<'a>>, left: Word<'a>, right: Word<'a>) -> Result<bool, NoMemory>
     ensures united { IfOk result (λ b. IsTrue b → AreUnited (rules_of rules.old.items) (rules_of rules.new.items) (source left.entry) (source right.entry)) }
     ensures apart { IfOk result (λ b. b ≡ false → AreApart (rules_of rules.old.items) (source left.entry) (source right.entry)) }
@@ -65,7 +69,7 @@ fn unite<'a>(rules: &mut Vec<Rule<'a>>, left: Word<'a>, right: Word<'a>) -> Resu
     }
 }
 
-/// Lets the word stand for the slot, where it is another.
+/// Lets the word stand for the slot, unless it is the slot itself. Returns true.
 fn bind<'a>(rules: &mut Vec<Rule<'a>>, slot: Slot, word: Word<'a>) -> Result<bool, NoMemory>
     ensures bound { IfOk result (λ b. IsBound (rules_of rules.old.items) (rules_of rules.new.items) slot (source word.entry)) }
     ensures done { IfOk result (λ b. IsTrue b) }
@@ -87,7 +91,7 @@ fn class_word<'a>(rules: &[Rule<'a>], word: Word<'a>) -> Word<'a>
     class
 }
 
-/// Whether both sides of each disequality are in two classes.
+/// Whether the two sides of each disequality are in different classes.
 fn differ<'a>(rules: &[Rule<'a>], atoms: &'a [ThemeAtom]) -> bool
     ensures split { IsTrue result → AreSplit (rules_of rules.now) atoms.now }
     ensures joined { result ≡ false → (p : Point) → Solves (texts p) (rules_of rules.now) → conj_holds theme_holds atoms.now p ≡ false }

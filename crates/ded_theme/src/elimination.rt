@@ -23,6 +23,9 @@ use ded_theory::Eliminated;
 use std::alloc::Global;
 
 /// A conjunction without the slot that holds exactly where some extension of the point at the slot satisfies all the atoms.
+///
+/// # Errors
+/// Out of memory.
 pub(crate) fn eliminate(
     alloc: Global,
     atoms: &[ThemeAtom],
@@ -39,7 +42,8 @@ pub(crate) fn eliminate(
     }
 }
 
-/// A word that an equality gives the slot: a quoted text, where there is such an equality.
+/// A word that one of the equalities gives the slot, a quoted text where there is such an equality; none where no
+/// equality mentions the slot.
 fn word_for<'a>(atoms: &'a [ThemeAtom], slot: Slot) -> Option<Word<'a>>
     requires { AllByRecursion IsNormalTheme atoms.now }
     ensures { MatchOption result (IsFree slot atoms.now) (λ w. IsPinned slot (source w) atoms.now) }
@@ -55,7 +59,7 @@ fn word_for<'a>(atoms: &'a [ThemeAtom], slot: Slot) -> Option<Word<'a>>
     found
 }
 
-/// The word that the atom gives the slot, where it is an equality of it.
+/// The word that the atom gives the slot, none where it is no equality of the slot.
 fn partner(atom: &ThemeAtom, slot: Slot) -> Option<Word<'_>>
     requires { IsNormalTheme atom.now }
     ensures { MatchOption result (theme_mentions atom.now slot ≡ true → is_equality atom.now ≡ false) (λ w. IsPartner slot (source w) atom.now) }
@@ -72,7 +76,7 @@ fn partner(atom: &ThemeAtom, slot: Slot) -> Option<Word<'_>>
     }
 }
 
-/// The atoms with the word in place of the slot.
+/// The conjunction of the atoms with the word in place of the slot.
 fn with_word_in_all<'a>(
     alloc: Global,
     atoms: &'a [ThemeAtom],

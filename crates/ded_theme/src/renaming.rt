@@ -8,6 +8,9 @@ use ded_model::slot::{Slot, renamed};
 use ded_model::tuple::ThemeAtom;
 
 /// The atom with each slot replaced as the pairs say, of two slots the one of lesser number first.
+///
+/// # Errors
+/// Out of memory.
 pub(crate) fn renamed_theme(atom: &ThemeAtom, map: &[(Slot, Slot)]) -> Result<ThemeAtom, NoMemory>
     ensures { IfOk result (λ a. a ≡ renamed_atom map.now atom.now) }
 {
@@ -24,6 +27,9 @@ pub(crate) fn renamed_theme(atom: &ThemeAtom, map: &[(Slot, Slot)]) -> Result<Th
 }
 
 /// The disequality for an equality, and the equality for a disequality.
+///
+/// # Errors
+/// Out of memory.
 pub(crate) fn turned(atom: &ThemeAtom) -> Result<ThemeAtom, NoMemory>
     ensures { IfOk result (λ a. a ≡ turned_atom atom.now) }
 {

@@ -25,6 +25,9 @@ pub(crate) enum Made {
 }
 
 /// The atom with the word in place of the slot.
+///
+/// # Errors
+/// Out of memory.
 pub(crate) fn with_word<'a>(
     atom: &'a ThemeAtom,
     slot: Slot,
@@ -42,7 +45,7 @@ pub(crate) fn with_word<'a>(
     made_of(comparison.equal, left, right)
 }
 
-/// What the comparison of the words comes to.
+/// What the comparison of two words comes to.
 fn made_of(equal: bool, left: Word<'_>, right: Word<'_>) -> Result<Made, NoMemory>
     requires left { IsNormalSource (source left) }
     requires right { IsNormalSource (source right) }
@@ -58,7 +61,7 @@ fn made_of(equal: bool, left: Word<'_>, right: Word<'_>) -> Result<Made, NoMemor
     }
 }
 
-/// What the comparison of the slots comes to.
+/// What the comparison of two slots comes to.
 fn made_of_slots(equal: bool, left: Slot, right: Slot) -> Made
     ensures { result ≡ (if same_slot left right then (if equal then Always else Never) else Atom (slots_atom equal left right)) }
 {
@@ -69,14 +72,17 @@ fn made_of_slots(equal: bool, left: Slot, right: Slot) -> Made
     }
 }
 
-/// A comparison that holds everywhere or nowhere.
+/// What a comparison that holds everywhere, or nowhere, comes to.
 fn decided(holds: bool) -> Made
     ensures { result ≡ (if holds then Always else Never) }
 {
     if holds { Made::Always } else { Made::Never }
 }
 
-/// The atom between a slot and a text.
+/// The atom that compares a slot with a text.
+///
+/// # Errors
+/// Out of memory.
 pub(crate) fn against(equal: bool, slot: Slot, text: &Name) -> Result<ThemeAtom, NoMemory>
     ensures { IfOk result (λ a. a ≡ text_atom equal slot text.now) }
 {
@@ -88,7 +94,7 @@ pub(crate) fn against(equal: bool, slot: Slot, text: &Name) -> Result<ThemeAtom,
     }
 }
 
-/// The atom between two slots, the one of lesser number first.
+/// The atom that compares two slots, the one of lesser number first.
 pub(crate) fn between(equal: bool, left: Slot, right: Slot) -> ThemeAtom
     ensures { result ≡ slots_atom equal left right }
 {

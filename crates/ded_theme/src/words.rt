@@ -22,7 +22,7 @@ pub(crate) struct Comparison<'a> {
     pub(crate) right: Word<'a>,
 }
 
-/// The comparison that an atom is.
+/// The comparison that a text atom makes.
 pub(crate) fn comparison_of(atom: &ThemeAtom) -> Comparison<'_>
     ensures equal { result.equal ≡ is_equality atom.now }
     ensures left { source result.left ≡ left atom.now }
@@ -36,7 +36,7 @@ pub(crate) fn comparison_of(atom: &ThemeAtom) -> Comparison<'_>
     }
 }
 
-/// The words compared.
+/// The comparison of two words.
 fn compared<'a>(equal: bool, left: Word<'a>, right: Word<'a>) -> Comparison<'a>
     ensures equal { result.equal ≡ equal }
     ensures left { result.left ≡ left.entry }
@@ -46,7 +46,7 @@ fn compared<'a>(equal: bool, left: Word<'a>, right: Word<'a>) -> Comparison<'a>
 }
 
 impl<'a> Word<'a> {
-    /// Whether it is the slot.
+    /// Whether the word is the slot.
     pub(crate) fn is_slot(self, slot: Slot) -> bool
         ensures { result ≡ is_at slot (source self.entry) }
     {
@@ -56,14 +56,14 @@ impl<'a> Word<'a> {
         }
     }
 
-    /// The word, or the other one where it is the slot.
+    /// This word, or the other one where this is the slot.
     pub(crate) fn replaced(self, slot: Slot, by: Word<'a>) -> Word<'a>
         ensures { source result ≡ replaced slot (source by.entry) (source self.entry) }
     {
         if self.is_slot(slot) { by } else { self }
     }
 
-    /// Whether both are the same slot, or equal texts.
+    /// Whether both words are the same slot, or equal texts.
     pub(crate) fn is_same(self, other: Word<'a>) -> bool
         ensures { IsTrue result ↔ source self.entry ≡ source other.entry }
     {

@@ -16,7 +16,7 @@ pub enum Eliminated<A> {
 pub enum Verdict {
     /// No point satisfies it.
     Empty,
-    /// Some point does.
+    /// Some point satisfies it.
     Inhabited,
     /// Neither is known: the numbers got too long.
     Unknown,

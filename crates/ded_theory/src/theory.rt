@@ -23,7 +23,7 @@ use std::alloc::Global;
 
 /// A kind of atoms, what they mean, and what can be done with conjunctions of them.
 ///
-/// Every call that takes atoms needs them in normal form, and gives such atoms. Each may also answer that there is no memory.
+/// Every call that takes atoms needs them in normal form, and gives such atoms.
 pub trait Theory {
     /// The atoms.
     type Atom: Drop;
@@ -51,12 +51,18 @@ pub trait Theory {
         ensures { result ≡ owned sort };
 
     /// An equal atom.
+    ///
+    /// # Errors
+    /// Out of memory.
     fn copy(atom: &Self::Atom) -> Result<Self::Atom, NoMemory>
         ensures { IfOk result (λ a. a ≡ atom.now) };
 
     /// The normal form of the atom with each slot replaced as the pairs say; a slot that no pair names stays. The pairs are one
     /// to one on the atom's slots and keep their sorts. The result holds at a point exactly where the atom does at a point that
     /// has the same values at the slots before, and has the atom's lines over the new slots.
+    ///
+    /// # Errors
+    /// Out of memory.
     fn rename(atom: &Self::Atom, map: &[(Slot, Slot)]) -> Result<Self::Atom, NoMemory>
         requires normal { normal atom.now }
         requires one { IsOneToOne map.now (mentions atom.now) }
@@ -68,6 +74,9 @@ pub trait Theory {
 
     /// The negation of the atom: pieces that exclude each other and hold together exactly where the atom doesn't. They mention
     /// its slots alone, have its lines, and hold alike at points of one cell of the atom.
+    ///
+    /// # Errors
+    /// Out of memory.
     fn negate(atom: &Self::Atom) -> Result<Negated<Self::Atom>, NoMemory>
         requires normal { normal atom.now }
         ensures holds { IfOk result (λ n. (p : Point) → 0 < p.den → some_piece_holds holds n p ≡ not (holds atom.now p)) }
@@ -82,7 +91,8 @@ pub trait Theory {
     /// elimination makes of the atoms' lines. So its numbers have at most 2b + 1 digits where the atoms' have at most b.
     ///
     /// # Errors
-    /// `Wide` only where two lines of the atoms clash at the slot, so only where a number has more than 63 digits.
+    /// `Wide` only where two lines of the atoms clash at the slot, so only where a number has more than 63 digits,
+    /// otherwise out of memory.
     fn eliminate(
         alloc: Global,
         atoms: &[Self::Atom],
@@ -97,12 +107,18 @@ pub trait Theory {
 
     /// Whether some point satisfies all the atoms. `Unknown` only where the atoms are wide: with b the greatest length of their
     /// numbers and k the count of rational slots that they mention, only where (b + 1) * 2^k is above 128.
+    ///
+    /// # Errors
+    /// Out of memory.
     fn refute(alloc: Global, atoms: &[Self::Atom]) -> Result<Verdict, NoMemory>
         requires normal { AllByRecursion normal atoms.now }
         ensures { IfOk result (λ v. IsVerdict holds mentions lines atoms.now v) };
 
     /// The exact bounds of a rational slot over all points that satisfy the atoms, `Nothing` where none does. `Around` only
     /// where the atoms are wide, as `Unknown` of [`Theory::refute`].
+    ///
+    /// # Errors
+    /// Out of memory.
     fn bounds(alloc: Global, atoms: &[Self::Atom], slot: Slot) -> Result<Span, NoMemory>
         requires normal { AllByRecursion normal atoms.now }
         requires rational { slot.sort ≡ Rat }

@@ -3,8 +3,8 @@
 //! [`normal_tuple`] makes the normal tuple of atoms that are normal one by one, and [`put`] sets one more atom into a tuple.
 //! [`is_true`] tells the rows that no tuple has.
 //!
-//! It stands on `ded_model`, which says what a normal tuple is, and on `ded_row` for the order of rows. Want of memory is the
-//! only reason to give no answer.
+//! It stands on `ded_model`, which says what a normal tuple is, and on `ded_row` for the order of rows. Running out of
+//! memory is the only reason to give no answer.
 #![tactic(auto)]
 
 mod normal;

@@ -18,6 +18,9 @@ use std::alloc::Global;
 
 /// The normal tuple of atoms that are normal one by one: true rows are left out, and of equal atoms one is kept. It holds where
 /// all the atoms do.
+///
+/// # Errors
+/// Out of memory.
 pub fn normal_tuple(alloc: Global, mut atoms: Vec<Atom>) -> Result<Tuple, NoMemory>
     requires { AllByRecursion IsNormalOrTrue atoms.items }
     ensures value { IfOk result (λ t. t ≡ ordered_atoms (without_true atoms.items)) }
@@ -35,7 +38,7 @@ pub fn normal_tuple(alloc: Global, mut atoms: Vec<Atom>) -> Result<Tuple, NoMemo
     Ok(tuple)
 }
 
-/// Puts an atom at its place, unless it is the true row.
+/// Puts an atom at its place in a tuple, unless it is a true row.
 fn add(tuple: &mut Tuple, atom: Atom) -> Result<(), NoMemory>
     requires { IsNormalOrTrue atom }
     ensures { OnOk result (tuple.new ≡ placed (without_true (atom ∷ [])) tuple.old) }

@@ -8,6 +8,9 @@ use ded_model::tuple::{Atom, BothAtom, ThemeAtom, Tuple};
 use std::cmp::Ordering;
 
 /// Puts an atom at its place in a tuple, unless it stands there already.
+///
+/// # Errors
+/// Out of memory.
 pub fn put(tuple: &mut Tuple, atom: Atom) -> Result<(), NoMemory>
     requires { IsNormalAtom atom }
     ensures place { OnOk result (tuple.new ≡ place_atom atom tuple.old) }
@@ -78,7 +81,7 @@ fn order_themes(a: &ThemeAtom, b: &ThemeAtom) -> Ordering
         .then(second_number(a).cmp(&second_number(b)))
 }
 
-/// The number of the first slot.
+/// The number of the first slot of a text atom.
 fn first_number(atom: &ThemeAtom) -> u32
     ensures { result ≡ (first_slot atom.now).number }
 {
@@ -90,7 +93,7 @@ fn first_number(atom: &ThemeAtom) -> u32
     }
 }
 
-/// The place of the atom's kind in the order.
+/// The place of the kind of a text atom in the order.
 fn kind(atom: &ThemeAtom) -> u8
     ensures { result ≡ kind_place atom.now }
 {
@@ -102,7 +105,7 @@ fn kind(atom: &ThemeAtom) -> u8
     }
 }
 
-/// The quoted text, empty for two slots.
+/// The quoted text of a text atom, empty for one of two slots.
 fn text(atom: &ThemeAtom) -> &[u8]
     ensures { result.now ≡ quoted_text atom.now }
 {
@@ -112,7 +115,7 @@ fn text(atom: &ThemeAtom) -> &[u8]
     }
 }
 
-/// The number of the second slot, 0 for a quoted text.
+/// The number of the second slot of a text atom, 0 for one with a quoted text.
 fn second_number(atom: &ThemeAtom) -> u32
     ensures { result ≡ second_number atom.now }
 {

@@ -56,7 +56,8 @@ pub(crate) fn extended(
     extended
 }
 
-/// The same. What else the plan scans is given behind what is held, and stays there.
+/// The list of a view after a tuple is inserted that only adds to it, as [`extended`] gives it. What else the plan
+/// scans is given behind what is held, and stays there.
 fn extended_over(
     alloc: Global,
     change: &Change<'_, '_>,
@@ -101,10 +102,10 @@ fn extended_over(
     Ok(joined(list, more)?)
 }
 
-/// The tuples of the one list, and behind them those of the other.
+/// The tuples of the first list, and behind them those of the second.
 ///
 /// # Errors
-/// Want of memory.
+/// Out of memory.
 fn joined(list: Tuples, more: Tuples) -> Result<Tuples, NoMemory>
     ensures { IfOk result (λ ts. ts ≡ list ++ more) }
 {
@@ -114,10 +115,10 @@ fn joined(list: Tuples, more: Tuples) -> Result<Tuples, NoMemory>
     Ok(Tuples { list })
 }
 
-/// The names that the plan scans without this one.
+/// The names that the plan scans, but for the given one.
 ///
 /// # Errors
-/// Want of memory.
+/// Out of memory.
 fn other_names(alloc: Global, plan: &Plan, name: &Name) -> Result<Vec<Name>, NoMemory>
     ensures { IfOk result (λ v. (n : List ℕ) → list_any (bytes_eq n) v.items ≡ (plan_uses n (plan_form plan.now) && not (bytes_eq n name.now))) }
 {

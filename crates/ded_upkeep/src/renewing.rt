@@ -26,7 +26,7 @@ use std::alloc::{AllocError, Global};
 /// none is held of its view. `added` counts the lists that were extended by the tuple alone, up to its greatest number.
 ///
 /// # Errors
-/// Want of memory. Some lists may be made then.
+/// Out of memory. Some lists may be made then.
 pub(crate) fn renew_all(
     alloc: Global,
     change: &Change<'_, '_>,
@@ -56,7 +56,7 @@ pub(crate) fn renew_all(
 /// Makes the list of one view, which reaches the relation, and holds it behind what is held, unless it is too wide.
 ///
 /// # Errors
-/// Want of memory; what is held is as before then.
+/// Out of memory; what is held is as before then.
 fn renew(
     alloc: Global,
     change: &Change<'_, '_>,

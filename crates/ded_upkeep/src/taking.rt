@@ -19,7 +19,7 @@ use ded_model::name::Name;
 /// Takes the lists of the marked views that reach the relation out of what is held.
 ///
 /// # Errors
-/// Want of memory. Some of these lists are gone then, and no other.
+/// Out of memory. Some of these lists are gone then, and no other.
 pub(crate) fn take_stale(
     catalogue: &Catalogue,
     marks: &[Mark],
@@ -48,7 +48,7 @@ pub(crate) fn take_stale(
 /// Takes the list of one view out, where one is held.
 ///
 /// # Errors
-/// Want of memory. The list is gone then.
+/// Out of memory. The list is gone then.
 fn take_one(name: &Name, held: &mut Given, stale: &mut Given) -> Result<(), NoMemory>
     requires new { has_name name.now stale.old ≡ false }
     ensures held { held.new ≡ without_name name.now held.old }

@@ -88,7 +88,7 @@ pub fn inserted(
 /// kept views.
 ///
 /// # Errors
-/// Want of memory: the catalogue is as before, and lists of views that reach the relation may be gone.
+/// Out of memory: the catalogue is as before, and lists of views that reach the relation may be gone.
 pub fn deleted(
     alloc: Global,
     catalogue: &mut Catalogue,
@@ -117,7 +117,7 @@ pub fn deleted(
 /// Brings the lists up to date over the catalogue as a delete will make it. Gives how many are right over the catalogue before as well.
 ///
 /// # Errors
-/// Want of memory. What is left is right over the catalogue before, and has the lists that the change doesn't concern.
+/// Out of memory. What is left is right over the catalogue before, and has the lists that the change doesn't concern.
 fn ready_without<'a>(
     alloc: Global,
     catalogue: &'a Catalogue,
@@ -149,7 +149,7 @@ fn ready_without<'a>(
 /// over the catalogue before as well.
 ///
 /// # Errors
-/// Want of memory. What is left is right over the catalogue before, and has the lists that the change doesn't concern.
+/// Out of memory. What is left is right over the catalogue before, and has the lists that the change doesn't concern.
 fn bring_up_to_date(
     alloc: Global,
     change: &Change<'_, '_>,

@@ -21,7 +21,8 @@ pub fn plans()
         → IsNarrowWith (plan_b M f) (plan_rank M f) → plan_clashes M f ≡ false }
 {}
 
-/// So do the lines of a goal, and where its length and rank are narrow, no elimination in it clashes.
+/// The lines of a goal have less than (b + 1) * 2 ^ q digits, b its greatest length and q its rank. Where these are
+/// narrow, no elimination in the goal clashes.
 pub fn goals()
     ensures within { (M : Measures) → AreInReach M → (g : GoalForm) → IsAscendingGoal g
         → AreWithinReach (goal_b M g) (goal_rank M g) (goal_lines M g) }
@@ -34,7 +35,8 @@ pub fn accepted_goals()
     ensures ascending { (K : KnownNames) (h : List Column) (f : Form) → has_missorted K h f ≡ false → IsAscendingGoal (goal_of h f) }
 {}
 
-/// The names of a well formed catalogue have lines of these lengths, its views among them.
+/// The lines of a name of a well formed catalogue, be it a relation or a view, have less than (b + 1) * 2 ^ q digits, b
+/// the greatest length of the name and q its rank. Where these are narrow, the name has no clash.
 pub fn names()
     ensures reach { (c : Catalogue) → IsWellFormed c → AreInReach (measures c) }
 {}

@@ -1,4 +1,4 @@
-//! What a catalogue is asked. None of it but the copy takes memory.
+//! What a catalogue is asked. Only the copy allocates.
 ghost use Rattle.std.specs.Prelude.{◌≡◌, true, IfOk, slice_get};
 ghost use Rattle.std.specs.Option.{option_map};
 
@@ -27,7 +27,7 @@ impl Catalogue {
     pub fn formed(&self)
         ensures { IsWellFormed (catalogue_of self.now) }
     {
-        let _ = &self.names;
+        let _ = &self.names; // for its invariant
     }
 
     /// The heading of a relation or a view. None exactly where no entry has the name.
@@ -78,7 +78,7 @@ impl Catalogue {
     }
 
     /// Why an insert into the relation would be refused, whatever the tuple: `Full` or `Spent`. None where it would be
-    /// refused only where there is no memory.
+    /// refused only for running out of memory.
     pub fn refuses(&self, name: &Name) -> Option<Refusal>
         requires { is_relation_with (known (catalogue_of self.now) name.now) ≡ true }
         ensures { result ≡ insert_refusal (catalogue_of self.now) name.now }
@@ -92,7 +92,7 @@ impl Catalogue {
     /// A catalogue that stands for the same.
     ///
     /// # Errors
-    /// `NoMemory`.
+    /// Out of memory.
     pub fn copy(&self) -> Result<Catalogue, NoMemory>
         ensures { IfOk result (λ c. catalogue_of c ≡ catalogue_of self.now) }
     {
