@@ -8,3 +8,5 @@ pub mod Numbers
 pub mod Reading
 pub mod Results
 pub mod Simplest
+pub mod SnapshotEntries
+pub mod SnapshotTuples

@@ -5,14 +5,21 @@
 //! `ded_model` that it stands for. It is well formed: names are new, tuples are normal and over their columns, views are
 //! accepted over the entries before them. Each change is one of `ded_sorts`, and a refused one changes nothing.
 //!
+//! A [`Snapshot`] reads a catalogue as it is, or as it will be when a tuple is inserted into a relation or deleted from one. So
+//! what depends on the relations can be made anew before the change is. It borrows the catalogue and copies nothing. Contracts
+//! see it as the catalogue that it stands for, which is well formed, and which is the one that the insert or the delete makes.
+//!
 //! It stands on `ded_sorts` for what is known of names and what changes them, and on `indexmap`.
 #![tactic(auto)]
 
 mod catalogue;
+mod change;
 mod copying;
 mod hashing;
 mod relation;
+mod snapshot;
 mod stored;
 mod table;
 
 pub use catalogue::Catalogue;
+pub use snapshot::Snapshot;

@@ -5,7 +5,7 @@ use Rattle.ded_model.specs.declared.slot.Slot.{Slot}
 use Rattle.ded_model.specs.Point.{Point}
 use Rattle.ded_genrel.specs.Lists.{conjs_of, AreNormal}
 use Rattle.ded_genrel.proofs.Items.{done_to}
-use Rattle.ded_bounds.specs.Rounds.{IsRound}
+use Rattle.ded_genrel.specs.Rounds.{IsRound}
 use Rattle.ded_complement.specs.declared.boxed.Boxed.{Boxed}
 use Rattle.ded_complement.specs.Boxed.{conjs_in, IsBoxed, AreBoxed}
 

@@ -3,7 +3,7 @@ use Rattle.std.specs.Prelude.{Bool, List, [], ◌∷◌}
 use Rattle.std.specs.List.{AllByRecursion}
 use Rattle.ded_model.specs.declared.slot.Slot.{Slot}
 use Rattle.ded_model.specs.Point.{Point}
-use Rattle.ded_bounds.specs.Rounds.{IsRound}
+use Rattle.ded_genrel.specs.Rounds.{IsRound}
 use Rattle.ded_complement.specs.declared.boxed.Boxed.{Boxed}
 
 -- the conjunctions

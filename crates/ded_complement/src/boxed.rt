@@ -3,10 +3,10 @@ ghost use Rattle.std.specs.Prelude.{◌≡◌, ◌++◌, IfOk};
 ghost use Rattle.std.specs.List.{AllByRecursion};
 ghost use Rattle.ded_model.specs.declared.slot.Sort.TheVariants.{Rat};
 ghost use Rattle.ded_genrel.specs.Lists.{conjs_of, AreNormal};
-ghost use Rattle.ded_bounds.specs.Rounds.{AreRational};
+ghost use Rattle.ded_genrel.specs.Rounds.{AreRational};
 ghost use Rattle.ded_complement.specs.Boxed.{conjs_in, IsBoxed, AreBoxed};
 
-use ded_bounds::box_round;
+use ded_genrel::box_round;
 use ded_box::BoundBox;
 use ded_genrel::GenRel;
 use ded_model::bound::Bound;

@@ -5,14 +5,14 @@ ghost use Rattle.ded_model.specs.Cell.{conj_holds, HoldsSomewhere, HasCells};
 ghost use Rattle.ded_theory.specs.Conjunctions.{IsWide};
 ghost use Rattle.ded_genrel.specs.Lists.{conjs_hold, conjs_mention, conjs_lines};
 ghost use Rattle.ded_genrel.specs.Operations.{IsOperation};
-ghost use Rattle.ded_bounds.specs.Rounds.{AreRational};
+ghost use Rattle.ded_genrel.specs.Rounds.{AreRational};
 ghost use Rattle.ded_complement.specs.Boxed.{conjs_in, AreBoxed};
 ghost use Rattle.ded_complement.specs.Pieces.{all_atoms, AreDisjoint, IsListForEach, AreAmong, IsMadeOf, ArePieces};
 
 use crate::boxed::{Boxed, bounded_slots, boxed_list, unboxed};
 use crate::lessening::without;
 use crate::pieces::push_piece;
-use ded_bounds::box_round;
+use ded_genrel::box_round;
 use ded_box::meets;
 use ded_genrel::{GenRel, copy_conj};
 use ded_model::memory::NoMemory;

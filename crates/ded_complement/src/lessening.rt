@@ -6,7 +6,7 @@ ghost use Rattle.ded_model.specs.Cell.{conj_holds, HoldsSomewhere};
 ghost use Rattle.ded_theory.specs.Conjunctions.{IsWide};
 ghost use Rattle.ded_theory.specs.Verdicts.{HoldsNowhere};
 ghost use Rattle.ded_genrel.specs.Lists.{conjs_hold};
-ghost use Rattle.ded_bounds.specs.Rounds.{AreRational, IsRound};
+ghost use Rattle.ded_genrel.specs.Rounds.{AreRational, IsRound};
 ghost use Rattle.ded_complement.specs.Boxed.{conjs_in, IsBoxed, AreBoxed};
 ghost use Rattle.ded_complement.specs.Pieces.{AreAmong, IsMadeOf, ArePieces, IsMore};
 

@@ -21,11 +21,11 @@ use Rattle.ded_query.proofs.Arguments.{byte_arguments}
 use Rattle.ded_eval.proofs.Taken.{none_under}
 use Rattle.ded_views.proofs.Named.{own_name}
 use Rattle.ded_views.proofs.Views.{view_means}
-use Rattle.ded_marks.specs.declared.mark.Mark.{Mark}
-use Rattle.ded_upkeep.specs.Held.{IsHeld, IsListOf, held_under, is_marked}
-use Rattle.ded_upkeep.specs.Upkeep.{IsTightView}
-use Rattle.ded_upkeep.proofs.Renewal.{tight_clash}
-use Rattle.ded_upkeep.proofs.Under.{same_name, named_each, under_named, other_more, own_more, nameless, unnamed}
+use Rattle.ded_database.specs.declared.mark.Mark.{Mark}
+use Rattle.ded_database.specs.Held.{IsHeld, IsListOf, held_under, is_marked}
+use Rattle.ded_database.specs.Upkeep.{IsTightView}
+use Rattle.ded_database.proofs.Renewal.{tight_clash}
+use Rattle.ded_database.proofs.Under.{same_name, named_each, under_named, other_more, own_more, nameless, unnamed}
 use Rattle.ded_database.specs.Keeping.{IsMarkedWith, IsListedWith}
 
 -- what is held of a view holds exactly where the view's formula does

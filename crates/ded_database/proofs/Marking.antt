@@ -3,9 +3,9 @@ use Rattle.std.proofs.Common.{◌≡◌, ℕ, zero, suc, Bool, true, false, not,
 use Rattle.std.specs.List.{insert, AllByRecursion}
 use Rattle.std.proofs.lemmas.Bool.{or_from, or_parts}
 use Rattle.ded_eval.proofs.Names.{other_way}
-use Rattle.ded_marks.specs.declared.mark.Mark.{Mark}
-use Rattle.ded_upkeep.specs.Held.{is_marked, AreMarkedApart}
-use Rattle.ded_upkeep.proofs.Under.{same_name}
+use Rattle.ded_database.specs.declared.mark.Mark.{Mark}
+use Rattle.ded_database.specs.Held.{is_marked, AreMarkedApart}
+use Rattle.ded_database.proofs.Under.{same_name}
 use Rattle.ded_database.specs.Keeping.{without_mark}
 
 -- ---- one more, wherever it stands

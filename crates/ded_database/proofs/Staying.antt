@@ -12,12 +12,12 @@ use Rattle.ded_eval.specs.declared.given.GivenRelation.{GivenRelation}
 use Rattle.ded_eval.specs.Given.{has_name, without_name}
 use Rattle.ded_views.specs.Unaffected.{AreUnaffected}
 use Rattle.ded_views.proofs.Changing.{added, dropped}
-use Rattle.ded_marks.specs.declared.mark.Mark.{Mark}
-use Rattle.ded_marks.specs.Marks.{IsMark}
-use Rattle.ded_marks.proofs.Marked.{untouched_marks}
-use Rattle.ded_upkeep.specs.Held.{IsHeld, IsUpheld, is_marked}
-use Rattle.ded_upkeep.proofs.Staying.{all_stay}
-use Rattle.ded_upkeep.proofs.Under.{same_name, all_left_over, each_named, all_both, gone_name}
+use Rattle.ded_database.specs.declared.mark.Mark.{Mark}
+use Rattle.ded_database.specs.Marks.{IsMark}
+use Rattle.ded_database.proofs.MarksOfViews.{untouched_marks}
+use Rattle.ded_database.specs.Held.{IsHeld, IsUpheld, is_marked}
+use Rattle.ded_database.proofs.ListsStaying.{all_stay}
+use Rattle.ded_database.proofs.Under.{same_name, all_left_over, each_named, all_both, gone_name}
 use Rattle.ded_database.specs.Keeping.{without_mark}
 use Rattle.ded_database.proofs.Marking.{all_without, others_without, marked_without, apart_without}
 

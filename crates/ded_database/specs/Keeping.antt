@@ -4,9 +4,9 @@ use Rattle.std.specs.List.{filter}
 use Rattle.std.specs.Str.{bytes_eq}
 use Rattle.ded_model.specs.Catalogue.{Catalogue}
 use Rattle.ded_eval.specs.declared.given.GivenRelation.{GivenRelation}
-use Rattle.ded_marks.specs.declared.mark.Mark.{Mark}
-use Rattle.ded_upkeep.specs.Held.{held_under, is_marked}
-use Rattle.ded_upkeep.specs.Upkeep.{IsTightView}
+use Rattle.ded_database.specs.declared.mark.Mark.{Mark}
+use Rattle.ded_database.specs.Held.{held_under, is_marked}
+use Rattle.ded_database.specs.Upkeep.{IsTightView}
 
 -- the view is marked, and the others are as they were
 abbrev pub IsMarkedWith : List ℕ → List Mark → List Mark → Type 0

@@ -1,3 +1,9 @@
+pub mod Changes
+pub mod Closed
+pub mod Held
 pub mod Keeping
+pub mod Marks
+pub mod Renewed
 pub mod State
 pub mod Steps
+pub mod Upkeep

@@ -4,8 +4,8 @@ use Rattle.ded_model.specs.Catalogue.{Catalogue}
 use Rattle.ded_model.specs.Known.{IsWellFormed}
 use Rattle.ded_catalog.specs.State.{Table, catalogue_of}
 use Rattle.ded_eval.specs.declared.given.GivenRelation.{GivenRelation}
-use Rattle.ded_marks.specs.declared.mark.Mark.{Mark}
-use Rattle.ded_upkeep.specs.Held.{is_marked, IsUpheld}
+use Rattle.ded_database.specs.declared.mark.Mark.{Mark}
+use Rattle.ded_database.specs.Held.{is_marked, IsUpheld}
 
 -- what stands under each name, the marks of kept views, the lists that are held of them, and how often a list was extended by one tuple alone
 pub record State : Type 0 where

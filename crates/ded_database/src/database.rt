@@ -8,7 +8,7 @@ use crate::keeping::{drop_kept, keep_view};
 use ded_algebra::Relations;
 use ded_catalog::Catalogue;
 use ded_eval::Given;
-use ded_marks::Mark;
+use crate::Mark;
 use ded_model::command::Refusal;
 use ded_model::formula::Formula;
 use ded_model::goal::Goal;
@@ -16,8 +16,8 @@ use ded_model::memory::{NoMemory, Refused};
 use ded_model::name::{Heading, Name};
 use ded_model::tuple::{Tuple, Tuples};
 use ded_query::{answer, is_true};
-use ded_snapshot::Snapshot;
-use ded_upkeep::{deleted, inserted};
+use ded_catalog::Snapshot;
+use crate::{deleted, inserted};
 use std::alloc::Global;
 use std::marker::Model;
 
@@ -37,7 +37,7 @@ impl Model for Database {
     ghost use Rattle.ded_catalog.specs.contracts.stored.Stored as stored;
     ghost use Rattle.ded_model.specs.contracts.plan.Plan as plan;
     ghost use Rattle.ded_catalog.specs.State.{catalogue_of};
-    ghost use Rattle.ded_upkeep.specs.Held.{IsUpheld};
+    ghost use Rattle.ded_database.specs.Held.{IsUpheld};
     ghost use Rattle.ded_database.specs.State.{State};
 
     ghost Value = { State };
@@ -64,8 +64,8 @@ impl Database {
     ghost use Rattle.ded_sorts.specs.Changes.{AddsEntry, Inserts, Deletes, DropsEntry};
     ghost use Rattle.ded_model.specs.Entries.{known, tuples_in, columns_in, entry_uses};
     ghost use Rattle.ded_query.specs.Questions.{IsQuestion, IsAnswer};
-    ghost use Rattle.ded_upkeep.specs.Held.{held_under, IsListOf};
-    ghost use Rattle.ded_upkeep.specs.Upkeep.{KeepsUp, LeavesOthers, OnlyAdds};
+    ghost use Rattle.ded_database.specs.Held.{held_under, IsListOf};
+    ghost use Rattle.ded_database.specs.Upkeep.{KeepsUp, LeavesOthers, OnlyAdds};
     ghost use Rattle.ded_database.specs.State.{catalogue_at, is_kept, IsSound};
     ghost use Rattle.ded_database.specs.Steps.{KeepsMarks, KeepsLists, Marks, Unmarks};
 

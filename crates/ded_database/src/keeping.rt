@@ -4,20 +4,20 @@ ghost use Rattle.std.specs.List.{AllByRecursion};
 ghost use Rattle.ded_model.specs.Entries.{known};
 ghost use Rattle.ded_catalog.specs.State.{catalogue_of};
 ghost use Rattle.ded_eval.specs.Given.{has_name, without_name};
-ghost use Rattle.ded_marks.specs.Marks.{IsMark};
+ghost use Rattle.ded_database.specs.Marks.{IsMark};
 ghost use Rattle.ded_query.specs.Gathering.{IsFront};
 ghost use Rattle.ded_sorts.specs.Causes.{is_view_with};
-ghost use Rattle.ded_upkeep.specs.Held.{is_marked, AreMarkedApart, IsHeld, IsUpheld};
+ghost use Rattle.ded_database.specs.Held.{is_marked, AreMarkedApart, IsHeld, IsUpheld};
 ghost use Rattle.ded_database.specs.Keeping.{IsMarkedWith, IsListedWith, without_mark};
 
 use ded_algebra::Relations;
 use ded_catalog::Catalogue;
 use ded_eval::Given;
-use ded_marks::{Mark, mark_of};
+use crate::{Mark, mark_of};
 use ded_model::memory::{NoMemory, Refused};
 use ded_model::name::Name;
 use ded_query::{held_view, view_tuples};
-use ded_snapshot::Snapshot;
+use ded_catalog::Snapshot;
 use std::alloc::{AllocError, Global};
 
 /// Marks a view, and makes its list where none is held. Where numbers get too long for it, none is held.

@@ -1,14 +1,31 @@
-//! A database: a catalogue, and the answers of kept views as lists.
+//! A database: a catalogue, and the answers of kept views as lists that follow the relations.
 //!
-//! A view that is kept has a mark, and mostly its answer is held as a list of tuples. The type [`Database`] promises of each list that it
-//! holds exactly where the view's formula does over the present catalogue, whatever changes were made since. A change leaves marks and lists of
-//! views that it doesn't concern as they are; questions read lists that are held in place of evaluating their views.
+//! A view that is kept has a mark, and mostly its answer is held as a list of tuples. The type [`Database`] promises of each
+//! list that it holds exactly where the view's formula does over the present catalogue, whatever changes were made since. A
+//! change leaves marks and lists of views that it doesn't concern as they are; questions read lists that are held in place of
+//! evaluating their views.
 //!
-//! It stands on `ded_catalog` for the catalogue, on `ded_marks` for marks, on `ded_upkeep` for lists when relations change, on `ded_query`
-//! for answers over a `ded_snapshot`, and on `ded_eval` for the lists that are held.
+//! A [`Mark`] has the view's name, the plan of its formula, and for each name in the formula which names that one reaches. A
+//! view's formula doesn't change, and no name that it uses can be dropped; so a mark stays right for as long as the view is
+//! there. When a relation changes, the new lists of the views that reach it are made first, over the relations as they will
+//! be, in the order of the marks; then the catalogue is changed. Where a tuple only adds to a view whose list is held, that
+//! list is extended, at a cost that doesn't grow with the relation. Any other list is made anew. Where there is no memory,
+//! the catalogue stays as it was, and the lists of these views may be dropped.
+//!
+//! It stands on `ded_catalog` for catalogues and snapshots of them, on `ded_keep` for lists that are extended, on `ded_query`
+//! for the answers of views, on `ded_eval` for the lists that are held, on `ded_plan` for plans and the names of goals, and on
+//! `ded_views` for what a name reaches and what a change leaves alone.
 #![tactic(auto)]
 
+mod change;
 mod database;
+mod extending;
 mod keeping;
+pub mod laws;
+mod mark;
+mod reaching;
+mod renewing;
+mod taking;
+mod upkeep;
 
 pub use database::Database;

@@ -9,7 +9,7 @@ ghost use Rattle.ded_model.specs.Measure.{measures, plan_atom_lines, plan_atom_c
 ghost use Rattle.ded_model.specs.PlanForm.{rows, plan_form, plan_forms};
 ghost use Rattle.ded_genrel.specs.Lists.{conjs_hold, conjs_mention, conjs_lines};
 ghost use Rattle.ded_genrel.specs.Operations.{IsMeet};
-ghost use Rattle.ded_join.specs.Rounds.{AreRational};
+ghost use Rattle.ded_genrel.specs.Rounds.{AreRational};
 ghost use Rattle.ded_algebra.specs.Evaluation.{IsScannable, IsEvaluable, IsEvaluation};
 ghost use Rattle.ded_eval.specs.Joining.{begun};
 

@@ -1,6 +1,6 @@
 //! The rational slots of plans, by which joins find their pairs.
 ghost use Rattle.std.specs.Prelude.{IfOk, OnOk};
-ghost use Rattle.ded_join.specs.Rounds.{AreRational};
+ghost use Rattle.ded_genrel.specs.Rounds.{AreRational};
 
 use ded_model::memory::NoMemory;
 use ded_model::plan::Plan;

@@ -9,7 +9,7 @@ use Rattle.ded_model.specs.Point.{Point}
 use Rattle.ded_model.specs.Lines.{Line}
 use Rattle.ded_index.specs.declared.entry.Entry.{Entry}
 use Rattle.ded_index.specs.Entries.{Box, SomeEntry, numbered}
-use Rattle.ded_bounds.specs.Rounds.{IsRound, IsBoxOf}
+use Rattle.ded_genrel.specs.Rounds.{IsRound, IsBoxOf}
 use Rattle.ded_join.specs.Picks.{AreBoxesOf, IsIndexOf}
 
 some_at : (P : Entry → Type 0) (es : List Entry) (e : Entry) (k : ℕ) → k < length es → get_or es k e ≡ e → P e → SomeEntry P es

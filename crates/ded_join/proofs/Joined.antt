@@ -21,8 +21,8 @@ use Rattle.ded_genrel.proofs.Items.{all-append, conjs_to, normal-at, pairs-push}
 use Rattle.ded_genrel.proofs.Laws.{meet_is, conjs_hold-append}
 use Rattle.ded_index.specs.declared.entry.Entry.{Entry}
 use Rattle.ded_index.specs.Entries.{Box, SomeEntry, AreFound}
-use Rattle.ded_bounds.specs.Rounds.{values_at, IsRound, IsBoxOf}
-use Rattle.ded_bounds.proofs.Apart.{values_positive}
+use Rattle.ded_genrel.specs.Rounds.{values_at, IsRound, IsBoxOf}
+use Rattle.ded_genrel.proofs.Apart.{values_positive}
 use Rattle.ded_join.specs.Picks.{IsIndexOf, picked}
 
 -- the conjunction is one of the list

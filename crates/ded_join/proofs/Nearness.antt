@@ -19,7 +19,7 @@ use Rattle.ded_box.specs.Boxes.{AreValues, Shared, in_box}
 use Rattle.ded_index.specs.declared.entry.Entry.{Entry}
 use Rattle.ded_index.specs.Entries.{Box, SomeEntry, AreFound}
 use Rattle.ded_join.specs.Near.{BoundsMeet, AreNear, ArePicked, AreNearPairs}
-use Rattle.ded_bounds.specs.Rounds.{AreSharp, IsBoxOf}
+use Rattle.ded_genrel.specs.Rounds.{AreSharp, IsBoxOf}
 use Rattle.ded_join.specs.Picks.{IsIndexOf, picked}
 use Rattle.ded_join.proofs.Joined.{places}
 

@@ -10,7 +10,7 @@ use Rattle.ded_model.specs.Bound.{Fraction}
 use Rattle.ded_model.specs.Lines.{Line}
 use Rattle.ded_theory.specs.Conjunctions.{IsWide}
 use Rattle.ded_box.specs.Intervals.{IsPositive, is_within}
-use Rattle.ded_bounds.specs.Rounds.{AreExact}
+use Rattle.ded_genrel.specs.Rounds.{AreExact}
 use Rattle.ded_join.specs.Picks.{picked}
 
 -- the exact bounds, at the slot, of what passes one test and of what passes another share a value

@@ -4,7 +4,7 @@ use Rattle.std.specs.List.{AllByRecursion}
 use Rattle.ded_model.specs.declared.slot.Slot.{Slot}
 use Rattle.ded_model.specs.Point.{Point}
 use Rattle.ded_model.specs.Lines.{Line}
-use Rattle.ded_bounds.specs.Rounds.{IsRound, IsBoxOf}
+use Rattle.ded_genrel.specs.Rounds.{IsRound, IsBoxOf}
 use Rattle.ded_index.specs.declared.entry.Entry.{Entry}
 use Rattle.ded_index.specs.Entries.{Box, SomeEntry}
 

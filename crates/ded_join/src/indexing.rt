@@ -1,9 +1,9 @@
 //! An index over the boxes around conjunctions.
 ghost use Rattle.std.specs.Prelude.{◌<◌, ◌^◌, length, IfOk};
-ghost use Rattle.ded_bounds.specs.Rounds.{AreRational};
+ghost use Rattle.ded_genrel.specs.Rounds.{AreRational};
 ghost use Rattle.ded_join.specs.Picks.{IsIndexOf};
 
-use ded_bounds::box_round;
+use ded_genrel::box_round;
 use ded_genrel::GenRel;
 use ded_index::BoxIndex;
 use ded_model::memory::NoMemory;

@@ -5,14 +5,14 @@ ghost use Rattle.ded_model.specs.Cell.{conj_holds, HoldsSomewhere};
 ghost use Rattle.ded_theory.specs.Conjunctions.{IsWide};
 ghost use Rattle.ded_genrel.specs.Lists.{pairs, pairs_with};
 ghost use Rattle.ded_genrel.specs.Operations.{IsMeet};
-ghost use Rattle.ded_bounds.specs.Rounds.{AreRational};
+ghost use Rattle.ded_genrel.specs.Rounds.{AreRational};
 ghost use Rattle.ded_join.specs.Near.{AreNearPairs};
 ghost use Rattle.ded_join.specs.Picks.{picked};
 ghost use Rattle.ded_join.specs.Kept.{AreKept, AreKeptAfter, IsCount, IsKeptMeet};
 
 use crate::indexing::index_of;
 use crate::joining::TOO_MANY;
-use ded_bounds::box_round;
+use ded_genrel::box_round;
 use ded_genrel::{GenRel, both_conjs};
 use ded_model::memory::NoMemory;
 use ded_model::slot::Slot;

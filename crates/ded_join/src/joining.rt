@@ -3,11 +3,11 @@ ghost use Rattle.std.specs.Prelude.{◌≡◌, ◌+◌, ◌-◌, ◌<◌, ◌≤
 ghost use Rattle.std.specs.List.{AllByRecursion};
 ghost use Rattle.ded_genrel.specs.Operations.{IsMeet};
 ghost use Rattle.ded_join.specs.Near.{AreNearPairs};
-ghost use Rattle.ded_bounds.specs.Rounds.{AreRational};
+ghost use Rattle.ded_genrel.specs.Rounds.{AreRational};
 ghost use Rattle.ded_join.specs.Picks.{picked};
 
 use crate::indexing::index_of;
-use ded_bounds::box_round;
+use ded_genrel::box_round;
 use ded_genrel::{GenRel, both_conjs};
 use ded_model::memory::NoMemory;
 use ded_model::slot::Slot;

@@ -1,2 +1,5 @@
+pub mod Planned
+pub mod Plans
 pub mod Rewrite
 pub mod Rewritten
+pub mod ScannedNames

@@ -6,7 +6,7 @@ use Rattle.ded_model.specs.declared.name.Column.{Column}
 use Rattle.ded_model.specs.Catalogue.{argument_coordinate, at_slots}
 use Rattle.ded_model.specs.Point.{AllBytes, IsValue, AreValues, IsPoint}
 use Rattle.ded_model.specs.Value.{Argument}
-use Rattle.ded_planner.specs.Plans.{AreArguments}
+use Rattle.ded_plan.specs.Plans.{AreArguments}
 use Rattle.ded_views.specs.Same.{AreByteArguments}
 
 coordinate_value : (s : Sort) (a : Argument) → AllBytes a.1 → IsValue (argument_coordinate s a)

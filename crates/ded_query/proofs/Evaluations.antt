@@ -13,7 +13,7 @@ use Rattle.ded_model.specs.PlanForm.{PlanForm}
 use Rattle.ded_model.specs.Uses.{plan_uses}
 use Rattle.ded_model.proofs.Growth.{plan_lines-grow, plan_clashes-grow}
 use Rattle.ded_algebra.specs.Evaluation.{IsEvaluation}
-use Rattle.ded_planner.specs.Planned.{IsPlanned}
+use Rattle.ded_plan.specs.Planned.{IsPlanned}
 use Rattle.ded_eval.specs.declared.given.GivenRelation.{GivenRelation}
 use Rattle.ded_eval.specs.Given.{given_catalogue, has_name}
 use Rattle.ded_views.proofs.PlansAlike.{plans_alike}

@@ -14,9 +14,9 @@ use Rattle.ded_model.specs.Measure.{measures, goal_clashes}
 use Rattle.ded_model.specs.PlanForm.{PlanForm}
 use Rattle.ded_model.specs.Uses.{plan_uses}
 use Rattle.ded_genrel.proofs.Items.{all-push, all_weaker}
-use Rattle.ded_planner.specs.Planned.{IsPlanned}
-use Rattle.ded_planner.specs.Plans.{IsScanOf}
-use Rattle.ded_planner.proofs.PlansOfFormulas.{plan_scans}
+use Rattle.ded_plan.specs.Planned.{IsPlanned}
+use Rattle.ded_plan.specs.Plans.{IsScanOf}
+use Rattle.ded_plan.proofs.PlansOfFormulas.{plan_scans}
 use Rattle.ded_eval.specs.declared.given.GivenRelation.{GivenRelation}
 use Rattle.ded_eval.specs.Given.{has_name}
 use Rattle.ded_views.proofs.Clashing.{plan_clashing}

@@ -10,7 +10,7 @@ use Rattle.ded_model.specs.PlanForm.{PlanAtom, scan, rows, PlanForm}
 use Rattle.ded_model.specs.Uses.{plan_atom_uses, plan_uses}
 use Rattle.ded_model.proofs.Rows.{or_left, or_right}
 use Rattle.ded_model.proofs.Members.{or_split}
-use Rattle.ded_planner.specs.Plans.{IsScanOf}
+use Rattle.ded_plan.specs.Plans.{IsScanOf}
 use Rattle.ded_views.proofs.Atoms.{all_where_none}
 use Rattle.ded_views.proofs.ViewNames.{is_known}
 

@@ -11,7 +11,7 @@ ghost use Rattle.ded_model.specs.Measure.{measures, goal_clashes, IsTight};
 ghost use Rattle.ded_model.specs.Row.{atom_holds};
 ghost use Rattle.ded_model.specs.Width.{IsNarrowList};
 ghost use Rattle.ded_eval.specs.Given.{has_name};
-ghost use Rattle.ded_snapshot.specs.State.{snapshot_of};
+ghost use Rattle.ded_catalog.specs.Snapshots.{snapshot_of};
 ghost use Rattle.ded_query.specs.Gathering.{IsGivenOf, IsGathered, IsFront, IsPosed, IsEvaluated, IsViewOf};
 ghost use Rattle.ded_query.specs.Questions.{IsQuestion, IsAnswer};
 
@@ -22,7 +22,7 @@ use ded_model::goal::Goal;
 use ded_model::memory::Refused;
 use ded_model::name::{Heading, Name};
 use ded_model::tuple::Tuples;
-use ded_snapshot::Snapshot;
+use ded_catalog::Snapshot;
 use std::alloc::Global;
 
 /// The greatest level of a view.

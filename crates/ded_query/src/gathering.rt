@@ -8,7 +8,7 @@ ghost use Rattle.ded_model.specs.Entries.{known, entry_of, relation_in};
 ghost use Rattle.ded_model.specs.Goal.{goal_form};
 ghost use Rattle.ded_model.specs.Known.{level_with};
 ghost use Rattle.ded_model.specs.Measure.{measures, goal_clashes};
-ghost use Rattle.ded_snapshot.specs.State.{snapshot_of};
+ghost use Rattle.ded_catalog.specs.Snapshots.{snapshot_of};
 ghost use Rattle.ded_eval.specs.Given.{has_name};
 ghost use Rattle.ded_query.specs.Gathering.{IsGivenOf, IsGathered, IsFront, IsPosed, IsEvaluated, IsViewGoal, IsViewOf, IsGivenAs};
 
@@ -20,8 +20,8 @@ use ded_model::goal::Goal;
 use ded_model::memory::{NoMemory, Refused};
 use ded_model::name::Name;
 use ded_model::tuple::Tuples;
-use ded_planner::{plan, scanned_names};
-use ded_snapshot::Snapshot;
+use ded_plan::{plan, scanned_names};
+use ded_catalog::Snapshot;
 use std::alloc::Global;
 
 /// Tuples that hold exactly where the goal of an accepted formula does over the catalogue, whose names have at most the level.

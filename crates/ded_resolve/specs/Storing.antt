@@ -3,8 +3,8 @@ use Rattle.std.specs.Prelude.{◌≤◌}
 use Rattle.ded_model.specs.Catalogue.{Catalogue}
 use Rattle.ded_model.specs.Known.{IsTupleOver}
 use Rattle.ded_model.specs.Width.{tuple_length}
-use Rattle.ded_sorts.specs.declared.checked.Checked.{Checked}
-use Rattle.ded_sorts.specs.declared.checked.Checked.TheVariants.{Insert}
+use Rattle.ded_resolve.specs.declared.checked.Checked.{Checked}
+use Rattle.ded_resolve.specs.declared.checked.Checked.TheVariants.{Insert}
 use Rattle.ded_model.specs.Entries.{columns_in}
 
 -- the tuple of an insert is over the columns of its relation, with numbers of at most 63 digits

@@ -8,6 +8,8 @@
 //! `ded_model`.
 #![tactic(auto)]
 
+mod checked;
 mod resolving;
 
+pub use checked::Checked;
 pub use resolving::resolve;

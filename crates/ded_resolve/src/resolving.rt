@@ -9,7 +9,8 @@ ghost use Rattle.ded_model.specs.Plain.{IsPlainCommand};
 ghost use Rattle.ded_model.specs.Slotted.{goal_of, tuple_of};
 ghost use Rattle.ded_model.specs.Width.{tuple_length};
 ghost use Rattle.ded_model.specs.Goal.{goal_form};
-ghost use Rattle.ded_sorts.specs.Checks.{known_form, IsResolved, HasNoCause, IsLeastCause};
+ghost use Rattle.ded_sorts.specs.Checks.{known_form, HasNoCause, IsLeastCause};
+ghost use Rattle.ded_resolve.specs.Resolved.{IsResolved};
 ghost use Rattle.ded_model.specs.Entries.{columns_in};
 ghost use Rattle.ded_resolve.specs.Ready.{IsReady, AreReady};
 ghost use Rattle.ded_resolve.specs.Storing.{IsStorable};
@@ -21,7 +22,8 @@ use ded_model::goal::Goal;
 use ded_model::memory::NoMemory;
 use ded_model::name::{Heading, Name};
 use ded_model::tuple::Tuple;
-use ded_sorts::{Checked, Known, Names, check};
+use crate::checked::Checked;
+use ded_sorts::{Known, Names, check};
 use std::alloc::Global;
 
 /// The command by slots, over the names. Each sum of the command is over 1 and has each name once, and no row of its

@@ -17,10 +17,11 @@ use Rattle.ded_model.specs.Logic.{Logics}
 use Rattle.ded_model.specs.Row.{Atom}
 use Rattle.ded_model.specs.Slotted.{goal_of, tuple_of}
 use Rattle.ded_model.specs.Width.{tuple_length}
-use Rattle.ded_sorts.specs.declared.checked.Checked.{Checked}
-use Rattle.ded_sorts.specs.declared.checked.Checked.TheVariants as checked
+use Rattle.ded_resolve.specs.declared.checked.Checked.{Checked}
+use Rattle.ded_resolve.specs.declared.checked.Checked.TheVariants as checked
 use Rattle.ded_sorts.specs.Causes.{is_relation_with, is_view_with}
-use Rattle.ded_sorts.specs.Checks.{IsResolved, HasNoCause, forms_of}
+use Rattle.ded_sorts.specs.Checks.{HasNoCause, forms_of}
+use Rattle.ded_resolve.specs.Resolved.{IsResolved}
 use Rattle.ded_model.specs.Entries.{known, tuples_in, columns_in, entry_uses}
 use Rattle.ded_session.specs.Carrying.{IsReady, Carries}
 use Rattle.ded_session.specs.Replies.{ReplyForm}

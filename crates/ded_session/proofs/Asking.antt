@@ -12,13 +12,14 @@ use Rattle.ded_model.specs.Known.{IsAccepted}
 use Rattle.ded_model.specs.NormalGoal.{IsNormalGoal}
 use Rattle.ded_model.specs.PlanForm.{PlanForm}
 use Rattle.ded_model.specs.Slotted.{goal_of}
-use Rattle.ded_planner.specs.Planned.{IsPlanned}
-use Rattle.ded_planner.specs.Plans.{IsPlanOf}
-use Rattle.ded_planner.proofs.PlansOfFormulas.{plan_of-formula}
+use Rattle.ded_plan.specs.Planned.{IsPlanned}
+use Rattle.ded_plan.specs.Plans.{IsPlanOf}
+use Rattle.ded_plan.proofs.PlansOfFormulas.{plan_of-formula}
 use Rattle.ded_query.specs.Questions.{IsQuestion}
-use Rattle.ded_sorts.specs.declared.checked.Checked.{Checked}
-use Rattle.ded_sorts.specs.declared.checked.Checked.TheVariants as checked
-use Rattle.ded_sorts.specs.Checks.{HasNoCause, IsResolved}
+use Rattle.ded_resolve.specs.declared.checked.Checked.{Checked}
+use Rattle.ded_resolve.specs.declared.checked.Checked.TheVariants as checked
+use Rattle.ded_sorts.specs.Checks.{HasNoCause}
+use Rattle.ded_resolve.specs.Resolved.{IsResolved}
 use Rattle.ded_session.specs.Carrying.{IsReady}
 use Rattle.ded_session.proofs.Accepted.{accepted}
 

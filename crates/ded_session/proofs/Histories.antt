@@ -27,11 +27,11 @@ use Rattle.ded_views.specs.Unaffected.{AreUnaffected}
 use Rattle.ded_views.proofs.Changing.{added, dropped, changed}
 use Rattle.ded_views.proofs.Unaffected.{unaffected}
 use Rattle.ded_views.proofs.Views.{name_measure}
-use Rattle.ded_marks.specs.declared.mark.Mark.{Mark}
-use Rattle.ded_marks.specs.Marks.{IsMark}
-use Rattle.ded_upkeep.specs.Held.{held_under, is_marked}
-use Rattle.ded_upkeep.specs.Upkeep.{IsTightView}
-use Rattle.ded_upkeep.proofs.Under.{same_name, other_left}
+use Rattle.ded_database.specs.declared.mark.Mark.{Mark}
+use Rattle.ded_database.specs.Marks.{IsMark}
+use Rattle.ded_database.specs.Held.{held_under, is_marked}
+use Rattle.ded_database.specs.Upkeep.{IsTightView}
+use Rattle.ded_database.proofs.Under.{same_name, other_left}
 use Rattle.ded_database.specs.State.{State, catalogue_at, is_kept, IsSound}
 use Rattle.ded_database.specs.Steps.{KeepsLists, Marks, Unmarks}
 use Rattle.ded_session.specs.Histories.{Turn, IsTurn, AreTurns, last_state, renews, loses, SpellsSome, NoneRenews, IsLost}

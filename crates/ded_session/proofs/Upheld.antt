@@ -11,8 +11,8 @@ use Rattle.ded_syntax.specs.Spelling.{IsRead}
 use Rattle.ded_syntax.proofs.One.{one_command}
 use Rattle.ded_database.specs.State.{State, catalogue_at, is_kept}
 use Rattle.ded_database.specs.Steps.{KeepsMarks, KeepsLists}
-use Rattle.ded_upkeep.specs.Held.{held_under}
-use Rattle.ded_upkeep.specs.Upkeep.{KeepsUp, LeavesOthers}
+use Rattle.ded_database.specs.Held.{held_under}
+use Rattle.ded_database.specs.Upkeep.{KeepsUp, LeavesOthers}
 use Rattle.ded_session.specs.Keeping.{LosesLists, Upholds, UpholdsPiece}
 use Rattle.ded_session.specs.Replies.{ReplyForm, done, refused}
 

@@ -6,9 +6,10 @@ use Rattle.ded_model.specs.declared.command.Refusal.TheVariants.{Memory, Wide}
 use Rattle.ded_model.specs.Catalogue.{Catalogue}
 use Rattle.ded_model.specs.Command.{CommandForm, insert}
 use Rattle.ded_model.specs.Refusals.{refusal_number}
-use Rattle.ded_sorts.specs.declared.checked.Checked.{Checked}
+use Rattle.ded_resolve.specs.declared.checked.Checked.{Checked}
 use Rattle.ded_sorts.specs.Causes.{has_cause, insert_refusal}
-use Rattle.ded_sorts.specs.Checks.{HasNoCause, IsResolved}
+use Rattle.ded_sorts.specs.Checks.{HasNoCause}
+use Rattle.ded_resolve.specs.Resolved.{IsResolved}
 use Rattle.ded_resolve.specs.Storing.{IsStorable}
 use Rattle.ded_session.specs.Replies.{ReplyForm, refused}
 use Rattle.ded_session.specs.Steps.{Does, MayBeWide}

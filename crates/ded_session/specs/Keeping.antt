@@ -6,7 +6,7 @@ use Rattle.ded_model.specs.Command.{CommandForm, insert, delete, drop, keep}
 use Rattle.ded_syntax.specs.Spelling.{Spells}
 use Rattle.ded_database.specs.State.{State, catalogue_at, is_kept}
 use Rattle.ded_database.specs.Steps.{KeepsMarks, KeepsLists, Marks, Unmarks}
-use Rattle.ded_upkeep.specs.Upkeep.{KeepsUp, LeavesOthers, OnlyAdds}
+use Rattle.ded_database.specs.Upkeep.{KeepsUp, LeavesOthers, OnlyAdds}
 use Rattle.ded_session.specs.declared.session.Piece.{Piece}
 use Rattle.ded_session.specs.declared.session.Piece.TheVariants as piece
 use Rattle.ded_session.specs.Replies.{ReplyForm, done, number, refused}

@@ -17,7 +17,7 @@ use Rattle.ded_box.specs.Extents.{IsBox}
 use Rattle.ded_syntax.specs.Spelling.{Spells}
 use Rattle.ded_sorts.specs.Changes.{AddsEntry, DropsEntry, Inserts, Deletes}
 use Rattle.ded_sorts.specs.Checks.{forms_of}
-use Rattle.ded_planner.specs.Plans.{IsPlanOf}
+use Rattle.ded_plan.specs.Plans.{IsPlanOf}
 use Rattle.ded_query.specs.Questions.{IsAnswer}
 use Rattle.ded_session.specs.Causes.{IsLeast, NoneApplies}
 use Rattle.ded_session.specs.Replies.{ReplyForm, done, number, truth, tuples, stored, boxes, steps, refused}

@@ -3,7 +3,8 @@ ghost use Rattle.std.specs.Prelude.{◌≡◌, false};
 ghost use Rattle.ded_model.specs.Command.{CommandForm, command_form};
 ghost use Rattle.ded_model.specs.LongRows.{has_long_row};
 ghost use Rattle.ded_model.specs.Plain.{IsPlainCommand};
-ghost use Rattle.ded_sorts.specs.Checks.{HasNoCause, IsResolved};
+ghost use Rattle.ded_sorts.specs.Checks.{HasNoCause};
+ghost use Rattle.ded_resolve.specs.Resolved.{IsResolved};
 ghost use Rattle.ded_database.specs.State.{catalogue_at};
 ghost use Rattle.ded_session.specs.Answered.{reply_form};
 ghost use Rattle.ded_session.specs.Carrying.{Answers, Carries, IsReady};
@@ -18,7 +19,7 @@ use crate::shown::show;
 use ded_database::Database;
 use ded_model::command::Command;
 use ded_resolve::resolve;
-use ded_sorts::Checked;
+use ded_resolve::Checked;
 use std::alloc::Global;
 
 /// Answers a command, and changes the catalogue as it says. A refused command changes nothing.

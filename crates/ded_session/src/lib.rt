@@ -8,7 +8,7 @@
 //! stores (`shown`) or its bounds (`boxes`), or answers what a formula asks (`questions`).
 //!
 //! It stands on `ded_syntax` for commands, on `ded_resolve` for commands by slots, on `ded_database` for the catalogue
-//! and the lists of kept views, on `ded_planner` for plans, on `ded_eval` for bounds and on `ded_model` for what
+//! and the lists of kept views, on `ded_plan` for plans, on `ded_eval` for bounds and on `ded_model` for what
 //! formulas mean.
 #![tactic(auto)]
 

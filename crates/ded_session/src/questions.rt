@@ -18,7 +18,7 @@ use ded_model::answer::Answer;
 use ded_model::goal::Goal;
 use ded_model::memory::Refused;
 use ded_model::name::Heading;
-use ded_planner::plan;
+use ded_plan::plan;
 use std::alloc::Global;
 
 /// The reply that says whether a closed formula, given as its goal, is true.

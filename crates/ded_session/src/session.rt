@@ -38,7 +38,7 @@ impl Session {
     ghost use Rattle.ded_lex.specs.Pieces.{Whole};
     ghost use Rattle.ded_catalog.specs.State.{catalogue_of};
     ghost use Rattle.ded_database.specs.State.{is_kept, IsSound};
-    ghost use Rattle.ded_upkeep.specs.Held.{held_under, IsListOf};
+    ghost use Rattle.ded_database.specs.Held.{held_under, IsListOf};
     ghost use Rattle.ded_session.specs.Answered.{reply_form};
     ghost use Rattle.ded_session.specs.Keeping.{UpholdsPiece, UpholdsStatement};
     ghost use Rattle.ded_session.specs.Pieces.{IsShortPiece, StepsPiece};

@@ -1,21 +1,16 @@
--- What a command is by slots, over a catalogue that refuses it for nothing.
+-- Which refusals a command and the names decide, and when none of them applies.
 use Rattle.std.specs.Prelude.{ℕ, ◌≡◌, ◌<◌, Bool, true, false, Option, Some, None, List, [], ◌∷◌}
 use Rattle.ded_model.specs.declared.command.Refusal.{Refusal}
 use Rattle.ded_model.specs.declared.command.Refusal.TheVariants.{Many, Twice, Unknown, Taken, Kind, Arity, Unbound, WrongSort, Used, NoTuple, Level}
 use Rattle.ded_model.specs.Catalogue.{Catalogue}
-use Rattle.ded_model.specs.Command.{CommandForm, relation, insert, delete, drop, view, keep, ask, query, show, box_of, explain}
-use Rattle.ded_model.specs.Form.{Form, FormAtom, form}
-use Rattle.ded_model.specs.Goal.{goal_form}
+use Rattle.ded_model.specs.Command.{CommandForm}
+use Rattle.ded_model.specs.Form.{Form, FormAtom}
 use Rattle.ded_model.specs.Known as model
 use Rattle.ded_model.specs.Logic.{Logics}
 use Rattle.ded_model.specs.Logic as logic
 use Rattle.ded_model.specs.Refusals.{refusal_number}
-use Rattle.ded_model.specs.Slotted.{goal_of, tuple_of}
 use Rattle.ded_sorts.specs.declared.names.Known.{Known}
 use Rattle.ded_sorts.specs.declared.names.Known.TheVariants.{Relation, View}
-use Rattle.ded_sorts.specs.declared.checked.Checked.{Checked}
-use Rattle.ded_sorts.specs.declared.checked.Checked.TheVariants as checked
-use Rattle.ded_model.specs.Entries.{columns_in}
 use Rattle.ded_sorts.specs.Causes.{has_cause}
 
 -- ---- what is known of a name
@@ -57,25 +52,9 @@ pub record HasNoneBelow (n : ℕ) (c : Catalogue) (command : CommandForm) : Type
 abbrev pub HasNoCause : Catalogue → CommandForm → Type 0
 HasNoCause c command = (q : Refusal) → is_checked q ≡ true → has_cause q c command ≡ false
 
--- ---- commands by slots
+-- ---- comparisons
 
 -- the comparisons of an insert, one for each
 abbrev pub forms_of : Logics FormAtom → List Form
 forms_of logic.none = []
 forms_of (logic.also f fs) = f ∷ forms_of fs
-
--- the command with its formula by slots: that of an insert is the normal tuple of its comparisons over the relation's columns,
--- every other one its goal over the heading, none for a closed one
-abbrev pub IsResolved : Catalogue → CommandForm → Checked → Type 0
-IsResolved c (relation n h) (checked.Relation m k) = (m ≡ n) × (k ≡ h)
-IsResolved c (insert n fs) (checked.Insert m t) = (m ≡ n) × (t ≡ tuple_of (columns_in c n) (forms_of fs))
-IsResolved c (delete n i) (checked.Delete m j) = (m ≡ n) × (j ≡ i)
-IsResolved c (drop n) (checked.Drop m) = m ≡ n
-IsResolved c (view n h f) (checked.View m k f' g) = (m ≡ n) × (k ≡ h) × (form f' ≡ f) × (goal_form g ≡ goal_of h f)
-IsResolved c (keep n) (checked.Keep m) = m ≡ n
-IsResolved c (ask f) (checked.Ask g) = goal_form g ≡ goal_of [] f
-IsResolved c (query h f) (checked.Query k g) = (k ≡ h) × (goal_form g ≡ goal_of h f)
-IsResolved c (show n) (checked.Show m) = m ≡ n
-IsResolved c (box_of n) (checked.BoxOf m) = m ≡ n
-IsResolved c (explain h f) (checked.Explain k g) = (k ≡ h) × (goal_form g ≡ goal_of h f)
-IsResolved c _ _ = ⊥

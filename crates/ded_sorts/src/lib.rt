@@ -12,7 +12,6 @@
 
 mod atoms;
 mod causes;
-mod checked;
 mod checking;
 pub mod laws;
 mod names;
@@ -21,6 +20,5 @@ mod shape;
 mod sorts;
 mod uses;
 
-pub use checked::Checked;
 pub use checking::check;
 pub use names::{Known, Names};

@@ -1,4 +1,4 @@
-use Rattle.ded_bounds.specs.Rounds.{AreRational}
+use Rattle.ded_genrel.specs.Rounds.{AreRational}
 use Rattle.ded_complement.proofs.boxed.bounded_slots.Given as goal
 
 abbrev pub invariant-loop-number : goal.invariant-loop-number

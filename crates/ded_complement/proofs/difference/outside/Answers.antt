@@ -1,7 +1,7 @@
 use Rattle.std.proofs.Common.{◌+◌, ◌∙◌, [], Vec, Global, refl, sym, ap, subst, take, true≢false}
 use Rattle.std.proofs.lemmas.Result.{IfOk-weaker}
-use Rattle.ded_bounds.specs.Rounds.{IsRound}
-use Rattle.ded_bounds.proofs.Apart.{apart_boxes}
+use Rattle.ded_genrel.specs.Rounds.{IsRound}
+use Rattle.ded_genrel.proofs.Apart.{apart_boxes}
 use Rattle.ded_complement.specs.declared.boxed.Boxed.{Boxed}
 use Rattle.ded_complement.specs.Boxed.{conjs_in, IsBoxed, AreBoxed}
 use Rattle.ded_complement.proofs.Boxes.{conjs_in-to, normal_in}

@@ -1,6 +1,6 @@
 use Rattle.std.proofs.Common.{◌∙◌, ◌++◌, sym, subst, ap₂, true≢false}
 use Rattle.ded_theory.specs.Verdicts.{IsVerdict}
-use Rattle.ded_bounds.proofs.Apart.{apart_boxes}
+use Rattle.ded_genrel.proofs.Apart.{apart_boxes}
 use Rattle.ded_complement.proofs.Cutting.{refuted_apart}
 use Rattle.ded_complement.proofs.lessening.are_apart.Goals as goal
 

@@ -1,6 +1,6 @@
 use Rattle.std.proofs.Common.{rules, not, bytes_eq}
 use Rattle.std.proofs.lemmas.Fn.{filter_same}
-use Rattle.ded_marks.specs.declared.mark.Mark.{Mark}
+use Rattle.ded_database.specs.declared.mark.Mark.{Mark}
 use Rattle.ded_database.proofs.keeping.drop_kept.Goals as goal
 
 pub returns-clause-marks : goal.returns-clause-marks

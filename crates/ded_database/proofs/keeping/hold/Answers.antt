@@ -11,7 +11,7 @@ use Rattle.ded_genrel.proofs.Items.{all_weaker}
 use Rattle.ded_eval.specs.Given.{has_name}
 use Rattle.ded_query.specs.Gathering.{IsGivenOf}
 use Rattle.ded_query.proofs.GivenNames.{some_mapped, given_has}
-use Rattle.ded_upkeep.specs.Held.{IsHeld}
+use Rattle.ded_database.specs.Held.{IsHeld}
 use Rattle.ded_database.proofs.Listing.{clash_untight, listed_there, listed_more, listed_none, names_added}
 use Rattle.ded_database.proofs.keeping.hold.Goals as goal
 

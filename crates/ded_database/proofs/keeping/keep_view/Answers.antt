@@ -1,6 +1,6 @@
 use Rattle.std.proofs.Common.{◌≡◌, true}
-use Rattle.ded_upkeep.specs.Held.{is_marked}
-use Rattle.ded_upkeep.proofs.Under.{each_named}
+use Rattle.ded_database.specs.Held.{is_marked}
+use Rattle.ded_database.proofs.Under.{each_named}
 use Rattle.ded_database.proofs.Listing.{marked_after}
 use Rattle.ded_database.proofs.keeping.keep_view.Goals as goal
 

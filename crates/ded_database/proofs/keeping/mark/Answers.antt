@@ -1,6 +1,6 @@
 use Rattle.std.proofs.Common.{◌≡◌, ◌||◌, false, sym, ap, ◌∙◌, subst, bytes_eq}
 use Rattle.ded_catalog.specs.State.{catalogue_of}
-use Rattle.ded_upkeep.specs.Held.{is_marked, AreMarkedApart}
+use Rattle.ded_database.specs.Held.{is_marked, AreMarkedApart}
 use Rattle.ded_sorts.proofs.KnownEntries.{view_there}
 use Rattle.ded_database.proofs.Marking.{marked_with, apart_with}
 use Rattle.ded_database.proofs.keeping.mark.Goals as goal

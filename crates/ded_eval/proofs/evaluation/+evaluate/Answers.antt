@@ -9,7 +9,7 @@ use Rattle.ded_model.specs.Lines.{any_clashes}
 use Rattle.ded_model.specs.Measure.{measures, plan_atom_lines, plan_atom_clash, plan_clashes}
 use Rattle.ded_model.specs.PlanForm.{rows, plan_form, plan_forms}
 use Rattle.ded_model.proofs.Rows.{or_right}
-use Rattle.ded_join.specs.Rounds.{AreRational}
+use Rattle.ded_genrel.specs.Rounds.{AreRational}
 use Rattle.ded_algebra.specs.Evaluation.{IsScannable}
 use Rattle.ded_genrel.specs.Lists.{AreNormal, conjs_lines}
 use Rattle.ded_eval.specs.Joining.{begun}

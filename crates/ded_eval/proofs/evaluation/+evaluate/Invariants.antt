@@ -1,7 +1,7 @@
 use Rattle.std.proofs.Common.{take, drop, map}
 use Rattle.ded_model.specs.Logic.{every_of, some_of, logics, AllAtomsOf}
 use Rattle.ded_model.specs.PlanForm.{plan_form, plan_forms}
-use Rattle.ded_join.specs.Rounds.{AreRational}
+use Rattle.ded_genrel.specs.Rounds.{AreRational}
 use Rattle.ded_algebra.specs.Evaluation.{IsScannable}
 use Rattle.ded_eval.specs.Joining.{begun}
 use Rattle.ded_eval.proofs.Evaluated.{IsListFor}

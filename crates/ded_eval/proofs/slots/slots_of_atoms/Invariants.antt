@@ -1,4 +1,4 @@
-use Rattle.ded_join.specs.Rounds.{AreRational}
+use Rattle.ded_genrel.specs.Rounds.{AreRational}
 use Rattle.ded_eval.proofs.slots.slots_of_atoms.Given as goal
 
 abbrev pub invariant-loop-atom : goal.invariant-loop-atom

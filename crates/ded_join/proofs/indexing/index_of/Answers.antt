@@ -3,7 +3,7 @@ use Rattle.std.specs.List.{AllByRecursion}
 use Rattle.std.proofs.lemmas.Result.{IfOk-weaker}
 use Rattle.ded_genrel.specs.Lists.{conjs_of}
 use Rattle.ded_genrel.proofs.Items.{conjs_to, conjs_done, normal-at}
-use Rattle.ded_bounds.specs.Rounds.{IsBoxOf}
+use Rattle.ded_genrel.specs.Rounds.{IsBoxOf}
 use Rattle.ded_join.specs.Picks.{AreBoxesOf}
 use Rattle.ded_join.proofs.Indexed.{boxes_push, boxes_length, index_is}
 use Rattle.ded_join.proofs.indexing.index_of.Goals as goal

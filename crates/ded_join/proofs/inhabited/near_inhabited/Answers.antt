@@ -2,7 +2,7 @@ use Rattle.std.proofs.Common.{◌∙◌, ◌<◌, ◌+◌, ◌-◌, ◌^◌, min
 use Rattle.std.specs.List.{AllByRecursion}
 use Rattle.ded_genrel.specs.Lists.{conjs_of}
 use Rattle.ded_genrel.proofs.Items.{normal-at, conjs_to, conjs_done}
-use Rattle.ded_bounds.specs.Rounds.{IsBoxOf}
+use Rattle.ded_genrel.specs.Rounds.{IsBoxOf}
 use Rattle.ded_join.specs.Picks.{picked}
 use Rattle.ded_join.specs.Kept.{AreKeptAfter}
 use Rattle.ded_join.proofs.Joined.{places, picked_part}

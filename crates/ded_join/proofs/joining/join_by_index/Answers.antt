@@ -3,7 +3,7 @@ use Rattle.std.specs.List.{AllByRecursion}
 use Rattle.ded_genrel.specs.Lists.{conjs_of, pairs}
 use Rattle.ded_genrel.proofs.Items.{normal-at, conjs_to, conjs_done}
 use Rattle.ded_join.specs.Near.{AreNearPairs}
-use Rattle.ded_bounds.specs.Rounds.{IsBoxOf}
+use Rattle.ded_genrel.specs.Rounds.{IsBoxOf}
 use Rattle.ded_join.specs.Picks.{picked}
 use Rattle.ded_join.proofs.Joined.{IsPart, part_meets, places, picked_part, joined_more}
 use Rattle.ded_join.proofs.Nearness.{picked_near, near-push}

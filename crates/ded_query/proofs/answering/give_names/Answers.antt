@@ -1,4 +1,4 @@
-use Rattle.ded_snapshot.specs.State.{snapshot_of}
+use Rattle.ded_catalog.specs.Snapshots.{snapshot_of}
 use Rattle.ded_query.proofs.Answered.{names_low}
 use Rattle.ded_query.proofs.answering.give_names.Goals as goal
 

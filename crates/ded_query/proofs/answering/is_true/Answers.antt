@@ -3,7 +3,7 @@ use Rattle.std.proofs.lemmas.Result.{err_from_is_err_and}
 use Rattle.ded_model.specs.declared.memory.Refused.TheVariants.{Wide}
 use Rattle.ded_model.specs.Goal.{goal_form}
 use Rattle.ded_model.specs.Row.{tuples_hold, tuples_mention}
-use Rattle.ded_snapshot.specs.State.{snapshot_of}
+use Rattle.ded_catalog.specs.Snapshots.{snapshot_of}
 use Rattle.ded_query.proofs.Answered.{question_posed, not_tight, evaluated_closed, closed_truth}
 use Rattle.ded_query.proofs.answering.is_true.Goals as goal
 

@@ -3,7 +3,7 @@ use Rattle.std.proofs.lemmas.Result.{err_from_is_err_and}
 use Rattle.ded_model.specs.declared.memory.Refused.TheVariants.{Wide}
 use Rattle.ded_model.specs.Entries.{entry_of, view_in}
 use Rattle.ded_model.specs.Goal.{goal_form}
-use Rattle.ded_snapshot.specs.State.{snapshot_of}
+use Rattle.ded_catalog.specs.Snapshots.{snapshot_of}
 use Rattle.ded_query.proofs.Answered.{view_is_posed}
 use Rattle.ded_query.proofs.Entries.{view_goal, view_clash, view_missing}
 use Rattle.ded_query.proofs.Evaluations.{evaluated_part}

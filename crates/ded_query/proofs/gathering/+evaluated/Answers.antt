@@ -10,7 +10,7 @@ use Rattle.ded_model.specs.Known.{level_with}
 use Rattle.ded_model.specs.NormalGoal.{IsNormalGoal}
 use Rattle.ded_model.specs.PlanForm.{plan_form}
 use Rattle.ded_model.specs.Uses.{plan_uses}
-use Rattle.ded_snapshot.specs.State.{snapshot_of}
+use Rattle.ded_catalog.specs.Snapshots.{snapshot_of}
 use Rattle.ded_complement.proofs.Cutting.{all-at}
 use Rattle.ded_eval.specs.Given.{has_name}
 use Rattle.ded_query.proofs.Entries.{view_goal, view_posed, view_level, view_clash, relation_there}

@@ -1,6 +1,6 @@
 use Rattle.std.proofs.Common.{◌≡◌, true, ◌+◌, ◌*◌, take}
 use Rattle.std.specs.List.{AllByRecursion}
-use Rattle.ded_snapshot.specs.State.{snapshot_of}
+use Rattle.ded_catalog.specs.Snapshots.{snapshot_of}
 use Rattle.ded_eval.specs.Given.{has_name}
 use Rattle.ded_query.specs.Gathering.{IsGathered, IsFront}
 use Rattle.ded_query.proofs.gathering.+evaluated.Given as goal

@@ -1,5 +1,5 @@
 use Rattle.std.proofs.Common.{refl}
-use Rattle.ded_snapshot.specs.State.{snapshot_of}
+use Rattle.ded_catalog.specs.Snapshots.{snapshot_of}
 use Rattle.ded_query.proofs.Entries.{view_given, view_heading, given_as}
 use Rattle.ded_query.proofs.gathering.held_view.Goals as goal
 

@@ -1,6 +1,6 @@
 use Rattle.std.proofs.Common.{sym, ◌∙◌}
 use Rattle.ded_model.specs.Entries.{entry_of, relation_in}
-use Rattle.ded_snapshot.specs.State.{snapshot_of}
+use Rattle.ded_catalog.specs.Snapshots.{snapshot_of}
 use Rattle.ded_query.proofs.Entries.{relation_given, relation_heading, relation_tuples, given_as}
 use Rattle.ded_query.proofs.gathering.relation.Goals as goal
 

@@ -3,7 +3,7 @@ use Rattle.std.proofs.Common.{sym, ap, subst}
 use Rattle.std.specs.Result.{IfOk}
 use Rattle.ded_model.specs.Command.{CommandForm, command_form}
 use Rattle.ded_model.specs.Form.{form, forms}
-use Rattle.ded_sorts.specs.Checks.{IsResolved}
+use Rattle.ded_resolve.specs.Resolved.{IsResolved}
 use Rattle.ded_resolve.proofs.Readiness.{view_ready, ask_ready, query_ready, explain_ready, insert_ready}
 use Rattle.ded_resolve.proofs.resolving.by_slots.Goals as goal
 

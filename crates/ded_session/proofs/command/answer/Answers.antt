@@ -4,7 +4,8 @@ use Rattle.ded_model.specs.declared.command.Refusal.TheVariants.{Memory}
 use Rattle.ded_model.specs.Catalogue.{Catalogue}
 use Rattle.ded_model.specs.Command.{command_form}
 use Rattle.ded_database.specs.State.{catalogue_at}
-use Rattle.ded_sorts.specs.Checks.{HasNoCause, IsLeastCause, IsResolved}
+use Rattle.ded_sorts.specs.Checks.{HasNoCause, IsLeastCause}
+use Rattle.ded_resolve.specs.Resolved.{IsResolved}
 use Rattle.ded_resolve.specs.Storing.{IsStorable}
 use Rattle.ded_session.specs.Answered.{reply_form}
 use Rattle.ded_session.proofs.Carried.{carried, named}

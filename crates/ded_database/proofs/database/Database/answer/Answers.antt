@@ -2,7 +2,7 @@ use Rattle.std.proofs.Common.{◌≡◌, sym, ap, ◌∙◌, subst}
 use Rattle.std.specs.Prelude.{IfOk}
 use Rattle.ded_model.specs.Catalogue.{Catalogue}
 use Rattle.ded_model.specs.Goal.{goal_form}
-use Rattle.ded_snapshot.specs.State.{snapshot_of}
+use Rattle.ded_catalog.specs.Snapshots.{snapshot_of}
 use Rattle.ded_query.specs.Questions.{IsQuestion, IsAnswer}
 use Rattle.ded_database.specs.State.{catalogue_at}
 use Rattle.ded_database.proofs.database.Database.answer.Goals as goal

@@ -1,6 +1,6 @@
 use Rattle.std.proofs.Common.{subst}
 use Rattle.std.specs.Prelude.{OnOk}
-use Rattle.ded_upkeep.specs.Upkeep.{OnlyAdds}
+use Rattle.ded_database.specs.Upkeep.{OnlyAdds}
 use Rattle.ded_database.specs.State.{State, catalogue_at}
 use Rattle.ded_database.proofs.database.Database.insert.Goals as goal
 

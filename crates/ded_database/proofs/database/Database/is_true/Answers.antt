@@ -2,7 +2,7 @@ use Rattle.std.proofs.Common.{◌≡◌, [], sym, ap, ◌∙◌, subst}
 use Rattle.std.specs.Prelude.{◌↔◌, IsTrue, IfOk}
 use Rattle.ded_model.specs.Catalogue.{Catalogue, IsTruth}
 use Rattle.ded_model.specs.Goal.{goal_form}
-use Rattle.ded_snapshot.specs.State.{snapshot_of}
+use Rattle.ded_catalog.specs.Snapshots.{snapshot_of}
 use Rattle.ded_query.specs.Questions.{IsQuestion}
 use Rattle.ded_database.specs.State.{catalogue_at}
 use Rattle.ded_database.proofs.database.Database.is_true.Goals as goal

@@ -2,7 +2,7 @@ use Rattle.std.proofs.Common.{◌≡◌, true, ap, ◌∙◌, subst}
 use Rattle.std.specs.Prelude.{IfSome}
 use Rattle.std.specs.Option.{option_map}
 use Rattle.ded_catalog.specs.State.{catalogue_of}
-use Rattle.ded_upkeep.specs.Held.{IsListOf, held_under, is_marked}
+use Rattle.ded_database.specs.Held.{IsListOf, held_under, is_marked}
 use Rattle.ded_database.specs.State.{State, catalogue_at, is_kept}
 use Rattle.ded_database.proofs.Listing.{given_held, of_mapped, listed, marked_held}
 use Rattle.ded_database.proofs.database.Database.kept.Goals as goal

@@ -1,6 +1,0 @@
-use Rattle.std.proofs.Common.{take}
-use Rattle.ded_bounds.specs.Rounds.{IsBoxOf}
-use Rattle.ded_bounds.proofs.boxes.box_round.Given as goal
-
-abbrev pub invariant-loop-slot : goal.invariant-loop-slot
-invariant-loop-slot g l = IsBoxOf g.T.Theory.holds g.T.Theory.mentions g.T.Theory.lines (take l.slot-index l.slots) l.atoms l.spans.items

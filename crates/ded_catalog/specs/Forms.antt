@@ -1,0 +1,10 @@
+-- What a change of the program stands for.
+use Rattle.ded_catalog.specs.Changing.{none, insertion, deletion}
+use Rattle.ded_catalog.specs.Changing as changing
+use Rattle.ded_catalog.specs.declared.change.Change.{Change}
+use Rattle.ded_catalog.specs.declared.change.Change.TheVariants.{Nothing, Insert, Delete}
+
+abbrev pub change_form : Change → changing.Change
+change_form Nothing = none
+change_form (Insert n t) = insertion n.now t.now
+change_form (Delete n k) = deletion n.now k

@@ -1,0 +1,98 @@
+//! What is changed of a catalogue.
+ghost use Rattle.std.specs.Prelude.{◌≡◌, ◌++◌, IfOk};
+ghost use Rattle.std.specs.Option.{option_map};
+ghost use Rattle.ded_model.specs.Catalogue.{tuples_of};
+ghost use Rattle.ded_catalog.specs.Changing.{inserted_in, deleted_in, is_left_out, without_number, with_last};
+
+use ded_model::memory::NoMemory;
+use ded_model::name::Name;
+use ded_model::tuple::{Tuple, Tuples};
+use std::alloc::Global;
+use std::collections::BTreeMap;
+
+/// Nothing, one tuple more in the relation of the name, or the tuple of the number less.
+#[derive(Drop)]
+pub(crate) enum Change<'a> {
+    Nothing,
+    Insert(&'a Name, &'a Tuple),
+    Delete(&'a Name, u64),
+}
+
+impl<'a> Change<'a> {
+    ghost use Rattle.ded_catalog.specs.Forms.{change_form};
+
+    /// The tuple that is inserted into the relation of the name, if one is.
+    pub(crate) fn inserted(&self, name: &Name) -> Option<&Tuple>
+        ensures { option_map (λ t. t.now) result ≡ inserted_in (change_form self.now) name.now }
+    {
+        match self {
+            Change::Insert(into, tuple) => {
+                if into.is_same(name) {
+                    Some(tuple)
+                } else {
+                    None
+                }
+            }
+            Change::Nothing | Change::Delete(_, _) => None,
+        }
+    }
+
+    /// The number of the tuple that is deleted from the relation of the name, if one is.
+    pub(crate) fn deleted(&self, name: &Name) -> Option<u64>
+        ensures { result ≡ deleted_in (change_form self.now) name.now }
+    {
+        match self {
+            Change::Delete(from, number) => {
+                if from.is_same(name) {
+                    Some(*number)
+                } else {
+                    None
+                }
+            }
+            Change::Nothing | Change::Insert(_, _) => None,
+        }
+    }
+}
+
+/// Copies of the tuples but that of the number, in order.
+///
+/// # Errors
+/// Out of memory.
+pub(crate) fn copies(
+    alloc: Global,
+    stored: &BTreeMap<u32, Tuple>,
+    left_out: Option<u64>,
+) -> Result<Vec<Tuple>, NoMemory>
+    ensures { IfOk result (λ ts. ts.items ≡ tuples_of (without_number left_out stored.now.entries)) }
+{
+    let mut left = Vec::with_capacity(alloc, stored.len())?;
+    for (number, tuple) in stored {
+        if !is_left_out(left_out, *number) {
+            left.push(tuple.copy()?)?;
+        }
+    }
+    Ok(left)
+}
+
+/// Whether the number is that of the tuple that is left out.
+fn is_left_out(left_out: Option<u64>, number: u32) -> bool
+    ensures { result ≡ is_left_out left_out number }
+{
+    match left_out {
+        Some(other) => u64::from(number) == other,
+        None => false,
+    }
+}
+
+/// The tuples, and a copy of the last one at the end where there is one.
+///
+/// # Errors
+/// Out of memory.
+pub(crate) fn ended(mut list: Vec<Tuple>, last: Option<&Tuple>) -> Result<Tuples, NoMemory>
+    ensures { IfOk result (λ ts. ts ≡ with_last list.items (option_map (λ t. t.now) last.entry)) }
+{
+    if let Some(tuple) = last {
+        list.push(tuple.copy()?)?;
+    }
+    Ok(Tuples { list })
+}

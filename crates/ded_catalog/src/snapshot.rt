@@ -1,0 +1,130 @@
+//! Snapshots.
+ghost use Rattle.std.specs.Prelude.{◌≡◌, ◌==◌, ◌+◌, ◌≤◌, true, None, IfOk};
+ghost use Rattle.std.specs.List.{list_any};
+ghost use Rattle.std.specs.Option.{option_map};
+
+use crate::change::{Change, copies, ended};
+use crate::Catalogue;
+use ded_model::goal::Goal;
+use ded_model::memory::NoMemory;
+use ded_model::name::{Heading, Name};
+use ded_model::tuple::{Tuple, Tuples};
+use std::alloc::Global;
+use std::marker::Model;
+
+/// A catalogue as it is, or as it will be when a tuple is inserted into a relation or deleted from one. It borrows the
+/// catalogue, and copies nothing. Contracts see the catalogue that it stands for.
+#[derive(Drop)]
+pub struct Snapshot<'a> {
+    catalogue: &'a Catalogue,
+    change: Change<'a>,
+}
+
+impl<'a> Model for Snapshot<'a> {
+    ghost use Rattle.std.specs.Coded.{codes};
+    ghost use Rattle.ded_catalog.specs.contracts.catalogue.Catalogue as below;
+    ghost use Rattle.ded_catalog.specs.Snapshots.{Snapshot};
+
+    ghost Value = { Snapshot };
+
+    ghost coded = { Prim.hlevel (codes, below.the_row.coded) };
+
+    ghost use Rattle.ded_catalog.specs.State.{catalogue_of};
+    ghost use Rattle.ded_catalog.specs.Changing.{MayChange};
+    ghost use Rattle.ded_catalog.specs.Forms.{change_form};
+
+    ghost view = { λ s. record { table = s.catalogue.now; change = change_form s.change } };
+
+    ghost invariant = { λ s. MayChange (catalogue_of s.catalogue.now) (change_form s.change) };
+}
+
+impl<'a> Snapshot<'a> {
+    ghost use Rattle.ded_model.specs.Catalogue.{tuples_of};
+    ghost use Rattle.ded_model.specs.Entries.{known, entry_of, relation_in, view_in, tuples_in, columns_in, inserts_in};
+    ghost use Rattle.ded_model.specs.Goal.{goal_form};
+    ghost use Rattle.ded_model.specs.Known.{IsTupleOver, IsWellFormed};
+    ghost use Rattle.ded_model.specs.Slotted.{goal_of};
+    ghost use Rattle.ded_model.specs.Width.{tuple_length};
+    ghost use Rattle.ded_sorts.specs.Causes.{insert_refusal, is_relation_with};
+    ghost use Rattle.ded_sorts.specs.Changes.{Inserts, Deletes};
+    ghost use Rattle.ded_catalog.specs.State.{catalogue_of};
+    ghost use Rattle.ded_catalog.specs.Snapshots.{snapshot_of};
+
+    /// The catalogue as it is.
+    #[tactic(auto, unfolding(crate::specs::Snapshots::snapshot_of))]
+    pub fn present(catalogue: &'a Catalogue) -> Snapshot<'a>
+        ensures { snapshot_of result ≡ catalogue_of catalogue.now }
+    {
+        Snapshot {
+            catalogue,
+            change: Change::Nothing,
+        }
+    }
+
+    /// The catalogue as an insert of the tuple into the relation of the name makes it. The relation has room for it, so
+    /// the insert would be refused only for running out of memory.
+    pub fn with_tuple(catalogue: &'a Catalogue, name: &'a Name, tuple: &'a Tuple) -> Snapshot<'a>
+        requires relation { is_relation_with (known (catalogue_of catalogue.now) name.now) ≡ true }
+        requires over { IsTupleOver (columns_in (catalogue_of catalogue.now) name.now) tuple.now }
+        requires short { tuple_length tuple.now ≤ 63 }
+        requires room { insert_refusal (catalogue_of catalogue.now) name.now ≡ None }
+        ensures { Inserts (catalogue_of catalogue.now) (snapshot_of result) name.now tuple.now (inserts_in (entry_of (catalogue_of catalogue.now).entries name.now) + 1) }
+    {
+        catalogue.formed();
+        Snapshot {
+            catalogue,
+            change: Change::Insert(name, tuple),
+        }
+    }
+
+    /// The catalogue as a delete of the tuple of the number, which has to be there, from the relation of the name makes it.
+    pub fn without_tuple(catalogue: &'a Catalogue, name: &'a Name, number: u64) -> Snapshot<'a>
+        requires { list_any (λ t. t.0 == number) (tuples_in (catalogue_of catalogue.now) name.now) ≡ true }
+        ensures { Deletes (catalogue_of catalogue.now) (snapshot_of result) name.now number }
+    {
+        catalogue.formed();
+        Snapshot {
+            catalogue,
+            change: Change::Delete(name, number),
+        }
+    }
+
+    /// Every snapshot is well formed, as every catalogue is. It does nothing.
+    pub fn formed(&self)
+        ensures { IsWellFormed (snapshot_of self.now) }
+    {
+        let catalogue = self.catalogue;
+        catalogue.formed();
+    }
+
+    /// The heading of a relation or a view. None exactly where no entry has the name.
+    pub fn heading(&self, name: &Name) -> Option<&Heading>
+        ensures { option_map (λ h. h.now) result ≡ option_map (λ k. k.columns) (known (snapshot_of self.now) name.now) }
+    {
+        let catalogue = self.catalogue;
+        catalogue.heading(name)
+    }
+
+    /// The goal of a view's formula. None exactly where the name is no view.
+    pub fn goal(&self, name: &Name) -> Option<&Goal>
+        ensures { option_map (λ g. goal_form g.now) result ≡ option_map (λ v. goal_of v.0 v.1) (view_in (entry_of (snapshot_of self.now).entries name.now)) }
+    {
+        let catalogue = self.catalogue;
+        catalogue.goal(name)
+    }
+
+    /// Copies of the tuples of a relation, in order of their numbers. None exactly where the name is no relation.
+    ///
+    /// # Errors
+    /// Out of memory.
+    pub fn tuples(&self, alloc: Global, name: &Name) -> Result<Option<Tuples>, NoMemory>
+        ensures { IfOk result (λ ts. ts ≡ option_map tuples_of (relation_in (entry_of (snapshot_of self.now).entries name.now))) }
+    {
+        let catalogue = self.catalogue;
+        let Some(stored) = catalogue.stored(name) else {
+            return Ok(None);
+        };
+        let left = copies(alloc, stored, self.change.deleted(name))?;
+        Ok(Some(ended(left, self.change.inserted(name))?))
+    }
+}

@@ -1,0 +1,39 @@
+-- A change of what a relation holds.
+use Rattle.std.specs.Prelude.{ℕ, Option, Some, None, List}
+use Rattle.std.specs.Option.{option_map}
+use Rattle.ded_model.specs.Catalogue.{Catalogue}
+use Rattle.ded_model.specs.Known.{IsWellFormed}
+use Rattle.ded_model.specs.Row.{Atom}
+use Rattle.ded_sorts.specs.Changes.{Inserts, Deletes}
+use Rattle.ded_catalog.specs.State.{catalogue_of}
+use Rattle.ded_catalog.specs.Snapshots.{snapshot_of}
+use Rattle.ded_database.specs.declared.change.Change.{Change}
+
+-- the catalogue before the change, and after it
+abbrev pub before : Change → Catalogue
+before x = catalogue_of x.catalogue.now
+
+abbrev pub after : Change → Catalogue
+after x = snapshot_of x.snapshot.now
+
+-- the tuple that is inserted
+abbrev pub inserted_tuple : Change → Option (List Atom)
+inserted_tuple x = option_map (λ t. t.now) x.tuple
+
+-- one tuple is inserted, or one is deleted
+abbrev pub ChangesTuple : Catalogue → Catalogue → List ℕ → Option (List Atom) → Type 0
+ChangesTuple c d n (Some t) = (k : ℕ) × Inserts c d n t k
+ChangesTuple c d n None = (k : ℕ) × Deletes c d n k
+
+-- both catalogues are well formed, and the second is the first with the tuple inserted
+pub record IsInsert (c d : Catalogue) (n : List ℕ) (t : List Atom) : Type 0 where
+  pub formed_before : IsWellFormed c
+  pub formed_after : IsWellFormed d
+  pub number : ℕ
+  pub inserts : Inserts c d n t number
+
+-- both are well formed, and one tuple is inserted or deleted
+pub record IsChange (c d : Catalogue) (n : List ℕ) (t : Option (List Atom)) : Type 0 where
+  pub formed_before : IsWellFormed c
+  pub formed_after : IsWellFormed d
+  pub changes : ChangesTuple c d n t

@@ -1,0 +1,132 @@
+//! The list of a view to which a tuple only adds.
+ghost use Rattle.std.specs.Prelude.{◌≡◌, ◌++◌, ◌&&◌, not, true, Some, IfOk, IsErrOf, ℕ, List};
+ghost use Rattle.std.specs.Str.{bytes_eq};
+ghost use Rattle.std.specs.List.{list_any, AllByRecursion};
+ghost use Rattle.ded_model.specs.declared.memory.Refused.TheVariants.{Wide};
+ghost use Rattle.ded_model.specs.Measure.{measures};
+ghost use Rattle.ded_model.specs.PlanForm.{plan_form};
+ghost use Rattle.ded_model.specs.Uses.{plan_uses};
+ghost use Rattle.ded_database.specs.Marks.{mark_adds, IsMark};
+ghost use Rattle.ded_query.specs.Gathering.{IsFront, IsViewOf};
+ghost use Rattle.ded_database.specs.Changes.{before, after, IsInsert};
+ghost use Rattle.ded_database.specs.Held.{IsHeld};
+ghost use Rattle.ded_database.specs.Upkeep.{IsLonger};
+
+use crate::change::Change;
+use ded_algebra::Relations;
+use ded_answers::reduced;
+use ded_eval::{Engine, Given};
+use ded_keep::add_tuple;
+use crate::Mark;
+use crate::laws::nothing_beside;
+use ded_model::memory::{NoMemory, Refused};
+use ded_model::name::Name;
+use ded_model::plan::Plan;
+use ded_model::tuple::{Tuple, Tuples};
+use ded_plan::scanned_names;
+use ded_query::give_names;
+use std::alloc::Global;
+
+/// The list of a view after a tuple is inserted that only adds to it: the list before, and behind it what the plan gives for the tuple
+/// alone. What is held is right over the catalogue as it will be, and stays as it is.
+///
+/// # Errors
+/// `Wide` only where the view clashes over the catalogue as it will be, otherwise out of memory. The list is lost then.
+pub(crate) fn extended(
+    alloc: Global,
+    change: &Change<'_, '_>,
+    tuple: &Tuple,
+    mark: &Mark,
+    list: Tuples,
+    held: &mut Given,
+) -> Result<Tuples, Refused>
+    requires insert { IsInsert (before change.now) (after change.now) change.now.name.now tuple.now }
+    requires mark { IsMark (before change.now) mark.now }
+    requires adds { mark_adds mark.now change.now.name.now ≡ true }
+    requires list { IsViewOf (before change.now) mark.now.name list }
+    requires held { AllByRecursion (IsHeld (after change.now)) held.old }
+    ensures is { IfOk result (IsViewOf (after change.now) mark.now.name) }
+    ensures longer { IfOk result (IsLonger list) }
+    ensures held { held.new ≡ held.old }
+    ensures wide { IsErrOf result Wide → (measures (after change.now) mark.now.name).clash ≡ true }
+{
+    let count = held.count();
+    let extended = extended_over(alloc, change, tuple, mark, list, held);
+    held.keep_first(count);
+    extended
+}
+
+/// The list of a view after a tuple is inserted that only adds to it, as [`extended`] gives it. What else the plan
+/// scans is given behind what is held, and stays there.
+fn extended_over(
+    alloc: Global,
+    change: &Change<'_, '_>,
+    tuple: &Tuple,
+    mark: &Mark,
+    list: Tuples,
+    held: &mut Given,
+) -> Result<Tuples, Refused>
+    requires insert { IsInsert (before change.now) (after change.now) change.now.name.now tuple.now }
+    requires mark { IsMark (before change.now) mark.now }
+    requires adds { mark_adds mark.now change.now.name.now ≡ true }
+    requires list { IsViewOf (before change.now) mark.now.name list }
+    requires held { AllByRecursion (IsHeld (after change.now)) held.old }
+    ensures is { IfOk result (IsViewOf (after change.now) mark.now.name) }
+    ensures longer { IfOk result (IsLonger list) }
+    ensures front { IsFront held.old held.new }
+    ensures wide { IsErrOf result Wide → (measures (after change.now) mark.now.name).clash ≡ true }
+{
+    nothing_beside();
+    let names = other_names(alloc, &mark.plan, change.name)?;
+    give_names(alloc, change.snapshot, &names, held)?;
+    // The others don't reach the relation, so nothing of it is given. This says so.
+    let _ = held.take(change.name);
+    let _ = held.tuples(change.name);
+    let Some(heading) = change.snapshot.heading(change.name) else {
+        unreachable!()
+    };
+    let none = Tuples {
+        list: Vec::new(alloc),
+    };
+    let added = add_tuple(
+        alloc,
+        &Engine {},
+        &mark.plan,
+        change.name,
+        heading,
+        none,
+        tuple,
+        &*held,
+    )?;
+    let more = reduced(alloc, added)?;
+    Ok(joined(list, more)?)
+}
+
+/// The tuples of the first list, and behind them those of the second.
+///
+/// # Errors
+/// Out of memory.
+fn joined(list: Tuples, more: Tuples) -> Result<Tuples, NoMemory>
+    ensures { IfOk result (λ ts. ts ≡ list ++ more) }
+{
+    let mut list = list.list;
+    let mut more = more.list;
+    list.append(&mut more)?;
+    Ok(Tuples { list })
+}
+
+/// The names that the plan scans, but for the given one.
+///
+/// # Errors
+/// Out of memory.
+fn other_names(alloc: Global, plan: &Plan, name: &Name) -> Result<Vec<Name>, NoMemory>
+    ensures { IfOk result (λ v. (n : List ℕ) → list_any (bytes_eq n) v.items ≡ (plan_uses n (plan_form plan.now) && not (bytes_eq n name.now))) }
+{
+    let mut others = Vec::new(alloc);
+    for scanned in scanned_names(alloc, plan)? {
+        if scanned != *name {
+            others.push(scanned)?;
+        }
+    }
+    Ok(others)
+}

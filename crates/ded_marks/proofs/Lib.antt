@@ -1,4 +1,0 @@
-pub mod Closing
-pub mod ReachedNames
-pub mod UsedNames
-pub mod Marked

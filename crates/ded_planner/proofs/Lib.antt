@@ -1,4 +1,0 @@
-pub mod Composed
-pub mod GoalScans
-pub mod PlansOfFormulas
-pub mod ScannedNames

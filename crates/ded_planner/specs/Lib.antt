@@ -1,3 +1,0 @@
-pub mod Planned
-pub mod Plans
-pub mod ScannedNames

@@ -1,8 +1,0 @@
-use Rattle.ded_catalog.specs.State.{catalogue_of}
-use Rattle.ded_snapshot.specs.State.{snapshot_of}
-use Rattle.ded_snapshot.proofs.Tuples.{without_deletes}
-use Rattle.ded_snapshot.proofs.snapshot.Snapshot.without_tuple.Goals as goal
-
-pub returns : goal.returns
-unfolding snapshot_of
-returns c = without_deletes (catalogue_of c.args.catalogue.now) c.args.name.now c.formed.ensures c.args.number c.requires

@@ -1,7 +1,0 @@
-use Rattle.std.proofs.Common.{take}
-use Rattle.ded_upkeep.specs.Changes.{before, after, inserted_tuple}
-use Rattle.ded_upkeep.specs.Renewed.{AreRenewed}
-use Rattle.ded_upkeep.proofs.renewing.renew_all.Given as goal
-
-abbrev pub invariant-loop-mark : goal.invariant-loop-mark
-invariant-loop-mark l = AreRenewed (before l.change) (after l.change) l.change.name.now (take l.mark-index l.marks) (inserted_tuple l.change) l.fn.stale l.stale l.fn.held l.held

@@ -1,4 +1,0 @@
-pub mod Changes
-pub mod Held
-pub mod Renewed
-pub mod Upkeep
