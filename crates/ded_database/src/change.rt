@@ -1,9 +1,8 @@
 //! A change of what a relation holds.
 
-use ded_catalog::Catalogue;
+use ded_catalog::{Catalogue, Snapshot};
 use ded_model::name::Name;
 use ded_model::tuple::Tuple;
-use ded_catalog::Snapshot;
 
 /// The catalogue before a change and as it will be, the relation's name, and the tuple that is inserted: none where one is deleted.
 #[derive(Clone, Copy)]

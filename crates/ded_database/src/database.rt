@@ -5,10 +5,11 @@ ghost use Rattle.std.specs.Option.{option_map, unwrap_or};
 ghost use Rattle.ded_catalog.specs.State.{catalogue_of};
 
 use crate::keeping::{drop_kept, keep_view};
+use crate::mark::Mark;
+use crate::upkeep::{deleted, inserted};
 use ded_algebra::Relations;
-use ded_catalog::Catalogue;
+use ded_catalog::{Catalogue, Snapshot};
 use ded_eval::Given;
-use crate::Mark;
 use ded_model::command::Refusal;
 use ded_model::formula::Formula;
 use ded_model::goal::Goal;
@@ -16,8 +17,6 @@ use ded_model::memory::{NoMemory, Refused};
 use ded_model::name::{Heading, Name};
 use ded_model::tuple::{Tuple, Tuples};
 use ded_query::{answer, is_true};
-use ded_catalog::Snapshot;
-use crate::{deleted, inserted};
 use std::alloc::Global;
 use std::marker::Model;
 

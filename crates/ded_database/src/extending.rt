@@ -13,12 +13,12 @@ ghost use Rattle.ded_database.specs.Held.{IsHeld};
 ghost use Rattle.ded_database.specs.Upkeep.{IsLonger};
 
 use crate::change::Change;
+use crate::laws::nothing_beside;
+use crate::mark::Mark;
 use ded_algebra::Relations;
 use ded_answers::reduced;
 use ded_eval::{Engine, Given};
 use ded_keep::add_tuple;
-use crate::Mark;
-use crate::laws::nothing_beside;
 use ded_model::memory::{NoMemory, Refused};
 use ded_model::name::Name;
 use ded_model::plan::Plan;

@@ -10,14 +10,13 @@ ghost use Rattle.ded_sorts.specs.Causes.{is_view_with};
 ghost use Rattle.ded_database.specs.Held.{is_marked, AreMarkedApart, IsHeld, IsUpheld};
 ghost use Rattle.ded_database.specs.Keeping.{IsMarkedWith, IsListedWith, without_mark};
 
+use crate::mark::{Mark, mark_of};
 use ded_algebra::Relations;
-use ded_catalog::Catalogue;
+use ded_catalog::{Catalogue, Snapshot};
 use ded_eval::Given;
-use crate::{Mark, mark_of};
 use ded_model::memory::{NoMemory, Refused};
 use ded_model::name::Name;
 use ded_query::{held_view, view_tuples};
-use ded_catalog::Snapshot;
 use std::alloc::{AllocError, Global};
 
 /// Marks a view, and makes its list where none is held. Where numbers get too long for it, none is held.

@@ -14,9 +14,9 @@ ghost use Rattle.ded_database.specs.Upkeep.{IsLonger};
 
 use crate::change::Change;
 use crate::extending::extended;
-use ded_eval::{Given, GivenRelation};
-use crate::Mark;
 use crate::laws::{conjunctive_views, marks_reach};
+use crate::mark::Mark;
+use ded_eval::{Given, GivenRelation};
 use ded_model::memory::{NoMemory, Refused};
 use ded_model::tuple::Tuples;
 use ded_query::{held_view, view_tuples};

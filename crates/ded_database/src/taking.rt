@@ -9,10 +9,10 @@ ghost use Rattle.ded_sorts.specs.Causes.{is_relation_with};
 ghost use Rattle.ded_database.specs.Held.{IsHeld, AreMarkedApart};
 ghost use Rattle.ded_database.specs.Renewed.{AreLeft, AreTaken, with_taken};
 
+use crate::laws::marks_reach;
+use crate::mark::Mark;
 use ded_catalog::Catalogue;
 use ded_eval::Given;
-use crate::Mark;
-use crate::laws::marks_reach;
 use ded_model::memory::NoMemory;
 use ded_model::name::Name;
 

@@ -15,17 +15,16 @@ ghost use Rattle.ded_database.specs.Held.{is_marked, IsUpheld};
 ghost use Rattle.ded_database.specs.Upkeep.{KeepsUp, LeavesOthers, OnlyAdds, IsReady, IsReadyWithout};
 
 use crate::change::Change;
+use crate::laws::lasting_marks;
+use crate::mark::Mark;
 use crate::renewing::renew_all;
 use crate::taking::take_stale;
-use ded_catalog::Catalogue;
+use ded_catalog::{Catalogue, Snapshot};
 use ded_eval::Given;
-use crate::Mark;
-use crate::laws::lasting_marks;
 use ded_model::command::Refusal;
 use ded_model::memory::NoMemory;
 use ded_model::name::Name;
 use ded_model::tuple::Tuple;
-use ded_catalog::Snapshot;
 use ded_views::laws::one_change;
 use std::alloc::{AllocError, Global};
 

@@ -5,11 +5,11 @@ ghost use Rattle.ded_model.specs.NormalGoal.{IsNormalGoal};
 ghost use Rattle.ded_model.specs.PlanForm.{plan_form};
 ghost use Rattle.ded_plan.specs.Planned.{IsPlanned};
 
+use crate::rewriting::rewrite;
 use ded_algebra::compile;
 use ded_model::goal::Goal;
 use ded_model::memory::NoMemory;
 use ded_model::plan::Plan;
-use crate::rewrite;
 use std::alloc::Global;
 
 /// The plan of a goal whose rows and text atoms are normal, as those of the goal of a formula are. Projections stand in it as deep

@@ -15,6 +15,7 @@ ghost use Rattle.ded_model.specs.Entries.{columns_in};
 ghost use Rattle.ded_resolve.specs.Ready.{IsReady, AreReady};
 ghost use Rattle.ded_resolve.specs.Storing.{IsStorable};
 
+use crate::checked::Checked;
 use ded_goals::{goal, tuple};
 use ded_model::command::{Command, Refusal};
 use ded_model::formula::Formula;
@@ -22,7 +23,6 @@ use ded_model::goal::Goal;
 use ded_model::memory::NoMemory;
 use ded_model::name::{Heading, Name};
 use ded_model::tuple::Tuple;
-use crate::checked::Checked;
 use ded_sorts::{Known, Names, check};
 use std::alloc::Global;
 
