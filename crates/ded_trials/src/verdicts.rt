@@ -1,0 +1,100 @@
+//! Verdicts on numbers that get too long: replies don't tell these apart from exact ones.
+use crate::texts::{X, is_written, list};
+use ded_atoms::Atoms;
+use ded_genrel::GenRel;
+use ded_model::memory::{NoMemory, Refused};
+use ded_theory::{Span, Theory, Verdict};
+use std::alloc::Global;
+use std::test::Fail;
+
+/// What kind of bounds there are.
+#[derive(Clone, Copy, Debug, PartialEq, Eq)]
+enum Kind {
+    Nothing,
+    Exact,
+    Around,
+}
+
+/// A conjunction, whether it holds somewhere, what bounds `x` has, and what is left without `x`: nothing where numbers get too long.
+type Case = (&'static str, Verdict, Kind, Option<&'static str>);
+
+const CASES: [Case; 7] = [
+    ("{ }\n", Verdict::Inhabited, Kind::Exact, Some("{ }\n")),
+    (
+        "{ x > 0, x < 0 }\n",
+        Verdict::Empty,
+        Kind::Nothing,
+        Some(""),
+    ),
+    (
+        "{ n = 'a', x = 1 }\n",
+        Verdict::Inhabited,
+        Kind::Exact,
+        Some("{ n = 'a' }\n"),
+    ),
+    (
+        "{ 1267650600228229401496703205376*x <= -1 }\n",
+        Verdict::Inhabited,
+        Kind::Exact,
+        Some("{ }\n"),
+    ),
+    (
+        "{ 1267650600228229401496703205379*x + 1267650600228229401496703205375*y >= 1, 1267650600228229401496703205376*x + 1267650600228229401496703205377*y <= -1 }\n",
+        Verdict::Unknown,
+        Kind::Around,
+        None,
+    ),
+    (
+        "{ 1267650600228229401496703205376*x + y = 0, 1267650600228229401496703205376*x + 1267650600228229401496703205377*y <= 0 }\n",
+        Verdict::Unknown,
+        Kind::Around,
+        None,
+    ),
+    (
+        "{ x - y = 0, 1267650600228229401496703205376*x + y = 0, 1267650600228229401496703205377*x <= -3 }\n",
+        Verdict::Empty,
+        Kind::Nothing,
+        Some("{ y = 0, 1267650600228229401496703205377*y <= -3 }\n"),
+    ),
+];
+
+/// The kind of the bounds of `x` over the only conjunction of a list.
+fn bounds(alloc: Global, list: &GenRel<Atoms>) -> Result<Option<Kind>, NoMemory> {
+    let mut bounds = None;
+    for conj in list.list() {
+        bounds = Some(match <Atoms as Theory>::bounds(alloc, conj, X)? {
+            Span::Nothing => Kind::Nothing,
+            Span::Exact(_, _) => Kind::Exact,
+            Span::Around(_, _) => Kind::Around,
+        });
+    }
+    Ok(bounds)
+}
+
+/// Whether that is left of a list without `x`, nothing where numbers get too long.
+fn leaves(alloc: Global, list: &GenRel<Atoms>, wanted: Option<&str>) -> Result<bool, Fail> {
+    match (list.project(X), wanted) {
+        (Ok(left), Some(lines)) => is_written(alloc, &left, lines),
+        (Err(Refused::Wide), None) => Ok(true),
+        _ => Ok(false),
+    }
+}
+
+/// The verdict and the bounds, and whether the right conjunction is left.
+fn seen(alloc: Global, case: &Case) -> Result<(Verdict, Option<Kind>, bool), Fail> {
+    let list = list(alloc, case.0)?;
+    Ok((
+        list.is_empty(alloc)?,
+        bounds(alloc, &list)?,
+        leaves(alloc, &list, case.3)?,
+    ))
+}
+
+#[test]
+fn long_numbers_leave_verdicts_open(rt: HostRuntime) -> Result<(), Fail> {
+    for case in &CASES {
+        let seen = seen(rt.alloc(), case)?;
+        assert_eq!(rt; seen, (case.1, Some(case.2), true), "{}", case.0);
+    }
+    Ok(())
+}
