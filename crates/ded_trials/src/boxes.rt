@@ -9,14 +9,17 @@ use std::alloc::Global;
 use std::test::Fail;
 
 /// An end of an interval: a whole number, and whether it is attained.
-type End = (i128, bool);
+type End = (i8, bool);
 
 /// The ends of an interval.
 type Ends = (End, End);
 
 /// The end as a bound.
 fn bound(end: End) -> Bound {
-    let fraction = Frac { num: end.0, den: 1 };
+    let fraction = Frac {
+        num: i128::from(end.0),
+        den: 1,
+    };
     if end.1 {
         Bound::Included(fraction)
     } else {
@@ -32,23 +35,23 @@ fn one(alloc: Global, ends: Ends) -> Result<BoundBox, NoMemory>
 }
 
 /// The box of a closed interval.
-fn closed(alloc: Global, low: i128, high: i128) -> Result<BoundBox, NoMemory> {
+fn closed(alloc: Global, low: i8, high: i8) -> Result<BoundBox, NoMemory> {
     one(alloc, ((low, true), (high, true)))
 }
 
-/// The end that a bound is, where it is a whole number.
-fn end(bound: &Bound) -> Option<End> {
+/// Whether the bound is that end.
+fn is_end(bound: &Bound, end: End) -> bool {
     match bound {
-        Bound::Included(f) if f.den == 1 => Some((f.num, true)),
-        Bound::Excluded(f) if f.den == 1 => Some((f.num, false)),
-        _ => None,
+        Bound::Included(f) => f.den == 1 && f.num == i128::from(end.0) && end.1,
+        Bound::Excluded(f) => f.den == 1 && f.num == i128::from(end.0) && !end.1,
+        Bound::Infinite => false,
     }
 }
 
 /// Whether the box has one interval, with these ends.
 fn is_one(bounds: &BoundBox, ends: Ends) -> bool {
     match bounds.spans() {
-        [(low, high)] => end(low) == Some(ends.0) && end(high) == Some(ends.1),
+        [(low, high)] => is_end(low, ends.0) && is_end(high, ends.1),
         _ => false,
     }
 }
@@ -104,6 +107,7 @@ fn are_related(alloc: Global, pair: &(Ends, Ends, bool, Ends)) -> Result<bool, N
     )
 }
 
+/// Boxes meet and are covered as their intervals are.
 #[test]
 fn intervals_touch(rt: HostRuntime) -> Result<(), Fail> {
     for pair in &PAIRS {
@@ -117,11 +121,6 @@ fn intervals_touch(rt: HostRuntime) -> Result<(), Fail> {
     Ok(())
 }
 
-/// The numbers of the entries that a closed window finds.
-fn found(alloc: Global, index: &BoxIndex, low: i128, high: i128) -> Result<Vec<u32>, NoMemory> {
-    index.find(alloc, &closed(alloc, low, high)?)
-}
-
 /// An index of the intervals from 0 to 1 and from 2 to 3, of the point 1 as number 7, and of an empty interval as number 8.
 fn index(alloc: Global) -> Result<BoxIndex, NoMemory> {
     let boxes = vec![in alloc; closed(alloc, 0, 1)?, closed(alloc, 2, 3)?]?;
@@ -131,23 +130,36 @@ fn index(alloc: Global) -> Result<BoxIndex, NoMemory> {
     Ok(index)
 }
 
+/// Whether the window from `low` to `high` finds these numbers.
+fn finds(
+    alloc: Global,
+    index: &BoxIndex,
+    low: i8,
+    high: i8,
+    numbers: &[u32],
+) -> Result<bool, NoMemory> {
+    let found = index.find(alloc, &closed(alloc, low, high)?)?;
+    Ok(found.as_slice() == numbers)
+}
+
+/// What is taken out in turn, whether it is there, and what the window from 1 to 2 finds then.
+const REMOVED: &[(u32, bool, &[u32])] = &[
+    (9, false, &[0, 1, 7]),
+    (0, true, &[1, 7]),
+    (0, false, &[1, 7]),
+    (8, true, &[1, 7]),
+    (7, true, &[1]),
+];
+
+/// Look-ups find what was inserted and not removed.
 #[test]
 fn an_index_follows_changes(rt: HostRuntime) -> Result<(), Fail> {
     let alloc = rt.alloc();
     let mut index = index(alloc)?;
-    for (number, is_there, numbers) in [
-        (9, false, [0, 1, 7].as_slice()),
-        (0, true, &[1, 7]),
-        (0, false, &[1, 7]),
-        (8, true, &[1, 7]),
-        (7, true, &[1]),
-    ] {
-        assert_eq!(rt; index.remove(number), is_there, "{number}");
-        assert!(rt;
-            found(alloc, &index, 1, 2)?.as_slice() == numbers,
-            "without {number}"
-        );
+    for (number, is_there, numbers) in REMOVED {
+        assert_eq!(rt; index.remove(*number), *is_there, "{number}");
+        assert!(rt; finds(alloc, &index, 1, 2, numbers)?, "without {number}");
     }
-    assert!(rt; found(alloc, &index, 2, 1)?.is_empty());
+    assert!(rt; finds(alloc, &index, 2, 1, &[])?);
     Ok(())
 }

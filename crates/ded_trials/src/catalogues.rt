@@ -52,6 +52,7 @@ fn answers(alloc: Global, limit: u32, given: u32) -> Result<Answers, NoMemory> {
     Ok((first, insert(alloc, &mut catalogue, &name)))
 }
 
+/// The last number is given, and after it an insert is refused as spent, unless the relation is full.
 #[test]
 fn numbers_are_spent(rt: HostRuntime) -> Result<(), Fail> {
     for (limit, given, wanted) in [

@@ -35,6 +35,7 @@ fn letters_given(alloc: Global, piece: usize, failing: &[u64]) -> Result<Vec<u8>
     )
 }
 
+/// A failed read takes no bytes.
 #[test]
 fn sources_go_on_after_a_fault(rt: HostRuntime) -> Result<(), Fail> {
     let alloc = rt.alloc();
@@ -76,16 +77,6 @@ const SENT: [(usize, u64, [Sent; 2]); 4] = [
     (5, 0, [(LETTERS, false, b"abcde"), (b"", true, b"abcde")]),
 ];
 
-#[test]
-fn sinks_go_on_after_a_fault(rt: HostRuntime) -> Result<(), Fail> {
-    for (room, failing, parts) in &SENT {
-        let as_wanted = are_sent(rt.alloc(), *room, *failing, parts)?;
-        assert!(rt; as_wanted, "write {failing} fails");
-    }
-    assert_eq!(rt; send(&mut SureSink::new(), LETTERS), Ok(()));
-    Ok(())
-}
-
 /// Whether replies of one line break off where a sink that takes five bytes a call fails.
 fn break_off(alloc: Global) -> Result<bool, NoMemory> {
     let mut sink = BytesSink::new(alloc, 64, 5, &[3])?;
@@ -100,9 +91,15 @@ fn break_off(alloc: Global) -> Result<bool, NoMemory> {
     )
 }
 
+/// A failed write leaves what was taken before, and replies break off there.
 #[test]
-fn replies_break_off(rt: HostRuntime) -> Result<(), Fail> {
+fn sinks_go_on_after_a_fault(rt: HostRuntime) -> Result<(), Fail> {
+    for (room, failing, parts) in &SENT {
+        let as_wanted = are_sent(rt.alloc(), *room, *failing, parts)?;
+        assert!(rt; as_wanted, "write {failing} fails");
+    }
     assert!(rt; break_off(rt.alloc())?);
+    assert_eq!(rt; send(&mut SureSink::new(), LETTERS), Ok(()));
     Ok(())
 }
 
@@ -160,6 +157,7 @@ impl<W: Write> Write for Flaky<'_, W> {
     }
 }
 
+/// Of a reader an interrupted call is made again, and another failed one is a failed read.
 #[test]
 fn readers_go_on_after_a_fault(rt: HostRuntime) -> Result<(), Fail> {
     let turns = [
@@ -177,6 +175,7 @@ fn readers_go_on_after_a_fault(rt: HostRuntime) -> Result<(), Fail> {
     Ok(())
 }
 
+/// Of a writer likewise; one that takes nothing fails.
 #[test]
 fn writers_hold_what_was_sent_around_faults(rt: HostRuntime) {
     let turns = [

@@ -1,7 +1,8 @@
 //! How many pairs joins meet: by the bounds of a slot near ones alone, and never all of two long lists.
-ghost use Rattle.std.specs.Prelude.{IfOk};
+ghost use Rattle.std.specs.Prelude.{◌≡◌, IfOk};
 ghost use Rattle.ded_model.specs.Catalogue.{Catalogue};
-ghost use Rattle.ded_model.specs.PlanForm.{plan_form};
+ghost use Rattle.ded_model.specs.Logic.{atom};
+ghost use Rattle.ded_model.specs.PlanForm.{plan_form, rows};
 ghost use Rattle.ded_algebra.specs.Evaluation.{IsAnyAtom, IsEvaluable};
 
 use crate::texts::{X, are_written, list, read};
@@ -46,10 +47,18 @@ fn counts(alloc: Global) -> Result<Counts, Fail> {
     ])
 }
 
+/// Joins by the bounds of `x` meet near pairs alone.
 #[test]
 fn joins_are_counted(rt: HostRuntime) -> Result<(), Fail> {
     assert_eq!(rt; counts(rt.alloc())?, [(2, 2), (6, 6), (2, 2), (2, 6)]);
     Ok(())
+}
+
+/// The plan of a tuple.
+fn row(tuple: &Tuple) -> Result<Plan, NoMemory>
+    ensures { IfOk result (λ p. plan_form p ≡ atom (rows tuple.now)) }
+{
+    Ok(Plan::Rows(tuple.copy()?))
 }
 
 /// The union of tuples.
@@ -58,7 +67,7 @@ fn union(alloc: Global, tuples: &[Tuple]) -> Result<Plan, NoMemory>
 {
     let mut parts = Vec::new(alloc);
     for tuple in tuples {
-        parts.push(Plan::Rows(tuple.copy()?))?;
+        parts.push(row(tuple)?)?;
     }
     Ok(Plan::Union(parts))
 }
@@ -104,12 +113,6 @@ fn evaluated(alloc: Global) -> Result<(usize, u64, bool), Fail> {
     ))
 }
 
-#[test]
-fn near_pairs_alone_are_met(rt: HostRuntime) -> Result<(), Fail> {
-    assert_eq!(rt; evaluated(rt.alloc())?, (100, 100, true));
-    Ok(())
-}
-
 /// How many conjunctions the union of tuples is evaluated to.
 fn united(alloc: Global, lines: &str) -> Result<usize, Fail> {
     let plan = union(alloc, &read(alloc, lines)?.tuples.list)?;
@@ -118,8 +121,10 @@ fn united(alloc: Global, lines: &str) -> Result<usize, Fail> {
     Ok(list.list().len())
 }
 
+/// Joins in a plan meet near pairs alone, and unions have equal conjunctions once.
 #[test]
-fn a_union_keeps_equal_conjunctions_once(rt: HostRuntime) -> Result<(), Fail> {
+fn plans_are_evaluated(rt: HostRuntime) -> Result<(), Fail> {
+    assert_eq!(rt; evaluated(rt.alloc())?, (100, 100, true));
     assert_eq!(rt; united(rt.alloc(), "{ x = 1 }\n{ x = 1 }\n")?, 1);
     Ok(())
 }

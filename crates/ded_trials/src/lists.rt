@@ -1,12 +1,11 @@
 //! Operations on lists of conjunctions, whose results were worked out by hand.
-use crate::texts::{X, is_written, list};
+use crate::texts::{X, conj, is_written, list, read};
 use ded_atoms::Atoms;
 use ded_complement::{complement, minus};
 use ded_genrel::GenRel;
 use ded_join::join;
 use ded_model::memory::NoMemory;
 use ded_reduce::{Reduced, reduce};
-use ded_theory::Verdict;
 use std::alloc::Global;
 use std::test::Fail;
 
@@ -20,12 +19,10 @@ enum Operation {
     Join,
     Complement,
     Minus,
-    /// Each conjunction without superfluous atoms, where it holds somewhere.
-    Reduce,
 }
 
 /// Two lists, and what an operation makes of them.
-const RESULTS: [(Operation, &str, &str, &str); 14] = [
+const RESULTS: [(Operation, &str, &str, &str); 12] = [
     (Operation::Copy, "", "", ""),
     (
         Operation::Copy,
@@ -68,30 +65,7 @@ const RESULTS: [(Operation, &str, &str, &str); 14] = [
         "{ x >= 4, x <= 4 }\n",
     ),
     (Operation::Minus, "{ x < 4 }\n", "{ x <= 4 }\n", ""),
-    (
-        Operation::Reduce,
-        "{ x <= 5, x <= 4 }\n",
-        "",
-        "{ x <= 4 }\n",
-    ),
-    (
-        Operation::Reduce,
-        "{ x > 0, x < 0 }\n{ x >= 0, x > 1 }\n",
-        "",
-        "{ x > 1 }\n",
-    ),
 ];
-
-/// The list without superfluous atoms, and without conjunctions that hold nowhere.
-fn reduced(alloc: Global, list: &GenRel<Atoms>) -> Result<GenRel<Atoms>, NoMemory> {
-    let mut out = GenRel::new(alloc);
-    for conj in list.list() {
-        if let Reduced::Kept(atoms) = reduce::<Atoms>(alloc, conj)? {
-            out.push(atoms)?;
-        }
-    }
-    Ok(out)
-}
 
 /// What the operation makes of the lists.
 fn made(
@@ -107,7 +81,6 @@ fn made(
         Operation::Join => join(alloc, first, second, &[X]),
         Operation::Complement => complement::<Atoms>(alloc, first),
         Operation::Minus => minus::<Atoms>(alloc, first, second),
-        Operation::Reduce => reduced(alloc, first),
     }
 }
 
@@ -120,31 +93,37 @@ fn makes(
     wanted: &str,
 ) -> Result<bool, Fail> {
     let (first, second) = (list(alloc, first)?, list(alloc, second)?);
-    is_written(alloc, &made(alloc, operation, &first, &second)?, wanted)
+    is_written(alloc, made(alloc, operation, &first, &second)?, wanted)
 }
 
+/// Conjunctions, and what is left of each that holds somewhere without superfluous atoms.
+const REDUCED: [(&str, &str); 3] = [
+    ("{ x <= 5, x <= 4 }\n", "{ x <= 4 }\n"),
+    ("{ x > 0, x < 0 }\n{ x >= 0, x > 1 }\n", "{ x > 1 }\n"),
+    ("{ n = 'a', n != 'b' }\n", "{ n = 'a' }\n"),
+];
+
+/// What is left of the conjunctions that the lines spell.
+fn reduced(alloc: Global, lines: &str) -> Result<GenRel<Atoms>, Fail> {
+    let mut out = GenRel::new(alloc);
+    for tuple in &read(alloc, lines)?.tuples.list {
+        if let Reduced::Kept(atoms) = reduce::<Atoms>(alloc, &conj(alloc, tuple)?)? {
+            out.push(atoms)?;
+        }
+    }
+    Ok(out)
+}
+
+/// Each operation makes what was worked out by hand.
 #[test]
 fn lists_are_made(rt: HostRuntime) -> Result<(), Fail> {
     for (operation, first, second, wanted) in RESULTS {
         let as_wanted = makes(rt.alloc(), operation, first, second, wanted)?;
         assert!(rt; as_wanted, "{operation:?} of {first} and {second}");
     }
-    Ok(())
-}
-
-/// Lists, and whether they hold somewhere.
-const VERDICTS: [(&str, Verdict); 4] = [
-    ("", Verdict::Empty),
-    ("{ x > 0, x < 0 }\n{ 0 < 0 }\n", Verdict::Empty),
-    ("{ }\n", Verdict::Inhabited),
-    ("{ x > 0, x < 0 }\n{ n = 'a' }\n", Verdict::Inhabited),
-];
-
-#[test]
-fn lists_hold_somewhere(rt: HostRuntime) -> Result<(), Fail> {
-    for (lines, verdict) in VERDICTS {
-        let list = list(rt.alloc(), lines)?;
-        assert_eq!(rt; list.is_empty(rt.alloc())?, verdict, "{lines}");
+    for (lines, wanted) in REDUCED {
+        let left = reduced(rt.alloc(), lines)?;
+        assert!(rt; is_written(rt.alloc(), left, wanted)?, "{lines}");
     }
     Ok(())
 }

@@ -6,8 +6,9 @@ const MIN: i128 = i128::MIN;
 
 const MAX: i128 = i128::MAX;
 
+/// Divisors, quotients and lengths.
 #[test]
-fn divides(rt: HostRuntime) {
+fn whole_numbers(rt: HostRuntime) {
     for (a, b, want) in [
         (12, -18, 6),
         (0, 0, 0),
@@ -24,10 +25,6 @@ fn divides(rt: HostRuntime) {
     }
     assert_eq!(rt; quotient(-7, 2), -3);
     assert_eq!(rt; quotient(MIN, 1), MIN);
-}
-
-#[test]
-fn counts_digits(rt: HostRuntime) {
     for (a, want) in [
         (0, 0),
         (1, 1),
@@ -40,6 +37,7 @@ fn counts_digits(rt: HostRuntime) {
     }
 }
 
+/// The order of fractions.
 #[test]
 fn orders_fractions(rt: HostRuntime) {
     let table: [(i128, i128, i128, i128, Ordering); 13] = [
@@ -73,6 +71,7 @@ fn orders_fractions(rt: HostRuntime) {
     }
 }
 
+/// Sums of two products, where they are short.
 #[test]
 fn mixes(rt: HostRuntime) {
     let longest: i128 = 9_223_372_036_854_775_807;

@@ -49,6 +49,7 @@ fn cut(alloc: Global, input: &[u8]) -> Result<Vec<u8>, NoMemory> {
     Ok(cut)
 }
 
+/// Inputs are cut at each `;` outside of texts and comments.
 #[test]
 fn inputs_are_cut(rt: HostRuntime) -> Result<(), Fail> {
     for (input, wanted) in INPUTS {
@@ -86,6 +87,7 @@ fn fed(splitter: &mut Splitter, byte: u8, count: usize) -> Seen {
     }
 }
 
+/// A piece of more than 65,536 bytes is long, and the next one is not.
 #[test]
 fn long_pieces_are_counted(rt: HostRuntime) -> Result<(), Fail> {
     let mut splitter = Splitter::new(rt.alloc())?;

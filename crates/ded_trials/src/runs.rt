@@ -56,6 +56,7 @@ const SCRIPTS: [(&[u8], &[u8], Status); 4] = [
     ),
 ];
 
+/// The replies don't hang on how many bytes a call moves.
 #[test]
 fn scripts_are_answered_in_any_pieces(rt: HostRuntime) -> Result<(), Fail> {
     for (script, replies, status) in SCRIPTS {
@@ -121,6 +122,7 @@ const STOPPED: [(Run<'static>, &[u8], Status); 5] = [
     ),
 ];
 
+/// A failed call or a long input ends a run; what was answered before stands written.
 #[test]
 fn a_failed_call_ends_the_run(rt: HostRuntime) -> Result<(), Fail> {
     for (run, replies, status) in &STOPPED {
@@ -150,6 +152,7 @@ fn served_long(alloc: Global, length: usize, replies: &[u8]) -> Result<(Status, 
     served(alloc, &run, replies)
 }
 
+/// A statement of 65,536 bytes is answered, and one of more is refused.
 #[test]
 fn a_statement_has_a_greatest_length(rt: HostRuntime) -> Result<(), Fail> {
     let whole = served_long(rt.alloc(), 65_536, b"yes\nno\n")?;
@@ -229,29 +232,6 @@ fn reading_and_answering_alternate(rt: HostRuntime) -> Result<(), Fail> {
     Ok(())
 }
 
-/// Whether some failing write leaves other than a front of the replies, where each write takes five bytes at most.
-fn front_is_left(alloc: Global, call: u64) -> Result<(Status, bool), NoMemory> {
-    let setup = Setup {
-        limit: 100,
-        input_limit: 1_000,
-        keys: KEYS,
-    };
-    let mut source = BytesSource::new(alloc, STATEMENTS, 16, &[])?;
-    let mut sink = BytesSink::new(alloc, 1_000, 5, &[call])?;
-    let status = serve(alloc, &setup, &mut source, &mut sink);
-    Ok((status, REPLIES[5].starts_with(sink.held())))
-}
-
-#[test]
-fn each_failing_write_leaves_a_front_of_the_replies(rt: HostRuntime) -> Result<(), Fail> {
-    for call in 1..=6 {
-        let ended = front_is_left(rt.alloc(), call)?;
-        assert_eq!(rt; ended, (Status::WriteFault, true), "write {call}");
-    }
-    assert_eq!(rt; front_is_left(rt.alloc(), 7)?, (Status::Done, true));
-    Ok(())
-}
-
 /// The replies to a made script of size 3.
 const MADE: &[u8] =
     b"yes\nyes\nno\nx in [0, 30]\ny in [0, 30]\nx in (-inf, inf)\ny in (-inf, inf)\n";
@@ -268,6 +248,7 @@ fn made(alloc: Global, failing_writes: &[u64], replies: &[u8]) -> Result<(Status
     Ok((status, sink.held() == replies))
 }
 
+/// A made script is answered, and its replies break off where the sink fails.
 #[test]
 fn scripts_are_made(rt: HostRuntime) -> Result<(), Fail> {
     let whole = made(rt.alloc(), &[], MADE)?;
@@ -337,6 +318,7 @@ const LINES: [(&str, Run<'static>, &[u8], Status); 6] = [
     ),
 ];
 
+/// Each command line is run, or refused with nothing read or written.
 #[test]
 fn command_lines_are_run(rt: HostRuntime) -> Result<(), Fail> {
     for (word, run, replies, status) in &LINES {
@@ -354,6 +336,7 @@ ask N135(1); ask N1565(1); ask N5396(3); drop N135; ask N5396(3); ask N135(1);",
     ..WHOLE
 };
 
+/// Names that are hashed alike are found, and told apart, under these keys and others.
 #[test]
 fn names_are_told_apart_under_any_keys(rt: HostRuntime) -> Result<(), Fail> {
     let replies = b"ok\nok\nok\ntuple 1\ntuple 1\nyes\nno\nyes\nok\nyes\nrefused 9 unknown\n";

@@ -93,30 +93,44 @@ fn answer_all(alloc: Global, session: &mut Session, statements: &str) -> Result<
     Ok(sink)
 }
 
-/// Writes the list that is held of `V`.
-fn put_kept(alloc: Global, session: &Session, sink: &mut BytesSink) -> Result<(), Fail> {
-    let name = Name {
+/// Whether statements are answered last by that.
+fn is_answered(
+    alloc: Global,
+    session: &mut Session,
+    statements: &str,
+    reply: &str,
+) -> Result<bool, Fail> {
+    let sink = answer_all(alloc, session, statements)?;
+    Ok(sink.held() == reply.as_bytes())
+}
+
+/// Writes the list that is held of a view.
+fn put_kept(session: &Session, view: &Name, sink: &mut BytesSink) -> Result<(), Failed> {
+    match (session.kept(view), session.catalogue().heading(view)) {
+        (Some(tuples), Some(heading)) => put_tuples(heading, tuples, sink),
+        _ => send(sink, b"none"),
+    }
+}
+
+/// Whether that is held of `V`.
+fn is_kept(alloc: Global, session: &Session, kept: &str) -> Result<bool, Fail> {
+    let view = Name {
         bytes: b"V".to_vec(alloc)?,
     };
-    match (session.kept(&name), session.catalogue().heading(&name)) {
-        (Some(tuples), Some(heading)) => Ok(put_tuples(heading, tuples, sink)?),
-        _ => Ok(send(sink, b"none")?),
-    }
+    let mut sink = page(alloc)?;
+    put_kept(session, &view, &mut sink)?;
+    Ok(sink.held() == kept.as_bytes())
 }
 
 /// Whether the last reply and the list that is held are those, and how often a list was extended.
 fn outcome(alloc: Global, case: &Case) -> Result<(bool, bool, u64), Fail> {
     let mut session = Session::new(alloc, 5)?;
-    let replied = answer_all(alloc, &mut session, case.statements)?;
-    let mut kept = page(alloc)?;
-    put_kept(alloc, &session, &mut kept)?;
-    Ok((
-        replied.held() == case.reply.as_bytes(),
-        kept.held() == case.kept.as_bytes(),
-        session.added(),
-    ))
+    let is_answered = is_answered(alloc, &mut session, case.statements, case.reply)?;
+    let is_kept = is_kept(alloc, &session, case.kept)?;
+    Ok((is_answered, is_kept, session.added()))
 }
 
+/// Lists follow inserts and deletes, and questions read them.
 #[test]
 fn lists_are_held(rt: HostRuntime) -> Result<(), Fail> {
     for case in [&PROJECTED, &DELETED, &READ, &EVALUATED] {

@@ -6,6 +6,7 @@ ghost use Rattle.ded_readback.specs.Plain.{IsPlainHeading};
 
 use ded_atoms::Atoms;
 use ded_atoms::laws::normal_tuples;
+use ded_eval::tuples;
 use ded_genrel::{GenRel, copy_conj};
 use ded_io::{BytesSink, Failed, send};
 use ded_model::answer::Answer;
@@ -16,7 +17,6 @@ use ded_model::tuple::{Atom, Tuple};
 use ded_print::print_tuple;
 use ded_readback::read_answer;
 use ded_theory::Theory;
-use ded_tuple::normal_tuple;
 use std::alloc::Global;
 use std::test::Fail;
 
@@ -56,7 +56,7 @@ pub(crate) fn read(alloc: Global, lines: &str) -> Result<Answer, Fail> {
 }
 
 /// The atoms of a tuple.
-fn conj(alloc: Global, tuple: &Tuple) -> Result<Vec<Atom>, NoMemory>
+pub(crate) fn conj(alloc: Global, tuple: &Tuple) -> Result<Vec<Atom>, NoMemory>
     ensures { IfOk result (λ v. AllByRecursion ⟦<Atoms as Theory>⟧.normal v.items) }
 {
     normal_tuples();
@@ -70,14 +70,6 @@ pub(crate) fn list(alloc: Global, lines: &str) -> Result<GenRel<Atoms>, Fail> {
         list.push(conj(alloc, tuple)?)?;
     }
     Ok(list)
-}
-
-/// The normal tuple of atoms.
-fn tuple(alloc: Global, atoms: &[Atom]) -> Result<Tuple, NoMemory>
-    requires { AllByRecursion ⟦<Atoms as Theory>⟧.normal atoms.now }
-{
-    normal_tuples();
-    normal_tuple(alloc, copy_conj::<Atoms>(alloc, atoms)?)
 }
 
 /// Writes tuples, each on a line.
@@ -107,10 +99,6 @@ pub(crate) fn are_written(alloc: Global, tuples: &[Tuple], lines: &str) -> Resul
 }
 
 /// Whether the conjunctions are the tuples that the lines spell.
-pub(crate) fn is_written(alloc: Global, list: &GenRel<Atoms>, lines: &str) -> Result<bool, Fail> {
-    let mut tuples = Vec::new(alloc);
-    for conj in list.list() {
-        tuples.push(tuple(alloc, conj)?)?;
-    }
-    are_written(alloc, &tuples, lines)
+pub(crate) fn is_written(alloc: Global, list: GenRel<Atoms>, lines: &str) -> Result<bool, Fail> {
+    are_written(alloc, &tuples(alloc, list)?.list, lines)
 }
