@@ -6,9 +6,8 @@ ghost use Rattle.ded_genrel.specs.Lists.{conjs_of, AreNormal};
 ghost use Rattle.ded_genrel.specs.Rounds.{AreRational};
 ghost use Rattle.ded_complement.specs.Boxed.{conjs_in, IsBoxed, AreBoxed};
 
-use ded_genrel::box_round;
 use ded_box::BoundBox;
-use ded_genrel::GenRel;
+use ded_genrel::{GenRel, box_round};
 use ded_model::bound::Bound;
 use ded_model::memory::NoMemory;
 use ded_model::slot::{Slot, Sort};

@@ -12,9 +12,8 @@ ghost use Rattle.ded_complement.specs.Pieces.{all_atoms, AreDisjoint, IsListForE
 use crate::boxed::{Boxed, bounded_slots, boxed_list, unboxed};
 use crate::lessening::without;
 use crate::pieces::push_piece;
-use ded_genrel::box_round;
 use ded_box::meets;
-use ded_genrel::{GenRel, copy_conj};
+use ded_genrel::{GenRel, box_round, copy_conj};
 use ded_model::memory::NoMemory;
 use ded_model::slot::Slot;
 use ded_theory::Theory;

@@ -3,8 +3,7 @@ ghost use Rattle.std.specs.Prelude.{◌<◌, ◌^◌, length, IfOk};
 ghost use Rattle.ded_genrel.specs.Rounds.{AreRational};
 ghost use Rattle.ded_join.specs.Picks.{IsIndexOf};
 
-use ded_genrel::box_round;
-use ded_genrel::GenRel;
+use ded_genrel::{GenRel, box_round};
 use ded_index::BoxIndex;
 use ded_model::memory::NoMemory;
 use ded_model::slot::Slot;

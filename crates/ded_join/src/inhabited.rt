@@ -12,8 +12,7 @@ ghost use Rattle.ded_join.specs.Kept.{AreKept, AreKeptAfter, IsCount, IsKeptMeet
 
 use crate::indexing::index_of;
 use crate::joining::TOO_MANY;
-use ded_genrel::box_round;
-use ded_genrel::{GenRel, both_conjs};
+use ded_genrel::{GenRel, both_conjs, box_round};
 use ded_model::memory::NoMemory;
 use ded_model::slot::Slot;
 use ded_theory::{Theory, Verdict};

@@ -7,8 +7,7 @@ ghost use Rattle.ded_genrel.specs.Rounds.{AreRational};
 ghost use Rattle.ded_join.specs.Picks.{picked};
 
 use crate::indexing::index_of;
-use ded_genrel::box_round;
-use ded_genrel::{GenRel, both_conjs};
+use ded_genrel::{GenRel, both_conjs, box_round};
 use ded_model::memory::NoMemory;
 use ded_model::slot::Slot;
 use ded_theory::Theory;

@@ -17,12 +17,12 @@ ghost use Rattle.ded_query.specs.Questions.{IsQuestion, IsAnswer};
 
 use crate::gathering::{evaluated, give_all};
 use ded_answers::{holds_everywhere, reduced};
+use ded_catalog::Snapshot;
 use ded_eval::Given;
 use ded_model::goal::Goal;
 use ded_model::memory::Refused;
 use ded_model::name::{Heading, Name};
 use ded_model::tuple::Tuples;
-use ded_catalog::Snapshot;
 use std::alloc::Global;
 
 /// The greatest level of a view.

@@ -14,6 +14,7 @@ ghost use Rattle.ded_query.specs.Gathering.{IsGivenOf, IsGathered, IsFront, IsPo
 
 use ded_algebra::{Evaluate, Relations};
 use ded_answers::reduced;
+use ded_catalog::Snapshot;
 use ded_eval::{Engine, Given, GivenRelation};
 use ded_goals::laws::normal_goals;
 use ded_model::goal::Goal;
@@ -21,7 +22,6 @@ use ded_model::memory::{NoMemory, Refused};
 use ded_model::name::Name;
 use ded_model::tuple::Tuples;
 use ded_plan::{plan, scanned_names};
-use ded_catalog::Snapshot;
 use std::alloc::Global;
 
 /// Tuples that hold exactly where the goal of an accepted formula does over the catalogue, whose names have at most the level.

@@ -18,8 +18,7 @@ use crate::reply::Reply;
 use crate::shown::show;
 use ded_database::Database;
 use ded_model::command::Command;
-use ded_resolve::resolve;
-use ded_resolve::Checked;
+use ded_resolve::{Checked, resolve};
 use std::alloc::Global;
 
 /// Answers a command, and changes the catalogue as it says. A refused command changes nothing.
