@@ -258,22 +258,26 @@ fn scripts_are_made(rt: HostRuntime) -> Result<(), Fail> {
     Ok(())
 }
 
-/// How a run ends on a command line of at most one word, and whether it writes these replies.
+/// A command line of at most one word.
+fn words(alloc: Global, word: &str) -> Result<Words, NoMemory> {
+    let mut list = Vec::new(alloc);
+    if !word.is_empty() {
+        list.push(String::from_str(alloc, word)?)?;
+    }
+    Ok(Words { list })
+}
+
+/// How a run ends on such a command line, and whether it writes these replies.
 fn ran(
     alloc: Global,
     word: &str,
     keys: (u64, u64),
-    run_of: &Run<'_>,
+    devices: &Run<'_>,
     replies: &[u8],
 ) -> Result<(Status, bool), NoMemory> {
-    let mut words = Words {
-        list: Vec::new(alloc),
-    };
-    if !word.is_empty() {
-        words.list.push(String::from_str(alloc, word)?)?;
-    }
-    let mut source = BytesSource::new(alloc, run_of.script, run_of.piece, run_of.failing_reads)?;
-    let mut sink = BytesSink::new(alloc, 1_000, 1_000, run_of.failing_writes)?;
+    let words = words(alloc, word)?;
+    let mut source = BytesSource::new(alloc, devices.script, devices.piece, devices.failing_reads)?;
+    let mut sink = BytesSink::new(alloc, 1_000, 1_000, devices.failing_writes)?;
     let status = run(alloc, &words, keys, &mut source, &mut sink);
     Ok((status, sink.held() == replies))
 }
