@@ -1,8 +1,9 @@
+pub mod Accepting
+pub mod Answering
+pub mod MadeCuts
+pub mod Making
+pub mod Parsing
+mod ReadBack
+pub mod Reading
 pub mod Steps
 pub mod Telling
-pub mod Answering
-pub mod Reading
-pub mod Making
-pub mod MadeCuts
-pub mod Parsing
-pub mod Accepting
