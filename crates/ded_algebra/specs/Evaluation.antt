@@ -7,12 +7,12 @@ use Rattle.ded_model.specs.declared.name.Column.{Column}
 use Rattle.ded_model.specs.Point.{slot, Point, IsPoint}
 use Rattle.ded_model.specs.Row.{Atom}
 use Rattle.ded_model.specs.Known.{IsTupleOver}
-use Rattle.ded_model.specs.Catalogue.{Entry, relation, view, Catalogue, entry_name, tuples_of, PlanHolds}
+use Rattle.ded_model.specs.Catalogue.{Entry, relation, view, Catalogue, entry_name, tuples_of, GivenHolds}
 use Rattle.ded_model.specs.Entries.{entry_of, relation_in}
 use Rattle.ded_model.specs.Logic.{AllAtoms}
 use Rattle.ded_model.specs.PlanForm.{PlanAtom, scan, rows, PlanForm, plan_mentions}
 use Rattle.ded_model.specs.Lines.{Line, IsSubset}
-use Rattle.ded_model.specs.Measure.{measures, plan_lines}
+use Rattle.ded_model.specs.Measure.{stored_measures, plan_lines}
 use Rattle.std.specs.Option.{option_map}
 
 -- ---- what is given
@@ -56,9 +56,9 @@ IsAnyAtom a = Unit {0}
 
 -- ---- what is given back
 
--- what holds at points, mentions slots and has lines holds exactly where the plan does over the catalogue, mentions only slots that
+-- what holds at points, mentions slots and has lines holds exactly where the plan does over the given relations, mentions only slots that
 -- the plan mentions freely, and has lines among the plan's
 pub record IsEvaluation (c : Catalogue) (f : PlanForm) (test : Point → Bool) (used : Slot → Bool) (ls : List Line) : Type 0 where
-  pub holds : (p : Point) → IsPoint p → IsTrue (test p) ↔ PlanHolds c f p
+  pub holds : (p : Point) → IsPoint p → IsTrue (test p) ↔ GivenHolds c f p
   pub slots : (s : Slot) → used s ≡ true → plan_mentions f (slot s) ≡ true
-  pub lines : IsSubset ls (plan_lines (measures c) f)
+  pub lines : IsSubset ls (plan_lines (stored_measures c) f)

@@ -6,7 +6,7 @@ ghost use Rattle.ded_model.specs.Catalogue.{Catalogue};
 ghost use Rattle.ded_model.specs.PlanForm.{plan_form};
 ghost use Rattle.ded_model.specs.Row.{tuples_hold, tuples_mention};
 ghost use Rattle.ded_model.specs.Lines.{tuples_lines};
-ghost use Rattle.ded_model.specs.Measure.{measures, plan_clashes};
+ghost use Rattle.ded_model.specs.Measure.{stored_measures, plan_clashes};
 ghost use Rattle.ded_algebra.specs.Evaluation.{AreGiven, given_tuples, IsAnyAtom, IsEvaluable, IsEvaluation};
 
 use ded_model::memory::Refused;
@@ -44,5 +44,5 @@ pub trait Evaluate {
     ) -> Result<Tuples, Refused>
         requires { IsEvaluable IsAnyAtom (R.catalogue relations.now) (plan_form plan.now) }
         ensures is { IfOk result (λ ts. IsEvaluation (R.catalogue relations.now) (plan_form plan.now) (tuples_hold ts) (tuples_mention ts) (tuples_lines ts)) }
-        ensures wide { IsErrOf result Wide → plan_clashes (measures (R.catalogue relations.now)) (plan_form plan.now) ≡ true };
+        ensures wide { IsErrOf result Wide → plan_clashes (stored_measures (R.catalogue relations.now)) (plan_form plan.now) ≡ true };
 }

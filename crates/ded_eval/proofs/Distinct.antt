@@ -6,7 +6,7 @@ use Rattle.ded_model.specs.Point.{Point}
 use Rattle.ded_model.specs.Cell.{conj_holds}
 use Rattle.ded_model.specs.Catalogue.{Catalogue}
 use Rattle.ded_model.specs.Lines.{Line, In, IsSubset}
-use Rattle.ded_model.specs.Measure.{measures, plan_lines}
+use Rattle.ded_model.specs.Measure.{stored_measures, plan_lines}
 use Rattle.ded_model.specs.PlanForm.{PlanForm}
 use Rattle.ded_model.proofs.Rows.{or_left, or_right}
 use Rattle.ded_model.proofs.Members.{In-left, subset_trans, subset_append, or_split}
@@ -75,5 +75,5 @@ module _ {A : Type 0} (h : A → Point → Bool) (m : A → Slot → Bool) (l : 
   distinct_for c f xs out e u z a = record {
     holds = λ p i. (λ x. (a.holds p i).0 (sym (e p) ∙ x), λ x. e p ∙ (a.holds p i).1 x);
     slots = λ s x. a.slots s (u s x);
-    lines = subset_trans (conjs_lines l out) (conjs_lines l xs) (plan_lines (measures c) f) z a.lines;
+    lines = subset_trans (conjs_lines l out) (conjs_lines l xs) (plan_lines (stored_measures c) f) z a.lines;
   }

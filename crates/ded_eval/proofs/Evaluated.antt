@@ -8,8 +8,8 @@ use Rattle.ded_model.specs.declared.slot.Slot.{Slot}
 use Rattle.ded_model.specs.Point.{Key, slot, Point, IsPoint}
 use Rattle.ded_model.specs.Row.{Atom}
 use Rattle.ded_model.specs.Logic.{Logic, atom, negation, every_of, some_of, minus, none, logics, Sat, SatEvery, SatSome, mentions, any_mentions}
-use Rattle.ded_model.specs.Catalogue.{Catalogue, meaning}
-use Rattle.ded_model.specs.Measure.{measures, plan_atom_lines, plan_lines}
+use Rattle.ded_model.specs.Catalogue.{Catalogue, stored}
+use Rattle.ded_model.specs.Measure.{stored_measures, plan_atom_lines, plan_lines}
 use Rattle.ded_model.specs.PlanForm.{PlanForm, rows, PlanAtomHolds, in_plan_atom, plan_mentions}
 use Rattle.ded_model.specs.Lines.{Line, IsSubset, atoms_lines, lines, all_lines}
 use Rattle.ded_model.proofs.Rows.{or_left, or_right}
@@ -75,14 +75,14 @@ module _ {A : Type 0} (h : A → Point → Bool) (m : A → Slot → Bool) (l : 
   pub united_more : (c : Catalogue) (fs : List PlanForm) (f : PlanForm) (xs ys : List (List A)) → IsListFor c (some_of (logics fs)) xs → IsListFor c f ys → IsListFor c (some_of (logics (fs ++ f ∷ []))) (xs ++ ys)
   united_more c fs f xs ys a b = record {
     holds = λ p i. (
-      λ x. (some-push (PlanAtomHolds (meaning c)) fs f p).1 (⊎_elim (λ (e : conjs_hold h xs p ≡ true). inl ((a.holds p i).0 e)) (λ e. inr ((b.holds p i).0 e)) (or_split _ _ (sym (conjs_hold-append h xs ys p) ∙ x))),
-      λ x. conjs_hold-append h xs ys p ∙ ⊎_elim (λ (e : SatSome (PlanAtomHolds (meaning c)) (logics fs) p). or_left _ _ ((a.holds p i).1 e)) (λ e. or_right (conjs_hold h xs p) _ ((b.holds p i).1 e)) ((some-push (PlanAtomHolds (meaning c)) fs f p).0 x),
+      λ x. (some-push (PlanAtomHolds (stored c)) fs f p).1 (⊎_elim (λ (e : conjs_hold h xs p ≡ true). inl ((a.holds p i).0 e)) (λ e. inr ((b.holds p i).0 e)) (or_split _ _ (sym (conjs_hold-append h xs ys p) ∙ x))),
+      λ x. conjs_hold-append h xs ys p ∙ ⊎_elim (λ (e : SatSome (PlanAtomHolds (stored c)) (logics fs) p). or_left _ _ ((a.holds p i).1 e)) (λ e. or_right (conjs_hold h xs p) _ ((b.holds p i).1 e)) ((some-push (PlanAtomHolds (stored c)) fs f p).0 x),
     );
     slots = λ s u. mentions-push in_plan_atom fs f (slot s)
         ∙ ⊎_elim (λ (e : conjs_mention m xs s ≡ true). or_left _ _ (a.slots s e)) (λ e. or_right (any_mentions in_plan_atom (logics fs) (slot s)) _ (b.slots s e)) (or_split _ _ (sym (conjs_mention-append m xs ys s) ∙ u));
-    lines = subst (λ ls. IsSubset ls (all_lines (plan_atom_lines (measures c)) (logics (fs ++ f ∷ [])))) (sym (conjs_lines-append l xs ys))
-        (subst (IsSubset (conjs_lines l xs ++ conjs_lines l ys)) (sym (lines-push (plan_atom_lines (measures c)) fs f))
-        (subset_append (conjs_lines l xs) (conjs_lines l ys) (all_lines (plan_atom_lines (measures c)) (logics fs)) (plan_lines (measures c) f) a.lines b.lines));
+    lines = subst (λ ls. IsSubset ls (all_lines (plan_atom_lines (stored_measures c)) (logics (fs ++ f ∷ [])))) (sym (conjs_lines-append l xs ys))
+        (subst (IsSubset (conjs_lines l xs ++ conjs_lines l ys)) (sym (lines-push (plan_atom_lines (stored_measures c)) fs f))
+        (subset_append (conjs_lines l xs) (conjs_lines l ys) (all_lines (plan_atom_lines (stored_measures c)) (logics fs)) (plan_lines (stored_measures c) f) a.lines b.lines));
   }
 
   -- ---- joins
@@ -93,21 +93,21 @@ module _ {A : Type 0} (h : A → Point → Bool) (m : A → Slot → Bool) (l : 
   pub joined_more : (c : Catalogue) (fs : List PlanForm) (f : PlanForm) (xs ys out : List (List A)) → IsListFor c (every_of (logics fs)) xs → IsListFor c f ys → IsMeet h m l xs ys out → IsListFor c (every_of (logics (fs ++ f ∷ []))) out
   joined_more c fs f xs ys out a b o = record {
     holds = λ p i. (
-      λ x. (let r = and_parts _ _ (sym (o.holds p i) ∙ x) in (every-push (PlanAtomHolds (meaning c)) fs f p).1 ((a.holds p i).0 r.0, (b.holds p i).0 r.1)),
-      λ x. (let r = (every-push (PlanAtomHolds (meaning c)) fs f p).0 x in o.holds p i ∙ and_from _ _ ((a.holds p i).1 r.0) ((b.holds p i).1 r.1)),
+      λ x. (let r = and_parts _ _ (sym (o.holds p i) ∙ x) in (every-push (PlanAtomHolds (stored c)) fs f p).1 ((a.holds p i).0 r.0, (b.holds p i).0 r.1)),
+      λ x. (let r = (every-push (PlanAtomHolds (stored c)) fs f p).0 x in o.holds p i ∙ and_from _ _ ((a.holds p i).1 r.0) ((b.holds p i).1 r.1)),
     );
     slots = λ s u. mentions-push in_plan_atom fs f (slot s)
         ∙ ⊎_elim (λ (e : conjs_mention m xs s ≡ true). or_left _ _ (a.slots s e)) (λ e. or_right (any_mentions in_plan_atom (logics fs) (slot s)) _ (b.slots s e)) (or_split _ _ (o.slots s u));
-    lines = subst (IsSubset (conjs_lines l out)) (sym (lines-push (plan_atom_lines (measures c)) fs f))
-        (subset_trans (conjs_lines l out) (conjs_lines l xs ++ conjs_lines l ys) (all_lines (plan_atom_lines (measures c)) (logics fs) ++ plan_lines (measures c) f) o.lines
-        (subset_append (conjs_lines l xs) (conjs_lines l ys) (all_lines (plan_atom_lines (measures c)) (logics fs)) (plan_lines (measures c) f) a.lines b.lines));
+    lines = subst (IsSubset (conjs_lines l out)) (sym (lines-push (plan_atom_lines (stored_measures c)) fs f))
+        (subset_trans (conjs_lines l out) (conjs_lines l xs ++ conjs_lines l ys) (all_lines (plan_atom_lines (stored_measures c)) (logics fs) ++ plan_lines (stored_measures c) f) o.lines
+        (subset_append (conjs_lines l xs) (conjs_lines l ys) (all_lines (plan_atom_lines (stored_measures c)) (logics fs)) (plan_lines (stored_measures c) f) a.lines b.lines));
   }
 
   -- where the first parts leave nothing, all of them do
   pub joined_ends : (c : Catalogue) (fs gs : List PlanForm) (xs : List (List A)) → length xs ≡ 0 → IsListFor c (every_of (logics fs)) xs → IsListFor c (every_of (logics (fs ++ gs))) xs
   joined_ends c fs gs (x ∷ xs) e a = absurd (omega (arith, e))
   joined_ends c fs gs [] e a = record {
-    holds = λ p i. (λ x. absurd (true≢false (sym x)), λ x. (a.holds p i).1 (every-left (PlanAtomHolds (meaning c)) fs gs p x));
+    holds = λ p i. (λ x. absurd (true≢false (sym x)), λ x. (a.holds p i).1 (every-left (PlanAtomHolds (stored c)) fs gs p x));
     slots = λ s u. absurd (true≢false (sym u));
     lines = subset_none _;
   }
@@ -122,8 +122,8 @@ module _ {A : Type 0} (h : A → Point → Bool) (m : A → Slot → Bool) (l : 
       λ x. o.holds p i ∙ and_from _ _ ((a.holds p i).1 x.0) (not_from_false _ (false_from_ne_true _ (λ e. x.1 ((b.holds p i).0 e)))),
     );
     slots = λ s u. ⊎_elim (λ (e : conjs_mention m xs s ≡ true). or_left _ _ (a.slots s e)) (λ e. or_right (plan_mentions f (slot s)) _ (b.slots s e)) (or_split _ _ (o.slots s u));
-    lines = subset_trans (conjs_lines l out) (conjs_lines l xs ++ conjs_lines l ys) (plan_lines (measures c) f ++ plan_lines (measures c) g) o.lines
-        (subset_append (conjs_lines l xs) (conjs_lines l ys) (plan_lines (measures c) f) (plan_lines (measures c) g) a.lines b.lines);
+    lines = subset_trans (conjs_lines l out) (conjs_lines l xs ++ conjs_lines l ys) (plan_lines (stored_measures c) f ++ plan_lines (stored_measures c) g) o.lines
+        (subset_append (conjs_lines l xs) (conjs_lines l ys) (plan_lines (stored_measures c) f) (plan_lines (stored_measures c) g) a.lines b.lines);
   }
 
   -- from nothing nothing is left
@@ -135,7 +135,7 @@ module _ {A : Type 0} (h : A → Point → Bool) (m : A → Slot → Bool) (l : 
   complement_for c f xs out a o = record {
     holds = λ p i. (λ x y. true≢false (sym ((a.holds p i).1 y) ∙ not-true _ (sym (o.holds p i) ∙ x)), λ x. o.holds p i ∙ not_from_false _ (false_from_ne_true _ (λ e. x ((a.holds p i).0 e))));
     slots = λ s u. a.slots s (o.slots s u);
-    lines = subset_trans (conjs_lines l out) (conjs_lines l xs) (plan_lines (measures c) f) o.lines a.lines;
+    lines = subset_trans (conjs_lines l out) (conjs_lines l xs) (plan_lines (stored_measures c) f) o.lines a.lines;
   }
 
   -- the complement of a complement or another plan
@@ -146,10 +146,10 @@ module _ {A : Type 0} (h : A → Point → Bool) (m : A → Slot → Bool) (l : 
       λ y. by p i y (conjs_hold h xs p) refl,
     );
     slots = λ s u. ap (λ b. plan_mentions f (slot s) || b) (or_false (plan_mentions g (slot s))) ∙ a.slots s u;
-    lines = subst (λ ls. IsSubset (conjs_lines l xs) (plan_lines (measures c) f ++ ls)) (sym (append-nil (plan_lines (measures c) g))) a.lines;
+    lines = subst (λ ls. IsSubset (conjs_lines l xs) (plan_lines (stored_measures c) f ++ ls)) (sym (append-nil (plan_lines (stored_measures c) g))) a.lines;
   }
     where
-      by : (p : Point) → IsPoint p → Sat (PlanAtomHolds (meaning c)) (negation (some_of (logics (negation f ∷ g ∷ [])))) p → (b : Bool) → conjs_hold h xs p ≡ b → conjs_hold h xs p ≡ true
+      by : (p : Point) → IsPoint p → Sat (PlanAtomHolds (stored c)) (negation (some_of (logics (negation f ∷ g ∷ [])))) p → (b : Bool) → conjs_hold h xs p ≡ b → conjs_hold h xs p ≡ true
       by p i y true e = e
       by p i y false e = absurd (y (inl (λ s. true≢false (sym ((a.holds p i).1 (s, λ z. y (inr (inl z)))) ∙ e))))
 

@@ -11,8 +11,8 @@ use Rattle.ded_model.specs.Row.{Atom, tuples_hold}
 use Rattle.ded_model.specs.Known.{IsTupleOver}
 use Rattle.ded_model.specs.Value.{Argument, Meaning}
 use Rattle.ded_model.specs.Lines.{Line, tuples_lines}
-use Rattle.ded_model.specs.Catalogue.{Entry, relation, view, Catalogue, entry_name, tuples_of, at_slots, with_entry, meaning_from, meaning}
-use Rattle.ded_model.specs.Measure.{Measures, with_measure, measures_from, measures}
+use Rattle.ded_model.specs.Catalogue.{Entry, relation, view, Catalogue, entry_name, tuples_of, at_slots, with_entry, meaning_from, stored}
+use Rattle.ded_model.specs.Measure.{Measures, with_measure, measures_from, stored_measures}
 use Rattle.ded_model.specs.Entries.{entry_of, relation_in}
 use Rattle.ded_algebra.specs.Evaluation.{AreGiven, HaveSorts, IsScannedFrom, given_tuples}
 
@@ -75,11 +75,11 @@ pub record IsFound (Reads : Atom → Type 0) (c : Catalogue) (n : List ℕ) (ss 
   pub heading : List Column
   pub sorts : HaveSorts heading ss
   pub over : AllByRecursion (λ t. IsTupleOver heading t × AllByRecursion Reads t) ts
-  pub means : (den : ℕ) (xs : List Argument) → meaning c n den xs ↔ IsTrue (tuples_hold ts (record { den = den; coords = at_slots 0 heading xs }))
-  pub lines : (measures c n).lines ≡ tuples_lines ts
+  pub means : (den : ℕ) (xs : List Argument) → stored c n den xs ↔ IsTrue (tuples_hold ts (record { den = den; coords = at_slots 0 heading xs }))
+  pub lines : (stored_measures c n).lines ≡ tuples_lines ts
 
 pub found : (Reads : Atom → Type 0) (c : Catalogue) (n : List ℕ) (ss : List Slot) (ts : List (List Atom)) → AreGiven c.entries → IsScannedFrom Reads (entry_of c.entries n) ss → given_tuples c n ≡ Some ts → IsFound Reads c n ss ts
-unfolding meaning measures
+unfolding stored stored_measures
 found Reads c n ss ts g s e = go (entry_of c.entries n) refl s e
   where
     go : (o : Option Entry) → entry_of c.entries n ≡ o → IsScannedFrom Reads o ss → option_map tuples_of (relation_in o) ≡ Some ts → IsFound Reads c n ss ts
@@ -91,8 +91,8 @@ found Reads c n ss ts g s e = go (entry_of c.entries n) refl s e
           heading = h;
           sorts = k.0;
           over = k.1;
-          means = λ den xs. subst (λ (o : Option Entry). meaning c n den xs ↔ holds_in o ⊥ den xs) f (means_from c.entries g (λ n d ys. ⊥) n den xs);
-          lines = lines_from c.entries g (λ n. record { b = 0; rank = 0; lines = []; clash = false }) n ∙ ap (λ o. lines_in o []) f;
+          means = λ den xs. subst (λ (o : Option Entry). stored c n den xs ↔ holds_in o ⊥ den xs) f (means_from c.entries g (λ n d ys. ⊥) n den xs);
+          lines = lines_from c.entries g (λ n. record { b = 0; rank = 0; lines = []; clash = false; columns = 0 }) n ∙ ap (λ o. lines_in o []) f;
         })
 
 -- a name that a plan scans is given

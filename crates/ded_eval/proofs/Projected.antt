@@ -12,7 +12,7 @@ use Rattle.ded_model.specs.Row.{row_mentions}
 use Rattle.ded_model.specs.Coefs.{AreCoefs}
 use Rattle.ded_model.specs.Logic.{exists}
 use Rattle.ded_model.specs.Catalogue.{Catalogue}
-use Rattle.ded_model.specs.Measure.{measures, plan_lines}
+use Rattle.ded_model.specs.Measure.{stored_measures, plan_lines}
 use Rattle.ded_model.specs.PlanForm.{PlanForm, plan_mentions}
 use Rattle.ded_model.specs.Lines.{Line, In, IsSubset, both_mention, lines_clash, combination, clash_at, elim_at, combined, elim_past, clash_past}
 use Rattle.ded_model.proofs.Points.{and_left}
@@ -77,11 +77,11 @@ module _ {A : Type 0} (h : A → Point → Bool) (m : A → Slot → Bool) (l : 
       λ x. (o.holds p i).1 (x.0, x.1, (a.holds x.0 (extension-point s.sort p x.0 (slot s) i x.1)).1 x.2),
     );
     slots = λ t u. (let r = o.slots t u in and_from (not (same_slot t s)) (plan_mentions f (slot t)) (ap not r.0) (a.slots t r.1));
-    lines = subset_trans (conjs_lines l out) (elim_at s (conjs_lines l xs)) (elim_past s.sort (slot s) (plan_lines (measures c) f))
+    lines = subset_trans (conjs_lines l out) (elim_at s (conjs_lines l xs)) (elim_past s.sort (slot s) (plan_lines (stored_measures c) f))
         (subset_trans (conjs_lines l out) (conjs_elim l s xs) (elim_at s (conjs_lines l xs)) o.lines (conjs_elim-within l s xs))
-        (past s (conjs_lines l xs) (plan_lines (measures c) f) k a.lines);
+        (past s (conjs_lines l xs) (plan_lines (stored_measures c) f) k a.lines);
   }
 
   -- where its lines clash, the plan does
-  pub projection_clash : (c : Catalogue) (f : PlanForm) (s : Slot) (xs : List (List A)) → AreInOrder (conjs_lines l xs) → IsListFor h m l c f xs → conjs_clash l s xs ≡ true → clash_past s.sort (slot s) (plan_lines (measures c) f) ≡ true
-  projection_clash c f s xs k a e = clash_at_past s (conjs_lines l xs) (plan_lines (measures c) f) k a.lines (conjs_clash-within l s xs e)
+  pub projection_clash : (c : Catalogue) (f : PlanForm) (s : Slot) (xs : List (List A)) → AreInOrder (conjs_lines l xs) → IsListFor h m l c f xs → conjs_clash l s xs ≡ true → clash_past s.sort (slot s) (plan_lines (stored_measures c) f) ≡ true
+  projection_clash c f s xs k a e = clash_at_past s (conjs_lines l xs) (plan_lines (stored_measures c) f) k a.lines (conjs_clash-within l s xs e)

@@ -13,7 +13,7 @@ use Rattle.ded_model.specs.Coefs.{AreCoefs}
 use Rattle.ded_model.specs.Known.{IsTupleOver, heading_slots}
 use Rattle.ded_model.specs.Value.{slot_value, overs, arguments}
 use Rattle.ded_model.specs.Catalogue.{Catalogue}
-use Rattle.ded_model.specs.Measure.{measures}
+use Rattle.ded_model.specs.Measure.{stored_measures}
 use Rattle.ded_model.specs.Logic.{atom}
 use Rattle.ded_model.specs.PlanForm.{scan}
 use Rattle.ded_model.specs.Lines.{Line, In, IsSubset, renamed_lines, tuples_lines}
@@ -76,7 +76,7 @@ module _ {A : Type 0} (h : A → Point → Bool) (m : A → Slot → Bool) (l : 
     scan_is line_coefs line_slots d k out r = record {
       holds = λ q i. (let e = there q i in let means = f.means (q.den * overs (map (slot_value q) ss)) (arguments (map (slot_value q) ss)) in (λ t. means.1 (sym e ∙ t), λ t. e ∙ means.0 t));
       slots = λ t e. (let s = r.slots t e in read_into 0 f.heading ss s.0 t (subst (IsRead 0 f.heading ss s.0) s.2 (read 0 f.heading ss s.0 f.sorts (columns s.0 s.1))));
-      lines = subst (λ ys. IsSubset ys (renamed_lines ss (measures c x).lines)) (sym (r.lines ∙ mapped))
+      lines = subst (λ ys. IsSubset ys (renamed_lines ss (stored_measures c x).lines)) (sym (r.lines ∙ mapped))
           (subst (λ ys. IsSubset (renamed_lines ss (conjs_lines l list)) (renamed_lines ss ys)) (sym f.lines) (renamed-grows ss (conjs_lines l list) (tuples_lines ts) is.lines));
     }
       where

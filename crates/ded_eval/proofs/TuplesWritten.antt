@@ -5,7 +5,7 @@ use Rattle.ded_model.specs.Point.{Point}
 use Rattle.ded_model.specs.Row.{Atom, row_holds, theme_holds, row_mentions, theme_mentions, tuple_holds, tuple_mentions, tuples_hold, tuples_mention}
 use Rattle.ded_model.specs.Catalogue.{Catalogue}
 use Rattle.ded_model.specs.Lines.{IsSubset, row_lines, atoms_lines, tuples_lines}
-use Rattle.ded_model.specs.Measure.{measures, plan_lines}
+use Rattle.ded_model.specs.Measure.{stored_measures, plan_lines}
 use Rattle.ded_model.specs.PlanForm.{PlanForm}
 use Rattle.ded_model.proofs.Rows.{or_left, or_right}
 use Rattle.ded_model.proofs.Members.{subset_none, subset_append, subset_trans, or_split}
@@ -54,5 +54,5 @@ pub written_for : (c : Catalogue) (f : PlanForm) (cs ts : List (List Atom))
 written_for c f cs ts a w = record {
   holds = λ p i. (let same = w.holds p ∙ sym (lists_hold cs p) in (λ x. (a.holds p i).0 (sym same ∙ x), λ x. same ∙ (a.holds p i).1 x));
   slots = λ s u. a.slots s (lists_mention cs s ∙ w.slots s u);
-  lines = subset_trans (tuples_lines ts) (tuples_lines cs) (plan_lines (measures c) f) w.lines (subst (λ ls. IsSubset ls (plan_lines (measures c) f)) (lists_lines cs) a.lines);
+  lines = subset_trans (tuples_lines ts) (tuples_lines cs) (plan_lines (stored_measures c) f) w.lines (subst (λ ls. IsSubset ls (plan_lines (stored_measures c) f)) (lists_lines cs) a.lines);
 }

@@ -1,7 +1,7 @@
 //! The evaluation over rows and text atoms.
 ghost use Rattle.std.specs.Prelude.{◌≡◌, true, IfOk, IsErrOf};
 ghost use Rattle.ded_model.specs.declared.memory.Refused.TheVariants.{Wide};
-ghost use Rattle.ded_model.specs.Measure.{measures, plan_clashes};
+ghost use Rattle.ded_model.specs.Measure.{stored_measures, plan_clashes};
 ghost use Rattle.ded_model.specs.PlanForm.{plan_form};
 ghost use Rattle.ded_genrel.specs.Lists.{conjs_hold, conjs_mention, conjs_lines};
 ghost use Rattle.ded_algebra.specs.Evaluation.{IsAnyAtom, IsEvaluable, IsEvaluation};
@@ -28,7 +28,7 @@ pub fn eval<R: Relations>(
 ) -> Result<GenRel<Atoms>, Refused>
     requires { IsEvaluable IsAnyAtom (R.catalogue relations.now) (plan_form plan.now) }
     ensures is { IfOk result (λ r. IsEvaluation (R.catalogue relations.now) (plan_form plan.now) (conjs_hold ⟦<Atoms as Theory>⟧.holds r) (conjs_mention ⟦<Atoms as Theory>⟧.mentions r) (conjs_lines ⟦<Atoms as Theory>⟧.lines r)) }
-    ensures wide { IsErrOf result Wide → plan_clashes (measures (R.catalogue relations.now)) (plan_form plan.now) ≡ true }
+    ensures wide { IsErrOf result Wide → plan_clashes (stored_measures (R.catalogue relations.now)) (plan_form plan.now) ≡ true }
 {
     let mut met = 0;
     eval_counted(alloc, plan, relations, &mut met)
@@ -47,7 +47,7 @@ pub fn eval_counted<R: Relations>(
 ) -> Result<GenRel<Atoms>, Refused>
     requires { IsEvaluable IsAnyAtom (R.catalogue relations.now) (plan_form plan.now) }
     ensures is { IfOk result (λ r. IsEvaluation (R.catalogue relations.now) (plan_form plan.now) (conjs_hold ⟦<Atoms as Theory>⟧.holds r) (conjs_mention ⟦<Atoms as Theory>⟧.mentions r) (conjs_lines ⟦<Atoms as Theory>⟧.lines r)) }
-    ensures wide { IsErrOf result Wide → plan_clashes (measures (R.catalogue relations.now)) (plan_form plan.now) ≡ true }
+    ensures wide { IsErrOf result Wide → plan_clashes (stored_measures (R.catalogue relations.now)) (plan_form plan.now) ≡ true }
 {
     evaluate_counted::<Atoms, R>(alloc, plan, relations, met)
 }

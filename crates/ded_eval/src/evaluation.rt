@@ -5,7 +5,7 @@ ghost use Rattle.ded_model.specs.declared.memory.Refused.TheVariants.{Wide};
 ghost use Rattle.ded_model.specs.Catalogue.{Catalogue};
 ghost use Rattle.ded_model.specs.Logic.{atom, negation, every_of, some_of, AllAtomsOf};
 ghost use Rattle.ded_model.specs.Lines.{any_clashes};
-ghost use Rattle.ded_model.specs.Measure.{measures, plan_atom_lines, plan_atom_clash, plan_clashes};
+ghost use Rattle.ded_model.specs.Measure.{stored_measures, plan_atom_lines, plan_atom_clash, plan_clashes};
 ghost use Rattle.ded_model.specs.PlanForm.{rows, plan_form, plan_forms};
 ghost use Rattle.ded_genrel.specs.Lists.{conjs_hold, conjs_mention, conjs_lines};
 ghost use Rattle.ded_genrel.specs.Operations.{IsMeet};
@@ -43,7 +43,7 @@ pub fn evaluate_counted<T: OfTuples, R: Relations>(
 ) -> Result<GenRel<T>, Refused>
     requires { IsEvaluable T.reads (R.catalogue relations.now) (plan_form plan.now) }
     ensures is { IfOk result (λ r. IsEvaluation (R.catalogue relations.now) (plan_form plan.now) (conjs_hold T.holds r) (conjs_mention T.mentions r) (conjs_lines T.lines r)) }
-    ensures wide { IsErrOf result Wide → plan_clashes (measures (R.catalogue relations.now)) (plan_form plan.now) ≡ true }
+    ensures wide { IsErrOf result Wide → plan_clashes (stored_measures (R.catalogue relations.now)) (plan_form plan.now) ≡ true }
 {
     match plan {
         Plan::Scan(name, slots) => Ok(scanned(alloc, name, slots, relations)?),
@@ -77,7 +77,7 @@ fn complemented<T: OfTuples, R: Relations>(
 ) -> Result<GenRel<T>, Refused>
     requires { IsEvaluable T.reads (R.catalogue relations.now) (plan_form plan.now) }
     ensures is { IfOk result (λ r. IsEvaluation (R.catalogue relations.now) (negation (plan_form plan.now)) (conjs_hold T.holds r) (conjs_mention T.mentions r) (conjs_lines T.lines r)) }
-    ensures wide { IsErrOf result Wide → plan_clashes (measures (R.catalogue relations.now)) (plan_form plan.now) ≡ true }
+    ensures wide { IsErrOf result Wide → plan_clashes (stored_measures (R.catalogue relations.now)) (plan_form plan.now) ≡ true }
 {
     if let Plan::Union(parts) = plan {
         if let [first, other] = parts.as_slice() {
@@ -102,7 +102,7 @@ fn joined<T: OfTuples, R: Relations>(
 ) -> Result<GenRel<T>, Refused>
     requires { AllAtomsOf (IsScannable T.reads (R.catalogue relations.now)) (plan_forms parts.now.items) }
     ensures is { IfOk result (λ r. IsEvaluation (R.catalogue relations.now) (every_of (plan_forms parts.now.items)) (conjs_hold T.holds r) (conjs_mention T.mentions r) (conjs_lines T.lines r)) }
-    ensures wide { IsErrOf result Wide → any_clashes (plan_atom_lines (measures (R.catalogue relations.now))) (plan_atom_clash (measures (R.catalogue relations.now))) (plan_forms parts.now.items) ≡ true }
+    ensures wide { IsErrOf result Wide → any_clashes (plan_atom_lines (stored_measures (R.catalogue relations.now))) (plan_atom_clash (stored_measures (R.catalogue relations.now))) (plan_forms parts.now.items) ≡ true }
 {
     let mut list = None;
     let mut slots = Vec::new(alloc);
@@ -130,7 +130,7 @@ fn united<T: OfTuples, R: Relations>(
 ) -> Result<GenRel<T>, Refused>
     requires { AllAtomsOf (IsScannable T.reads (R.catalogue relations.now)) (plan_forms parts.now.items) }
     ensures is { IfOk result (λ r. IsEvaluation (R.catalogue relations.now) (some_of (plan_forms parts.now.items)) (conjs_hold T.holds r) (conjs_mention T.mentions r) (conjs_lines T.lines r)) }
-    ensures wide { IsErrOf result Wide → any_clashes (plan_atom_lines (measures (R.catalogue relations.now))) (plan_atom_clash (measures (R.catalogue relations.now))) (plan_forms parts.now.items) ≡ true }
+    ensures wide { IsErrOf result Wide → any_clashes (plan_atom_lines (stored_measures (R.catalogue relations.now))) (plan_atom_clash (stored_measures (R.catalogue relations.now))) (plan_forms parts.now.items) ≡ true }
 {
     let mut list = GenRel::new(alloc);
     for part in parts {

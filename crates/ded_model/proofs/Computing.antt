@@ -13,14 +13,16 @@ use Rattle.ded_model.specs.Point.{Point, number_at, text_at}
 use Rattle.ded_model.specs.Row.{row_holds, theme_holds, atom_holds, tuple_holds, tuples_hold}
 use Rattle.ded_model.specs.Sum.{denominator}
 use Rattle.ded_model.specs.Value.{compare_holds}
-use Rattle.ded_model.specs.Catalogue.{Catalogue, meaning, Holds, GoalHolds, PlanHolds, origin, IsTruth}
+use Rattle.ded_model.specs.Made.{reading}
+use Rattle.ded_model.specs.Catalogue.{Catalogue, stored, meaning, Holds, GoalHolds, PlanHolds, origin, IsTruth}
 use Rattle.ded_model.proofs.Core.{Meets}
 use Rattle.ded_model.proofs.Lists.{Every, Some}
 use Rattle.ded_model.proofs.Terms.{linear_at, test_at, Line, Claim, Conj, op_of, LineHolds, ClaimHolds, ConjHolds, SomeHolds}
 use Rattle.ded_model.proofs.Definable.{Definable, like, always_definable, never_definable, line_definable, claim_definable, not_definable, either_definable, both_definable, implies_definable, exists_definable, forall_definable, put_definable, solve, solve_every, solve_some}
 use Rattle.ded_model.proofs.Atoms.{like_test, not_test, and_test, or_test, true_test, false_test, lt_definable, le_definable, eq_definable, text_definable, sign_definable, row_definable, theme_definable, atom_definable, tuple_definable, tuples_definable}
 use Rattle.ded_model.proofs.ValueForms.{crossed, below_definable, at_most_definable, same_value_definable, values_definable, compare_definable}
-use Rattle.ded_model.proofs.Deciding.{name_definable, form_atom_definable, entry_definable, choose_definable, meaning_from_definable, meaning_definable, goal_atom_definable, plan_atom_definable, Holds_definable, goal_definable, plan_definable}
+use Rattle.ded_model.proofs.Closures.{den_definable, within_definable, above_definable, all_within_definable, some_new_definable, every_new_definable, new_definable, close_formula_definable, inside_formula_definable, fact_definable, at_columns, close_definable, inside_definable}
+use Rattle.ded_model.proofs.Deciding.{read_as_definable, read_definable, stored_definable, name_definable, form_atom_definable, entry_definable, choose_definable, meaning_from_definable, meaning_definable, goal_atom_definable, plan_atom_definable, Holds_definable, goal_definable, plan_definable}
 
 abbrev same_bool : Bool → Bool → Bool
 same_bool true b = b
@@ -74,15 +76,15 @@ test_of-decides P D p = Decides-like (test_of P D p) (D.is p).1 (D.is p).0 (list
 -- ---- formulas, goals and plans
 -- whether it holds at a point over a catalogue. To unfold one of the tests is to unfold all that it computes with.
 unfoldable pub formula_test : Catalogue → Form → Point → Bool
-unfolding row_holds theme_holds atom_holds tuple_holds tuples_hold compare_holds meaning denominator number_at text_at like always_definable never_definable line_definable claim_definable not_definable either_definable both_definable implies_definable exists_definable forall_definable put_definable solve solve_every solve_some like_test not_test and_test or_test true_test false_test lt_definable le_definable eq_definable text_definable sign_definable row_definable theme_definable atom_definable tuple_definable tuples_definable crossed below_definable at_most_definable same_value_definable values_definable compare_definable name_definable form_atom_definable entry_definable choose_definable meaning_from_definable meaning_definable Holds_definable
+unfolding row_holds theme_holds atom_holds tuple_holds tuples_hold compare_holds meaning stored reading den_definable within_definable above_definable all_within_definable some_new_definable every_new_definable new_definable close_formula_definable inside_formula_definable fact_definable at_columns close_definable inside_definable read_as_definable read_definable stored_definable denominator number_at text_at like always_definable never_definable line_definable claim_definable not_definable either_definable both_definable implies_definable exists_definable forall_definable put_definable solve solve_every solve_some like_test not_test and_test or_test true_test false_test lt_definable le_definable eq_definable text_definable sign_definable row_definable theme_definable atom_definable tuple_definable tuples_definable crossed below_definable at_most_definable same_value_definable values_definable compare_definable name_definable form_atom_definable entry_definable choose_definable meaning_from_definable meaning_definable Holds_definable
 formula_test c f p = test_of (Holds c f) (Holds_definable c f) p
 
 unfoldable pub goal_test : Catalogue → GoalForm → Point → Bool
-unfolding row_holds theme_holds atom_holds tuple_holds tuples_hold compare_holds meaning denominator number_at text_at like always_definable never_definable line_definable claim_definable not_definable either_definable both_definable implies_definable exists_definable forall_definable put_definable solve solve_every solve_some like_test not_test and_test or_test true_test false_test lt_definable le_definable eq_definable text_definable sign_definable row_definable theme_definable atom_definable tuple_definable tuples_definable crossed below_definable at_most_definable same_value_definable values_definable compare_definable name_definable form_atom_definable entry_definable choose_definable meaning_from_definable meaning_definable goal_atom_definable goal_definable
+unfolding row_holds theme_holds atom_holds tuple_holds tuples_hold compare_holds meaning stored reading den_definable within_definable above_definable all_within_definable some_new_definable every_new_definable new_definable close_formula_definable inside_formula_definable fact_definable at_columns close_definable inside_definable read_as_definable read_definable stored_definable denominator number_at text_at like always_definable never_definable line_definable claim_definable not_definable either_definable both_definable implies_definable exists_definable forall_definable put_definable solve solve_every solve_some like_test not_test and_test or_test true_test false_test lt_definable le_definable eq_definable text_definable sign_definable row_definable theme_definable atom_definable tuple_definable tuples_definable crossed below_definable at_most_definable same_value_definable values_definable compare_definable name_definable form_atom_definable entry_definable choose_definable meaning_from_definable meaning_definable goal_atom_definable goal_definable
 goal_test c g p = test_of (GoalHolds c g) (goal_definable c g) p
 
 unfoldable pub plan_test : Catalogue → PlanForm → Point → Bool
-unfolding row_holds theme_holds atom_holds tuple_holds tuples_hold compare_holds meaning denominator number_at text_at like always_definable never_definable line_definable claim_definable not_definable either_definable both_definable implies_definable exists_definable forall_definable put_definable solve solve_every solve_some like_test not_test and_test or_test true_test false_test lt_definable le_definable eq_definable text_definable sign_definable row_definable theme_definable atom_definable tuple_definable tuples_definable crossed below_definable at_most_definable same_value_definable values_definable compare_definable name_definable form_atom_definable entry_definable choose_definable meaning_from_definable meaning_definable plan_atom_definable plan_definable
+unfolding row_holds theme_holds atom_holds tuple_holds tuples_hold compare_holds meaning stored reading den_definable within_definable above_definable all_within_definable some_new_definable every_new_definable new_definable close_formula_definable inside_formula_definable fact_definable at_columns close_definable inside_definable read_as_definable read_definable stored_definable denominator number_at text_at like always_definable never_definable line_definable claim_definable not_definable either_definable both_definable implies_definable exists_definable forall_definable put_definable solve solve_every solve_some like_test not_test and_test or_test true_test false_test lt_definable le_definable eq_definable text_definable sign_definable row_definable theme_definable atom_definable tuple_definable tuples_definable crossed below_definable at_most_definable same_value_definable values_definable compare_definable name_definable form_atom_definable entry_definable choose_definable meaning_from_definable meaning_definable plan_atom_definable plan_definable
 plan_test c f p = test_of (PlanHolds c f) (plan_definable c f) p
 
 pub formula_test-decides : (c : Catalogue) (f : Form) (p : Point) → Decides (formula_test c f p) (Holds c f p)

@@ -14,21 +14,20 @@ use Rattle.ded_model.specs.Goal as goal
 use Rattle.ded_model.specs.Goal.{GoalAtom, GoalForm, GoalAtomHolds}
 use Rattle.ded_model.specs.PlanForm.{PlanAtom, scan, rows, PlanForm, PlanAtomHolds}
 use Rattle.ded_model.specs.Logic.{Sat}
-use Rattle.ded_model.specs.Point.{Key, slot, name, Value, Point, same_key, absent, last_from, as_number, as_text, number_at, text_at}
+use Rattle.ded_model.specs.Point.{Key, slot, name, Value, Point, same_key, absent, last_from}
 use Rattle.ded_model.specs.Row.{tuples_hold}
 use Rattle.ded_model.specs.Value.{OperandValue, operand_value, slot_value, place_value, overs, Meaning, NameHolds}
-use Rattle.ded_model.specs.Catalogue.{Entry, relation, view, Catalogue, entry_name, tuples_of, argument_coordinate, at_slots, at_names, AtomHolds, entry_meaning, with_entry, meaning_from, meaning, Holds, GoalHolds, PlanHolds}
-use Rattle.ded_model.proofs.Terms.{linear_at, const, linear-zero, quoted, word_at, Put, PutsNumbers, PutsTexts}
+use Rattle.ded_model.specs.Catalogue.{Entry, relation, view, Catalogue, entry_name, tuples_of, argument_coordinate, at_slots, at_names, AtomHolds, read_as, read, entry_meaning, with_entry, meaning_from, stored, meaning, Holds, GoalHolds, PlanHolds, GivenHolds}
+use Rattle.ded_model.specs.Made.{Reading, itself, closure_of, interior_of, reading}
+use Rattle.ded_model.proofs.Terms.{linear_at, const, linear-zero, quoted, word_at, Put}
+use Rattle.ded_model.proofs.Saying.{Says, absent_put, absent-says, either_says, puts_numbers, puts_texts}
 use Rattle.ded_model.proofs.Definable.{Definable, decided, stable, like, never_definable, put_definable, solve}
 use Rattle.ded_model.proofs.Atoms.{row_definable, theme_definable, tuple_definable, tuples_definable}
+use Rattle.ded_model.proofs.Closures.{close_definable, inside_definable}
+use Rattle.ded_model.proofs.Sats.{Respects, with_entry-respects, stored-respects}
 use Rattle.ded_model.proofs.ValueForms.{ValueForm, value_of, operand_form, operand_form-is, slot_form, slot_form-is, place_form, place_form-is, compare_definable, args, values_at, form_overs, form_overs-is, puts, puts-are}
 
 -- ---- points made of arguments
--- the value is what a put says
-pub record Says (p : Point) (v : Value) (w : Put) : Type 0 where
-  pub number : as_number v ≡ linear_at w.number p
-  pub text : as_text v ≡ word_at w.word p
-
 abbrev pub column_put : Sort → Put → Put
 column_put Rat t = record { number = t.number; word = quoted [] }
 column_put Text t = record { number = const (pos 0); word = t.word }
@@ -36,16 +35,6 @@ column_put Text t = record { number = const (pos 0); word = t.word }
 pub column-says : (s : Sort) (t : Put) (p : Point) → Says p (argument_coordinate s (linear_at t.number p, word_at t.word p)) (column_put s t)
 column-says Rat t p = record { number = refl; text = refl }
 column-says Text t p = record { number = sym (linear-zero p); text = refl }
-
-abbrev pub absent_put : Put
-absent_put = record { number = const (pos 0); word = quoted [] }
-
-pub absent-says : (p : Point) → Says p absent absent_put
-absent-says p = record { number = sym (linear-zero p); text = refl }
-
-pub either_says : (p : Point) (b : Bool) (v w : Value) (x y : Put) → Says p v x → Says p w y → Says p (cond b v w) (cond b x y)
-either_says p true v w x y e f = e
-either_says p false v w x y e f = f
 
 abbrev pub slot_puts : Put → ℕ → List Column → List Put → Key → Put
 slot_puts w i [] xs k = w
@@ -69,14 +58,6 @@ names-say p [] xs v w s k = s
 names-say p (c ∷ cs) [] v w s k = s
 names-say p (c ∷ cs) (t ∷ ts) v w s k =
     names-say p cs ts _ _ (either_says p (same_key k (name c.name)) (argument_coordinate c.sort (linear_at t.number p, word_at t.word p)) v (column_put c.sort t) w (column-says c.sort t p) s) k
-
-pub puts_numbers : (s : Key → Put) (m : ℕ) (p q : Point) → q.den ≡ p.den * m → ((k : Key) → Says p (last_from absent q.coords k) (s k)) → PutsNumbers s m p q
-unfolding number_at
-puts_numbers s m p q d h = record { den = d; number = λ k. (h k).number }
-
-pub puts_texts : (s : Key → Put) (p q : Point) → ((k : Key) → Says p (last_from absent q.coords k) (s k)) → PutsTexts s p q
-unfolding text_at
-puts_texts s p q h = record { text = λ k. (h k).text }
 
 -- ---- names
 -- a name holds of linear forms and words, over the point's denominator times a number, at the points of a list
@@ -115,14 +96,23 @@ unfoldable pub plan_atom_definable : (I : Meaning) → IsDefinableMeaning I → 
 plan_atom_definable I S (scan n ss) = name_definable I S n (map slot_form ss) (λ p. map (slot_value p) ss) (λ p. map-map slot_form (λ s q. slot_value q s) p (λ s. slot_form-is s p) ss)
 plan_atom_definable I S (rows t) = tuple_definable t
 
+-- ---- made names: closures and interiors of what is definable are definable
+unfoldable pub read_as_definable : (I : Meaning) → IsDefinableMeaning I → Respects I → (n : List ℕ) (r : Reading) (m : ℕ) (xs : List Put) → Definable (λ p. read_as I n r (p.den * m) (args xs p))
+read_as_definable I S R n itself m xs = S.at n m xs
+read_as_definable I S R n (closure_of o) m xs = close_definable (I o) (R.keeps o) (S.at o) m xs
+read_as_definable I S R n (interior_of o) m xs = inside_definable (I o) (R.keeps o) (S.at o) m xs
+
+unfoldable pub read_definable : (I : Meaning) → IsDefinableMeaning I → Respects I → IsDefinableMeaning (read I)
+read_definable I S R = record { at = λ n m xs. read_as_definable I S R n (reading n) m xs }
+
 -- ---- entries and catalogues
-unfoldable pub entry_definable : (I : Meaning) → IsDefinableMeaning I → (e : Entry) (m : ℕ) (xs : List Put) → Definable (λ p. entry_meaning I e (p.den * m) (args xs p))
-entry_definable I S (relation n h c ts) m xs =
+unfoldable pub entry_definable : (I : Meaning) → IsDefinableMeaning I → Respects I → (e : Entry) (m : ℕ) (xs : List Put) → Definable (λ p. entry_meaning I e (p.den * m) (args xs p))
+entry_definable I S R (relation n h c ts) m xs =
     put_definable (λ q. IsTrue (tuples_hold (tuples_of ts) q)) (tuples_definable (tuples_of ts)) (slot_puts absent_put 0 h xs) m (λ p. record { den = p.den * m; coords = at_slots 0 h (args xs p) })
     (λ p. puts_numbers (slot_puts absent_put 0 h xs) m p (record { den = p.den * m; coords = at_slots 0 h (args xs p) }) refl (slots-say p 0 h xs absent absent_put (absent-says p)))
     (λ p. puts_texts (slot_puts absent_put 0 h xs) p (record { den = p.den * m; coords = at_slots 0 h (args xs p) }) (slots-say p 0 h xs absent absent_put (absent-says p)))
-entry_definable I S (view n h f) m xs =
-    put_definable (Sat (AtomHolds I) f) (solve (AtomHolds I) (form_atom_definable I S) f) (name_puts absent_put h xs) m (λ p. record { den = p.den * m; coords = at_names h (args xs p) })
+entry_definable I S R (view n h f) m xs =
+    put_definable (Sat (AtomHolds (read I)) f) (solve (AtomHolds (read I)) (form_atom_definable (read I) (read_definable I S R)) f) (name_puts absent_put h xs) m (λ p. record { den = p.den * m; coords = at_names h (args xs p) })
     (λ p. puts_numbers (name_puts absent_put h xs) m p (record { den = p.den * m; coords = at_names h (args xs p) }) refl (names-say p h xs absent absent_put (absent-says p)))
     (λ p. puts_texts (name_puts absent_put h xs) p (record { den = p.den * m; coords = at_names h (args xs p) }) (names-say p h xs absent absent_put (absent-says p)))
 
@@ -130,15 +120,20 @@ unfoldable pub choose_definable : (b : Bool) (P Q : Point → Type 0) → Defina
 choose_definable true P Q D E = D
 choose_definable false P Q D E = E
 
-unfoldable pub meaning_from_definable : (es : List Entry) (I : Meaning) → IsDefinableMeaning I → IsDefinableMeaning (meaning_from I es)
-meaning_from_definable [] I S = S
-meaning_from_definable (e ∷ es) I S =
+unfoldable pub meaning_from_definable : (es : List Entry) (I : Meaning) → IsDefinableMeaning I → Respects I → IsDefinableMeaning (meaning_from I es)
+meaning_from_definable [] I S R = S
+meaning_from_definable (e ∷ es) I S R =
     meaning_from_definable es (with_entry I e)
-    (record { at = λ n m xs. choose_definable (bytes_eq n (entry_name e)) (λ p. entry_meaning I e (p.den * m) (args xs p)) (λ p. I n (p.den * m) (args xs p)) (entry_definable I S e m xs) (S.at n m xs) })
+    (record { at = λ n m xs. choose_definable (bytes_eq n (entry_name e)) (λ p. entry_meaning I e (p.den * m) (args xs p)) (λ p. I n (p.den * m) (args xs p)) (entry_definable I S R e m xs) (S.at n m xs) })
+    (with_entry-respects I R e)
+
+unfoldable pub stored_definable : (c : Catalogue) → IsDefinableMeaning (stored c)
+unfolding stored
+stored_definable c = meaning_from_definable c.entries (λ n d xs. ⊥) (record { at = λ n m xs. never_definable }) (record { keeps = λ n d d' xs ys i j same h. h })
 
 unfoldable pub meaning_definable : (c : Catalogue) → IsDefinableMeaning (meaning c)
 unfolding meaning
-meaning_definable c = meaning_from_definable c.entries (λ n d xs. ⊥) (record { at = λ n m xs. never_definable })
+meaning_definable c = read_definable (stored c) (stored_definable c) (stored-respects c)
 
 -- ---- over a catalogue
 unfoldable pub Holds_definable : (c : Catalogue) (f : Form) → Definable (Holds c f)
@@ -149,6 +144,9 @@ goal_definable c g = solve (GoalAtomHolds (meaning c)) (goal_atom_definable (mea
 
 unfoldable pub plan_definable : (c : Catalogue) (f : PlanForm) → Definable (PlanHolds c f)
 plan_definable c f = solve (PlanAtomHolds (meaning c)) (plan_atom_definable (meaning c) (meaning_definable c)) f
+
+unfoldable pub given_definable : (c : Catalogue) (f : PlanForm) → Definable (GivenHolds c f)
+given_definable c f = solve (PlanAtomHolds (stored c)) (plan_atom_definable (stored c) (stored_definable c)) f
 
 -- it holds at a point, or it does not
 pub Holds_decided : (c : Catalogue) (f : Form) (p : Point) → Holds c f p ⊎ (¬ Holds c f p)
@@ -169,3 +167,10 @@ goal_stable c g p h = stable (GoalHolds c g) (goal_definable c g) p h
 
 pub plan_stable : (c : Catalogue) (f : PlanForm) (p : Point) → ¬ (¬ PlanHolds c f p) → PlanHolds c f p
 plan_stable c f p h = stable (PlanHolds c f) (plan_definable c f) p h
+
+-- the same of plans over given relations
+pub given_decided : (c : Catalogue) (f : PlanForm) (p : Point) → GivenHolds c f p ⊎ (¬ GivenHolds c f p)
+given_decided c f p = decided (GivenHolds c f) (given_definable c f) p
+
+pub given_stable : (c : Catalogue) (f : PlanForm) (p : Point) → ¬ (¬ GivenHolds c f p) → GivenHolds c f p
+given_stable c f p h = stable (GivenHolds c f) (given_definable c f) p h

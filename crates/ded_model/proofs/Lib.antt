@@ -2,6 +2,7 @@ pub mod Alike
 pub mod AtomSlots
 pub mod Atoms
 pub mod Classical
+pub mod Closures
 pub mod CoefDivision
 pub mod CoefLemmas
 pub mod Computing
@@ -20,17 +21,22 @@ pub mod LineLengths
 pub mod LineSlots
 pub mod Lists
 pub mod Logics
+pub mod Made
 pub mod Members
 pub mod Monotone
+pub mod Nearness
 pub mod Numbers
 pub mod Points
 pub mod Rows
 pub mod Sats
+pub mod Saying
 pub mod Terms
 pub mod Texts
 pub mod Unused
 pub mod ValueForms
 pub mod Values
+pub mod Weakened
+mod WorkedNear
 mod WorkedPlans
 mod WorkedPoints
 mod WorkedRows

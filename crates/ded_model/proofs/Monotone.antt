@@ -2,11 +2,11 @@
 --
 -- By induction on the formula: a connective puts the lines of its parts together, and what is past a quantifier grows with
 -- what is before it (`past-grows`).
-use Rattle.std.proofs.Common.{◌≡◌, Bool, true, ◌||◌, List, [], inl, inr}
+use Rattle.std.proofs.Common.{◌≡◌, ℕ, ◌≤◌, max, Bool, true, ◌||◌, List, [], inl, inr, arith}
 use Rattle.ded_model.specs.declared.slot.Sort.{Sort}
 use Rattle.ded_model.specs.declared.slot.Sort.TheVariants.{Rat, Text}
 use Rattle.ded_model.specs.Point.{Key, slot, name}
-use Rattle.ded_model.specs.Logic.{Logic, atom, always, never, negation, every_of, some_of, implies, minus, exists, forall, Logics, none, also}
+use Rattle.ded_model.specs.Logic.{Logic, atom, always, never, negation, every_of, some_of, implies, minus, exists, forall, Logics, none, also, one_more, rank, greatest_rank, greatest, greatest_of}
 use Rattle.ded_model.specs.Lines.{Line, IsSubset, elim_past, clash_past, lines, all_lines, clashes, any_clashes}
 use Rattle.ded_model.proofs.Rows.{or_left, or_right}
 use Rattle.ded_model.proofs.Members.{subset_refl, subset_append, elim-grows, clash-grows, or_split}
@@ -66,3 +66,53 @@ module _ {L : Type 0} (of of' : L → List Line) (grows : (a : L) → IsSubset (
       pub any_clashes-grow : (fs : Logics L) → any_clashes of in_atom fs ≡ true → any_clashes of' in_atom' fs ≡ true
       any_clashes-grow none h = h
       any_clashes-grow (also f fs) h = or-grows _ _ _ _ (clashes-grow f) (any_clashes-grow fs) h
+
+-- ---- greatest lengths and ranks
+
+-- the greater of two numbers grows with them
+pub max-grows : (a b c d : ℕ) → a ≤ c → b ≤ d → max a b ≤ max c d
+max-grows a b c d h k = omega arith
+
+-- a quantifier more
+one_more-grows : (s : Sort) (a b : ℕ) → a ≤ b → one_more s a ≤ one_more s b
+one_more-grows Rat a b h = omega arith
+one_more-grows Text a b h = h
+
+module _ {L : Type 0} (of of' : L → ℕ) (grows : (a : L) → of a ≤ of' a) where
+  mutual
+    -- the greatest number of the atoms
+    pub greatest-grows : (f : Logic L) → greatest of f ≤ greatest of' f
+    greatest-grows (atom a) = grows a
+    greatest-grows always = omega arith
+    greatest-grows never = omega arith
+    greatest-grows (negation f) = greatest-grows f
+    greatest-grows (every_of fs) = greatest_of-grows fs
+    greatest-grows (some_of fs) = greatest_of-grows fs
+    greatest-grows (implies f g) = max-grows _ _ _ _ (greatest-grows f) (greatest-grows g)
+    greatest-grows (minus f g) = max-grows _ _ _ _ (greatest-grows f) (greatest-grows g)
+    greatest-grows (exists s k f) = greatest-grows f
+    greatest-grows (forall s k f) = greatest-grows f
+
+    -- of a list
+    pub greatest_of-grows : (fs : Logics L) → greatest_of of fs ≤ greatest_of of' fs
+    greatest_of-grows none = omega arith
+    greatest_of-grows (also f fs) = max-grows _ _ _ _ (greatest-grows f) (greatest_of-grows fs)
+
+  mutual
+    -- the rank
+    pub rank-grows : (f : Logic L) → rank of f ≤ rank of' f
+    rank-grows (atom a) = grows a
+    rank-grows always = omega arith
+    rank-grows never = omega arith
+    rank-grows (negation f) = rank-grows f
+    rank-grows (every_of fs) = greatest_rank-grows fs
+    rank-grows (some_of fs) = greatest_rank-grows fs
+    rank-grows (implies f g) = max-grows _ _ _ _ (rank-grows f) (rank-grows g)
+    rank-grows (minus f g) = max-grows _ _ _ _ (rank-grows f) (rank-grows g)
+    rank-grows (exists s k f) = one_more-grows s _ _ (rank-grows f)
+    rank-grows (forall s k f) = one_more-grows s _ _ (rank-grows f)
+
+    -- of a list
+    pub greatest_rank-grows : (fs : Logics L) → greatest_rank of fs ≤ greatest_rank of' fs
+    greatest_rank-grows none = omega arith
+    greatest_rank-grows (also f fs) = max-grows _ _ _ _ (rank-grows f) (greatest_rank-grows fs)

@@ -85,12 +85,12 @@ last_from-all_times e v (c ∷ cs) k =
     ap (λ w. last_from w (all_times e cs) k) (sym (times-cond e (same_key k c.0) c.1 v)) ∙ last_from-all_times e (if same_key k c.0 then c.1 else v) cs k
 
 -- the number of a multiplied value
-as_number-times : (e : ℕ) (v : Value) → as_number (times e v) ≡ as_number v *ℤ pos e
+pub as_number-times : (e : ℕ) (v : Value) → as_number (times e v) ≡ as_number v *ℤ pos e
 as_number-times e (number n) = refl
 as_number-times e (text t) = sym (zero-*ℤ (pos e))
 
 -- multiplying leaves a text
-as_text-times : (e : ℕ) (v : Value) → as_text (times e v) ≡ as_text v
+pub as_text-times : (e : ℕ) (v : Value) → as_text (times e v) ≡ as_text v
 as_text-times e (number n) = refl
 as_text-times e (text t) = refl
 
@@ -105,7 +105,7 @@ pub scaled : ℕ → Point → Point
 scaled e p = record { den = p.den * e; coords = all_times e p.coords }
 
 -- what the scaled point has at a key
-last_from-scaled : (e : ℕ) (cs : List (Key × Value)) (k : Key) → last_from absent (all_times e cs) k ≡ times e (last_from absent cs k)
+pub last_from-scaled : (e : ℕ) (cs : List (Key × Value)) (k : Key) → last_from absent (all_times e cs) k ≡ times e (last_from absent cs k)
 last_from-scaled e cs k = ap (λ v. last_from v (all_times e cs) k) (sym (times-absent e)) ∙ last_from-all_times e absent cs k
 
 -- its number

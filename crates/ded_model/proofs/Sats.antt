@@ -17,9 +17,11 @@ use Rattle.ded_model.specs.Goal as goal
 use Rattle.ded_model.specs.PlanForm.{PlanForm, PlanAtom, scan, rows, PlanAtomHolds, plan_atom_mentions, in_plan_atom, plan_mentions}
 use Rattle.ded_model.specs.Point.{Key, slot, name, Value, Point, IsSameAt, absent, last_from, as_number, as_text, number_at, text_at, same_key, same_slot}
 use Rattle.ded_model.specs.Value.{OperandValue, operand_value, slot_value, place_value, Argument, overs, arguments, Meaning, NameHolds}
-use Rattle.ded_model.specs.Catalogue.{Entry, relation, view, Catalogue, entry_name, tuples_of, argument_coordinate, at_slots, at_names, AtomHolds, entry_meaning, with_entry, meaning_from, meaning, Holds, GoalHolds, PlanHolds, in_operand, in_atom, form_mentions}
+use Rattle.ded_model.specs.Catalogue.{Entry, relation, view, Catalogue, entry_name, tuples_of, argument_coordinate, at_slots, at_names, AtomHolds, read, entry_meaning, with_entry, meaning_from, stored, meaning, Holds, GoalHolds, PlanHolds, GivenHolds, in_operand, in_atom, form_mentions}
 use Rattle.ded_model.proofs.Points.{same_slot_refl}
 use Rattle.ded_model.proofs.Logics.{RespectsValues, Sat-same}
+use Rattle.ded_model.specs.Made.{reading}
+use Rattle.ded_model.proofs.Nearness.{read_as-same}
 use Rattle.ded_model.proofs.Rows.{row_holds-same, theme_holds-same, tuple_holds-same, tuples_hold-same}
 use Rattle.ded_model.proofs.Values.{compare_holds-same, operand_value-same, slot_value-same, place_value-same, AreSameValues, AreSameArguments, overs-same, arguments-same, map-same, overs-positive, operand_value-positive, slot_value-positive, place_value-positive}
 
@@ -67,6 +69,12 @@ PlanAtomHolds-respects I R = record { keeps = λ a p q i j h s. kept a p q i j (
         NameHolds-same I R n p.den q.den _ _ i j (overs-positive (slot_value p) (slot_value-positive p) ss)
         (map-same (λ t r. slot_value r t) slot same_slot p q (λ t e. slot_value-same t p q (e t (same_slot_refl t))) ss h) s
     kept (rows t) p q i j h s = subst IsTrue (tuple_holds-same t p q i j h) s
+
+-- ---- made names
+
+-- closures and interiors of what respects values respect them
+pub read-respects : (I : Meaning) → Respects I → Respects (read I)
+read-respects I R = record { keeps = λ n d d' xs ys i j same. read_as-same I n (reading n) d d' xs ys i j same (R.keeps n d d' xs ys i j same) }
 
 -- ---- entries
 
@@ -124,7 +132,7 @@ entry-respects I R (relation n h m ts) d d' xs ys i j e s =
 entry-respects I R (view n h f) d d' xs ys i j e s =
     let p : Point = record { den = d; coords = at_names h xs } in
     let q : Point = record { den = d'; coords = at_names h ys } in
-    Sat-same (AtomHolds I) in_atom (AtomHolds-respects I R) f p q i j (λ k _. same_at p q k (at_names-same h d d' xs ys e absent absent (same_absent d d') k)) s
+    Sat-same (AtomHolds (read I)) in_atom (AtomHolds-respects (read I) (read-respects I R)) f p q i j (λ k _. same_at p q k (at_names-same h d d' xs ys e absent absent (same_absent d d') k)) s
 
 -- ---- catalogues
 
@@ -134,7 +142,7 @@ choose true A B A' B' f g h = f h
 choose false A B A' B' f g h = g h
 
 -- one entry more
-with_entry-respects : (I : Meaning) → Respects I → (e : Entry) → Respects (with_entry I e)
+pub with_entry-respects : (I : Meaning) → Respects I → (e : Entry) → Respects (with_entry I e)
 with_entry-respects I R e = record {
   keeps = λ n d d' xs ys i j same. choose (bytes_eq n (entry_name e)) _ _ _ _ (entry-respects I R e d d' xs ys i j same) (R.keeps n d d' xs ys i j same);
 }
@@ -144,10 +152,15 @@ meaning_from-respects : (es : List Entry) (I : Meaning) → Respects I → Respe
 meaning_from-respects [] I R = R
 meaning_from-respects (e ∷ es) I R = meaning_from-respects es (with_entry I e) (with_entry-respects I R e)
 
--- so the names of a catalogue respect values
+-- so the entries of a catalogue respect values
+pub stored-respects : (c : Catalogue) → Respects (stored c)
+unfolding stored
+stored-respects c = meaning_from-respects c.entries (λ n d xs. ⊥) (record { keeps = λ n d d' xs ys i j same h. h })
+
+-- and all names
 pub meaning-respects : (c : Catalogue) → Respects (meaning c)
 unfolding meaning
-meaning-respects c = meaning_from-respects c.entries (λ n d xs. ⊥) (record { keeps = λ n d d' xs ys i j same h. h })
+meaning-respects c = read-respects (stored c) (stored-respects c)
 
 -- ---- the laws
 
@@ -161,6 +174,10 @@ goal_respects c = GoalAtomHolds-respects (meaning c) (meaning-respects c)
 pub plan_respects : (c : Catalogue) → RespectsValues (PlanAtomHolds (meaning c)) in_plan_atom
 plan_respects c = PlanAtomHolds-respects (meaning c) (meaning-respects c)
 
+-- and over given relations
+pub given_respects : (c : Catalogue) → RespectsValues (PlanAtomHolds (stored c)) in_plan_atom
+given_respects c = PlanAtomHolds-respects (stored c) (stored-respects c)
+
 -- formulas
 pub Holds-same : (c : Catalogue) (f : Form) (p q : Point) → 0 < p.den → 0 < q.den → ((k : Key) → form_mentions f k ≡ true → IsSameAt p q k) → Holds c f p → Holds c f q
 Holds-same c f p q i j h s = Sat-same (AtomHolds (meaning c)) in_atom (form_respects c) f p q i j h s
@@ -172,3 +189,7 @@ GoalHolds-same c g p q i j h s = Sat-same (GoalAtomHolds (meaning c)) in_goal_at
 -- plans
 pub PlanHolds-same : (c : Catalogue) (f : PlanForm) (p q : Point) → 0 < p.den → 0 < q.den → ((k : Key) → plan_mentions f k ≡ true → IsSameAt p q k) → PlanHolds c f p → PlanHolds c f q
 PlanHolds-same c f p q i j h s = Sat-same (PlanAtomHolds (meaning c)) in_plan_atom (plan_respects c) f p q i j h s
+
+-- plans over given relations
+pub GivenHolds-same : (c : Catalogue) (f : PlanForm) (p q : Point) → 0 < p.den → 0 < q.den → ((k : Key) → plan_mentions f k ≡ true → IsSameAt p q k) → GivenHolds c f p → GivenHolds c f q
+GivenHolds-same c f p q i j h s = Sat-same (PlanAtomHolds (stored c)) in_plan_atom (given_respects c) f p q i j h s

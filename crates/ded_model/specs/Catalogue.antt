@@ -14,6 +14,8 @@ use Rattle.ded_model.specs.Form.{Form, FormAtom, compare, member}
 use Rattle.ded_model.specs.Goal.{GoalForm, GoalAtomHolds}
 use Rattle.ded_model.specs.PlanForm.{PlanForm, PlanAtomHolds}
 use Rattle.ded_model.specs.Value.{operand_value, compare_holds, Argument, Meaning, NameHolds}
+use Rattle.ded_model.specs.Made.{Reading, itself, closure_of, interior_of, reading}
+use Rattle.ded_model.specs.Near.{IsClose, IsInside}
 
 -- ---- entries
 
@@ -61,11 +63,20 @@ abbrev pub AtomHolds : Meaning → FormAtom → Point → Type 0
 AtomHolds I (compare l op r) p = IsTrue (compare_holds l op r p)
 AtomHolds I (member n ts) p = NameHolds I n p.den (map (λ t. operand_value t p) ts)
 
--- what an entry means, where the names before it mean I: a relation holds where one of its tuples does, its columns at
+-- what a name means, where the relations and views mean I: one of them, the closure of one, or its interior
+abbrev pub read_as : Meaning → List ℕ → Reading → ℕ → List Argument → Type 0
+read_as I n itself d xs = I n d xs
+read_as I n (closure_of m) d xs = IsClose (I m) d xs
+read_as I n (interior_of m) d xs = IsInside (I m) d xs
+
+abbrev pub read : Meaning → Meaning
+read I n d xs = read_as I n (reading n) d xs
+
+-- what an entry means, where the entries before it mean I: a relation holds where one of its tuples does, its columns at
 -- the slots from 0 on; a view holds where its formula does, its columns at their names
 abbrev pub entry_meaning : Meaning → Entry → ℕ → List Argument → Type 0
 entry_meaning I (relation n h m ts) d xs = IsTrue (tuples_hold (tuples_of ts) (record { den = d; coords = at_slots 0 h xs }))
-entry_meaning I (view n h f) d xs = Sat (AtomHolds I) f (record { den = d; coords = at_names h xs })
+entry_meaning I (view n h f) d xs = Sat (AtomHolds (read I)) f (record { den = d; coords = at_names h xs })
 
 abbrev pub with_entry : Meaning → Entry → Meaning
 with_entry I e n d xs = MatchBool (bytes_eq n (entry_name e)) (entry_meaning I e d xs) (I n d xs)
@@ -75,9 +86,13 @@ abbrev pub meaning_from : Meaning → List Entry → Meaning
 meaning_from I [] = I
 meaning_from I (e ∷ es) = meaning_from (with_entry I e) es
 
--- what the names of a catalogue mean; a name that isn't defined holds nowhere
+-- what the entries of a catalogue mean under their own names; a name that no entry has holds nowhere
+unfoldable pub stored : Catalogue → Meaning
+stored c = meaning_from (λ n d xs. ⊥) c.entries
+
+-- what all names mean
 unfoldable pub meaning : Catalogue → Meaning
-meaning c = meaning_from (λ n d xs. ⊥) c.entries
+meaning c = read (stored c)
 
 -- ---- what holds over a catalogue
 
@@ -92,6 +107,10 @@ GoalHolds c g p = Sat (GoalAtomHolds (meaning c)) g p
 -- the plan holds at the point by slots
 abbrev pub PlanHolds : Catalogue → PlanForm → Point → Type 0
 PlanHolds c f p = Sat (PlanAtomHolds (meaning c)) f p
+
+-- the plan holds at the point by slots over relations that are given under names of any kind: each name has its own tuples
+abbrev pub GivenHolds : Catalogue → PlanForm → Point → Type 0
+GivenHolds c f p = Sat (PlanAtomHolds (stored c)) f p
 
 -- the point without coordinates
 abbrev pub origin : Point

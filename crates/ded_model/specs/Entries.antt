@@ -4,7 +4,7 @@ use Rattle.std.specs.Str.{bytes_eq}
 use Rattle.ded_model.specs.declared.name.Column.{Column}
 use Rattle.ded_model.specs.Catalogue.{Entry, Catalogue, entry_name}
 use Rattle.ded_model.specs.Catalogue as entry
-use Rattle.ded_model.specs.Form.{Form, uses}
+use Rattle.ded_model.specs.Form.{Form, speaks_of}
 use Rattle.ded_model.specs.Known.{KnownNames, known_of, columns_with}
 use Rattle.ded_model.specs.Row.{Atom}
 
@@ -46,7 +46,7 @@ known c = known_of c.entries
 abbrev pub columns_in : Catalogue → List ℕ → List Column
 columns_in c n = columns_with (known c n)
 
--- the formula of a view uses the name
+-- the formula of a view speaks of the name
 abbrev pub entry_uses : List ℕ → Entry → Bool
 entry_uses n (entry.relation m h i ts) = false
-entry_uses n (entry.view m h f) = uses n f
+entry_uses n (entry.view m h f) = speaks_of n f

@@ -6,6 +6,7 @@ use Rattle.ded_model.specs.declared.formula.Operand.{Operand}
 use Rattle.ded_model.specs.declared.formula.Formula.{Formula, fold-Formula}
 use Rattle.ded_model.specs.declared.formula.Formula.TheOpen.{Formula-F}
 use Rattle.ded_model.specs.Point.{name}
+use Rattle.ded_model.specs.Made.{base}
 use Rattle.ded_model.specs.Logic.{Logic, atom, always, never, negation, every_of, some_of, implies, exists, forall, Logics, logics, some_atom}
 
 -- an atom as the user writes it: a comparison, or a relation or view with its operands
@@ -42,3 +43,11 @@ atom_uses n (member m ts) = bytes_eq n m
 
 abbrev pub uses : List ℕ → Form → Bool
 uses n f = some_atom (atom_uses n) f
+
+-- whether a formula speaks of the name: has an atom of it, of its closure or of its interior
+abbrev pub atom_speaks_of : List ℕ → FormAtom → Bool
+atom_speaks_of n (compare l op r) = false
+atom_speaks_of n (member m ts) = bytes_eq n (base m)
+
+abbrev pub speaks_of : List ℕ → Form → Bool
+speaks_of n f = some_atom (atom_speaks_of n) f

@@ -1,11 +1,13 @@
 -- Catalogues that differ in the tuples of their relations, of which the one has at least the lines of the other.
-use Rattle.std.specs.Prelude.{◌≡◌, List, [], ◌∷◌}
+use Rattle.std.specs.Prelude.{◌≡◌, ◌≤◌, List, [], ◌∷◌}
 use Rattle.ded_model.specs.Catalogue.{Entry, relation, view, tuples_of}
 use Rattle.ded_model.specs.Lines.{IsSubset, tuples_lines}
+use Rattle.ded_model.specs.Width.{tuples_length}
 
--- a relation of the same name whose tuples have at least the lines, or the same view
+-- a relation of the same name and heading whose tuples have at least the lines and the length, or the same view
 abbrev pub HasMoreLines : Entry → Entry → Type 0
-HasMoreLines (relation n h m ts) (relation n' h' m' ts') = (n ≡ n') × IsSubset (tuples_lines (tuples_of ts)) (tuples_lines (tuples_of ts'))
+HasMoreLines (relation n h m ts) (relation n' h' m' ts') =
+    (n ≡ n') × (h ≡ h') × IsSubset (tuples_lines (tuples_of ts)) (tuples_lines (tuples_of ts')) × (tuples_length (tuples_of ts) ≤ tuples_length (tuples_of ts'))
 HasMoreLines (relation n h m ts) (view n' h' f') = ⊥
 HasMoreLines (view n h f) (relation n' h' m' ts') = ⊥
 HasMoreLines (view n h f) (view n' h' f') = (n ≡ n') × (h ≡ h') × (f ≡ f')

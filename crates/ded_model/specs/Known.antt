@@ -16,6 +16,7 @@ use Rattle.ded_model.specs.Normal.{IsNormalTuple}
 use Rattle.ded_model.specs.Logic.{Scope, some_atom, some_below, quantifiers, greatest}
 use Rattle.ded_model.specs.Form.{Form, FormAtom, compare, member}
 use Rattle.ded_model.specs.Slotted.{nearest}
+use Rattle.ded_model.specs.Made.{base, is_made}
 use Rattle.ded_model.specs.Catalogue.{Entry, relation, view, Catalogue, entry_name}
 use Rattle.ded_model.specs.Width.{tuple_length}
 
@@ -37,7 +38,7 @@ level_with None = 0
 
 abbrev pub atom_level : KnownNames → FormAtom → ℕ
 atom_level K (compare l op r) = 0
-atom_level K (member n ts) = level_with (K n)
+atom_level K (member n ts) = level_with (K (base n))
 
 -- the level of a view: one more than the greatest level of the names in its formula, 1 where it has no atom
 abbrev pub level_of : KnownNames → Form → ℕ
@@ -71,7 +72,7 @@ has_twice (c ∷ cs) = list_any (λ d. bytes_eq c.name d.name) cs || has_twice c
 
 abbrev pub is_unknown_atom : KnownNames → FormAtom → Bool
 is_unknown_atom K (compare l op r) = false
-is_unknown_atom K (member n ts) = is_none (K n)
+is_unknown_atom K (member n ts) = is_none (K (base n))
 
 -- an atom uses a name that isn't defined
 abbrev pub uses_unknown : KnownNames → Form → Bool
@@ -83,7 +84,7 @@ other_arity None ts = false
 
 abbrev pub is_arity_atom : KnownNames → FormAtom → Bool
 is_arity_atom K (compare l op r) = false
-is_arity_atom K (member n ts) = other_arity (K n) ts
+is_arity_atom K (member n ts) = other_arity (K (base n)) ts
 
 -- an atom has another number of arguments than its relation or view has columns
 abbrev pub has_other_arity : KnownNames → Form → Bool
@@ -154,7 +155,7 @@ columns_with None = []
 
 abbrev pub is_missorted_atom : KnownNames → Scope → FormAtom → Bool
 is_missorted_atom K scope (compare l op r) = is_text_sum scope l || is_text_sum scope r || sorts_differ op (operand_sort scope l) (operand_sort scope r)
-is_missorted_atom K scope (member n ts) = list_any (is_text_sum scope) ts || arguments_differ scope (columns_with (K n)) ts
+is_missorted_atom K scope (member n ts) = list_any (is_text_sum scope) ts || arguments_differ scope (columns_with (K (base n))) ts
 
 -- a text stands where a number has to, or a number where a text has to
 abbrev pub has_missorted : KnownNames → List Column → Form → Bool
@@ -193,10 +194,14 @@ abbrev pub IsEntryOver : ℕ → KnownNames → Entry → Type 0
 IsEntryOver limit K (relation n h m ts) = AreStored h m 0 ts × (length ts ≤ limit)
 IsEntryOver limit K (view n h f) = IsAccepted K h f × (level_of K f ≤ 16)
 
+-- no entry has the name, and it is not made of another one
+abbrev pub IsNewName : KnownNames → List ℕ → Type 0
+IsNewName K n = (K n ≡ None) × (is_made n ≡ false)
+
 -- each entry has a new name, and is well formed over those before it
 abbrev pub AreEntriesOver : ℕ → KnownNames → List Entry → Type 0
 AreEntriesOver limit K [] = Unit {0}
-AreEntriesOver limit K (e ∷ es) = (K (entry_name e) ≡ None) × IsEntryOver limit K e × AreEntriesOver limit (with_known K e) es
+AreEntriesOver limit K (e ∷ es) = IsNewName K (entry_name e) × IsEntryOver limit K e × AreEntriesOver limit (with_known K e) es
 
 abbrev pub IsWellFormed : Catalogue → Type 0
 IsWellFormed c = AreEntriesOver c.limit (λ n. None) c.entries

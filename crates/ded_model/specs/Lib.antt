@@ -13,7 +13,9 @@ pub mod Known
 pub mod Lines
 pub mod Logic
 pub mod LongRows
+pub mod Made
 pub mod Measure
+pub mod Near
 pub mod Negation
 pub mod Normal
 pub mod NormalGoal

@@ -1,5 +1,5 @@
 -- What is measured of names, goals and plans: the greatest length b, the rank, the lines and the clashes.
-use Rattle.std.specs.Prelude.{◌≡◌, ℕ, ◌+◌, max, Bool, false, ◌||◌, List, [], ◌∷◌, ◌++◌, if◌then◌else◌}
+use Rattle.std.specs.Prelude.{◌≡◌, ℕ, ◌+◌, ◌*◌, ◌^◌, nat_lt, max, Bool, false, ◌||◌, List, [], ◌∷◌, ◌++◌, if◌then◌else◌}
 use Rattle.std.specs.Str.{bytes_eq}
 use Rattle.ded_model.specs.declared.name.Column.{Column}
 use Rattle.ded_model.specs.Logic.{rank, greatest}
@@ -9,20 +9,40 @@ use Rattle.ded_model.specs.PlanForm.{PlanAtom, scan, rows, PlanForm}
 use Rattle.ded_model.specs.Catalogue.{Entry, relation, view, Catalogue, entry_name, tuples_of}
 use Rattle.ded_model.specs.Slotted.{goal_of}
 use Rattle.ded_model.specs.Scanned.{Scanned, scanned, scanned_slots, tied_atoms, fresh_slots, rational_count}
-use Rattle.ded_model.specs.Width.{row_length, tuple_length, tuples_length, IsNarrowWith}
+use Rattle.ded_model.specs.Made.{Reading, itself, closure_of, interior_of, reading}
+use Rattle.ded_model.specs.Width.{row_length, tuple_length, tuples_length, rational_columns, IsNarrowWith}
 use Rattle.ded_model.specs.Lines.{Line, row_lines, atoms_lines, tuples_lines, renamed_lines, elim_past_all, clash_past_all, lines, clashes}
 
 -- ---- names
 
--- the greatest length of the rows that a name reaches, its rank, its lines, and whether these clash
+-- the greatest length of the rows that a name reaches, its rank, its lines, whether these clash, and how many rational
+-- columns it has
 pub record Measure : Type 0 where
   pub b : ℕ
   pub rank : ℕ
   pub lines : List Line
   pub clash : Bool
+  pub columns : ℕ
 
 abbrev pub Measures : Type 0
 Measures = List ℕ → Measure
+
+-- q eliminations begun with lengths of at most b may leave a length above 127
+abbrev pub is_wide_with : ℕ → ℕ → Bool
+is_wide_with b q = nat_lt 128 ((b + 1) * 2 ^ q)
+
+-- of the closure and of the interior: the rank is greater by the rational columns, and with it the lengths may be too wide
+abbrev pub near_measure : Measure → Measure
+near_measure m = record { b = m.b; rank = m.rank + m.columns; lines = m.lines; clash = m.clash || is_wide_with m.b (m.rank + m.columns); columns = m.columns }
+
+abbrev pub measure_as : Measures → List ℕ → Reading → Measure
+measure_as M n itself = M n
+measure_as M n (closure_of m) = near_measure (M m)
+measure_as M n (interior_of m) = near_measure (M m)
+
+-- of all names, where the relations and views have M
+abbrev pub read_measure : Measures → Measures
+read_measure M n = measure_as M n (reading n)
 
 -- ---- goals
 
@@ -99,8 +119,14 @@ plan_clashes M f = clashes (plan_atom_lines M) (plan_atom_clash M) f
 
 -- a relation has the rows of its tuples and the rank 0; a view has what its goal has, over the entries before it
 abbrev pub entry_measure : Measures → Entry → Measure
-entry_measure M (relation n h m ts) = record { b = tuples_length (tuples_of ts); rank = 0; lines = tuples_lines (tuples_of ts); clash = false }
-entry_measure M (view n h f) = record { b = goal_b M (goal_of h f); rank = goal_rank M (goal_of h f); lines = goal_lines M (goal_of h f); clash = goal_clashes M (goal_of h f) }
+entry_measure M (relation n h m ts) = record { b = tuples_length (tuples_of ts); rank = 0; lines = tuples_lines (tuples_of ts); clash = false; columns = rational_columns h }
+entry_measure M (view n h f) = record {
+  b = goal_b (read_measure M) (goal_of h f);
+  rank = goal_rank (read_measure M) (goal_of h f);
+  lines = goal_lines (read_measure M) (goal_of h f);
+  clash = goal_clashes (read_measure M) (goal_of h f);
+  columns = rational_columns h;
+}
 
 abbrev pub with_measure : Measures → Entry → Measures
 with_measure M e n = if bytes_eq n (entry_name e) then entry_measure M e else M n
@@ -109,9 +135,13 @@ abbrev pub measures_from : Measures → List Entry → Measures
 measures_from M [] = M
 measures_from M (e ∷ es) = measures_from (with_measure M e) es
 
--- of the names of a catalogue; a name that isn't defined has no rows
+-- of the entries of a catalogue under their own names; a name that no entry has has no rows
+unfoldable pub stored_measures : Catalogue → Measures
+stored_measures c = measures_from (λ n. record { b = 0; rank = 0; lines = []; clash = false; columns = 0 }) c.entries
+
+-- of all names
 unfoldable pub measures : Catalogue → Measures
-measures c = measures_from (λ n. record { b = 0; rank = 0; lines = []; clash = false }) c.entries
+measures c = read_measure (stored_measures c)
 
 -- ---- formulas over a heading, none for a closed one
 

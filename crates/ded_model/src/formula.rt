@@ -1,6 +1,6 @@
 //! Formulas as the user writes them: variables by their names.
 ghost use Rattle.std.specs.Prelude.{◌≡◌, IfOk};
-ghost use Rattle.ded_model.specs.Form.{form, forms, uses, atom_uses};
+ghost use Rattle.ded_model.specs.Form.{form, forms, uses, atom_uses, speaks_of, atom_speaks_of};
 ghost use Rattle.ded_model.specs.Logic.{some_atom_of};
 
 use crate::memory::NoMemory;
@@ -208,6 +208,22 @@ impl Formula {
             Formula::Implies(left, right) => left.uses(name) || right.uses(name),
         }
     }
+
+    /// Whether an atom of the formula is of the name, of its closure or of its interior.
+    #[cycle(speaks)]
+    pub fn speaks_of(&self, name: &Name) -> bool
+        ensures { result ≡ speaks_of name.now (form self.now) }
+    {
+        match self {
+            Formula::True | Formula::False | Formula::Compare(_, _, _) => false,
+            Formula::Member(member, _) => member.is_made_of(name),
+            Formula::Not(part) | Formula::Exists(_, part) | Formula::Forall(_, part) => {
+                part.speaks_of(name)
+            }
+            Formula::And(parts) | Formula::Or(parts) => some_speaks_of(parts, name),
+            Formula::Implies(left, right) => left.speaks_of(name) || right.speaks_of(name),
+        }
+    }
 }
 
 /// Formulas that stand for the same, one for each.
@@ -232,6 +248,18 @@ fn some_uses(parts: &Vec<Formula>, name: &Name) -> bool
 {
     for part in parts {
         if part.uses(name) {
+            return true;
+        }
+    }
+    false
+}
+
+#[cycle(speaks)]
+fn some_speaks_of(parts: &Vec<Formula>, name: &Name) -> bool
+    ensures { result ≡ some_atom_of (atom_speaks_of name.now) (forms parts.now.items) }
+{
+    for part in parts {
+        if part.speaks_of(name) {
             return true;
         }
     }

@@ -2,4 +2,5 @@
 
 pub mod deciding;
 pub mod lines;
+pub mod near;
 pub mod points;

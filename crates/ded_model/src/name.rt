@@ -1,11 +1,12 @@
 //! Names and quoted texts, both seen as lists of bytes, and headings.
-ghost use Rattle.std.specs.Prelude.{◌≡◌, IfOk};
+ghost use Rattle.std.specs.Prelude.{◌≡◌, IfOk, MatchOption, Some, None};
 ghost use Rattle.std.specs.Str.{bytes_eq};
 ghost use Rattle.std.specs.Cmp.{partial_equiv_from_equiv};
 ghost use Rattle.std.specs.Cmp.Lexicographic.{nat_list_eq_equiv};
 ghost use Rattle.std.specs.Cmp.Rules.{hashing};
 ghost use Rattle.std.specs.Hash as fed;
 ghost use Rattle.std.proofs.Common.{rules};
+ghost use Rattle.ded_model.specs.Made.{between, base, base_by, reading};
 
 use crate::memory::NoMemory;
 use crate::slot::Sort;
@@ -45,6 +46,46 @@ impl Name {
         ensures { result ≡ bytes_eq self.now other.now }
     {
         self.bytes.as_slice() == other.bytes.as_slice()
+    }
+
+    /// The bytes of the name that this one is made of: of N where it is the closure or the interior of N, and else of itself.
+    pub fn base(&self) -> &[u8]
+        ensures { result.now ≡ base self.now }
+    {
+        let bytes = self.bytes.as_slice();
+        match between(b"closure(", bytes) {
+            Some(inner) => inner,
+            None => match between(b"interior(", bytes) {
+                Some(inner) => inner,
+                None => bytes,
+            },
+        }
+    }
+
+    /// Whether the name is made of the other one, or is the same.
+    pub fn is_made_of(&self, other: &Name) -> bool
+        ensures { result ≡ bytes_eq other.now (base self.now) }
+    {
+        other.bytes.as_slice() == self.base()
+    }
+
+    /// The name that this one is made of, or an equal one.
+    pub fn base_name(&self) -> Result<Name, NoMemory>
+        ensures { IfOk result (λ n. n ≡ base self.now) }
+    {
+        Ok(Name {
+            bytes: self.base().to_vec(*self.bytes.allocator())?,
+        })
+    }
+}
+
+// The bytes between a front and a last `)`, none where they do not stand so.
+fn between<'a>(front: &[u8], bytes: &'a [u8]) -> Option<&'a [u8]>
+    ensures { MatchOption result (between front.now bytes.now ≡ None) (λ inner. between front.now bytes.now ≡ Some inner.now) }
+{
+    match bytes.strip_prefix(front) {
+        Some(rest) => rest.strip_suffix(b")"),
+        None => None,
     }
 }
 

@@ -18,6 +18,7 @@ use Rattle.ded_model.specs.Sum.{SlotSum}
 use Rattle.ded_model.specs.Point.{same_sort, same_slot}
 use Rattle.ded_model.specs.Logic.{atom, always, never, negation, every_of, some_of, implies, minus, exists, forall, Logics, none, also, some_atom, some_atom_of, some_below, some_below_of, quantifiers}
 use Rattle.ded_model.specs.Form.{Form, FormAtom, compare, member, atom_uses, uses}
+use Rattle.ded_model.specs.Made.{base}
 use Rattle.ded_model.specs.Goal.{GoalForm, theme}
 use Rattle.ded_model.specs.Slotted.{SlotScope, slot_sum, sums_goal, TextSide, at, word, text_side, same_text_goal, other_text_goal, texts_goal, is_text_operand, compare_goal, place_of, atom_goal, goal_below, goals_below, goal_of, heading_scope}
 use Rattle.ded_model.specs.Known.{Known, KnownNames, is_unknown_atom, other_arity, is_arity_atom, operand_sort, arguments_differ, columns_with, is_missorted_atom, IsAccepted}
@@ -134,7 +135,7 @@ known_fits slots (Some k) ts ss u a d h = columns_fit slots k.columns ts ss (sam
 module _ (K : KnownNames) (n : List ℕ) (ss : List Slot) where
   -- a formula or an atom that uses the name, whose columns have the sorts of the slots
   abbrev IsUse : Bool → Type 0
-  IsUse b = (b ≡ true) × HaveSorts (columns_with (K n)) ss
+  IsUse b = (b ≡ true) × HaveSorts (columns_with (K (base n))) ss
 
   -- an atom
   atom_use : (slots : SlotScope) (a : FormAtom) → is_unknown_atom K a ≡ false → is_arity_atom K a ≡ false → is_missorted_atom K (sorts_of slots) a ≡ false
@@ -142,8 +143,8 @@ module _ (K : KnownNames) (n : List ℕ) (ss : List Slot) where
   atom_use slots (compare l op r) u a m h = absurd (true≢false (sym h ∙ comparison_none n ss slots l op r))
   atom_use slots (member x ts) u a m h =
       let same = and_left (bytes_eq n x) _ h in
-      let fits = known_fits slots (K x) ts ss u a (or_fails_right _ (arguments_differ (sorts_of slots) (columns_with (K x)) ts) m) (and_right (bytes_eq n x) _ h) in
-      (same, subst (λ y. HaveSorts (columns_with (K y)) ss) (sym ((bytes_eq-Decides n x).0 same)) fits)
+      let fits = known_fits slots (K (base x)) ts ss u a (or_fails_right _ (arguments_differ (sorts_of slots) (columns_with (K (base x))) ts) m) (and_right (bytes_eq n x) _ h) in
+      (same, subst (λ y. HaveSorts (columns_with (K (base y))) ss) (sym ((bytes_eq-Decides n x).0 same)) fits)
 
   -- two parts, each of which is a use where it is scanned
   parts_use : (a b d e : Bool) → (a || b) ≡ true → (a ≡ true → IsUse d) → (b ≡ true → IsUse e) → IsUse (d || e)
@@ -178,7 +179,7 @@ module _ (K : KnownNames) (n : List ℕ) (ss : List Slot) where
 
 -- the goal of an accepted formula
 pub goal_use : (K : KnownNames) (h : List Column) (f : Form) → IsAccepted K h f → (n : List ℕ) (ss : List Slot) → some_atom (is_scanned_by n ss) (goal_of h f) ≡ true
-    → (uses n f ≡ true) × HaveSorts (columns_with (K n)) ss
+    → (uses n f ≡ true) × HaveSorts (columns_with (K (base n))) ss
 unfolding goal_of
 goal_use K h f a n ss e =
     formula_use K n ss f (heading_scope 0 h) (length h) a.known a.arity (ap (λ s. some_below (is_missorted_atom K) s f) (sorts_of-heading 0 h) ∙ a.sorted) e

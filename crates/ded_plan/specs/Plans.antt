@@ -3,7 +3,8 @@ use Rattle.std.specs.Prelude.{◌≡◌, ◌↔◌, ◌<◌, ◌≤◌, ℕ, tru
 use Rattle.ded_model.specs.declared.name.Column.{Column}
 use Rattle.ded_model.specs.Catalogue.{Catalogue, at_slots, at_names, Holds, PlanHolds}
 use Rattle.ded_model.specs.Entries.{known, columns_in}
-use Rattle.ded_model.specs.Form.{Form, uses}
+use Rattle.ded_model.specs.Form.{Form, uses, speaks_of}
+use Rattle.ded_model.specs.Made.{base}
 use Rattle.ded_model.specs.Known.{Known, IsWellFormed}
 use Rattle.ded_model.specs.Logic.{AllAtoms}
 use Rattle.ded_model.specs.Measure.{measures, goal_b, goal_rank, plan_b, plan_rank}
@@ -28,20 +29,20 @@ SameHead None (Some k) = ⊥
 SameHead (Some j) None = ⊥
 SameHead (Some j) (Some k) = (j.is_view ≡ k.is_view) × (j.columns ≡ k.columns)
 
--- a scan is of a name that the formula uses, at slots of the sorts of its columns
+-- a scan is of a name that the formula uses, at slots of the sorts of its columns, or of those of the name that it is made of
 abbrev pub IsScanOf : Catalogue → Form → PlanAtom → Type 0
-IsScanOf c f (scan n ss) = (uses n f ≡ true) × HaveSorts (columns_in c n) ss
+IsScanOf c f (scan n ss) = (uses n f ≡ true) × HaveSorts (columns_in c (base n)) ss
 IsScanOf c f (rows t) = Unit {0}
 
 -- a pushed plan that holds where the formula does, with lengths and a rank of at most the formula's, over every well
--- formed catalogue in which the names of the formula have the same kinds and headings
+-- formed catalogue in which the names that the formula speaks of have the same kinds and headings
 pub record IsPlanOf (c : Catalogue) (h : List Column) (f : Form) (plan : PlanForm) : Type 0 where
   pub pushed : pushed plan ≡ true
   pub scans : AllAtoms (IsScanOf c f) plan
-  pub holds : (d : Catalogue) → IsWellFormed d → ((n : List ℕ) → uses n f ≡ true → SameHead (known c n) (known d n))
+  pub holds : (d : Catalogue) → IsWellFormed d → ((n : List ℕ) → speaks_of n f ≡ true → SameHead (known c n) (known d n))
       → (den : ℕ) (xs : List Argument) → 0 < den → AreArguments h xs
       → PlanHolds d plan (record { den = den; coords = at_slots 0 h xs }) ↔ Holds d f (record { den = den; coords = at_names h xs })
-  pub lengths : (d : Catalogue) → IsWellFormed d → ((n : List ℕ) → uses n f ≡ true → SameHead (known c n) (known d n))
+  pub lengths : (d : Catalogue) → IsWellFormed d → ((n : List ℕ) → speaks_of n f ≡ true → SameHead (known c n) (known d n))
       → plan_b (measures d) plan ≤ goal_b (measures d) (goal_of h f)
-  pub rank : (d : Catalogue) → IsWellFormed d → ((n : List ℕ) → uses n f ≡ true → SameHead (known c n) (known d n))
+  pub rank : (d : Catalogue) → IsWellFormed d → ((n : List ℕ) → speaks_of n f ≡ true → SameHead (known c n) (known d n))
       → plan_rank (measures d) plan ≤ goal_rank (measures d) (goal_of h f)

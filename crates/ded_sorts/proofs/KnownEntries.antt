@@ -22,7 +22,7 @@ absent limit K [] n h k = refl
 absent limit K (e ∷ es) n h k = by (bytes_eq n (entry_name e)) refl (absent limit (with_known K e) es n h.2)
   where
     by : (b : Bool) → bytes_eq n (entry_name e) ≡ b → (is_some (with_known K e n) ≡ true → entry_of es n ≡ None) → (if bytes_eq n (entry_name e) then Some e else entry_of es n) ≡ None
-    by true b next = absurd (true≢false (sym k ∙ ap is_some (ap K ((bytes_eq-Decides n (entry_name e)).0 b) ∙ h.0)))
+    by true b next = absurd (true≢false (sym k ∙ ap is_some (ap K ((bytes_eq-Decides n (entry_name e)).0 b) ∙ h.0.0)))
     by false b next =
         ap (λ c. if c then Some e else entry_of es n) b ∙ next (ap (λ c. is_some (if c then Some (entry_known K e) else K n)) b ∙ k)
 

@@ -78,7 +78,7 @@ impl<N: Names> AtomTest for Missorted<'_, N> {
         operands: &Operands,
     ) -> Result<bool, NoMemory> {
         let has_text_sum = have_text_sum(scope, &operands.list);
-        match self.names.known(name)? {
+        match self.names.known(&name.base_name()?)? {
             None => Ok(has_text_sum),
             Some(entry) => {
                 Ok(has_text_sum || do_arguments_differ(scope, entry.columns(), &operands.list))

@@ -4,6 +4,7 @@ ghost use Rattle.ded_model.specs.Form.{form, forms};
 ghost use Rattle.ded_model.specs.Known.{is_unknown_atom, is_arity_atom, atom_level, level_with};
 ghost use Rattle.ded_model.specs.Logic.{greatest, greatest_of};
 ghost use Rattle.ded_model.specs.Entries.{known};
+ghost use Rattle.ded_model.specs.Made.{base};
 
 use crate::atoms::AtomTest;
 use crate::names::Names;
@@ -32,7 +33,7 @@ impl<N: Names> AtomTest for Undefined<'_, N> {
     }
 
     fn on_member(&self, _: &Scope<'_>, name: &Name, _: &Operands) -> Result<bool, NoMemory> {
-        Ok(self.names.known(name)?.is_none())
+        Ok(self.names.known(&name.base_name()?)?.is_none())
     }
 }
 
@@ -56,18 +57,18 @@ impl<N: Names> AtomTest for OtherArity<'_, N> {
     }
 
     fn on_member(&self, _: &Scope<'_>, name: &Name, operands: &Operands) -> Result<bool, NoMemory> {
-        match self.names.known(name)? {
+        match self.names.known(&name.base_name()?)? {
             None => Ok(false),
             Some(entry) => Ok(operands.list.len() != entry.columns().len()),
         }
     }
 }
 
-/// The level of the name, 0 where it isn't defined.
+/// The level of the name that the name is made of, 0 where that isn't defined.
 fn level_of_name<N: Names>(name: &Name, names: &N) -> Result<u32, NoMemory>
-    ensures { IfOk result (λ n. n ≡ level_with (known (N.catalogue names.now) name.now)) }
+    ensures { IfOk result (λ n. n ≡ level_with (known (N.catalogue names.now) (base name.now))) }
 {
-    match names.known(name)? {
+    match names.known(&name.base_name()?)? {
         None => Ok(0),
         Some(entry) => Ok(entry.level()),
     }

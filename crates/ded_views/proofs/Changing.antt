@@ -1,5 +1,5 @@
 -- What a change of a catalogue's entries leaves as it was, and what an insert makes of its relation.
-use Rattle.std.proofs.Common.{◌≡◌, ℕ, Bool, true, false, not, ◌||◌, cond, List, [], ◌∷◌, ◌++◌, Option, Some, None, is_some, inl, inr, refl, sym, ap, ap₂, ◌∙◌, subst, true≢false, bytes_eq}
+use Rattle.std.proofs.Common.{◌≡◌, ℕ, ◌≤◌, arith, Bool, true, false, not, ◌||◌, cond, List, [], ◌∷◌, ◌++◌, Option, Some, None, is_some, inl, inr, refl, sym, ap, ap₂, ◌∙◌, subst, true≢false, bytes_eq}
 use Rattle.std.specs.Prelude.{◌↔◌, ◌⊎◌, IsTrue}
 use Rattle.std.specs.List.{list_any}
 use Rattle.std.proofs.lemmas.Bool.{not-true, not_from_false}
@@ -12,7 +12,10 @@ use Rattle.ded_model.specs.Point.{Point}
 use Rattle.ded_model.specs.Value.{Argument}
 use Rattle.ded_model.specs.Catalogue.{Entry, relation, view, Catalogue, entry_name, tuples_of, at_slots, meaning}
 use Rattle.ded_model.specs.Entries.{known, entry_of, entry_uses, columns_in}
-use Rattle.ded_model.specs.Form.{uses}
+use Rattle.std.proofs.Math.Nat.{le_refl}
+use Rattle.ded_model.specs.Form.{speaks_of}
+use Rattle.ded_model.specs.Width.{tuples_length}
+use Rattle.ded_model.proofs.Monotone.{max-grows}
 use Rattle.ded_model.specs.Grown.{HasMoreLines, HaveMoreLines}
 use Rattle.ded_model.specs.Known.{KnownNames, AreEntriesOver, IsWellFormed, entry_known, with_known, known_from}
 use Rattle.ded_model.specs.Lines.{IsSubset, tuples_lines}
@@ -115,7 +118,7 @@ dropped c d n x none = record {
       ap (λ y. entry_of y.entries m) x.is
       ∙ sym (ap (λ es. entry_of es m) x.was ∙ entry_without x.before x.after x.old m (ap (bytes_eq m) x.named ∙ not-true (bytes_eq m n) other));
   closed = λ m m' k h f other there used. not_from_false (bytes_eq k n) (fails (bytes_eq k n)
-      (λ same. true≢false (sym (ap (λ j. uses j f) (sym ((bytes_eq-Decides k n).0 same)) ∙ used) ∙ entry_fails (entry_uses n) c.entries m (view m' h f) there none)));
+      (λ same. true≢false (sym (ap (λ j. speaks_of j f) (sym ((bytes_eq-Decides k n).0 same)) ∙ used) ∙ entry_fails (entry_uses n) c.entries m (view m' h f) there none)));
 }
 
 module _ (c d : Catalogue) (n : List ℕ) (h : List Column) (i j : ℕ) (ts us : List (ℕ × List Atom)) (x : ChangesEntry c d n (relation n h i ts) (relation n h j us)) where
@@ -174,8 +177,12 @@ more_lines : (ts : List (ℕ × List Atom)) (k : ℕ) (t : List Atom) → IsSubs
 more_lines [] k t l h = absurd h
 more_lines (x ∷ ts) k t l h = subset_append _ _ _ _ (subset_refl _) (more_lines ts k t) l h
 
+more_length : (ts : List (ℕ × List Atom)) (k : ℕ) (t : List Atom) → tuples_length (tuples_of ts) ≤ tuples_length (tuples_of (ts ++ (k, t) ∷ []))
+more_length [] k t = omega arith
+more_length (x ∷ ts) k t = let h = more_length ts k t in max-grows _ _ _ _ (le_refl _) h
+
 same_lines : (e : Entry) → HasMoreLines e e
-same_lines (relation n h i ts) = (refl, subset_refl _)
+same_lines (relation n h i ts) = (refl, refl, subset_refl _, le_refl _)
 same_lines (view n h f) = (refl, refl, refl)
 
 all_same_lines : (es : List Entry) → HaveMoreLines es es
@@ -189,7 +196,7 @@ one_more_lines (d ∷ before) after e e' h = (same_lines d, one_more_lines befor
 pub inserted_lines : (c d : Catalogue) (n : List ℕ) (t : List Atom) (k : ℕ) → Inserts c d n t k → HaveMoreLines c.entries d.entries
 inserted_lines c d n t k x =
     let lines = one_more_lines x.changes.before x.changes.after (relation n x.columns x.inserts x.present) (relation n x.columns k (x.present ++ (k, t) ∷ []))
-    (refl, more_lines x.present k t) in
+    (refl, refl, more_lines x.present k t, more_length x.present k t) in
     subst (λ es. HaveMoreLines es d.entries) (sym x.changes.was)
     (subst (HaveMoreLines (x.changes.before ++ relation n x.columns x.inserts x.present ∷ x.changes.after)) (sym (ap (λ y. y.entries) x.changes.is)) lines)
 

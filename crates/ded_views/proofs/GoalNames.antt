@@ -1,5 +1,5 @@
 -- The goal of a formula uses the names of the formula, so what is measured of it depends on these alone.
-use Rattle.std.proofs.Common.{◌≡◌, ℕ, ◌+◌, nat_lt, Bool, true, false, ◌||◌, cond, List, ◌∷◌, is_some, refl, sym, ap, ap₂, ◌∙◌, bytes_eq}
+use Rattle.std.proofs.Common.{◌≡◌, ℕ, ◌+◌, nat_lt, Bool, true, false, ◌||◌, cond, List, ◌∷◌, is_some, refl, sym, ap, ap₂, ◌∙◌, bytes_eq, true≢false}
 use Rattle.std.proofs.lemmas.Slice.Eq.{bytes_eq-Decides}
 use Rattle.ded_model.specs.declared.name.Column.{Column}
 use Rattle.ded_model.specs.declared.formula.CompareOp.{CompareOp}
@@ -9,11 +9,14 @@ use Rattle.ded_model.specs.declared.tuple.ThemeAtom.TheVariants.{EqSlot, NeSlot}
 use Rattle.ded_model.specs.Sum.{SlotSum}
 use Rattle.ded_model.specs.Point.{same_slot}
 use Rattle.ded_model.specs.Logic.{atom, always, never, negation, every_of, some_of, implies, minus, exists, forall, Logics, none, also, some_atom_of, quantifiers}
-use Rattle.ded_model.specs.Form.{Form, FormAtom, compare, member, atom_uses, uses}
+use Rattle.ded_model.specs.Form.{Form, FormAtom, compare, member, atom_uses, uses, atom_speaks_of, speaks_of}
+use Rattle.ded_model.specs.Made.{reading, base}
+use Rattle.ded_model.proofs.Entries.{measure_as-same}
+use Rattle.ded_views.proofs.Atoms.{some_passes}
 use Rattle.ded_model.specs.Goal.{GoalForm, GoalAtom, linear, theme}
 use Rattle.ded_model.specs.Goal as goal
 use Rattle.ded_model.specs.Known.{KnownNames, uses_unknown}
-use Rattle.ded_model.specs.Measure.{Measure, Measures, goal_atom_b, goal_atom_rank, goal_atom_lines, goal_atom_clash, goal_b, goal_rank, goal_lines, goal_clashes}
+use Rattle.ded_model.specs.Measure.{Measure, Measures, goal_atom_b, goal_atom_rank, goal_atom_lines, goal_atom_clash, goal_b, goal_rank, goal_lines, goal_clashes, read_measure}
 use Rattle.ded_model.specs.Slotted.{SlotScope, slot_sum, sums_goal, TextSide, at, word, text_side, same_text_goal, other_text_goal, texts_goal, is_text_operand, compare_goal, goal_below, goals_below, goal_of}
 use Rattle.ded_model.specs.Uses.{goal_atom_uses, goal_uses}
 use Rattle.ded_model.proofs.Alike.{all_atoms}
@@ -93,11 +96,15 @@ goal_names h f n = used_below n _ _ f
 -- ---- measures
 
 abbrev atom_measure : Measures → GoalAtom → Measure
-atom_measure M a = record { b = goal_atom_b M a; rank = goal_atom_rank M a; lines = goal_atom_lines M a; clash = goal_atom_clash M a }
+atom_measure M a = record { b = goal_atom_b M a; rank = goal_atom_rank M a; lines = goal_atom_lines M a; clash = goal_atom_clash M a; columns = 0 }
 
 -- what a view measures
 abbrev pub goal_measure : Measures → GoalForm → Measure
-goal_measure M g = record { b = goal_b M g; rank = goal_rank M g; lines = goal_lines M g; clash = goal_clashes M g }
+goal_measure M g = record { b = goal_b M g; rank = goal_rank M g; lines = goal_lines M g; clash = goal_clashes M g; columns = 0 }
+
+-- with the columns of the view
+abbrev pub with_columns : ℕ → Measure → Measure
+with_columns k x = record { b = x.b; rank = x.rank; lines = x.lines; clash = x.clash; columns = k }
 
 -- names that it uses are measured alike
 module _ (M N : Measures) where
@@ -111,7 +118,20 @@ module _ (M N : Measures) where
       measured-same (atom_measure N) (atom_measure M) (goal_of h f)
       (all_atoms goal_atom_uses (λ n. N n ≡ M n) (λ a. atom_measure N a ≡ atom_measure M a) step (goal_of h f) (λ n e. same n (sym (goal_names h f n) ∙ e)))
 
+-- a formula speaks of what the names are made of that it uses
+pub speaks_used : (f : Form) (n : List ℕ) → uses n f ≡ true → speaks_of (base n) f ≡ true
+speaks_used f n u = some_passes (atom_uses n) (atom_speaks_of (base n)) one f u
+  where
+    one : (a : FormAtom) → atom_uses n a ≡ true → atom_speaks_of (base n) a ≡ true
+    one (compare l op r) e = absurd (true≢false (sym e))
+    one (member m ts) e = (bytes_eq-Decides (base n) (base m)).1 (ap base ((bytes_eq-Decides n m).0 e))
+
+-- where the names are measured alike of which it speaks
+pub measure_of_spoken : (M N : Measures) (h : List Column) (f : Form) → ((n : List ℕ) → speaks_of n f ≡ true → N n ≡ M n)
+    → goal_measure (read_measure N) (goal_of h f) ≡ goal_measure (read_measure M) (goal_of h f)
+measure_of_spoken M N h f same = measure_of_used (read_measure M) (read_measure N) h f (λ n u. measure_as-same N M n (reading n) (same (base n) (speaks_used f n u)))
+
 -- known names are measured alike
 module _ (K : KnownNames) (M N : Measures) (kept : (m : List ℕ) → is_some (K m) ≡ true → N m ≡ M m) where
-  pub measure_same : (h : List Column) (f : Form) → uses_unknown K f ≡ false → goal_measure N (goal_of h f) ≡ goal_measure M (goal_of h f)
-  measure_same h f u = measure_of_used M N h f (λ n e. kept n (used_known K f n u e))
+  pub measure_same : (h : List Column) (f : Form) → uses_unknown K f ≡ false → goal_measure (read_measure N) (goal_of h f) ≡ goal_measure (read_measure M) (goal_of h f)
+  measure_same h f u = measure_of_spoken M N h f (λ n e. kept n (used_known K f n u e))

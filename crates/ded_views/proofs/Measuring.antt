@@ -8,25 +8,25 @@ use Rattle.ded_model.specs.Measure.{Measure}
 
 -- the measure of a formula, from those of its atoms
 abbrev pub measured : {L : Type 0} → (L → Measure) → Logic L → Measure
-measured t f = record { b = greatest (λ a. (t a).b) f; rank = rank (λ a. (t a).rank) f; lines = lines (λ a. (t a).lines) f; clash = clashes (λ a. (t a).lines) (λ a. (t a).clash) f }
+measured t f = record { b = greatest (λ a. (t a).b) f; rank = rank (λ a. (t a).rank) f; lines = lines (λ a. (t a).lines) f; clash = clashes (λ a. (t a).lines) (λ a. (t a).clash) f; columns = 0 }
 
 abbrev measured_of : {L : Type 0} → (L → Measure) → Logics L → Measure
 measured_of t fs =
-    record { b = greatest_of (λ a. (t a).b) fs; rank = greatest_rank (λ a. (t a).rank) fs; lines = all_lines (λ a. (t a).lines) fs; clash = any_clashes (λ a. (t a).lines) (λ a. (t a).clash) fs }
+    record { b = greatest_of (λ a. (t a).b) fs; rank = greatest_rank (λ a. (t a).rank) fs; lines = all_lines (λ a. (t a).lines) fs; clash = any_clashes (λ a. (t a).lines) (λ a. (t a).clash) fs; columns = 0 }
 
 -- of two parts
 abbrev both : Measure → Measure → Measure
-both x y = record { b = max x.b y.b; rank = max x.rank y.rank; lines = x.lines ++ y.lines; clash = x.clash || y.clash }
+both x y = record { b = max x.b y.b; rank = max x.rank y.rank; lines = x.lines ++ y.lines; clash = x.clash || y.clash; columns = 0 }
 
 -- past a quantifier
 abbrev past : Sort → Key → Measure → Measure
-past s k x = record { b = x.b; rank = one_more s x.rank; lines = elim_past s k x.lines; clash = x.clash || clash_past s k x.lines }
+past s k x = record { b = x.b; rank = one_more s x.rank; lines = elim_past s k x.lines; clash = x.clash || clash_past s k x.lines; columns = 0 }
 
 module _ {L : Type 0} (t t' : L → Measure) where
   mutual
     -- the law
     pub measured-same : (f : Logic L) → AllAtoms (λ a. t a ≡ t' a) f → measured t f ≡ measured t' f
-    measured-same (atom a) h = h
+    measured-same (atom a) h = ap (λ (x : Measure). record { b = x.b; rank = x.rank; lines = x.lines; clash = x.clash; columns = 0 }) h
     measured-same always h = refl
     measured-same never h = refl
     measured-same (negation f) h = measured-same f h

@@ -7,10 +7,11 @@ use Rattle.std.proofs.lemmas.Option.{same_Some, none-some}
 use Rattle.std.proofs.lemmas.Slice.Eq.{bytes_eq-Decides}
 use Rattle.std.specs.Prelude.{MatchBool}
 use Rattle.ded_model.specs.Value.{Meaning}
-use Rattle.ded_model.specs.Catalogue.{Entry, Catalogue, entry_name, entry_meaning, with_entry, meaning_from, meaning}
+use Rattle.ded_model.specs.Catalogue.{Entry, Catalogue, entry_name, entry_meaning, with_entry, meaning_from, stored}
+use Rattle.ded_model.specs.Made.{is_made}
 use Rattle.ded_model.specs.Entries.{known, entry_of}
-use Rattle.ded_model.specs.Known.{KnownNames, IsEntryOver, AreEntriesOver, IsWellFormed, entry_known, with_known, known_from, known_of}
-use Rattle.ded_model.specs.Measure.{Measures, entry_measure, with_measure, measures_from, measures}
+use Rattle.ded_model.specs.Known.{KnownNames, IsEntryOver, IsNewName, AreEntriesOver, IsWellFormed, entry_known, with_known, known_from, known_of}
+use Rattle.ded_model.specs.Measure.{Measures, entry_measure, with_measure, measures_from, stored_measures}
 use Rattle.ded_views.specs.Reaching.{entry_reaches, with_reach, reach_from, reaches}
 use Rattle.ded_views.proofs.Folds.{there, kept}
 
@@ -23,7 +24,7 @@ abbrev pub none_means : Meaning
 none_means n den xs = ⊥
 
 abbrev pub none_measured : Measures
-none_measured n = record { b = 0; rank = 0; lines = []; clash = false }
+none_measured n = record { b = 0; rank = 0; lines = []; clash = false; columns = 0 }
 
 abbrev pub none_reached : List ℕ → List ℕ → Bool
 none_reached n m = false
@@ -32,12 +33,12 @@ pub known-is : (c : Catalogue) → known c ≡ known_from none_known c.entries
 unfolding known_of
 known-is c = refl
 
-meaning-is : (c : Catalogue) → meaning c ≡ meaning_from none_means c.entries
-unfolding meaning
+meaning-is : (c : Catalogue) → stored c ≡ meaning_from none_means c.entries
+unfolding stored
 meaning-is c = refl
 
-measures-is : (c : Catalogue) → measures c ≡ measures_from none_measured c.entries
-unfolding measures
+measures-is : (c : Catalogue) → stored_measures c ≡ measures_from none_measured c.entries
+unfolding stored_measures
 measures-is c = refl
 
 pub reaches-is : (c : Catalogue) → reaches c ≡ reach_from none_reached c.entries
@@ -75,12 +76,12 @@ known_there c before after e n p l =
     ap (λ J. J n) (known-is c) ∙ there with_known known_from (λ J. refl) (λ J d es. refl) known_other before after c.entries e none_known n p l
 
 meaning_there : (c : Catalogue) (before after : List Entry) (e : Entry) (n : List ℕ) → c.entries ≡ before ++ e ∷ after → entry_of after n ≡ None
-    → meaning c n ≡ with_entry (meaning_from none_means before) e n
+    → stored c n ≡ with_entry (meaning_from none_means before) e n
 meaning_there c before after e n p l =
     ap (λ J. J n) (meaning-is c) ∙ there with_entry meaning_from (λ J. refl) (λ J d es. refl) means_other before after c.entries e none_means n p l
 
 measure_there : (c : Catalogue) (before after : List Entry) (e : Entry) (n : List ℕ) → c.entries ≡ before ++ e ∷ after → entry_of after n ≡ None
-    → measures c n ≡ with_measure (measures_from none_measured before) e n
+    → stored_measures c n ≡ with_measure (measures_from none_measured before) e n
 measure_there c before after e n p l =
     ap (λ J. J n) (measures-is c) ∙ there with_measure measures_from (λ J. refl) (λ J d es. refl) measures_other before after c.entries e none_measured n p l
 
@@ -96,11 +97,11 @@ pub unknown : (c : Catalogue) (n : List ℕ) → entry_of c.entries n ≡ None �
 unknown c n h = ap (λ K. K n) (known-is c) ∙ kept with_known known_from (λ J. refl) (λ J e es. refl) known_other c.entries none_known n h
 
 -- it holds nowhere
-pub meaningless : (c : Catalogue) (n : List ℕ) → entry_of c.entries n ≡ None → meaning c n ≡ none_means n
+pub meaningless : (c : Catalogue) (n : List ℕ) → entry_of c.entries n ≡ None → stored c n ≡ none_means n
 meaningless c n h = ap (λ I. I n) (meaning-is c) ∙ kept with_entry meaning_from (λ J. refl) (λ J e es. refl) means_other c.entries none_means n h
 
 -- has no rows
-pub unmeasured : (c : Catalogue) (n : List ℕ) → entry_of c.entries n ≡ None → measures c n ≡ none_measured n
+pub unmeasured : (c : Catalogue) (n : List ℕ) → entry_of c.entries n ≡ None → stored_measures c n ≡ none_measured n
 unmeasured c n h = ap (λ M. M n) (measures-is c) ∙ kept with_measure measures_from (λ J. refl) (λ J e es. refl) measures_other c.entries none_measured n h
 
 -- and reaches none
@@ -121,7 +122,7 @@ not_new K n m new k = by (bytes_eq n m) refl
 pub no_later : (limit : ℕ) (K : KnownNames) (es : List Entry) (n : List ℕ) → AreEntriesOver limit K es → is_some (K n) ≡ true → entry_of es n ≡ None
 no_later limit K [] n w k = refl
 no_later limit K (e ∷ es) n w k =
-    let other : bytes_eq n (entry_name e) ≡ false = not_new K n (entry_name e) w.0 k in
+    let other : bytes_eq n (entry_name e) ≡ false = not_new K n (entry_name e) w.0.0 k in
     ap (λ c. cond c (Some e) (entry_of es n)) other ∙ no_later limit (with_known K e) es n w.2 (ap (λ c. is_some (cond c (Some (entry_known K e)) (K n))) other ∙ k)
 
 -- ---- the entry of a name
@@ -132,7 +133,7 @@ record IsPlaced (limit : ℕ) (K : KnownNames) (es : List Entry) (n : List ℕ) 
   after : List Entry
   parts : es ≡ before ++ e ∷ after
   named : n ≡ entry_name e
-  new : known_from K before (entry_name e) ≡ None
+  new : IsNewName (known_from K before) (entry_name e)
   over : IsEntryOver limit (known_from K before) e
   rest : AreEntriesOver limit (with_known (known_from K before) e) after
 
@@ -162,14 +163,15 @@ pub record IsRead (c : Catalogue) (n : List ℕ) (e : Entry) : Type 1 where
   pub M : Measures
   pub R : List ℕ → List ℕ → Bool
   pub named : n ≡ entry_name e
+  pub plain : is_made n ≡ false
   pub over : IsEntryOver c.limit K e
   pub own_known : known c n ≡ Some (entry_known K e)
-  pub own_meaning : meaning c n ≡ entry_meaning I e
-  pub own_measure : measures c n ≡ entry_measure M e
+  pub own_meaning : stored c n ≡ entry_meaning I e
+  pub own_measure : stored_measures c n ≡ entry_measure M e
   pub own_reach : reaches c n ≡ entry_reaches R e
   pub kept_known : (m : List ℕ) → is_some (K m) ≡ true → known c m ≡ K m
-  pub kept_meaning : (m : List ℕ) → is_some (K m) ≡ true → meaning c m ≡ I m
-  pub kept_measure : (m : List ℕ) → is_some (K m) ≡ true → measures c m ≡ M m
+  pub kept_meaning : (m : List ℕ) → is_some (K m) ≡ true → stored c m ≡ I m
+  pub kept_measure : (m : List ℕ) → is_some (K m) ≡ true → stored_measures c m ≡ M m
   pub kept_reach : (m : List ℕ) → is_some (K m) ≡ true → reaches c m ≡ R m
 
 pub entry_read : (c : Catalogue) → IsWellFormed c → (n : List ℕ) (e : Entry) → entry_of c.entries n ≡ Some e → IsRead c n e
@@ -182,6 +184,7 @@ entry_read c w n e h = by (placed c.limit none_known c.entries n e w h)
       M = M;
       R = R;
       named = p.named;
+      plain = ap is_made p.named ∙ p.new.1;
       over = p.over;
       own_known = known_there c p.before p.after e n p.parts own_later ∙ own_added;
       own_meaning = meaning_there c p.before p.after e n p.parts own_later ∙ means_own I e n own;
@@ -215,7 +218,7 @@ entry_read c w n e h = by (placed c.limit none_known c.entries n e w h)
         own_later = no_later c.limit (with_known K e) p.after n p.rest (ap is_some own_added)
 
         other : (m : List ℕ) → is_some (K m) ≡ true → bytes_eq m (entry_name e) ≡ false
-        other m k = not_new K m (entry_name e) p.new k
+        other m k = not_new K m (entry_name e) p.new.0 k
 
         later : (m : List ℕ) → is_some (K m) ≡ true → entry_of p.after m ≡ None
         later m k = no_later c.limit (with_known K e) p.after m p.rest (ap (λ c. is_some (cond c (Some (entry_known K e)) (K m))) (other m k) ∙ k)

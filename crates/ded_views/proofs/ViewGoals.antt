@@ -6,6 +6,7 @@ use Rattle.ded_model.specs.declared.name.Column.{Column}
 use Rattle.ded_model.specs.Catalogue.{Entry, relation, view, Catalogue}
 use Rattle.ded_model.specs.Entries.{entry_of, view_in}
 use Rattle.ded_model.specs.Form.{Form, FormAtom, compare, member, atom_uses, uses}
+use Rattle.ded_model.specs.Made.{base}
 use Rattle.ded_model.specs.Goal.{GoalForm}
 use Rattle.ded_model.specs.Logic.{some_atom}
 use Rattle.ded_model.specs.Slotted.{goal_of}
@@ -31,11 +32,11 @@ view_goal c n g e = by (entry_of c.entries n) refl e
     by (Some (relation m h i ts)) f e = absurd (none-some g (sym e))
     by (Some (view m h x)) f e = record { own = m; columns = h; formula = x; entry = f; goal = same_Some g (goal_of h x) e }
 
--- some name that the formula uses reaches the name
+-- some name that the formula uses is made of one that reaches the name
 pub record IsReachedByUsed (R : List ℕ → List ℕ → Bool) (r : List ℕ) (f : Form) : Type 0 where
   pub name : List ℕ
   pub used : uses name f ≡ true
-  pub reaches : R name r ≡ true
+  pub reaches : R (base name) r ≡ true
 
 pub reached_by_used : (R : List ℕ → List ℕ → Bool) (r : List ℕ) (f : Form) → some_atom (atom_reaches R r) f ≡ true → IsReachedByUsed R r f
 reached_by_used R r f h =

@@ -2,13 +2,14 @@
 use Rattle.std.specs.Prelude.{ℕ, Bool, false, ◌||◌, List, [], ◌∷◌, if◌then◌else◌}
 use Rattle.std.specs.Str.{bytes_eq}
 use Rattle.ded_model.specs.Logic.{some_atom}
+use Rattle.ded_model.specs.Made.{base}
 use Rattle.ded_model.specs.Form.{FormAtom, compare, member}
 use Rattle.ded_model.specs.Catalogue.{Entry, relation, view, Catalogue, entry_name}
 
--- an atom reaches what its name does, where R says which names a name reaches
+-- an atom reaches what its name does, or the name that it is made of, where R says which names a name reaches
 abbrev pub atom_reaches : (List ℕ → List ℕ → Bool) → List ℕ → FormAtom → Bool
 atom_reaches R m (compare l op r) = false
-atom_reaches R m (member k ts) = R k m
+atom_reaches R m (member k ts) = R (base k) m
 
 -- a relation reaches itself; a view itself, and what a name in its formula reaches
 abbrev pub entry_reaches : (List ℕ → List ℕ → Bool) → Entry → List ℕ → Bool

@@ -5,12 +5,13 @@ ghost use Rattle.std.specs.List.{AllByRecursion, list_any};
 ghost use Rattle.ded_model.specs.declared.name.Column.{Column};
 ghost use Rattle.ded_model.specs.Catalogue.{Entry, relation, view, Catalogue, tuples_of, at_slots, at_names, meaning, Holds, PlanHolds};
 ghost use Rattle.ded_model.specs.Entries.{known, entry_of, entry_uses, columns_in};
-ghost use Rattle.ded_model.specs.Form.{Form, uses};
+ghost use Rattle.ded_model.specs.Form.{Form, uses, speaks_of};
 ghost use Rattle.ded_model.specs.Goal.{GoalForm};
 ghost use Rattle.ded_model.specs.Grown.{HaveMoreLines};
 ghost use Rattle.ded_model.specs.Known.{IsAccepted, IsTupleOver, IsWellFormed, entry_known, level_of, level_with};
 ghost use Rattle.ded_model.specs.Logic.{some_atom};
-ghost use Rattle.ded_model.specs.Measure.{Measures, measures, entry_measure, goal_clashes, plan_clashes};
+ghost use Rattle.ded_model.specs.Made.{base, is_made};
+ghost use Rattle.ded_model.specs.Measure.{Measures, stored_measures, measures, entry_measure, goal_clashes, plan_clashes};
 ghost use Rattle.ded_model.specs.PlanForm.{PlanForm};
 ghost use Rattle.ded_model.specs.Point.{Point, IsPoint};
 ghost use Rattle.ded_model.specs.Row.{Atom, tuple_holds, tuples_hold};
@@ -31,22 +32,25 @@ pub fn meanings()
         → (d : ℕ) (xs : List Argument) → meaning c n d xs ↔ Holds c f (record { den = d; coords = at_names h xs }) }
 {}
 
-/// What is measured and what is known of a name of a well formed catalogue is that of its entry over the whole catalogue.
+/// What is measured and what is known of a name of a well formed catalogue is that of its entry over the whole catalogue. The name is not
+/// made of another one.
 pub fn entries()
-    ensures measure { (c : Catalogue) → IsWellFormed c → (n : List ℕ) (e : Entry) → entry_of c.entries n ≡ Some e → measures c n ≡ entry_measure (measures c) e }
+    ensures measure { (c : Catalogue) → IsWellFormed c → (n : List ℕ) (e : Entry) → entry_of c.entries n ≡ Some e → measures c n ≡ entry_measure (stored_measures c) e }
+    ensures stored { (c : Catalogue) → IsWellFormed c → (n : List ℕ) (e : Entry) → entry_of c.entries n ≡ Some e → stored_measures c n ≡ entry_measure (stored_measures c) e }
+    ensures plain { (c : Catalogue) → IsWellFormed c → (n : List ℕ) (e : Entry) → entry_of c.entries n ≡ Some e → is_made n ≡ false }
     ensures known { (c : Catalogue) → IsWellFormed c → (n : List ℕ) (e : Entry) → entry_of c.entries n ≡ Some e → known c n ≡ Some (entry_known (known c) e) }
     ensures unknown { (c : Catalogue) (n : List ℕ) → entry_of c.entries n ≡ None → known c n ≡ None }
 {}
 
 /// In a well formed catalogue the tuples of a relation are over its columns. The formula of a view is accepted over all names, its level
-/// is at most 16, and each name that it uses has a lesser level than the view.
+/// is at most 16, and each name that it speaks of has a lesser level than the view.
 pub fn well_formed()
     ensures tuples { (c : Catalogue) → IsWellFormed c → (n m : List ℕ) (h : List Column) (i : ℕ) (ts : List (ℕ × List Atom)) → entry_of c.entries n ≡ Some (relation m h i ts)
         → AllByRecursion (IsTupleOver h) (tuples_of ts) }
     ensures accepted { (c : Catalogue) → IsWellFormed c → (n m : List ℕ) (h : List Column) (f : Form) → entry_of c.entries n ≡ Some (view m h f) → IsAccepted (known c) h f }
     ensures level { (c : Catalogue) → IsWellFormed c → (n : List ℕ) → level_with (known c n) ≤ 16 }
     ensures lesser { (c : Catalogue) → IsWellFormed c → (n m : List ℕ) (h : List Column) (f : Form) → entry_of c.entries n ≡ Some (view m h f)
-        → (k : List ℕ) → uses k f ≡ true → level_with (known c k) < level_with (known c n) }
+        → (k : List ℕ) → speaks_of k f ≡ true → level_with (known c k) < level_with (known c n) }
 {}
 
 /// A plan holds alike over two catalogues in which the names that it scans mean the same of all byte strings.
@@ -73,16 +77,17 @@ pub fn reached()
     ensures view { (c : Catalogue) → IsWellFormed c → (n m : List ℕ) (h : List Column) (f : Form) → entry_of c.entries n ≡ Some (view m h f)
         → (r : List ℕ) → reaches c n r ≡ (bytes_eq n r || some_atom (atom_reaches (reaches c) r) f) }
     ensures used { (c : Catalogue) → IsWellFormed c → (n m : List ℕ) (h : List Column) (f : Form) → entry_of c.entries n ≡ Some (view m h f)
-        → (k r : List ℕ) → uses k f ≡ true → reaches c k r ≡ true → reaches c n r ≡ true }
+        → (k r : List ℕ) → speaks_of k f ≡ true → reaches c k r ≡ true → reaches c n r ≡ true }
     ensures undefined { (c : Catalogue) (n : List ℕ) → entry_of c.entries n ≡ None → (r : List ℕ) → reaches c n r ≡ false }
 {}
 
-/// Names that a change doesn't touch mean the same, have the same measures, are known alike and reach the same.
+/// Names that a change doesn't touch, and those that are made of them, mean the same and have the same measures. They are known alike and
+/// reach the same.
 pub fn unaffected()
     ensures meaning { (c d : Catalogue) → IsWellFormed c → IsWellFormed d → (among : List ℕ → Bool) → AreUnaffected c d among
-        → (n : List ℕ) → among n ≡ true → MeansAlike c d n }
+        → (n : List ℕ) → among (base n) ≡ true → MeansAlike c d n }
     ensures measure { (c d : Catalogue) → IsWellFormed c → IsWellFormed d → (among : List ℕ → Bool) → AreUnaffected c d among
-        → (n : List ℕ) → among n ≡ true → measures d n ≡ measures c n }
+        → (n : List ℕ) → among (base n) ≡ true → measures d n ≡ measures c n }
     ensures known { (c d : Catalogue) → IsWellFormed c → IsWellFormed d → (among : List ℕ → Bool) → AreUnaffected c d among
         → (n : List ℕ) → among n ≡ true → known d n ≡ known c n }
     ensures reach { (c d : Catalogue) → IsWellFormed c → IsWellFormed d → (among : List ℕ → Bool) → AreUnaffected c d among

@@ -17,7 +17,8 @@ use Rattle.ded_model.specs.Logic.{atom, every_of, exists, none, also}
 use Rattle.ded_model.specs.Point.{name}
 use Rattle.ded_model.specs.Catalogue.{relation, view, Catalogue}
 use Rattle.ded_model.specs.Slotted.{goal_of}
-use Rattle.ded_model.specs.Measure.{goal_b, goal_rank, measures, IsNarrow}
+use Rattle.ded_model.specs.Made.{reading}
+use Rattle.ded_model.specs.Measure.{goal_b, goal_rank, measures, IsNarrow, stored_measures}
 use Rattle.ded_model.specs.Width.{IsNarrowWith}
 
 -- ---- how formulas are written
@@ -92,7 +93,7 @@ wide_at c h f b q w l n = absurd_of (subst (IsNarrowWith b) w.1 (subst (λ m. Is
 
 -- exists x (y <= 2*x) over y: numbers of 2 digits, and one quantifier
 once_width : IsWidth empty over_y (some_of_times 1 x below_twice) 2 1
-unfolding IsWidth goal_of measures normal_row denominator length_of nat_gcd
+unfolding IsWidth goal_of measures stored_measures reading normal_row denominator length_of nat_gcd
 once_width = (refl, refl)
 
 once_narrow : IsNarrow empty over_y (some_of_times 1 x below_twice)
@@ -100,14 +101,14 @@ once_narrow = narrow_at empty over_y _ 2 1 once_width (omega arith)
 
 -- five such quantifiers are narrow, 3 * 2 ^ 5 being 96, and six are not
 five_width : IsWidth empty over_y (some_of_times 5 x below_twice) 2 5
-unfolding IsWidth goal_of measures normal_row denominator length_of nat_gcd
+unfolding IsWidth goal_of measures stored_measures reading normal_row denominator length_of nat_gcd
 five_width = (refl, refl)
 
 five_narrow : IsNarrow empty over_y (some_of_times 5 x below_twice)
 five_narrow = narrow_at empty over_y _ 2 5 five_width (omega arith)
 
 six_width : IsWidth empty over_y (some_of_times 6 x below_twice) 2 6
-unfolding IsWidth goal_of measures normal_row denominator length_of nat_gcd
+unfolding IsWidth goal_of measures stored_measures reading normal_row denominator length_of nat_gcd
 six_width = (refl, refl)
 
 six_wide : IsNarrow empty over_y (some_of_times 6 x below_twice) → ⊥
@@ -117,7 +118,7 @@ six_wide = wide_at empty over_y _ 2 6 six_width (omega arith)
 
 -- T(y) and V(2*y): the view's quantifier and the argument count, and the relation's number has 3 digits
 names_width : IsWidth with_view over_y both_names 3 2
-unfolding IsWidth goal_of measures normal_row denominator length_of nat_gcd
+unfolding IsWidth goal_of measures stored_measures reading normal_row denominator length_of nat_gcd
 names_width = (refl, refl)
 
 names_narrow : IsNarrow with_view over_y both_names

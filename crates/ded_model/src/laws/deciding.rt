@@ -10,7 +10,7 @@ ghost use Rattle.ded_model.specs.Goal.{GoalForm};
 ghost use Rattle.ded_model.specs.Logic.{negation, some_of, implies, exists, forall, none, also};
 ghost use Rattle.ded_model.specs.PlanForm.{PlanForm};
 ghost use Rattle.ded_model.specs.Point.{Key, Point};
-ghost use Rattle.ded_model.specs.Catalogue.{Catalogue, Holds, GoalHolds, PlanHolds};
+ghost use Rattle.ded_model.specs.Catalogue.{Catalogue, Holds, GoalHolds, PlanHolds, GivenHolds};
 
 /// A formula holds at a point, or it does not.
 pub fn formulas_are_decided()
@@ -27,6 +27,11 @@ pub fn plans_are_decided()
     ensures { (c : Catalogue) (f : PlanForm) (p : Point) → PlanHolds c f p ⊎ (¬ PlanHolds c f p) }
 {}
 
+/// A plan over given relations holds at a point, or it does not.
+pub fn given_plans_are_decided()
+    ensures { (c : Catalogue) (f : PlanForm) (p : Point) → GivenHolds c f p ⊎ (¬ GivenHolds c f p) }
+{}
+
 /// A formula that cannot fail at a point holds there: a double negation says no more.
 pub fn formulas_are_stable()
     ensures { (c : Catalogue) (f : Form) (p : Point) → ¬ (¬ Holds c f p) → Holds c f p }
@@ -40,6 +45,11 @@ pub fn goals_are_stable()
 /// A plan that cannot fail at a point holds there: a complement of a complement is the plan itself.
 pub fn plans_are_stable()
     ensures { (c : Catalogue) (f : PlanForm) (p : Point) → ¬ (¬ PlanHolds c f p) → PlanHolds c f p }
+{}
+
+/// A plan over given relations that cannot fail at a point holds there.
+pub fn given_plans_are_stable()
+    ensures { (c : Catalogue) (f : PlanForm) (p : Point) → ¬ (¬ GivenHolds c f p) → GivenHolds c f p }
 {}
 
 /// A formula holds of every value where there is no value of which it fails.

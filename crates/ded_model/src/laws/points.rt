@@ -12,8 +12,9 @@ ghost use Rattle.ded_model.specs.Form.{Form, uses};
 ghost use Rattle.ded_model.specs.Goal.{GoalForm, goal_mentions};
 ghost use Rattle.ded_model.specs.PlanForm.{PlanForm, plan_mentions};
 ghost use Rattle.ded_model.specs.Value.{Argument};
-ghost use Rattle.ded_model.specs.Catalogue.{Entry, Catalogue, entry_name, entry_meaning, meaning, Holds, GoalHolds, PlanHolds, form_mentions, AreAlike};
-ghost use Rattle.ded_model.specs.Measure.{measures, entry_measure};
+ghost use Rattle.ded_model.specs.Catalogue.{Entry, Catalogue, entry_name, entry_meaning, stored, meaning, Holds, GoalHolds, PlanHolds, GivenHolds, form_mentions, AreAlike};
+ghost use Rattle.ded_model.specs.Made.{base, is_made};
+ghost use Rattle.ded_model.specs.Measure.{stored_measures, measures, entry_measure};
 ghost use Rattle.ded_model.specs.Known.{known_of, entry_known};
 ghost use Rattle.ded_model.specs.Uses.{MeansAlike, goal_uses, plan_uses};
 
@@ -59,6 +60,14 @@ pub fn plans()
         → IsSamePoint p q → PlanHolds c f p → PlanHolds c f q }
 {}
 
+/// The same of a plan over given relations.
+pub fn given_plans()
+    ensures values { (c : Catalogue) (f : PlanForm) (p q : Point) → 0 < p.den → 0 < q.den
+        → ((k : Key) → plan_mentions f k ≡ true → IsSameAt p q k) → GivenHolds c f p → GivenHolds c f q }
+    ensures point { (c : Catalogue) (f : PlanForm) (p q : Point) → 0 < p.den → 0 < q.den
+        → IsSamePoint p q → GivenHolds c f p → GivenHolds c f q }
+{}
+
 /// Where a formula does not mention a key freely, it holds alike at a point and at each extension of it at the key. A
 /// quantifier over the key changes nothing.
 pub fn unmentioned_in_formulas()
@@ -90,17 +99,37 @@ pub fn unmentioned_in_plans()
         → PlanHolds c (exists s k f) p ↔ PlanHolds c f p }
 {}
 
-/// A new entry at the end of a catalogue leaves what the other names mean, what is measured of them and what is known of
-/// them. Of its own name all this is read over the entries before it.
-pub fn new_entry()
-    ensures meaning_other { (c d : Catalogue) (e : Entry) (n : List ℕ) → d.entries ≡ c.entries ++ e ∷ [] → bytes_eq n (entry_name e) ≡ false
-        → MeansAlike d c n }
+/// A new entry at the end of a catalogue leaves what the other entries mean and what is measured of them. Under its own
+/// name it means, and measures, what it does over the entries before it.
+pub fn new_stored()
+    ensures meaning_other { (c d : Catalogue) (e : Entry) (n : List ℕ) (den : ℕ) (xs : List Argument) → d.entries ≡ c.entries ++ e ∷ []
+        → bytes_eq n (entry_name e) ≡ false → stored d n den xs ↔ stored c n den xs }
     ensures meaning_own { (c d : Catalogue) (e : Entry) (den : ℕ) (xs : List Argument) → d.entries ≡ c.entries ++ e ∷ []
-        → meaning d (entry_name e) den xs ↔ entry_meaning (meaning c) e den xs }
+        → stored d (entry_name e) den xs ↔ entry_meaning (stored c) e den xs }
     ensures measure_other { (c d : Catalogue) (e : Entry) (n : List ℕ) → d.entries ≡ c.entries ++ e ∷ [] → bytes_eq n (entry_name e) ≡ false
-        → measures d n ≡ measures c n }
+        → stored_measures d n ≡ stored_measures c n }
     ensures measure_own { (c d : Catalogue) (e : Entry) → d.entries ≡ c.entries ++ e ∷ []
-        → measures d (entry_name e) ≡ entry_measure (measures c) e }
+        → stored_measures d (entry_name e) ≡ entry_measure (stored_measures c) e }
+{}
+
+/// A name that is not made of another means, and measures, what is stored under it.
+pub fn plain_names()
+    ensures meaning { (c : Catalogue) (n : List ℕ) (den : ℕ) (xs : List Argument) → is_made n ≡ false → meaning c n den xs ↔ stored c n den xs }
+    ensures measure { (c : Catalogue) (n : List ℕ) → is_made n ≡ false → measures c n ≡ stored_measures c n }
+{}
+
+/// A new entry at the end of a catalogue leaves what the other names mean, what is measured of them and what is known of
+/// them, but for its own closure and interior. Of its own name, if it is not a made one, all this is read over the entries
+/// before it.
+pub fn new_entry()
+    ensures meaning_other { (c d : Catalogue) (e : Entry) (n : List ℕ) → d.entries ≡ c.entries ++ e ∷ [] → bytes_eq (base n) (entry_name e) ≡ false
+        → MeansAlike d c n }
+    ensures meaning_own { (c d : Catalogue) (e : Entry) (den : ℕ) (xs : List Argument) → d.entries ≡ c.entries ++ e ∷ [] → is_made (entry_name e) ≡ false
+        → meaning d (entry_name e) den xs ↔ entry_meaning (stored c) e den xs }
+    ensures measure_other { (c d : Catalogue) (e : Entry) (n : List ℕ) → d.entries ≡ c.entries ++ e ∷ [] → bytes_eq (base n) (entry_name e) ≡ false
+        → measures d n ≡ measures c n }
+    ensures measure_own { (c d : Catalogue) (e : Entry) → d.entries ≡ c.entries ++ e ∷ [] → is_made (entry_name e) ≡ false
+        → measures d (entry_name e) ≡ entry_measure (stored_measures c) e }
     ensures known_other { (es : List Entry) (e : Entry) (n : List ℕ) → bytes_eq n (entry_name e) ≡ false
         → known_of (es ++ e ∷ []) n ≡ known_of es n }
     ensures known_own { (es : List Entry) (e : Entry) → known_of (es ++ e ∷ []) (entry_name e) ≡ Some (entry_known (known_of es) e) }

@@ -6,7 +6,7 @@ use Rattle.ded_model.specs.Logic.{atom, negation, every_of, some_of, minus, exis
 use Rattle.ded_model.specs.Point.{slot}
 use Rattle.ded_model.specs.Coefs.{AreCoefs}
 use Rattle.ded_model.specs.Lines.{any_clashes}
-use Rattle.ded_model.specs.Measure.{measures, plan_atom_lines, plan_atom_clash, plan_clashes}
+use Rattle.ded_model.specs.Measure.{stored_measures, plan_atom_lines, plan_atom_clash, plan_clashes}
 use Rattle.ded_model.specs.PlanForm.{rows, plan_form, plan_forms}
 use Rattle.ded_model.proofs.Rows.{or_right}
 use Rattle.ded_genrel.specs.Rounds.{AreRational}
@@ -59,7 +59,7 @@ evaluate_counted-returns-in_ok-distinct-in-Project-clause-is g t c =
 
 pub evaluate_counted-returns-in_err-list-in-Project-clause-wide : goal.evaluate_counted-returns-in_err-list-in-Project-clause-wide
 evaluate_counted-returns-in_err-list-in-Project-clause-wide g t c w =
-    let M = measures (g.R.Relations.catalogue c.args.relations.now) in
+    let M = stored_measures (g.R.Relations.catalogue c.args.relations.now) in
     let xs = c.in_ok-evaluate_counted-in-Project.field-0 in
     let e : plan_form c.args.plan.now ≡ exists c.in-Project.slot.sort (slot c.in-Project.slot) (plan_form c.deref-in-Project.result.now) = search (rules, the_lemmas, fold-roll-Plan, fold_out-Plan) in
     let order : AreInOrder (conjs_lines g.T.Theory.lines xs)
@@ -77,7 +77,7 @@ joined-loop-part-init g t c = (
 
 pub joined-returns-in_err-next-clause-wide : goal.joined-returns-in_err-next-clause-wide
 joined-returns-in_err-next-clause-wide g t c w =
-    let M = measures (g.R.Relations.catalogue c.args.relations.now) in
+    let M = stored_measures (g.R.Relations.catalogue c.args.relations.now) in
     let clashes : plan_clashes M (plan_form c.part-item.result) ≡ true = c.in_err-next.ensures.wide (search rules) in
     ap (λ ps. any_clashes (plan_atom_lines M) (plan_atom_clash M) (plan_forms ps)) (sym c.deref-part-items.ensures.value)
     ∙ part_clashes (plan_atom_lines M) (plan_atom_clash M) c.deref-part-items.result.now c.loop-part.part-index c.part-item.result c.loop-part-test.true c.part-item.is clashes
@@ -119,7 +119,7 @@ united-loop-part-init g t c = (
 
 pub united-returns-in_err-evaluate_counted-clause-wide : goal.united-returns-in_err-evaluate_counted-clause-wide
 united-returns-in_err-evaluate_counted-clause-wide g t c w =
-    let M = measures (g.R.Relations.catalogue c.args.relations.now) in
+    let M = stored_measures (g.R.Relations.catalogue c.args.relations.now) in
     let clashes : plan_clashes M (plan_form c.part-item.result) ≡ true = c.in_err-evaluate_counted.ensures.wide (search rules) in
     ap (λ ps. any_clashes (plan_atom_lines M) (plan_atom_clash M) (plan_forms ps)) (sym c.deref-part-items.ensures.value)
     ∙ part_clashes (plan_atom_lines M) (plan_atom_clash M) c.deref-part-items.result.now c.loop-part.part-index c.part-item.result c.loop-part-test.true c.part-item.is clashes

@@ -1,5 +1,5 @@
 use Rattle.ded_views.proofs.Placing.{unknown}
-use Rattle.ded_views.proofs.Views.{name_measure, name_known}
+use Rattle.ded_views.proofs.Views.{name_measure, stored_measure, plain_there, name_known}
 use Rattle.ded_views.proofs.laws.entries.Goals as goal
 
 pub returns-clause-measure : goal.returns-clause-measure
@@ -10,3 +10,9 @@ returns-clause-known c = name_known
 
 pub returns-clause-unknown : goal.returns-clause-unknown
 returns-clause-unknown c = unknown
+
+pub returns-clause-stored : goal.returns-clause-stored
+returns-clause-stored c = stored_measure
+
+pub returns-clause-plain : goal.returns-clause-plain
+returns-clause-plain c = plain_there
