@@ -20,7 +20,7 @@ use Rattle.ded_row.proofs.Normals.{constant_row-holds}
 use Rattle.ded_algebra.specs.Compile.{plan_of, plans_of, atom_plan}
 use Rattle.ded_model.specs.NormalGoal.{IsNormalGoalAtom, IsNormalGoal}
 use Rattle.ded_algebra.specs.Compiled.{HasByteTexts, IsOfBytes}
-use Rattle.ded_algebra.proofs.SamePoints.{extension-point}
+use Rattle.ded_model.proofs.PointTexts.{extension-point}
 use Rattle.ded_algebra.proofs.Scans.{member_holds}
 
 -- ---- rows

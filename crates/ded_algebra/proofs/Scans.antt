@@ -26,7 +26,7 @@ use Rattle.ded_model.proofs.Members.{or_split}
 use Rattle.ded_model.proofs.Rows.{or_left, or_right}
 use Rattle.ded_algebra.specs.Compile.{row_plan, joined, projected, member_plan}
 use Rattle.ded_algebra.specs.Compiled.{place_sort, IsByteText, AreByteTexts}
-use Rattle.ded_algebra.proofs.SamePoints.{point-bytes}
+use Rattle.ded_model.proofs.PointTexts.{point-bytes}
 use Rattle.ded_algebra.proofs.EqualValues.{IsEqualValue, same-equal, equal_trans, equal_sym, AreEqualValues, equals_sym, NameHolds-equal}
 use Rattle.ded_algebra.proofs.Ties.{tie, tie_holds}
 use Rattle.ded_algebra.proofs.Projections.{IsValueFor, Values, slots_of, AreValuesFor, HaveValues, reached, witness}

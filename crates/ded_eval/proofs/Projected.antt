@@ -18,7 +18,7 @@ use Rattle.ded_model.specs.Lines.{Line, In, IsSubset, both_mention, lines_clash,
 use Rattle.ded_model.proofs.Points.{and_left}
 use Rattle.ded_model.proofs.Members.{subset_trans, elim-In, IsPair, elim-grows, clash-grows, Clash, clash_of-In}
 use Rattle.ded_row.proofs.Targets.{is_rational}
-use Rattle.ded_algebra.proofs.SamePoints.{extension-point}
+use Rattle.ded_model.proofs.PointTexts.{extension-point}
 use Rattle.ded_genrel.specs.Lists.{conjs_lines, conjs_elim, conjs_clash}
 use Rattle.ded_genrel.specs.Operations.{IsProjection}
 use Rattle.ded_genrel.proofs.Laws.{conjs_elim-within, conjs_clash-within}

@@ -15,7 +15,7 @@ use Rattle.ded_model.specs.Uses.{plan_uses}
 use Rattle.ded_model.proofs.Rows.{or_left, or_right}
 use Rattle.ded_sorts.proofs.Meanings.{or_fails_left, or_fails_right}
 use Rattle.ded_algebra.specs.Compiled.{is_scan_of}
-use Rattle.ded_algebra.proofs.SamePoints.{extension-point}
+use Rattle.ded_model.proofs.PointTexts.{extension-point}
 use Rattle.ded_views.specs.Same.{MeansSame}
 use Rattle.ded_views.proofs.PlansAlike.{arguments_bytes, slots_positive, plans_alike}
 use Rattle.ded_keep.specs.Additive.{hides, some_hides, is_additive, AddsMeaning}

@@ -14,7 +14,6 @@ pub mod Eliminating
 pub mod Entries
 mod Examples
 pub mod Growth
-pub mod Likeness
 pub mod LineCoefs
 pub mod LineFree
 pub mod LineLengths
@@ -27,8 +26,10 @@ pub mod Monotone
 pub mod Nearness
 pub mod Numbers
 pub mod Points
+pub mod PointTexts
 pub mod Rows
 pub mod Sats
+pub mod Sameness
 pub mod Saying
 pub mod Terms
 pub mod Texts

@@ -59,12 +59,14 @@ IsUnbounded test s e = (f : Fraction) → pos 0 <ℤ f.den → SomeOutside test 
 
 -- f is attained, and nothing lies outside of it
 pub record IsIncluded (test : Point → Bool) (s : Slot) (e : End) (f : Fraction) : Type 0 where
+  pub positive : pos 0 <ℤ f.den
   pub lowest : IsLowest f
   pub attained : SomeAt test s f
   pub none : NoneOutside test s e f
 
 -- nothing has the value f or lies outside of it, and something lies outside of every fraction within it
 pub record IsExcluded (test : Point → Bool) (s : Slot) (e : End) (f : Fraction) : Type 0 where
+  pub positive : pos 0 <ℤ f.den
   pub lowest : IsLowest f
   pub free : SomeAt test s f → ⊥
   pub none : NoneOutside test s e f

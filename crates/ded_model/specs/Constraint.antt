@@ -8,3 +8,18 @@ pub record LinearConstraint : Type 0 where
   pub coefs : List (Slot × ℤ)
   pub constant : ℤ
   pub op : RowOp
+
+abbrev pub row_coefs : LinearConstraint → List (Slot × ℤ)
+row_coefs r = r.coefs
+
+abbrev pub row_constant : LinearConstraint → ℤ
+row_constant r = r.constant
+
+abbrev pub row_op : LinearConstraint → RowOp
+row_op r = r.op
+
+abbrev pub coef_slot : Slot × ℤ → Slot
+coef_slot c = c.0
+
+abbrev pub coef_number : Slot × ℤ → ℤ
+coef_number c = c.1

@@ -5,6 +5,7 @@ pub mod Coefs
 pub mod Command
 pub mod Constraint
 pub mod Entries
+pub mod Equality
 pub mod Form
 pub mod Goal
 pub mod Grown

@@ -1,21 +1,32 @@
 -- Comparisons and arguments of formulas whose normal rows have a number above 2^63 - 1 in magnitude.
-use Rattle.std.specs.Prelude.{ℕ, ◌^◌, ◌/◌, nat_le, ℤ, pos, ◌-ℤ◌, unsigned_abs, Bool, true, false, ◌&&◌, ◌||◌, not, List, [], ◌∷◌, ◌++◌, if◌then◌else◌}
+use Rattle.std.specs.Prelude.{ℕ, ◌^◌, ◌/◌, nat_le, ℤ, pos, ◌-ℤ◌, unsigned_abs, Bool, true, false, ◌&&◌, not, List, [], ◌∷◌, ◌++◌, if◌then◌else◌}
 use Rattle.std.specs.List.{list_any}
 use Rattle.std.specs.Ordering.{int_eq}
 use Rattle.std.specs.Str.{bytes_eq}
 use Rattle.ded_num.specs.Gcd.{gcd_all}
 use Rattle.ded_model.specs.declared.formula.Operand.{Operand}
 use Rattle.ded_model.specs.declared.formula.Operand.TheVariants.{Single, Sum, Quoted}
-use Rattle.ded_model.specs.Command.{CommandForm, relation, insert, delete, drop, view, keep, ask, query, show, box_of, explain}
+use Rattle.ded_model.specs.Command.{CommandForm, header, relation, insert, delete, drop, view, keep, ask, query, show, box_of, explain, dump, disjoint, verify}
 use Rattle.ded_model.specs.Form.{FormAtom, compare, member}
 use Rattle.ded_model.specs.Logic.{some_atom, some_atom_of}
 
 -- ---- rows by names
 
-abbrev pub parts_of : Operand → List (List ℕ × ℤ)
-parts_of (Single n) = (n, pos 1) ∷ []
-parts_of (Sum t) = t.parts
-parts_of (Quoted t) = []
+-- the denominator of a comparison: that of its sums, and 1 where it has none
+abbrev pub denominator_of : Operand → Operand → ℤ
+denominator_of (Sum t) r = t.over
+denominator_of (Single n) (Sum u) = u.over
+denominator_of (Single n) (Single m) = pos 1
+denominator_of (Single n) (Quoted t) = pos 1
+denominator_of (Quoted t) (Sum u) = u.over
+denominator_of (Quoted t) (Single n) = pos 1
+denominator_of (Quoted t) (Quoted u) = pos 1
+
+-- the coefficients of an operand, multiplied by the denominator m; those of a sum are over m already
+abbrev pub parts_over : ℤ → Operand → List (List ℕ × ℤ)
+parts_over m (Single n) = (n, m) ∷ []
+parts_over m (Sum t) = t.parts
+parts_over m (Quoted t) = []
 
 abbrev pub constant_of : Operand → ℤ
 constant_of (Single n) = pos 0
@@ -27,18 +38,22 @@ abbrev pub coefficient : List (List ℕ × ℤ) → List ℕ → ℤ
 coefficient [] n = pos 0
 coefficient (p ∷ ps) n = if bytes_eq p.0 n then p.1 else coefficient ps n
 
--- the coefficient of a name in `l - r`
-abbrev pub difference : Operand → Operand → List ℕ → ℤ
-difference l r n = coefficient (parts_of l) n -ℤ coefficient (parts_of r) n
+-- the coefficient of a name in `m*l - m*r`
+abbrev pub difference_over : ℤ → Operand → Operand → List ℕ → ℤ
+difference_over m l r n = coefficient (parts_over m l) n -ℤ coefficient (parts_over m r) n
 
--- the coefficients in `l - r` of the names of a list. A name of both sides comes twice, and a coefficient may be 0: that
+-- the coefficients in `m*l - m*r` of the names of a list. A name of both sides comes twice, and a coefficient may be 0: that
 -- changes neither the greatest common divisor nor which numbers there are besides 0.
-abbrev pub differences : Operand → Operand → List (List ℕ × ℤ) → List ℤ
-differences l r [] = []
-differences l r (p ∷ ps) = difference l r p.0 ∷ differences l r ps
+abbrev pub differences_over : ℤ → Operand → Operand → List (List ℕ × ℤ) → List ℤ
+differences_over m l r [] = []
+differences_over m l r (p ∷ ps) = difference_over m l r p.0 ∷ differences_over m l r ps
 
+abbrev pub row_coefs_over : ℤ → Operand → Operand → List ℤ
+row_coefs_over m l r = differences_over m l r (parts_over m l) ++ differences_over m l r (parts_over m r)
+
+-- the coefficients of the row of a comparison: those of `l - r`, times the denominator
 abbrev pub row_coefs : Operand → Operand → List ℤ
-row_coefs l r = differences l r (parts_of l) ++ differences l r (parts_of r)
+row_coefs l r = row_coefs_over (denominator_of l r) l r
 
 abbrev pub row_constant : Operand → Operand → ℤ
 row_constant l r = constant_of l -ℤ constant_of r
@@ -66,13 +81,14 @@ is_quoted (Sum t) = false
 abbrev pub is_long_comparison : Operand → Operand → Bool
 is_long_comparison l r = (not (is_quoted l) && not (is_quoted r)) && is_long_row (row_coefs l r) (row_constant l r)
 
-abbrev pub is_long : ℤ → Bool
-is_long z = nat_le (2 ^ 63) (unsigned_abs z)
+abbrev pub coefficients : List (List ℕ × ℤ) → List ℤ
+coefficients [] = []
+coefficients (p ∷ ps) = p.1 ∷ coefficients ps
 
--- the row of `u - t`, where the new variable u has the coefficient 1, so that nothing is divided
+-- the row of `m*u - m*t`, for a new variable u and the denominator m of t, up to sign
 abbrev pub is_long_argument : Operand → Bool
 is_long_argument (Single n) = false
-is_long_argument (Sum t) = list_any (λ p. is_long p.1) t.parts || is_long t.constant
+is_long_argument (Sum t) = is_long_row (t.over ∷ coefficients t.parts) t.constant
 is_long_argument (Quoted t) = false
 
 abbrev pub is_long_atom : FormAtom → Bool
@@ -80,6 +96,7 @@ is_long_atom (compare l op r) = is_long_comparison l r
 is_long_atom (member n ts) = list_any is_long_argument ts
 
 abbrev pub has_long_row : CommandForm → Bool
+has_long_row header = false
 has_long_row (relation n h) = false
 has_long_row (insert n fs) = some_atom_of is_long_atom fs
 has_long_row (delete n k) = false
@@ -91,3 +108,6 @@ has_long_row (query h f) = some_atom is_long_atom f
 has_long_row (show n) = false
 has_long_row (box_of n) = false
 has_long_row (explain h f) = some_atom is_long_atom f
+has_long_row dump = false
+has_long_row (disjoint n m) = false
+has_long_row (verify n m es) = false

@@ -1,38 +1,47 @@
--- Sums over 1 that have each name once, as the formulas of the first language have.
-use Rattle.std.specs.Prelude.{◌≡◌, ℕ, ℤ, pos, false, List, [], ◌∷◌}
+-- Sums that have each name once, and comparisons whose two sides are over one denominator, as formulas that are read have.
+use Rattle.std.specs.Prelude.{◌≡◌, ℕ, ℤ, false, List, [], ◌∷◌}
 use Rattle.std.specs.Str.{bytes_eq}
 use Rattle.std.specs.List.{list_any}
 use Rattle.ded_model.specs.declared.formula.Operand.{Operand}
 use Rattle.ded_model.specs.declared.formula.Operand.TheVariants.{Single, Sum, Quoted}
 use Rattle.ded_model.specs.Logic.{AllAtoms, AllAtomsOf}
 use Rattle.ded_model.specs.Form.{Form, FormAtom, compare, member}
-use Rattle.ded_model.specs.Command.{CommandForm, relation, insert, delete, drop, view, keep, ask, query, show, box_of, explain}
+use Rattle.ded_model.specs.Command.{CommandForm, header, relation, insert, delete, drop, view, keep, ask, query, show, box_of, explain, dump, disjoint, verify}
 
 -- no name stands twice
 abbrev pub AreOnce : List (List ℕ × ℤ) → Type 0
 AreOnce [] = Unit {0}
 AreOnce (c ∷ cs) = (list_any (λ d. bytes_eq c.0 d.0) cs ≡ false) × AreOnce cs
 
--- a sum over 1 that has each name once, or what is no sum
+-- a sum that has each name once, or what is no sum
 abbrev pub IsPlainOperand : Operand → Type 0
 IsPlainOperand (Single x) = Unit {0}
-IsPlainOperand (Sum t) = (t.over ≡ pos 1) × AreOnce t.parts
+IsPlainOperand (Sum t) = AreOnce t.parts
 IsPlainOperand (Quoted t) = Unit {0}
 
 abbrev pub ArePlainOperands : List Operand → Type 0
 ArePlainOperands [] = Unit {0}
 ArePlainOperands (t ∷ ts) = IsPlainOperand t × ArePlainOperands ts
 
+-- two sums are over one denominator
+abbrev pub ShareDenominator : Operand → Operand → Type 0
+ShareDenominator (Sum t) (Sum u) = t.over ≡ u.over
+ShareDenominator (Sum t) (Single x) = Unit {0}
+ShareDenominator (Sum t) (Quoted x) = Unit {0}
+ShareDenominator (Single x) r = Unit {0}
+ShareDenominator (Quoted x) r = Unit {0}
+
 abbrev pub IsPlainAtom : FormAtom → Type 0
-IsPlainAtom (compare l op r) = IsPlainOperand l × IsPlainOperand r
+IsPlainAtom (compare l op r) = IsPlainOperand l × IsPlainOperand r × ShareDenominator l r
 IsPlainAtom (member n ts) = ArePlainOperands ts
 
--- each sum of the formula is over 1 and has each name once
+-- each sum of the formula has each name once, and the two sides of each comparison are over one denominator
 abbrev pub IsPlain : Form → Type 0
 IsPlain f = AllAtoms IsPlainAtom f
 
 -- each sum of the command's formulas is so
 abbrev pub IsPlainCommand : CommandForm → Type 0
+IsPlainCommand header = Unit {0}
 IsPlainCommand (relation n h) = Unit {0}
 IsPlainCommand (insert n fs) = AllAtomsOf IsPlainAtom fs
 IsPlainCommand (delete n k) = Unit {0}
@@ -44,3 +53,6 @@ IsPlainCommand (query h f) = IsPlain f
 IsPlainCommand (show n) = Unit {0}
 IsPlainCommand (box_of n) = Unit {0}
 IsPlainCommand (explain h f) = IsPlain f
+IsPlainCommand dump = Unit {0}
+IsPlainCommand (disjoint n m) = Unit {0}
+IsPlainCommand (verify n m es) = Unit {0}

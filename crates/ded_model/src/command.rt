@@ -2,6 +2,7 @@
 ghost use Rattle.std.specs.Prelude.{◌≡◌, IfOk};
 ghost use Rattle.ded_model.specs.Command.{command_form};
 
+use crate::certificate::{Entry, copy_entries};
 use crate::formula::{Formula, copy_formulas};
 use crate::memory::NoMemory;
 use crate::name::{Heading, Name};
@@ -18,6 +19,8 @@ pub enum Language {
 /// A statement that is spelled.
 #[derive(Drop)]
 pub enum Command {
+    /// The language of the statements that follow is `Two`.
+    Header,
     Relation(Name, Heading),
     /// The formulas are comparisons.
     Insert(Name, Vec<Formula>),
@@ -30,6 +33,12 @@ pub enum Command {
     Show(Name),
     BoxOf(Name),
     Explain(Heading, Formula),
+    /// A script that makes the same catalogue again.
+    Dump,
+    /// Certificates that two relations have no common point, or a pair of tuples that has one.
+    Disjoint(Name, Name),
+    /// Whether the entries certify that the two relations have no common point.
+    Verify(Name, Name, Vec<Entry>),
 }
 
 /// Why a statement is refused, in order of its number from 1.
@@ -67,6 +76,7 @@ impl Command {
         ensures { IfOk result (λ c. command_form c ≡ command_form self.now) }
     {
         match self {
+            Command::Header => Ok(Command::Header),
             Command::Relation(name, heading) => {
                 Ok(Command::Relation(name.copy()?, heading.copy()?))
             }
@@ -88,6 +98,15 @@ impl Command {
             Command::Explain(heading, formula) => {
                 Ok(Command::Explain(heading.copy()?, formula.copy()?))
             }
+            Command::Dump => Ok(Command::Dump),
+            Command::Disjoint(first, second) => {
+                Ok(Command::Disjoint(first.copy()?, second.copy()?))
+            }
+            Command::Verify(first, second, entries) => Ok(Command::Verify(
+                first.copy()?,
+                second.copy()?,
+                copy_entries(entries)?,
+            )),
         }
     }
 }

@@ -254,6 +254,7 @@ fn some_uses(parts: &Vec<Formula>, name: &Name) -> bool
     false
 }
 
+/// Whether an atom of one of the formulas is of the name, of its closure or of its interior.
 #[cycle(speaks)]
 fn some_speaks_of(parts: &Vec<Formula>, name: &Name) -> bool
     ensures { result ≡ some_atom_of (atom_speaks_of name.now) (forms parts.now.items) }

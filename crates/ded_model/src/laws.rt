@@ -4,3 +4,4 @@ pub mod deciding;
 pub mod lines;
 pub mod near;
 pub mod points;
+pub mod sameness;

@@ -1,7 +1,7 @@
 //! The plain data of the database, and what it means.
 //!
 //! The modules hold the data that flows from a script to its replies: names and headings, rows and text atoms,
-//! formulas and goals, plans, commands and answers. `specs/` says what the data means: points, when a row, a tuple, a
+//! formulas and goals, plans, commands, certificates and answers. `specs/` says what the data means: points, when a row, a tuple, a
 //! formula, a goal or a plan holds at one, catalogues and the meaning of their names, normal forms, widths and lines.
 //! `laws` states what all crates above rest on, as contracts of functions that do nothing.
 //!
@@ -11,10 +11,13 @@
 
 pub mod answer;
 pub mod bound;
+pub mod certificate;
 pub mod command;
+mod equality;
 pub mod formula;
 pub mod goal;
 pub mod laws;
+pub mod limits;
 pub mod memory;
 pub mod name;
 pub mod plan;

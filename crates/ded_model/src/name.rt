@@ -70,6 +70,9 @@ impl Name {
     }
 
     /// The name that this one is made of, or an equal one.
+    ///
+    /// # Errors
+    /// Out of memory.
     pub fn base_name(&self) -> Result<Name, NoMemory>
         ensures { IfOk result (λ n. n ≡ base self.now) }
     {
@@ -79,7 +82,7 @@ impl Name {
     }
 }
 
-// The bytes between a front and a last `)`, none where they do not stand so.
+/// The bytes between a front and a last `)`, none where they do not stand so.
 fn between<'a>(front: &[u8], bytes: &'a [u8]) -> Option<&'a [u8]>
     ensures { MatchOption result (between front.now bytes.now ≡ None) (λ inner. between front.now bytes.now ≡ Some inner.now) }
 {

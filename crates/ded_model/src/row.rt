@@ -14,7 +14,7 @@ use std::alloc::Global;
 use std::marker::Model;
 
 /// How a sum is compared with zero: equal, at most, or below.
-#[derive(Clone, Copy, PartialEq, Eq, Debug)]
+#[derive(Clone, Copy, PartialEq, Eq, Hash, Debug)]
 pub enum RowOp {
     Zero,
     AtMost,
@@ -22,10 +22,10 @@ pub enum RowOp {
 }
 
 /// The coefficients of a row: rational slots with ascending numbers, each with a number that is not 0 and has at most
-/// 127 binary digits. Contracts see the list of the pairs. Up to four stand in the value itself.
+/// 127 binary digits. Contracts see the list of the pairs. Up to two stand in the value itself.
 #[derive(Drop)]
 pub struct Coefs {
-    list: SmallVec<(Slot, i128), 4>,
+    list: SmallVec<(Slot, i128), 2>,
 }
 
 impl Model for Coefs {

@@ -7,7 +7,7 @@ use crate::memory::NoMemory;
 use std::marker::Model;
 
 /// What a column or a variable ranges over: rational numbers, or texts (finite byte strings).
-#[derive(Clone, Copy, PartialEq, Eq, Debug, Default)]
+#[derive(Clone, Copy, PartialEq, Eq, Hash, Debug, Default)]
 pub enum Sort {
     #[default]
     Rat,
@@ -15,7 +15,7 @@ pub enum Sort {
 }
 
 /// A numbered place for a value. In one relation or query two slots of one number have one sort.
-#[derive(Clone, Copy, PartialEq, Eq, Debug, Default)]
+#[derive(Clone, Copy, PartialEq, Eq, Hash, Debug, Default)]
 pub struct Slot {
     pub number: u32,
     pub sort: Sort,

@@ -8,7 +8,7 @@ use crate::slot::Slot;
 use std::marker::Model;
 
 /// A comparison of a text slot with a quoted text or with another text slot.
-#[derive(Drop)]
+#[derive(PartialEq, Eq, Hash, Drop)]
 pub enum ThemeAtom {
     EqText(Slot, Name),
     NeText(Slot, Name),

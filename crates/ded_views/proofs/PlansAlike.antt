@@ -14,7 +14,7 @@ use Rattle.ded_model.specs.PlanForm.{PlanForm, PlanAtom, scan, rows, PlanAtomHol
 use Rattle.ded_model.specs.Uses.{plan_atom_uses, plan_uses}
 use Rattle.ded_model.proofs.Alike.{all_atoms}
 use Rattle.ded_model.proofs.Values.{overs-positive}
-use Rattle.ded_algebra.proofs.SamePoints.{point-bytes}
+use Rattle.ded_model.proofs.PointTexts.{point-bytes}
 use Rattle.ded_views.specs.Same.{AreByteArguments, MeansSame}
 use Rattle.ded_views.proofs.PointsAlike.{IsAlikeAtPoints, alike}
 

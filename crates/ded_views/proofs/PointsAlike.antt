@@ -5,7 +5,7 @@ use Rattle.std.proofs.Common.{inl, inr}
 use Rattle.std.specs.Prelude.{◌↔◌}
 use Rattle.ded_model.specs.Point.{Point, IsPoint}
 use Rattle.ded_model.specs.Logic.{Logic, atom, always, never, negation, every_of, some_of, implies, minus, exists, forall, Logics, none, also, Sat, SatEvery, SatSome, AllAtoms, AllAtomsOf}
-use Rattle.ded_algebra.proofs.SamePoints.{extension-point}
+use Rattle.ded_model.proofs.PointTexts.{extension-point}
 
 -- an atom holds alike by two readings, at each point
 abbrev pub IsAlikeAtPoints : {L : Type 0} → (L → Point → Type 0) → (L → Point → Type 0) → L → Type 0
