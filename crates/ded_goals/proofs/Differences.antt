@@ -8,12 +8,8 @@ use Rattle.std.proofs.lemmas.Int.{ints, to_z-of_z, fits_signed_from_abs}
 use Rattle.ded_num.specs.Length.{IsWithin, IsShort}
 use Rattle.ded_model.specs.declared.slot.Slot.{Slot}
 use Rattle.ded_model.specs.declared.slot.Sort.TheVariants.{Rat}
-use Rattle.ded_model.specs.declared.row.RowOp.{RowOp}
 use Rattle.ded_model.specs.Point.{same_slot}
-use Rattle.ded_model.specs.Sum.{SlotSum, denominator}
-use Rattle.ded_model.specs.Constraint.{LinearConstraint}
 use Rattle.ded_model.specs.Coefs.{AllAbove, AreCoefs, coef_at, mixed, nonzero, with_coef}
-use Rattle.ded_model.specs.Slotted.{difference_row}
 use Rattle.ded_model.proofs.Points.{same_slot_is, same_slot_refl}
 use Rattle.ded_model.proofs.CoefLemmas.{AreCoefs-with_coef, coef_at-here, coef_at-past, lesser_slot}
 use Rattle.ded_model.proofs.LineCoefs.{coef_at-mixed}
@@ -103,20 +99,6 @@ differing_all xs ys out h k l d =
 -- the difference of two numbers of at most 112 digits is short
 pub difference_short : (x y : ℤ) → IsWithin 112 x → IsWithin 112 y → IsShort (x -ℤ y)
 difference_short x y h k = omega (arith, ints)
-
-constant_law : (x y : ℤ) → x -ℤ y ≡ pos 1 *ℤ x -ℤ pos 1 *ℤ y
-constant_law x y = sym (ap₂ (λ a b. a -ℤ b) (one_times x) (one_times y))
-
--- ---- the row
-
--- sums over 1 need no factors
-pub difference_is : (l r : SlotSum) (cs : List (Slot × ℤ)) (z : ℤ) (op : RowOp) → l.over ≡ pos 1 → r.over ≡ pos 1
-    → cs ≡ nonzero (mixed (pos 1) l.coefs (neg_ℤ (pos 1)) r.coefs) → z ≡ l.constant -ℤ r.constant
-    → ◌≡◌ {A = LinearConstraint} (record { coefs = cs; constant = z; op = op }) (difference_row l r op)
-unfolding denominator
-difference_is l r cs z op e f g h =
-    ap₂ (λ (xs : List (Slot × ℤ)) (y : ℤ). record { coefs = xs; constant = y; op = op }) g (h ∙ constant_law l.constant r.constant)
-    ∙ ap₂ (λ m n. record { coefs = nonzero (mixed (pos (denominator n)) l.coefs (neg_ℤ (pos (denominator m))) r.coefs); constant = pos (denominator n) *ℤ l.constant -ℤ pos (denominator m) *ℤ r.constant; op = op }) (sym e) (sym f)
 
 -- ---- the step of the loop, as the code has it
 

@@ -1,5 +1,6 @@
 pub mod Accepted
 pub mod Ascending
+mod Denominators
 mod Differences
 mod Fitting
 mod NormalGoals

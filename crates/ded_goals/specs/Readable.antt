@@ -8,8 +8,8 @@ use Rattle.ded_model.specs.Plain.{IsPlain, IsPlainAtom}
 use Rattle.ded_goals.specs.TextSums.{has_text_sum}
 use Rattle.ded_goals.specs.Scope.{sorts_of, IsNumbered}
 
--- in the scope each variable is bound, each sum is over 1, has each name once and no text variable, and the quantifiers have
--- numbers from the next one on
+-- in the scope each variable is bound, each sum has each name once and no text variable, the sums of a comparison are over one
+-- denominator, and the quantifiers have numbers from the next one on
 pub record IsReadable (scope : SlotScope) (next : ℕ) (f : Form) : Type 0 where
   pub numbered : IsNumbered scope next
   pub plain : IsPlain f

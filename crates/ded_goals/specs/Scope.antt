@@ -10,7 +10,7 @@ use Rattle.ded_model.specs.Point.{same_sort}
 use Rattle.ded_model.specs.Logic.{Scope}
 use Rattle.ded_model.specs.Sum.{SlotSum}
 use Rattle.ded_model.specs.Coefs.{coef_at}
-use Rattle.ded_model.specs.Slotted.{SlotScope, slot_of}
+use Rattle.ded_model.specs.Slotted.{SlotScope, slot_of, slot_sum}
 use Rattle.ded_model.specs.Known.{is_unbound_name, sort_in}
 use Rattle.ded_model.specs.Plain.{AreOnce}
 
@@ -51,13 +51,13 @@ pub record AreSummable (scope : SlotScope) (parts : List (List ℕ × ℤ)) : Ty
   pub bound : list_any (λ c. is_unbound_name (sorts_of scope) c.0) parts ≡ false
   pub rational : list_any (λ c. same_sort (sort_in (sorts_of scope) c.0) Text) parts ≡ false
 
--- an operand that is a number: a rational variable, or a sum over 1
+-- an operand that is a number: a rational variable, or a sum of them
 abbrev pub IsSummable : SlotScope → Operand → Type 0
 IsSummable scope (Single x) = (slot_of scope x).sort ≡ Rat
-IsSummable scope (Sum t) = (t.over ≡ pos 1) × AreSummable scope t.parts
+IsSummable scope (Sum t) = AreSummable scope t.parts
 IsSummable scope (Quoted t) = Unit {0}
 
--- an operand of an atom: a sum has to be one over 1
+-- an operand of an atom: a sum has to be one of rational variables
 abbrev pub IsPlaceable : SlotScope → Operand → Type 0
 IsPlaceable scope (Single x) = Unit {0}
 IsPlaceable scope (Sum t) = IsSummable scope (Sum t)
@@ -71,8 +71,13 @@ ArePlaceable scope (t ∷ ts) = IsPlaceable scope t × ArePlaceable scope ts
 abbrev pub AreSmall : List (Slot × ℤ) → Type 0
 AreSmall cs = (s : Slot) → IsWithin 112 (coef_at cs s)
 
--- so have all numbers of the sum, which is over 1
+-- so have the coefficients and the constant of the sum
 pub record IsSmall (t : SlotSum) : Type 0 where
   pub coefs : AreSmall t.coefs
   pub constant : IsWithin 112 t.constant
-  pub over : t.over ≡ pos 1
+
+-- a side of a comparison as a sum over the comparison's denominator m; a sum is over m already
+abbrev pub sum_over : ℤ → SlotScope → Operand → SlotSum
+sum_over m scope (Single x) = record { coefs = (slot_of scope x, m) ∷ []; constant = pos 0; over = m }
+sum_over m scope (Sum t) = slot_sum scope (Sum t)
+sum_over m scope (Quoted t) = record { coefs = []; constant = pos 0; over = m }

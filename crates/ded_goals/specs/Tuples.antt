@@ -36,8 +36,8 @@ abbrev pub AreNormalAtoms : List Atom → Type 0
 AreNormalAtoms [] = Unit {0}
 AreNormalAtoms (a ∷ atoms) = IsNormalAtom a × AreNormalAtoms atoms
 
--- in the scope each variable is bound, each sum is over 1 and has each name once, and no comparison has a text in the place of a
--- number, or a number in the place of a text
+-- in the scope each variable is bound, each sum has each name once, the sums of a comparison are over one denominator, and no
+-- comparison has a text in the place of a number, or a number in the place of a text
 pub record IsFitting (scope : SlotScope) (f : Form) : Type 0 where
   pub apart : AreApart scope
   pub plain : IsPlain f

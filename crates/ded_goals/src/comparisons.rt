@@ -1,17 +1,19 @@
 //! The goals of comparisons, and the arguments of atoms.
-ghost use Rattle.std.specs.Prelude.{◌≡◌, false, IfOk, map};
+ghost use Rattle.std.specs.Prelude.{◌≡◌, ◌<ℤ◌, pos, false, IfOk, map};
+ghost use Rattle.ded_num.specs.Length.{IsWithin};
 ghost use Rattle.ded_model.specs.Normal.{IsNormalRow, normal_row};
 ghost use Rattle.ded_model.specs.Form.{compare};
 ghost use Rattle.ded_model.specs.Goal.{goal_form};
 ghost use Rattle.ded_model.specs.Known.{is_unbound_atom};
 ghost use Rattle.ded_model.specs.Slotted.{compare_goal, comparison_row, sums_goal, is_text_operand, place_of};
 ghost use Rattle.ded_model.specs.Plain.{IsPlainAtom};
+ghost use Rattle.ded_model.specs.LongRows.{denominator_of};
 ghost use Rattle.ded_goals.specs.TextSums.{has_text_sum};
 ghost use Rattle.ded_goals.specs.Scope.{sorts_of, AreApart, IsSmall, IsPlaceable, ArePlaceable};
 ghost use Rattle.ded_goals.specs.Tuples.{is_missorted_comparison, IsNormalComparison};
 
 use crate::scope::Scope;
-use crate::sums::{difference, slot_sum};
+use crate::sums::{difference, slot_sum, sum_over};
 use crate::texts::{text_side, texts};
 use ded_model::formula::{CompareOp, Operand, Operands};
 use ded_model::goal::{Goal, Place, Places, SlotTerm};
@@ -41,9 +43,23 @@ pub fn comparison(
     if is_text(scope, left) || is_text(scope, right) {
         return texts(alloc, text_side(scope, left), op, text_side(scope, right));
     }
-    let left = slot_sum(alloc, scope, left)?;
-    let right = slot_sum(alloc, scope, right)?;
+    let over = denominator(left, right);
+    let left = sum_over(alloc, scope, left, over)?;
+    let right = sum_over(alloc, scope, right, over)?;
     sums(alloc, left, op, right)
+}
+
+/// The denominator of a comparison: that of its sums, and 1 where it has none.
+fn denominator(left: &Operand, right: &Operand) -> i128
+    ensures value { result ≡ denominator_of left.now right.now }
+    ensures within { IsWithin 112 result }
+    ensures positive { pos 0 <ℤ result }
+{
+    match (left, right) {
+        (Operand::Sum(term), _) => term.over,
+        (_, Operand::Sum(term)) => term.over,
+        _ => 1,
+    }
 }
 
 /// Whether the operand is a text variable or a quoted text.
@@ -57,10 +73,11 @@ fn is_text(scope: &Scope, operand: &Operand) -> bool
     }
 }
 
-/// The goal of a comparison of sums.
+/// The goal of a comparison of sums over one denominator.
 fn sums(alloc: Global, left: SlotTerm, op: CompareOp, right: SlotTerm) -> Result<Goal, NoMemory>
     requires left { IsSmall left }
     requires right { IsSmall right }
+    requires shared { left.over ≡ right.over }
     ensures goal { IfOk result (λ g. goal_form g ≡ sums_goal left op right) }
     ensures normal { IfOk result (λ g. IsNormalComparison (goal_form g)) }
 {
@@ -71,10 +88,11 @@ fn sums(alloc: Global, left: SlotTerm, op: CompareOp, right: SlotTerm) -> Result
     }
 }
 
-/// The normal row of a comparison of sums, that of `=` for `!=`.
+/// The normal row of a comparison of sums over one denominator, that of `=` for `!=`.
 fn row(left: SlotTerm, op: CompareOp, right: SlotTerm) -> Result<Row, NoMemory>
     requires left { IsSmall left }
     requires right { IsSmall right }
+    requires shared { left.over ≡ right.over }
     ensures value { IfOk result (λ r. r ≡ normal_row (comparison_row left op right)) }
     ensures normal { IfOk result (λ r. IsNormalRow r) }
 {
@@ -109,7 +127,7 @@ fn place(alloc: Global, scope: &Scope, operand: &Operand) -> Result<Place, NoMem
 {
     match operand {
         Operand::Single(name) => Ok(Place::At(scope.slot(name))),
-        Operand::Sum(_) => Ok(Place::Value(slot_sum(alloc, scope, operand)?)),
+        Operand::Sum(term) => Ok(Place::Value(slot_sum(alloc, scope, term)?)),
         Operand::Quoted(text) => Ok(Place::Quoted(text.copy()?)),
     }
 }

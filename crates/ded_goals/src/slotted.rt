@@ -20,7 +20,8 @@ use ded_model::slot::Slot;
 use std::alloc::Global;
 
 /// The goal of a formula over a heading, none for a closed one. Each variable of the formula is a column of the heading or
-/// bound by a quantifier, each sum is over 1 and has each name once, and no sum has a text variable.
+/// bound by a quantifier, each sum has each name once, the sums of a comparison are over one denominator, and no sum has a
+/// text variable.
 ///
 /// # Errors
 /// Out of memory.

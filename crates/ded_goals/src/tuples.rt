@@ -21,9 +21,9 @@ use ded_model::tuple::{Atom, BothAtom, Tuple};
 use ded_tuple::{is_true, put};
 use std::alloc::Global;
 
-/// The normal tuple of comparisons over a heading. Each variable is a column of the heading, each sum is over 1 and has each
-/// name once, and no text stands where a number has to, or a number where a text has to. What has no atom, as `!=` between
-/// numbers, is left out.
+/// The normal tuple of comparisons over a heading. Each variable is a column of the heading, each sum has each name once, the
+/// sums of a comparison are over one denominator, and no text stands where a number has to, or a number where a text has to.
+/// What has no atom, as `!=` between numbers, is left out.
 ///
 /// # Errors
 /// Out of memory.
