@@ -70,7 +70,7 @@ module _ (c : Catalogue) (f : Form) (rs : List GivenRelation) (g : AllByRecursio
   sorts_long (x ∷ h) [] k = absurd k
   sorts_long (x ∷ h) (s ∷ ss) k = ap suc (sorts_long h ss k.1)
 
-  scans_same : (a : PlanAtom) → IsScanOf c f a → ((n : List ℕ) → plan_atom_uses n a ≡ true → has_name n rs ≡ true) → ScansSame (stored (given_catalogue rs)) (meaning c) a
+  pub scans_same : (a : PlanAtom) → IsScanOf c f a → ((n : List ℕ) → plan_atom_uses n a ≡ true → has_name n rs ≡ true) → ScansSame (stored (given_catalogue rs)) (meaning c) a
   scans_same (rows t) q u = tt
   scans_same (scan n ss) q u = λ d xs i b l. given_means c rs n g (u n ((bytes_eq-Decides n n).1 refl)) d xs i b (l ∙ sorts_long (columns_in c (base n)) ss q.1)
 

@@ -3,13 +3,15 @@ use Rattle.std.proofs.Common.{◌≡◌, ◌≤◌, ℕ, Bool, true, false, refl
 use Rattle.std.specs.Prelude.{None, Some, is_some, is_none, ◌==◌, ◌||◌, nat_lt}
 use Rattle.std.specs.List.{list_any}
 use Rattle.std.specs.declared.option.Option.{Option}
+use Rattle.std.specs.Option.{unwrap_or}
+use Rattle.ded_model.specs.declared.certificate.Entry.{Entry}
 use Rattle.std.proofs.lemmas.Bool.Decides.{nat_tests}
-use Rattle.ded_model.specs.declared.command.Refusal.TheVariants.{Many, Twice, Unknown, Taken, Kind, Arity, Unbound, WrongSort, Used, NoTuple, Level}
+use Rattle.ded_model.specs.declared.command.Refusal.TheVariants.{Many, Twice, Unknown, Taken, Kind, Arity, Unbound, WrongSort, Used, NoTuple, Level, Memory}
 use Rattle.ded_model.specs.declared.formula.Formula.{Formula}
 use Rattle.ded_model.specs.declared.goal.Goal.{Goal}
 use Rattle.ded_model.specs.declared.name.Column.{Column}
 use Rattle.ded_model.specs.Catalogue.{Catalogue}
-use Rattle.ded_model.specs.Command.{CommandForm, relation, insert, delete, drop, view, keep, show, box_of}
+use Rattle.ded_model.specs.Command.{CommandForm, header, relation, insert, delete, drop, view, keep, show, box_of, dump, disjoint, verify}
 use Rattle.ded_model.specs.Form.{Form, FormAtom, form}
 use Rattle.ded_model.specs.Goal.{goal_form}
 use Rattle.ded_model.specs.Known.{Known, IsNewName, IsAccepted, IsTupleOver, level_of, is_many, has_twice, uses_unknown, has_other_arity, has_unbound, has_missorted}
@@ -25,9 +27,9 @@ use Rattle.ded_sorts.specs.Causes.{is_relation_with, is_view_with}
 use Rattle.ded_sorts.specs.Checks.{HasNoCause, forms_of}
 use Rattle.ded_resolve.specs.Resolved.{IsResolved}
 use Rattle.ded_model.specs.Entries.{known, tuples_in, columns_in, entry_uses}
-use Rattle.ded_session.specs.Carrying.{IsReady, Carries}
+use Rattle.ded_session.specs.Carrying.{IsReady, Carries, refusal_left}
 use Rattle.ded_session.specs.PlainNames.{NamesPlainly}
-use Rattle.ded_session.specs.Replies.{ReplyForm}
+use Rattle.ded_session.specs.Replies.{ReplyForm, refused}
 use Rattle.ded_session.proofs.Unmade.{unmade}
 
 -- ---- tests
@@ -231,3 +233,25 @@ module _ (c : Catalogue) where
   written_insert d reply k n t e does x r =
       let i = insert_is x n t (subst (IsResolved c x) e r) in
       subst (λ (y : CommandForm). Carries y c reply d) (sym i.is) (does i.comparisons i.tuple)
+
+  -- ---- commands that aren't answered yet
+
+  left_header : (x : CommandForm) → IsResolved c x checked.Header → refusal_left c x ≡ None
+  left_header header r = refl
+  left_header _ r = absurd r
+
+  left_dump : (x : CommandForm) → IsResolved c x checked.Dump → refusal_left c x ≡ None
+  left_dump dump r = refl
+  left_dump _ r = absurd r
+
+  left_disjoint : (x : CommandForm) (n m : List ℕ) → IsResolved c x (checked.Disjoint n m) → refusal_left c x ≡ None
+  left_disjoint (disjoint k l) n m r = refl
+  left_disjoint _ n m r = absurd r
+
+  left_verify : (x : CommandForm) (n m : List ℕ) (es : Vec Entry) → IsResolved c x (checked.Verify n m es) → refusal_left c x ≡ None
+  left_verify (verify k l fs) n m es r = refl
+  left_verify _ n m es r = absurd r
+
+  -- what is refused for nothing may be refused as out of memory
+  pub wanting : (x : CommandForm) → refusal_left c x ≡ None → Carries x c (refused Memory) c
+  wanting x e = (sym (ap (λ o. unwrap_or o Memory) e), refl)
