@@ -1,5 +1,5 @@
 -- Relations and views as what is given of them.
-use Rattle.std.proofs.Common.{◌≡◌, ℕ, ◌-◌, ◌<◌, ◌≤◌, arith, true, List, [], ◌∷◌, Option, Some, None, is_some, is_none, refl, sym, ap, ◌∙◌, subst, true≢false}
+use Rattle.std.proofs.Common.{◌≡◌, ℕ, ◌-◌, ◌<◌, ◌≤◌, arith, true, false, List, [], ◌∷◌, Option, Some, None, is_some, is_none, refl, sym, ap, ◌∙◌, subst, true≢false}
 use Rattle.std.specs.Prelude.{◌↔◌, IsTrue}
 use Rattle.std.specs.List.{AllByRecursion}
 use Rattle.std.specs.Option.{option_map}
@@ -102,6 +102,7 @@ view_level c n g level w v l =
 -- what its goal is evaluated to is what is given of it
 pub view_given : (c : Catalogue) (n : List ℕ) (g : GoalForm) (h : List Column) (ts : List (List Atom)) → IsWellFormed c → IsViewGoal c n g → IsEvaluated c g ts → AllByRecursion IsNormalTuple ts
     → Some h ≡ option_map (λ k. k.columns) (known c n) → IsGivenOf c (record { name = n; heading = h; tuples = ts })
+unfolding measures
 view_given c n g h ts w v e k i =
     let q : IsQuestion c v.columns g v.formula = record { goal = v.goal; accepted = view_accepted c w n v.own v.columns v.formula v.entry } in
     let same : v.columns ≡ h = ap columns_with (sym (name_known c w n (view v.own v.columns v.formula) v.entry)) ∙ named_columns c n h i in
@@ -118,6 +119,7 @@ view_given c n g h ts w v e k i =
 
 -- a view clashes where its goal does
 pub view_clash : (c : Catalogue) (n : List ℕ) (g : GoalForm) → IsWellFormed c → IsViewGoal c n g → goal_clashes (measures c) g ≡ true → (measures c n).clash ≡ true
+unfolding measures
 view_clash c n g w v e =
     ap (λ (m : Measure). m.clash) (name_measure c w n (view v.own v.columns v.formula) v.entry) ∙ ap (goal_clashes (measures c)) (sym v.goal) ∙ e
 
