@@ -205,6 +205,7 @@ module _ (c d : Catalogue) (n : List ℕ) (t : List Atom) (x : IsInsert c d n t)
 
     -- one that clashes makes the view clash
     pub names_clash : (names : List (List ℕ)) → ((o : List ℕ) → list_any (bytes_eq o) names ≡ (plan_uses o plan && not (bytes_eq o n))) → list_any (λ o. (measures d o).clash) names ≡ true → (measures d v).clash ≡ true
+    unfolding measures
     names_clash names all i =
         ap (λ (m : Measure). m.clash) (name_measure d x.formed_after v (view own hv f) entry_after)
         ∙ some_named (λ o. (measures d o).clash) names (goal_clashes (measures d) (goal_of hv f) ≡ true)
@@ -270,6 +271,7 @@ module _ (c d : Catalogue) (n : List ℕ) (t : List Atom) (x : IsInsert c d n t)
 
       -- the plan clashes over them only where the view does
       pub clash_of_view : plan_clashes (stored_measures (with_alone (given_catalogue rs) n h t)) plan ≡ true → (measures d v).clash ≡ true
+      unfolding measures
       clash_of_view i =
           ap (λ (m : Measure). m.clash) (name_measure d x.formed_after v (view own hv f) entry_after)
           ∙ p.clashes (measures d) (plan_clashes-grow (stored_measures (with_alone (given_catalogue rs) n h t)) (measures d) lines_alone (λ o k. absurd (true≢false (sym k ∙ clash_alone o))) plan i)
@@ -277,6 +279,7 @@ module _ (c d : Catalogue) (n : List ℕ) (t : List Atom) (x : IsInsert c d n t)
       -- the list before, with what the plan gives for the tuple alone behind it, is the list after
       pub view_extended : AreGiven (given_catalogue rs).entries → is_additive n plan ≡ true → (list more ts : List (List Atom)) → IsViewOf c v list
           → IsEvaluation (with_alone (given_catalogue rs) n h t) plan (tuples_hold more) (tuples_mention more) (tuples_lines more) → AllByRecursion IsNormalTuple more → ts ≡ list ++ more → IsViewOf d v ts
+      unfolding measures
       view_extended given additive list more ts k m norm is =
           let goal : k.goal ≡ goal_of hv f = k.view.goal ∙ same_goal c v k.view.own own k.view.columns hv k.view.formula f k.view.entry e in
           let both = extended (with_alone (given_catalogue rs) n h t) plan list more ts is m in

@@ -79,6 +79,7 @@ module _ (c d : Catalogue) (formed : IsWellFormed c) (formed_after : IsWellForme
 
   -- the tuples of a view
   view_stays : (v : List ℕ) (ts : List (List Atom)) → among v ≡ true → IsViewOf c v ts → IsViewOf d v ts
+  unfolding measures
   view_stays v ts r k =
       let e = k.view.entry in
       let e' : entry_of d.entries v ≡ Some (view k.view.own k.view.columns k.view.formula) = a.same v r ∙ e in

@@ -66,7 +66,7 @@ module _ (c d : Catalogue) (n v : List ℕ) (t : Option (List Atom)) (list : Opt
 
 -- a tight view doesn't clash
 pub tight_clash : (d : Catalogue) (v own : List ℕ) (h : List Column) (f : Form) → IsWellFormed d → entry_of d.entries v ≡ Some (view own h f) → (measures d v).clash ≡ true → IsTightView d v → ⊥
-unfolding IsTight
+unfolding IsTight measures
 tight_clash d v own h f w e k t = true≢false (sym k ∙ ap (λ (m : Measure). m.clash) (name_measure d w v (view own h f) e) ∙ t own h f e)
 
 -- ---- of one after another

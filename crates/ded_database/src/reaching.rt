@@ -37,13 +37,13 @@ pub(crate) fn uses_of(
     let mut uses = Vec::new(alloc);
     for name in used_names(alloc, goal)? {
         let mut reached = Vec::new(alloc);
-        add_reached(alloc, catalogue, &name.base_name()?, limits::LEVELS, &mut reached)?;
+        add_reached(alloc, catalogue, &name, limits::LEVELS, &mut reached)?;
         uses.push(Reach { name, reached })?;
     }
     Ok(uses)
 }
 
-/// Adds all names that the name reaches, which is defined and has at most the level.
+/// Adds all names that what the name is made of reaches, which is defined and has at most the level.
 ///
 /// # Errors
 /// Out of memory. Some may be added then.
@@ -55,19 +55,20 @@ fn add_reached(
     level: u32,
     reached: &mut Vec<Name>,
 ) -> Result<(), NoMemory>
-    requires defined { is_some (known (catalogue_of catalogue.now) name.now) ≡ true }
-    requires level { level_with (known (catalogue_of catalogue.now) name.now) ≤ level }
+    requires defined { is_some (known (catalogue_of catalogue.now) (base name.now)) ≡ true }
+    requires level { level_with (known (catalogue_of catalogue.now) (base name.now)) ≤ level }
     requires closed { IsClosed (catalogue_of catalogue.now) reached.old.items }
-    ensures { OnOk result (IsReachedAfter (catalogue_of catalogue.now) name.now reached.old.items reached.new.items) }
+    ensures { OnOk result (IsReachedAfter (catalogue_of catalogue.now) (base name.now) reached.old.items reached.new.items) }
 {
     catalogue.formed();
-    if reached.contains(name) {
+    let base = name.base_name()?;
+    if reached.contains(&base) {
         return Ok(());
     }
-    if let Some(goal) = catalogue.goal(name) {
+    if let Some(goal) = catalogue.goal(&base) {
         add_used(alloc, catalogue, goal, level, reached)?;
     }
-    reached.push(name.copy()?)?;
+    reached.push(base)?;
     Ok(())
 }
 
@@ -89,7 +90,7 @@ fn add_used(
 {
     let names = used_names(alloc, goal)?;
     for name in &names {
-        add_reached(alloc, catalogue, &name.base_name()?, level - 1, reached)?;
+        add_reached(alloc, catalogue, name, level - 1, reached)?;
     }
     Ok(())
 }

@@ -5,6 +5,7 @@ use Rattle.std.proofs.lemmas.List.{map-id}
 use Rattle.ded_model.specs.Entries.{known}
 use Rattle.ded_model.specs.Goal.{goal_form}
 use Rattle.ded_model.specs.Known.{level_with}
+use Rattle.ded_model.specs.Made.{base}
 use Rattle.ded_catalog.specs.State.{catalogue_of}
 use Rattle.ded_database.proofs.ReachedNames.{named_there}
 use Rattle.ded_database.proofs.UsedNames.{AreUses, reached_alone, uses_none, uses_more, uses_all}
@@ -14,7 +15,7 @@ pub loop-name-init : goal.loop-name-init
 loop-name-init c = uses_none (catalogue_of c.args.catalogue.now) c.new-uses.result.items c.new-uses.ensures.items
 
 -- the name is one of the goal
-item_below : (c : goal.After-reached-1) → (is_some (known (catalogue_of c.args.catalogue.now) c.in-Some.name) ≡ true) × (level_with (known (catalogue_of c.args.catalogue.now) c.in-Some.name) < 17)
+item_below : (c : goal.After-reached-1) → (is_some (known (catalogue_of c.args.catalogue.now) (base c.in-Some.name)) ≡ true) × (level_with (known (catalogue_of c.args.catalogue.now) (base c.in-Some.name)) < 17)
 item_below c =
     let names = c.in_ok-name-items.name-items in
     let gives = c.into_iter-name-iterator.ensures.into_iter_gives in
@@ -31,7 +32,7 @@ pub loop-name-preserved : goal.loop-name-preserved
 loop-name-preserved c =
     let cat = catalogue_of c.args.catalogue.now in
     uses_more cat c.loop-name.yielded c.loop-name.uses.items c.push.new.self.items (record { name = c.in-Some.name; reached = c.add_reached.new.reached }) c.in_ok-push.ensures.items c.loop-name.invariant
-    (reached_alone cat c.in-Some.name c.new-reached.result.items c.add_reached.new.reached.items c.new-reached.ensures.items c.in_ok-add_reached.ensures)
+    (reached_alone cat (base c.in-Some.name) c.new-reached.result.items c.add_reached.new.reached.items c.new-reached.ensures.items c.in_ok-add_reached.ensures)
 
 pub returns-clause-used : goal.returns-clause-used
 returns-clause-used c =
