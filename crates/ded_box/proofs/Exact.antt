@@ -121,6 +121,7 @@ module _ (test : Point → Bool) (s : Slot) (e : End) where
   pub exact : (b : Bound) → IsTight test s e b → IsExactBound test s e b
   exact Infinite x = λ g pg. past (beyond e g) g (beyond-positive e g pg) pg (beyond-outside e g pg) (x.near (beyond e g) (beyond-positive e g pg) tt)
   exact (Excluded f) x = record {
+    positive = x.positive;
     lowest = x.lowest;
     free = λ h. never_below (gap_at e f (value_at s h.0)) (no_difference e f (value_at s h.0) h.3) (x.all h.0 h.1 h.2);
     none = λ p i h. none_past f (value_at s p) (below_at_most _ (x.all p i h));
@@ -129,6 +130,7 @@ module _ (test : Point → Bool) (s : Slot) (e : End) where
   }
   exact (Included f) x =
       let a = x.near f x.positive (at_zero _ (gap_self e f)) in record {
+        positive = x.positive;
         lowest = x.lowest;
         attained = (
           a.point,

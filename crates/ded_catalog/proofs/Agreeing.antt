@@ -1,7 +1,8 @@
--- What is known of a name that a formula doesn't use doesn't matter to it.
+-- What is known of a name that a formula doesn't speak of doesn't matter to it.
 use Rattle.std.proofs.Common.{◌≡◌, ℕ, suc, max, Bool, true, false, ◌||◌, List, ◌∷◌, refl, sym, ap, ◌∙◌, true≢false, bytes_eq, is_none}
 use Rattle.ded_model.specs.declared.name.Column.{Column}
-use Rattle.ded_model.specs.Form.{Form, FormAtom, compare, member, uses, atom_uses}
+use Rattle.ded_model.specs.Form.{Form, FormAtom, compare, member, speaks_of, atom_speaks_of}
+use Rattle.ded_model.specs.Made.{base}
 use Rattle.ded_model.specs.Known.{KnownNames, IsAccepted, is_unknown_atom, other_arity, is_arity_atom, is_missorted_atom, scope_of, is_text_sum, arguments_differ, columns_with, atom_level, level_with, level_of}
 use Rattle.ded_model.specs.Logic.{Logic, atom, always, never, negation, every_of, some_of, implies, minus, exists, forall, Logics, none, also, Scope, some_atom, some_atom_of, some_below, some_below_of, greatest, greatest_of}
 use Rattle.std.specs.List.{list_any}
@@ -76,33 +77,33 @@ module _ {L : Type 0} (u : L → Bool) (t t' : L → ℕ) (agree : (a : L) → u
 pub record Agrees (n : List ℕ) (K J : KnownNames) : Type 0 where
   pub same : (m : List ℕ) → bytes_eq n m ≡ false → K m ≡ J m
 
-unknown_agree : (n : List ℕ) (K J : KnownNames) → Agrees n K J → (a : FormAtom) → atom_uses n a ≡ false → is_unknown_atom K a ≡ is_unknown_atom J a
+unknown_agree : (n : List ℕ) (K J : KnownNames) → Agrees n K J → (a : FormAtom) → atom_speaks_of n a ≡ false → is_unknown_atom K a ≡ is_unknown_atom J a
 unknown_agree n K J g (compare l op r) h = refl
-unknown_agree n K J g (member m ts) h = ap is_none (g.same m h)
+unknown_agree n K J g (member m ts) h = ap is_none (g.same (base m) h)
 
-arity_agree : (n : List ℕ) (K J : KnownNames) → Agrees n K J → (a : FormAtom) → atom_uses n a ≡ false → is_arity_atom K a ≡ is_arity_atom J a
+arity_agree : (n : List ℕ) (K J : KnownNames) → Agrees n K J → (a : FormAtom) → atom_speaks_of n a ≡ false → is_arity_atom K a ≡ is_arity_atom J a
 arity_agree n K J g (compare l op r) h = refl
-arity_agree n K J g (member m ts) h = ap (λ o. other_arity o ts) (g.same m h)
+arity_agree n K J g (member m ts) h = ap (λ o. other_arity o ts) (g.same (base m) h)
 
-missorted_agree : (n : List ℕ) (K J : KnownNames) → Agrees n K J → (scope : Scope) (a : FormAtom) → atom_uses n a ≡ false → is_missorted_atom K scope a ≡ is_missorted_atom J scope a
+missorted_agree : (n : List ℕ) (K J : KnownNames) → Agrees n K J → (scope : Scope) (a : FormAtom) → atom_speaks_of n a ≡ false → is_missorted_atom K scope a ≡ is_missorted_atom J scope a
 missorted_agree n K J g scope (compare l op r) h = refl
-missorted_agree n K J g scope (member m ts) h = ap (λ o. list_any (is_text_sum scope) ts || arguments_differ scope (columns_with o) ts) (g.same m h)
+missorted_agree n K J g scope (member m ts) h = ap (λ o. list_any (is_text_sum scope) ts || arguments_differ scope (columns_with o) ts) (g.same (base m) h)
 
-atom_level_agree : (n : List ℕ) (K J : KnownNames) → Agrees n K J → (a : FormAtom) → atom_uses n a ≡ false → atom_level K a ≡ atom_level J a
+atom_level_agree : (n : List ℕ) (K J : KnownNames) → Agrees n K J → (a : FormAtom) → atom_speaks_of n a ≡ false → atom_level K a ≡ atom_level J a
 atom_level_agree n K J g (compare l op r) h = refl
-atom_level_agree n K J g (member m ts) h = ap level_with (g.same m h)
+atom_level_agree n K J g (member m ts) h = ap level_with (g.same (base m) h)
 
--- a formula that doesn't use the name has the same level
-pub level-agree : (n : List ℕ) (K J : KnownNames) → Agrees n K J → (f : Form) → uses n f ≡ false → level_of K f ≡ level_of J f
-level-agree n K J g f h = ap suc (greatest-agree (atom_uses n) (atom_level K) (atom_level J) (atom_level_agree n K J g) f h)
+-- a formula that doesn't speak of the name has the same level
+pub level-agree : (n : List ℕ) (K J : KnownNames) → Agrees n K J → (f : Form) → speaks_of n f ≡ false → level_of K f ≡ level_of J f
+level-agree n K J g f h = ap suc (greatest-agree (atom_speaks_of n) (atom_level K) (atom_level J) (atom_level_agree n K J g) f h)
 
 -- and is accepted alike
-pub accepted-agree : (n : List ℕ) (K J : KnownNames) → Agrees n K J → (h : List Column) (f : Form) → uses n f ≡ false → IsAccepted K h f → IsAccepted J h f
+pub accepted-agree : (n : List ℕ) (K J : KnownNames) → Agrees n K J → (h : List Column) (f : Form) → speaks_of n f ≡ false → IsAccepted K h f → IsAccepted J h f
 accepted-agree n K J g h f u a = record {
   few = a.few;
   once = a.once;
-  known = sym (some_atom-agree (atom_uses n) (is_unknown_atom K) (is_unknown_atom J) (unknown_agree n K J g) f u) ∙ a.known;
-  arity = sym (some_atom-agree (atom_uses n) (is_arity_atom K) (is_arity_atom J) (arity_agree n K J g) f u) ∙ a.arity;
+  known = sym (some_atom-agree (atom_speaks_of n) (is_unknown_atom K) (is_unknown_atom J) (unknown_agree n K J g) f u) ∙ a.known;
+  arity = sym (some_atom-agree (atom_speaks_of n) (is_arity_atom K) (is_arity_atom J) (arity_agree n K J g) f u) ∙ a.arity;
   bound = a.bound;
-  sorted = sym (some_below-agree (atom_uses n) (is_missorted_atom K) (is_missorted_atom J) (missorted_agree n K J g) (scope_of h) f u) ∙ a.sorted;
+  sorted = sym (some_below-agree (atom_speaks_of n) (is_missorted_atom K) (is_missorted_atom J) (missorted_agree n K J g) (scope_of h) f u) ∙ a.sorted;
 }

@@ -14,8 +14,11 @@ use Rattle.ded_model.specs.Catalogue.{Entry, Catalogue}
 use Rattle.ded_model.specs.Catalogue as entry
 use Rattle.ded_model.specs.Form.{Form, FormAtom, compare, member, form}
 use Rattle.ded_model.specs.Goal.{goal_form}
-use Rattle.ded_model.specs.Known.{KnownNames, AreStored, IsTupleOver, IsEntryOver, IsAccepted, columns_with, entry_known, with_known, known_of, level_of, level_with, atom_level}
-use Rattle.ded_model.specs.Logic.{greatest}
+use Rattle.ded_model.specs.Known.{KnownNames, IsNewName, AreStored, IsTupleOver, IsEntryOver, IsAccepted, columns_with, entry_known, with_known, known_of, level_of, level_with, atom_level}
+use Rattle.ded_model.specs.Logic.{greatest, some_atom}
+use Rattle.ded_model.specs.LongRows.{is_long_atom}
+use Rattle.ded_model.specs.Made.{base}
+use Rattle.ded_model.specs.Plain.{IsPlain}
 use Rattle.ded_model.specs.Row.{Atom}
 use Rattle.ded_model.specs.Slotted.{goal_of}
 use Rattle.ded_model.specs.Width.{tuple_length}
@@ -147,13 +150,13 @@ module _ (limit : ℕ) (es : List (List ℕ × Stored)) (n : List ℕ) (kept : I
 
   -- ---- definitions
 
-  pub kept-defined : (r : Relation) → r.tuples.entries ≡ [] → length r.heading ≤ 16 → known (catalogue_of t) n ≡ None → IsKept limit (es ++ (n, stored.Relation r) ∷ [])
+  pub kept-defined : (r : Relation) → r.tuples.entries ≡ [] → length r.heading ≤ 16 → IsNewName (known (catalogue_of t)) n → IsKept limit (es ++ (n, stored.Relation r) ∷ [])
   kept-defined r e few h = kept-add limit es n (stored.Relation r) kept h (same_stored limit r.heading r.heading r.inserts r.inserts [] r.tuples.entries refl refl e (tt, omega arith)) few
 
-  pub kept-viewed : (v : View) → known (catalogue_of t) n ≡ None → IsAccepted (known (catalogue_of t)) v.heading (form v.formula)
+  pub kept-viewed : (v : View) → IsNewName (known (catalogue_of t)) n → IsAccepted (known (catalogue_of t)) v.heading (form v.formula)
       → level_of (known (catalogue_of t)) (form v.formula) ≤ 16 → v.level ≡ level_of (known (catalogue_of t)) (form v.formula) → goal_form v.goal ≡ goal_of v.heading (form v.formula)
-      → IsKept limit (es ++ (n, stored.View v) ∷ [])
-  kept-viewed v h accepted low level goal = kept-add limit es n (stored.View v) kept h (accepted, low) (level, goal)
+      → IsPlain (form v.formula) → some_atom is_long_atom (form v.formula) ≡ false → IsKept limit (es ++ (n, stored.View v) ∷ [])
+  kept-viewed v h accepted low level goal plain short = kept-add limit es n (stored.View v) kept h (accepted, low) (level, goal, plain, short)
 
   -- ---- a relation
 
@@ -289,7 +292,7 @@ module _ (limit : ℕ) (es : List (List ℕ × Stored)) (kept : IsKept limit es)
   -- the level of a name
   atom_level_there : (a : FormAtom) → atom_level (known_of (entry_forms es)) a ≡ atom_level_in es a
   atom_level_there (compare l op r) = refl
-  atom_level_there (member n ts) = ap level_with (known_of-lookup limit es n kept) ∙ level_at-known (lookup (bytes_eq n) es)
+  atom_level_there (member n ts) = ap level_with (known_of-lookup limit es (base n) kept) ∙ level_at-known (lookup (bytes_eq (base n)) es)
 
   -- of a view
   pub level_there : (f : Form) → greatest (atom_level_in es) f + 1 ≡ level_of (known_of (entry_forms es)) f

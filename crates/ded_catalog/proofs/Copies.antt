@@ -5,6 +5,10 @@ use Rattle.ded_model.specs.declared.name.Column.{Column}
 use Rattle.ded_model.specs.Catalogue.{Entry}
 use Rattle.ded_model.specs.Catalogue as entry
 use Rattle.ded_model.specs.Known.{KnownNames, IsEntryOver, with_known, level_of}
+use Rattle.ded_model.specs.Logic.{some_atom}
+use Rattle.ded_model.specs.LongRows.{is_long_atom}
+use Rattle.ded_model.specs.Made.{is_made}
+use Rattle.ded_model.specs.Plain.{IsPlain}
 use Rattle.ded_model.specs.Slotted.{goal_of}
 use Rattle.ded_catalog.specs.declared.stored.Stored.{Stored}
 use Rattle.ded_catalog.specs.declared.stored.Stored.TheVariants.{Relation, View}
@@ -26,7 +30,7 @@ right_copy : (K : KnownNames) (s w : Stored) → IsCopy s w → IsRight K s → 
 right_copy K (Relation r) (Relation s) c h = subst (λ (k : List Column). length k ≤ 16) (sym c.0) h
 right_copy K (Relation r) (View w) c h = absurd c
 right_copy K (View v) (Relation s) c h = absurd c
-right_copy K (View v) (View w) c h = (c.3 ∙ h.0 ∙ ap (level_of K) (sym c.1), c.2 ∙ h.1 ∙ (λ i. goal_of (sym c.0 i) (sym c.1 i)))
+right_copy K (View v) (View w) c h = (c.3 ∙ h.0 ∙ ap (level_of K) (sym c.1), c.2 ∙ h.1 ∙ (λ i. goal_of (sym c.0 i) (sym c.1 i)), subst IsPlain (sym c.1) h.2, ap (some_atom is_long_atom) c.1 ∙ h.3)
 
 pub forms_copy : (es fs : List (List ℕ × Stored)) → AreCopies es fs → entry_forms fs ≡ entry_forms es
 forms_copy [] [] c = refl
@@ -40,7 +44,7 @@ kept_copied limit [] (f ∷ fs) K c h = absurd c
 kept_copied limit (e ∷ es) [] K c h = absurd c
 kept_copied limit (e ∷ es) (f ∷ fs) K c h =
     let same = entry_copy e.0 f.0 e.1 f.1 c.0.0 c.0.1 in (
-      ap K c.0.0 ∙ h.0,
+      (ap K c.0.0 ∙ h.0.0, ap is_made c.0.0 ∙ h.0.1),
       subst (IsEntryOver limit K) (sym same) h.1,
       right_copy K e.1 f.1 c.0.1 h.2,
       subst (λ x. AreKept limit (with_known K x) fs) (sym same) (kept_copied limit es fs (with_known K (entry_form e.0 e.1)) c.1 h.3),

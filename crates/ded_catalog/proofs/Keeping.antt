@@ -2,7 +2,8 @@
 use Rattle.std.proofs.Common.{◌≡◌, ℕ, ◌≤◌, Bool, true, false, cond, List, [], ◌∷◌, ◌++◌, None, Some, is_some, refl, sym, ap, ◌∙◌, subst, true≢false, bytes_eq}
 use Rattle.std.specs.List.{list_any}
 use Rattle.ded_model.specs.Form.{form}
-use Rattle.ded_model.specs.Known.{KnownNames, AreEntriesOver, IsEntryOver, IsWellFormed, entry_known, with_known, known_from, known_of}
+use Rattle.ded_model.specs.Known.{KnownNames, AreEntriesOver, IsEntryOver, IsWellFormed, IsNewName, entry_known, with_known, known_from, known_of}
+use Rattle.ded_model.specs.Made.{is_made}
 use Rattle.ded_sorts.specs.Changes.{AddsEntry, ChangesEntry, DropsEntry}
 use Rattle.ded_model.specs.Entries.{entry_uses}
 use Rattle.ded_catalog.specs.declared.stored.Stored.{Stored}
@@ -16,7 +17,7 @@ use Rattle.ded_catalog.proofs.Lookups.{own, same_names, named, forms-append, wit
 
 pub entries-kept : (limit : ℕ) (K : KnownNames) (es : List (List ℕ × Stored)) → AreKept limit K es → AreEntriesOver limit K (entry_forms es)
 entries-kept limit K [] h = tt
-entries-kept limit K (e ∷ es) h = (ap K (named e.0 e.1) ∙ h.0, h.1, entries-kept limit (with_known K (entry_form e.0 e.1)) es h.3)
+entries-kept limit K (e ∷ es) h = ((ap K (named e.0 e.1) ∙ h.0.0, ap is_made (named e.0 e.1) ∙ h.0.1), h.1, entries-kept limit (with_known K (entry_form e.0 e.1)) es h.3)
 
 pub formed : (t : Table) → IsKept t.limit t.names → IsWellFormed (catalogue_of t)
 formed t h = entries-kept t.limit (λ n. None) t.names h.entries
@@ -24,14 +25,14 @@ formed t h = entries-kept t.limit (λ n. None) t.names h.entries
 -- ---- one more
 
 kept-append : (limit : ℕ) (K : KnownNames) (es : List (List ℕ × Stored)) (n : List ℕ) (s : Stored) → AreKept limit K es
-    → known_from K (entry_forms es) n ≡ None → IsEntryOver limit (known_from K (entry_forms es)) (entry_form n s) → IsRight (known_from K (entry_forms es)) s
+    → IsNewName (known_from K (entry_forms es)) n → IsEntryOver limit (known_from K (entry_forms es)) (entry_form n s) → IsRight (known_from K (entry_forms es)) s
     → AreKept limit K (es ++ (n, s) ∷ [])
 kept-append limit K [] n s h new over right = (new, over, right, tt)
 kept-append limit K (e ∷ es) n s h new over right = (h.0, h.1, h.2, kept-append limit (with_known K (entry_form e.0 e.1)) es n s h.3 new over right)
 
 -- an entry at the end that has a new name, is well formed over those before it and right over them
 pub kept-add : (limit : ℕ) (es : List (List ℕ × Stored)) (n : List ℕ) (s : Stored) → IsKept limit es
-    → known_of (entry_forms es) n ≡ None → IsEntryOver limit (known_of (entry_forms es)) (entry_form n s) → IsRight (known_of (entry_forms es)) s
+    → IsNewName (known_of (entry_forms es)) n → IsEntryOver limit (known_of (entry_forms es)) (entry_form n s) → IsRight (known_of (entry_forms es)) s
     → IsKept limit (es ++ (n, s) ∷ [])
 unfolding known_of
 kept-add limit es n s h new over right = record { low = h.low; high = h.high; entries = kept-append limit (λ m. None) es n s h.entries new over right }
@@ -98,7 +99,7 @@ over-without limit n K J k (View v) g u o =
 
 right-without : (n : List ℕ) (K J : KnownNames) (k : List ℕ) (s : Stored) → Agrees n K J → entry_uses n (entry_form k s) ≡ false → IsRight K s → IsRight J s
 right-without n K J k (Relation r) g u h = h
-right-without n K J k (View v) g u h = (h.0 ∙ level-agree n K J g (form v.formula) u, h.1)
+right-without n K J k (View v) g u h = (h.0 ∙ level-agree n K J g (form v.formula) u, h.1, h.2, h.3)
 
 -- a name that something is known of isn't one that nothing is known of
 other : (n k : List ℕ) (K : KnownNames) (b : Bool) → bytes_eq n k ≡ b → is_some (K n) ≡ true → K k ≡ None → bytes_eq n k ≡ false
@@ -121,8 +122,8 @@ kept-without : (limit : ℕ) (n : List ℕ) (K J : KnownNames) (es : List (List 
 kept-without limit n K J [] w h u = tt
 kept-without limit n K J (e ∷ es) w h u =
     let here = left_false _ _ u in
-    let o = other n e.0 K (bytes_eq n e.0) refl w.some h.0 in (
-      sym (w.agrees.same e.0 o) ∙ h.0,
+    let o = other n e.0 K (bytes_eq n e.0) refl w.some h.0.0 in (
+      (sym (w.agrees.same e.0 o) ∙ h.0.0, h.0.1),
       over-without limit n K J e.0 e.1 w.agrees here h.1,
       right-without n K J e.0 e.1 w.agrees here h.2,
       kept-without limit n (with_known K (entry_form e.0 e.1)) (with_known J (entry_form e.0 e.1)) es (with-without n K J e.0 e.1 w o here) h.3 (right_false _ _ u),
@@ -139,7 +140,7 @@ kept-dropped limit n s K [] after h u = kept-without limit n (with_known K (entr
     (record {
       agrees = record { same = λ m e. with_known-other K n s m (turned m n (bytes_eq m n) refl e) };
       some = ap is_some (with_known-own K n s n (own n));
-      none = h.0;
+      none = h.0.0;
     })
     h.3 (right_false _ _ u)
 kept-dropped limit n s K (e ∷ before) after h u =

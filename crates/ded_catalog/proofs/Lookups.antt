@@ -124,7 +124,7 @@ absent limit K [] n h k = refl
 absent limit K (e ∷ es) n h k = by (bytes_eq n e.0) refl (absent limit (with_known K (entry_form e.0 e.1)) es n h.3)
   where
     by : (b : Bool) → bytes_eq n e.0 ≡ b → (is_some (with_known K (entry_form e.0 e.1) n) ≡ true → lookup (bytes_eq n) es ≡ None) → cond (bytes_eq n e.0) (Some e.1) (lookup (bytes_eq n) es) ≡ None
-    by true b next = absurd (true≢false (sym k ∙ ap is_some (ap K (same_names n e.0 b) ∙ h.0)))
+    by true b next = absurd (true≢false (sym k ∙ ap is_some (ap K (same_names n e.0 b) ∙ h.0.0)))
     by false b next =
         ap (λ c. cond c (Some e.1) (lookup (bytes_eq n) es)) b
         ∙ next (ap is_some (with_known-other K e.0 e.1 n b) ∙ k)

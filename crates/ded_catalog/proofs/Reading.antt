@@ -1,15 +1,19 @@
 -- What a catalogue answers, over the table that it has.
-use Rattle.std.proofs.Common.{◌≡◌, ℕ, ◌||◌, List, [], ◌∷◌, map, Option, None, Some, refl, sym, ap, ◌∙◌, subst, bytes_eq}
+use Rattle.std.proofs.Common.{◌≡◌, ℕ, false, ◌||◌, List, [], ◌∷◌, map, Option, None, Some, refl, sym, ap, ◌∙◌, subst, bytes_eq}
 use Rattle.std.specs.List.{list_any}
 use Rattle.std.specs.Map.{lookup}
 use Rattle.std.specs.Option.{option_map}
 use Rattle.std.proofs.lemmas.Option.{none-some, same_Some}
 use Rattle.ded_model.specs.Form.{form}
 use Rattle.ded_model.specs.Goal.{goal_form}
+use Rattle.ded_model.specs.Logic.{some_atom}
+use Rattle.ded_model.specs.LongRows.{is_long_atom}
+use Rattle.ded_model.specs.Plain.{IsPlain}
 use Rattle.ded_model.specs.Slotted.{goal_of}
 use Rattle.ded_model.specs.Entries.{entry_of, stored_in, relation_in, view_in, known, entry_uses}
 use Rattle.ded_catalog.specs.declared.stored.Relation.{Relation}
 use Rattle.ded_catalog.specs.declared.stored.Stored.{Stored}
+use Rattle.ded_catalog.specs.declared.stored.View.{View}
 use Rattle.ded_catalog.specs.declared.stored.Stored.TheVariants as stored
 use Rattle.ded_catalog.specs.Kept.{IsKept, AreKept}
 use Rattle.ded_catalog.specs.State.{Table, entry_form, entry_forms, catalogue_of, known_with, relation_at, view_at, heading_at, stored_uses}
@@ -62,6 +66,18 @@ module _ (limit : ℕ) (es : List (List ℕ × Stored)) (n : List ℕ) (kept : I
   -- the formula
   pub formula_there : option_map (λ v. form v.formula) (view_at (lookup (bytes_eq n) es)) ≡ option_map (λ v. v.1) (view_in (entry_of (catalogue_of t).entries n))
   formula_there = formula_at n (lookup (bytes_eq n) es) ∙ ap (λ e. option_map (λ v. v.1) (view_in e)) (sym (entry_of-lookup n es))
+
+  short_at : (o : Option Stored) → lookup (bytes_eq n) es ≡ o → (v : View) → view_at o ≡ Some v → IsPlain (form v.formula) × (some_atom is_long_atom (form v.formula) ≡ false)
+  short_at None e v h = absurd (none-some v h)
+  short_at (Some (stored.Relation r)) e v h = absurd (none-some v h)
+  short_at (Some (stored.View w)) e v h =
+      let s = split n (stored.View w) es e in
+      let at = at-kept limit n (stored.View w) s.before s.after (λ m. None) (subst (AreKept limit (λ m. None)) s.was kept.entries) in
+      subst (λ (x : View). IsPlain (form x.formula) × (some_atom is_long_atom (form x.formula) ≡ false)) (same_Some w v h) (at.2.2, at.2.3)
+
+  -- the formula of a view is plain and short
+  pub short_there : (v : View) → view_at (lookup (bytes_eq n) es) ≡ Some v → IsPlain (form v.formula) × (some_atom is_long_atom (form v.formula) ≡ false)
+  short_there = short_at (lookup (bytes_eq n) es) refl
 
   goal_at : (o : Option Stored) → lookup (bytes_eq n) es ≡ o → option_map (λ v. goal_form v.goal) (view_at o) ≡ option_map (λ v. goal_of v.0 v.1) (view_in (option_map (entry_form n) o))
   goal_at None e = refl

@@ -7,6 +7,7 @@ use Rattle.std.proofs.lemmas.Slice.Eq.{bytes_eq-Decides}
 use Rattle.ded_model.specs.Catalogue.{Entry, entry_name}
 use Rattle.ded_model.specs.Entries.{entry_of}
 use Rattle.ded_model.specs.Known.{KnownNames, IsEntryOver, AreEntriesOver, entry_known, with_known, known_from}
+use Rattle.ded_model.specs.Made.{is_made}
 use Rattle.ded_catalog.specs.Changing.{changed_under}
 
 -- names compare alike from both sides
@@ -101,7 +102,7 @@ module _ (n : List ℕ) (f : Entry → Entry) where
         by true b next =
             let is : e ≡ d = sym (same_Some d e (sym (found-step d es true b) ∙ h)) in
             subst (AreEntriesOver limit K) (sym (changed-step d es true b)) (
-              ap K (named d) ∙ w.0,
+              (ap K (named d) ∙ w.0.0, ap is_made (named d) ∙ w.0.1),
               subst (λ x. IsEntryOver limit K x → IsEntryOver limit K (f x)) is (over K) w.1,
               subst (λ J. AreEntriesOver limit J es) (sym (with_same K d)) w.2,
             )

@@ -5,7 +5,8 @@ use Rattle.ded_model.specs.Catalogue.{Entry, Catalogue}
 use Rattle.ded_model.specs.Catalogue as entry
 use Rattle.std.specs.Map.{lookup}
 use Rattle.std.specs.Str.{bytes_eq}
-use Rattle.ded_model.specs.Form.{FormAtom, compare, member, form, uses}
+use Rattle.ded_model.specs.Form.{FormAtom, compare, member, form, speaks_of}
+use Rattle.ded_model.specs.Made.{base}
 use Rattle.ded_model.specs.Known.{Known}
 use Rattle.ded_catalog.specs.declared.stored.Relation as declared
 use Rattle.ded_catalog.specs.declared.stored.View as declared_view
@@ -60,10 +61,10 @@ heading_at None = None
 heading_at (Some (Relation r)) = Some r.heading
 heading_at (Some (View v)) = Some v.heading
 
--- whether it is a view whose formula uses the name
+-- whether it is a view whose formula speaks of the name
 abbrev pub stored_uses : List ℕ → Stored → Bool
 stored_uses n (Relation r) = false
-stored_uses n (View v) = uses n (form v.formula)
+stored_uses n (View v) = speaks_of n (form v.formula)
 
 -- the level of a view, and 0 of a relation or of none
 abbrev pub level_at : Option Stored → ℕ
@@ -71,7 +72,7 @@ level_at None = 0
 level_at (Some (Relation r)) = 0
 level_at (Some (View v)) = v.level
 
--- the level of the name that an atom uses
+-- the level of the name that an atom speaks of
 abbrev pub atom_level_in : List (List ℕ × Stored) → FormAtom → ℕ
 atom_level_in es (compare l op r) = 0
-atom_level_in es (member n ts) = level_at (lookup (bytes_eq n) es)
+atom_level_in es (member n ts) = level_at (lookup (bytes_eq (base n)) es)

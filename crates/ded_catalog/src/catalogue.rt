@@ -49,7 +49,10 @@ impl Catalogue {
     ghost use Rattle.ded_model.specs.Catalogue.{relation, view};
     ghost use Rattle.ded_model.specs.Form.{form};
     ghost use Rattle.ded_model.specs.Goal.{goal_form};
-    ghost use Rattle.ded_model.specs.Known.{IsAccepted, IsTupleOver, IsWellFormed, level_of};
+    ghost use Rattle.ded_model.specs.Known.{IsAccepted, IsNewName, IsTupleOver, IsWellFormed, level_of};
+    ghost use Rattle.ded_model.specs.Logic.{some_atom};
+    ghost use Rattle.ded_model.specs.LongRows.{is_long_atom};
+    ghost use Rattle.ded_model.specs.Plain.{IsPlain};
     ghost use Rattle.ded_model.specs.Slotted.{goal_of};
     ghost use Rattle.ded_model.specs.Width.{tuple_length};
     ghost use Rattle.ded_sorts.specs.Causes.{insert_refusal, is_relation_with};
@@ -84,12 +87,12 @@ impl Catalogue {
         }
     }
 
-    /// Defines a relation without tuples, of at most 16 columns, under a new name.
+    /// Defines a relation without tuples, of at most 16 columns, under a new name that no closure or interior has.
     ///
     /// # Errors
     /// Out of memory; nothing is changed then.
     pub fn define(&mut self, name: Name, heading: Heading) -> Result<(), NoMemory>
-        requires new { known (catalogue_of self.old) name ≡ None }
+        requires new { IsNewName (known (catalogue_of self.old)) name }
         requires few { length heading ≤ 16 }
         ensures ok { OnOk result (AddsEntry (catalogue_of self.old) (catalogue_of self.new) (relation name heading 0 [])) }
         ensures err { OnErr result (catalogue_of self.new ≡ catalogue_of self.old) }
@@ -97,12 +100,13 @@ impl Catalogue {
         self.define_at(name, heading, 0)
     }
 
-    /// Defines a relation without tuples, of at most 16 columns, under a new name, which counts as one that has accepted `inserts` inserts.
+    /// Defines a relation without tuples, of at most 16 columns, under a new name that no closure or interior has,
+    /// which counts as one that has accepted `inserts` inserts.
     ///
     /// # Errors
     /// Out of memory; nothing is changed then.
     pub fn define_at(&mut self, name: Name, heading: Heading, inserts: u32) -> Result<(), NoMemory>
-        requires new { known (catalogue_of self.old) name ≡ None }
+        requires new { IsNewName (known (catalogue_of self.old)) name }
         requires few { length heading ≤ 16 }
         ensures ok { OnOk result (AddsEntry (catalogue_of self.old) (catalogue_of self.new) (relation name heading inserts [])) }
         ensures err { OnErr result (catalogue_of self.new ≡ catalogue_of self.old) }
@@ -141,7 +145,9 @@ impl Catalogue {
         delete_from(&mut self.names, name, number)
     }
 
-    /// Defines a view under a new name: its formula as written, and the goal of that.
+    /// Defines a view under a new name that no closure or interior has: its formula as written, and the goal of that. Each
+    /// sum of the formula has each name once, the two sides of each comparison are over one denominator, and no row of it
+    /// has a number above 2^63 - 1 in magnitude.
     ///
     /// # Errors
     /// Out of memory; nothing is changed then.
@@ -152,14 +158,16 @@ impl Catalogue {
         f: Formula,
         g: Goal,
     ) -> Result<(), NoMemory>
-        requires new { known (catalogue_of self.old) name ≡ None }
+        requires new { IsNewName (known (catalogue_of self.old)) name }
         requires accepted { IsAccepted (known (catalogue_of self.old)) heading (form f) }
         requires level { level_of (known (catalogue_of self.old)) (form f) ≤ 16 }
+        requires plain { IsPlain (form f) }
+        requires short { some_atom is_long_atom (form f) ≡ false }
         requires goal { goal_form g ≡ goal_of heading (form f) }
         ensures ok { OnOk result (AddsEntry (catalogue_of self.old) (catalogue_of self.new) (view name heading (form f))) }
         ensures err { OnErr result (catalogue_of self.new ≡ catalogue_of self.old) }
     {
-        let level = level_in(&self.names, &f) + 1;
+        let level = level_in(&self.names, &f)? + 1;
         let view = Stored::View(View {
             heading,
             formula: f,
@@ -169,7 +177,7 @@ impl Catalogue {
         add(&mut self.names, name, view)
     }
 
-    /// Drops a name that is defined and that no view uses. The others keep their order. It does not allocate.
+    /// Drops a name that is defined and that no view speaks of. The others keep their order. It does not allocate.
     pub fn drop_name(&mut self, name: &Name)
         requires defined { is_some (known (catalogue_of self.old) name.now) ≡ true }
         requires unused { list_any (entry_uses name.now) (catalogue_of self.old).entries ≡ false }

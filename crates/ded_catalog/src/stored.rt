@@ -40,13 +40,13 @@ impl Stored {
     ghost use Rattle.ded_catalog.specs.State.{stored_uses};
     ghost use Rattle.ded_catalog.specs.Tuples.{AreUpTo, refusal_of, IsSame, Pushes, Removes};
 
-    /// Whether this is a view whose formula uses the name.
+    /// Whether this is a view whose formula speaks of the name.
     pub(crate) fn uses(&self, name: &Name) -> bool
         ensures { result ≡ stored_uses name.now self.now }
     {
         match self {
             Stored::Relation(_) => false,
-            Stored::View(view) => view.formula.uses(name),
+            Stored::View(view) => view.formula.speaks_of(name),
         }
     }
 

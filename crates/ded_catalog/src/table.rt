@@ -5,7 +5,8 @@ ghost use Rattle.std.specs.Map.{lookup, remove_entry};
 ghost use Rattle.std.specs.Option.{option_map, unwrap_or};
 ghost use Rattle.std.specs.Str.{bytes_eq};
 ghost use Rattle.ded_model.specs.declared.command.Refusal.TheVariants.{Memory};
-ghost use Rattle.ded_model.specs.Form.{form, forms, atom_uses};
+ghost use Rattle.ded_model.specs.Form.{form, forms};
+ghost use Rattle.ded_model.specs.Made.{base};
 ghost use Rattle.ded_model.specs.Logic.{greatest, greatest_of};
 ghost use Rattle.ded_sorts.specs.Checks.{known_form};
 ghost use Rattle.ded_catalog.specs.declared.stored.Relation.{Relation};
@@ -130,7 +131,7 @@ pub(crate) fn take_out(table: &mut Table, name: &Name)
     give_up(table.shift_remove(name));
 }
 
-/// Whether the formula of a view uses the name.
+/// Whether the formula of a view speaks of the name.
 pub(crate) fn some_uses(table: &Table, name: &Name) -> bool
     ensures { result ≡ list_any (stored_uses name.now) (map (λ e. e.1) table.now.entries) }
 {
@@ -142,32 +143,37 @@ pub(crate) fn some_uses(table: &Table, name: &Name) -> bool
     false
 }
 
-/// The greatest level of a name that the formula uses, 0 where it uses none.
+/// The greatest level of a name that the formula speaks of, 0 where it speaks of none.
+///
+/// # Errors
+/// Out of memory.
 #[cycle(level)]
-pub(crate) fn level_in(table: &Table, formula: &Formula) -> u32
-    ensures { result ≡ greatest (atom_level_in table.now.entries) (form formula.now) }
+pub(crate) fn level_in(table: &Table, formula: &Formula) -> Result<u32, NoMemory>
+    ensures { IfOk result (λ n. n ≡ greatest (atom_level_in table.now.entries) (form formula.now)) }
 {
     match formula {
-        Formula::True | Formula::False | Formula::Compare(_, _, _) => 0,
-        Formula::Member(name, _) => level_of(table, name),
+        Formula::True | Formula::False | Formula::Compare(_, _, _) => Ok(0),
+        Formula::Member(name, _) => Ok(level_of(table, &name.base_name()?)),
         Formula::Not(part) | Formula::Exists(_, part) | Formula::Forall(_, part) => {
             level_in(table, part)
         }
         Formula::And(parts) | Formula::Or(parts) => greatest_level(table, parts),
-        Formula::Implies(left, right) => larger(level_in(table, left), level_in(table, right)),
+        Formula::Implies(left, right) => {
+            Ok(larger(level_in(table, left)?, level_in(table, right)?))
+        }
     }
 }
 
-/// The greatest level of a name that one of the formulas uses, 0 where they use none.
+/// The greatest level of a name that one of the formulas speaks of, 0 where they speak of none.
 #[cycle(level)]
-fn greatest_level(table: &Table, parts: &Vec<Formula>) -> u32
-    ensures { result ≡ greatest_of (atom_level_in table.now.entries) (forms parts.now.items) }
+fn greatest_level(table: &Table, parts: &Vec<Formula>) -> Result<u32, NoMemory>
+    ensures { IfOk result (λ n. n ≡ greatest_of (atom_level_in table.now.entries) (forms parts.now.items)) }
 {
     let mut level = 0;
     for part in parts {
-        level = larger(level, level_in(table, part));
+        level = larger(level, level_in(table, part)?);
     }
-    level
+    Ok(level)
 }
 
 /// The larger of two numbers.

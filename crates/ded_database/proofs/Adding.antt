@@ -8,14 +8,15 @@ use Rattle.std.proofs.lemmas.Option.{same_Some, none-some}
 use Rattle.ded_model.specs.declared.slot.Slot.{Slot}
 use Rattle.ded_model.specs.declared.name.Column.{Column}
 use Rattle.ded_model.specs.Row.{Atom, tuple_holds, tuples_hold, tuples_mention}
-use Rattle.ded_model.specs.Catalogue.{relation, view, Catalogue, tuples_of, at_slots, meaning, PlanHolds, GoalHolds}
+use Rattle.ded_model.specs.Catalogue.{relation, view, Catalogue, tuples_of, at_slots, stored, meaning, PlanHolds, GivenHolds, GoalHolds}
 use Rattle.ded_model.specs.Entries.{known, entry_of, relation_in, view_in, columns_in}
 use Rattle.ded_model.specs.Form.{Form, uses}
 use Rattle.ded_model.specs.Goal.{goal_mentions}
 use Rattle.ded_model.specs.Known.{IsTupleOver, IsAccepted}
 use Rattle.ded_model.specs.Lines.{In, IsSubset, tuples_lines, atoms_lines}
-use Rattle.ded_model.specs.Measure.{Measure, entry_measure, with_measure, measures, goal_lines, goal_clashes, plan_lines, plan_clashes}
+use Rattle.ded_model.specs.Measure.{Measure, entry_measure, with_measure, stored_measures, measures, goal_lines, goal_clashes, plan_lines, plan_clashes}
 use Rattle.ded_model.specs.Logic.{AllAtoms}
+use Rattle.ded_model.specs.Made.{base}
 use Rattle.ded_model.specs.Normal.{IsNormalTuple}
 use Rattle.ded_model.specs.PlanForm.{PlanAtom, PlanForm, scan, rows, plan_form}
 use Rattle.ded_model.specs.Point.{slot, Point, IsPoint}
@@ -37,21 +38,21 @@ use Rattle.ded_views.proofs.Named.{own_name}
 use Rattle.ded_views.proofs.Changing.{entry_there, same_entry, inserted, inserted_lines}
 use Rattle.ded_views.proofs.Clashing.{plan_clashing}
 use Rattle.ded_views.proofs.Placing.{none_measured}
-use Rattle.ded_views.proofs.Views.{name_measure, view_accepted, tuples_over}
-use Rattle.ded_keep.specs.Additive.{is_additive}
+use Rattle.ded_views.proofs.Views.{name_measure, plain_there, view_accepted, tuples_over}
+use Rattle.ded_keep.specs.Additive.{is_additive, IsOtherScan}
 use Rattle.ded_keep.specs.Adding.{with_alone, IsExtended, IsAddition}
 use Rattle.ded_keep.proofs.AloneMeanings.{added_alone}
 use Rattle.ded_keep.proofs.Appended.{extended, kept_after}
 use Rattle.ded_database.specs.declared.mark.Mark.{Mark}
 use Rattle.ded_database.specs.Marks.{reaches_beside, mark_adds}
 use Rattle.ded_query.specs.Gathering.{IsGivenOf, IsFront, IsViewOf}
-use Rattle.ded_query.proofs.Entries.{named_columns, relation_heading}
-use Rattle.ded_query.proofs.Evaluable.{all_with, any_atoms, scannable}
-use Rattle.ded_query.proofs.GivenNames.{given_means, lines_from, clash_from}
+use Rattle.ded_query.proofs.Entries.{named_columns, plain_base, relation_heading}
+use Rattle.ded_query.proofs.Evaluable.{all_with, any_atoms, scannable, scans_same}
+use Rattle.ded_query.proofs.GivenNames.{lines_from, clash_from}
 use Rattle.ded_query.proofs.Names.{scanned_used, used_known, of_named, all_named, some_named}
 use Rattle.ded_database.specs.Changes.{IsInsert}
 use Rattle.ded_database.specs.Held.{IsHeld}
-use Rattle.ded_database.proofs.ListsStaying.{HasOthers, same_name_after}
+use Rattle.ded_database.proofs.ListsStaying.{HasOthers, same_meaning_after}
 use Rattle.ded_database.proofs.Under.{same_name, all_left_over, other_left, unnamed, nameless, named_each, gone_name}
 
 -- ---- lists without the relation
@@ -183,7 +184,7 @@ module _ (c d : Catalogue) (n : List ℕ) (t : List Atom) (x : IsInsert c d n t)
   -- ---- over what else the plan scans
 
   module _ (v own : List ℕ) (hv : List Column) (f : Form) (plan : PlanForm) (e : entry_of c.entries v ≡ Some (view own hv f)) (p : IsPlanned (goal_of hv f) plan)
-      (beside : (o : List ℕ) → uses o f ≡ true → bytes_eq o n ≡ false → reaches c o n ≡ false) where
+      (beside : (o : List ℕ) → uses o f ≡ true → bytes_eq o n ≡ false → reaches c (base o) n ≡ false) where
     -- the view is the same
     entry_after : entry_of d.entries v ≡ Some (view own hv f)
     entry_after = same_entry c d n x.inserts.columns x.inserts.inserts x.number x.inserts.present (x.inserts.present ++ (x.number, t) ∷ []) x.inserts.changes v
@@ -198,9 +199,9 @@ module _ (c d : Catalogue) (n : List ℕ) (t : List Atom) (x : IsInsert c d n t)
     used : (o : List ℕ) → plan_uses o plan ≡ true → uses o f ≡ true
     used o u = scanned_used d f plan o scans u
 
-    -- the other names that the plan scans are defined
-    pub names_known : (names : List (List ℕ)) → ((o : List ℕ) → list_any (bytes_eq o) names ≡ (plan_uses o plan && not (bytes_eq o n))) → AllByRecursion (λ o. is_some (known d o) ≡ true) names
-    names_known names all = all_named (λ o. is_some (known d o) ≡ true) names (λ o i. used_known (known d) f o accepted.known (used o (and_parts (plan_uses o plan) (not (bytes_eq o n)) (sym (all o) ∙ i)).0))
+    -- the other names that the plan scans are made of defined ones
+    pub names_known : (names : List (List ℕ)) → ((o : List ℕ) → list_any (bytes_eq o) names ≡ (plan_uses o plan && not (bytes_eq o n))) → AllByRecursion (λ o. is_some (known d (base o)) ≡ true) names
+    names_known names all = all_named (λ o. is_some (known d (base o)) ≡ true) names (λ o i. used_known (known d) f o accepted.known (used o (and_parts (plan_uses o plan) (not (bytes_eq o n)) (sym (all o) ∙ i)).0))
 
     -- one that clashes makes the view clash
     pub names_clash : (names : List (List ℕ)) → ((o : List ℕ) → list_any (bytes_eq o) names ≡ (plan_uses o plan && not (bytes_eq o n))) → list_any (λ o. (measures d o).clash) names ≡ true → (measures d v).clash ≡ true
@@ -224,7 +225,7 @@ module _ (c d : Catalogue) (n : List ℕ) (t : List Atom) (x : IsInsert c d n t)
             where
               by : (b : Bool) → bytes_eq o n ≡ b → IsScannedFrom IsAnyAtom (cond (bytes_eq o n) (Some (relation n h 0 ((0, t) ∷ []))) (entry_of (map given_entry rs) o)) ss
               by true i = subst (λ b. IsScannedFrom IsAnyAtom (cond b (Some (relation n h 0 ((0, t) ∷ []))) (entry_of (map given_entry rs) o)) ss) (sym i) (
-                subst (λ k. HaveSorts k ss) (ap (columns_in d) (sym (same_name o n i)) ∙ named_columns d n h heading) q.1,
+                subst (λ k. HaveSorts k ss) (ap (λ m. columns_in d (base m)) (sym (same_name o n i)) ∙ ap (columns_in d) (plain_base n (plain_there d x.formed_after n (relation n x.inserts.columns x.number (x.inserts.present ++ (x.number, t) ∷ [])) relation_after)) ∙ named_columns d n h heading) q.1,
                 ((subst (λ k. IsTupleOver k t) columns_are tuple_over, any_atoms t), tt),
               )
               by false i = subst (λ b. IsScannedFrom IsAnyAtom (cond b (Some (relation n h 0 ((0, t) ∷ []))) (entry_of (map given_entry rs) o)) ss) (sym i)
@@ -233,22 +234,24 @@ module _ (c d : Catalogue) (n : List ℕ) (t : List Atom) (x : IsInsert c d n t)
       -- what is given is right before the insert and after it, but for the relation
       pub addition : IsAddition (given_catalogue rs) c d n h t plan
       addition = record {
-        others = λ o u i.
-            let same = same_name_after c d n others o (beside o (used o u) i) in
-            let given = given_means d rs o y.of (y.there o u i) in (
-              λ den xs k b. (λ s. (same.means den xs).1 ((given den xs k b).1 s), λ s. (given den xs k b).0 ((same.means den xs).0 s)),
-              λ den xs k b. (λ s. (given den xs k b).1 s, λ s. (given den xs k b).0 s),
-            );
+        others = all_with (IsScanOf d f) (IsOtherScan (meaning c) (stored (given_catalogue rs)) (meaning d) n) (λ o. bytes_eq o n ≡ false → has_name o rs ≡ true) step plan scans y.there;
         adds = λ den xs k b.
             subst (λ y. meaning d n den xs ↔ (meaning c n den xs ⊎ IsTrue (tuple_holds t (record { den = den; coords = at_slots 0 y xs })))) columns_before (inserted c d n t x.number x.formed_before x.formed_after x.inserts den xs);
       }
         where
+          step : (a : PlanAtom) → IsScanOf d f a → ((o : List ℕ) → plan_atom_uses o a ≡ true → bytes_eq o n ≡ false → has_name o rs ≡ true) → IsOtherScan (meaning c) (stored (given_catalogue rs)) (meaning d) n a
+          step (rows a) q u = tt
+          step (scan o ss) q u = λ i. (
+            λ den xs k b l. same_meaning_after c d n others o (beside o q.0 i) den xs,
+            scans_same d f rs y.of (scan o ss) q (λ m j. subst (λ k. has_name k rs ≡ true) (same_name m o j) (u o (own_name o) i)),
+          )
+
           columns_before : columns_in c n ≡ h
           columns_before = columns_there c n (relation n x.inserts.columns x.inserts.inserts x.inserts.present) x.formed_before relation_before ∙ columns_are
 
       -- each name has lines among those that it has after the insert
-      lines_alone : (o : List ℕ) → IsSubset (measures (with_alone (given_catalogue rs) n h t) o).lines (measures d o).lines
-      unfolding measures
+      lines_alone : (o : List ℕ) → IsSubset (stored_measures (with_alone (given_catalogue rs) n h t) o).lines (measures d o).lines
+      unfolding stored_measures
       lines_alone o = lines_from d o rs _ y.of (by (bytes_eq o n) refl)
         where
           by : (b : Bool) → bytes_eq o n ≡ b → IsSubset (with_measure none_measured (relation n h 0 ((0, t) ∷ [])) o).lines (measures d o).lines
@@ -257,8 +260,8 @@ module _ (c d : Catalogue) (n : List ℕ) (t : List Atom) (x : IsInsert c d n t)
           by false i = subst (λ b. IsSubset (cond b (entry_measure none_measured (relation n h 0 ((0, t) ∷ []))) (none_measured o)).lines (measures d o).lines) (sym i) (λ l k. absurd k)
 
       -- and none clashes
-      clash_alone : (o : List ℕ) → (measures (with_alone (given_catalogue rs) n h t) o).clash ≡ false
-      unfolding measures
+      clash_alone : (o : List ℕ) → (stored_measures (with_alone (given_catalogue rs) n h t) o).clash ≡ false
+      unfolding stored_measures
       clash_alone o = clash_from d o rs _ (by (bytes_eq o n) refl)
         where
           by : (b : Bool) → bytes_eq o n ≡ b → (with_measure none_measured (relation n h 0 ((0, t) ∷ [])) o).clash ≡ false
@@ -266,10 +269,10 @@ module _ (c d : Catalogue) (n : List ℕ) (t : List Atom) (x : IsInsert c d n t)
           by false i = ap (λ b. (cond b (entry_measure none_measured (relation n h 0 ((0, t) ∷ []))) (none_measured o)).clash) i
 
       -- the plan clashes over them only where the view does
-      pub clash_of_view : plan_clashes (measures (with_alone (given_catalogue rs) n h t)) plan ≡ true → (measures d v).clash ≡ true
+      pub clash_of_view : plan_clashes (stored_measures (with_alone (given_catalogue rs) n h t)) plan ≡ true → (measures d v).clash ≡ true
       clash_of_view i =
           ap (λ (m : Measure). m.clash) (name_measure d x.formed_after v (view own hv f) entry_after)
-          ∙ p.clashes (measures d) (plan_clashes-grow (measures (with_alone (given_catalogue rs) n h t)) (measures d) lines_alone (λ o k. absurd (true≢false (sym k ∙ clash_alone o))) plan i)
+          ∙ p.clashes (measures d) (plan_clashes-grow (stored_measures (with_alone (given_catalogue rs) n h t)) (measures d) lines_alone (λ o k. absurd (true≢false (sym k ∙ clash_alone o))) plan i)
 
       -- the list before, with what the plan gives for the tuple alone behind it, is the list after
       pub view_extended : AreGiven (given_catalogue rs).entries → is_additive n plan ≡ true → (list more ts : List (List Atom)) → IsViewOf c v list
@@ -285,13 +288,13 @@ module _ (c d : Catalogue) (n : List ℕ) (t : List Atom) (x : IsInsert c d n t)
                   let before = subst (λ y. IsTrue (tuples_hold list q) ↔ GoalHolds c y q) goal (k.evaluated.holds q i) in
                   let planned = p.holds c q i in
                   let after = p.holds d q i in
-                  let plans = kept_after (IsTrue (tuples_hold ts q)) (IsTrue (tuples_hold list q)) (PlanHolds (with_alone (given_catalogue rs) n h t) plan q) (PlanHolds d plan q) (both.holds q i) (PlanHolds c plan q)
+                  let plans = kept_after (IsTrue (tuples_hold ts q)) (IsTrue (tuples_hold list q)) (GivenHolds (with_alone (given_catalogue rs) n h t) plan q) (PlanHolds d plan q) (both.holds q i) (PlanHolds c plan q)
                   (λ s. planned.0 (before.0 s), λ s. before.1 (planned.1 s)) (added_alone (given_catalogue rs) c d n h t plan given (no_entry n rs y.apart) additive addition q i) in
                   (λ s. after.1 (plans.0 s), λ s. plans.1 (after.0 s));
               slots = λ s i. elim (both.slots s i) [ inl j ↦ subst (λ y. goal_mentions y (slot s) ≡ true) goal (k.evaluated.slots s j) | inr j ↦ p.slots (slot s) j ];
-              lines = λ l i. elim (In-split l (tuples_lines list) (plan_lines (measures (with_alone (given_catalogue rs) n h t)) plan) (both.lines l i)) [
+              lines = λ l i. elim (In-split l (tuples_lines list) (plan_lines (stored_measures (with_alone (given_catalogue rs) n h t)) plan) (both.lines l i)) [
                 | inl j ↦ goal_lines-grow (measures c) (measures d) (measures-grow c d (inserted_lines c d n t x.number x.inserts)).lines (goal_of hv f) l (subst (λ y. In l (goal_lines (measures c) y)) goal (k.evaluated.lines l j))
-                | inr j ↦ p.lines (measures d) l (plan_lines-grow (measures (with_alone (given_catalogue rs) n h t)) (measures d) lines_alone plan l j)
+                | inr j ↦ p.lines (measures d) l (plan_lines-grow (stored_measures (with_alone (given_catalogue rs) n h t)) (measures d) lines_alone plan l j)
               ];
             };
             normal = subst (AllByRecursion IsNormalTuple) (sym is) (all-append IsNormalTuple list more k.normal norm);

@@ -12,12 +12,13 @@ use Rattle.ded_model.specs.Entries.{known, entry_of, view_in}
 use Rattle.ded_model.specs.Form.{uses}
 use Rattle.ded_model.specs.Goal.{GoalForm}
 use Rattle.ded_model.specs.Known.{IsWellFormed}
+use Rattle.ded_model.specs.Made.{base}
 use Rattle.ded_model.specs.Slotted.{goal_of}
 use Rattle.ded_model.specs.Uses.{goal_uses}
 use Rattle.ded_model.proofs.Members.{or_split}
 use Rattle.ded_model.proofs.Rows.{or_left, or_right}
 use Rattle.ded_views.specs.Reaching.{reaches}
-use Rattle.ded_views.proofs.GoalNames.{goal_names}
+use Rattle.ded_views.proofs.GoalNames.{goal_names, speaks_used}
 use Rattle.ded_views.proofs.Named.{own_name}
 use Rattle.ded_views.proofs.Placing.{unknown}
 use Rattle.ded_views.proofs.ViewGoals.{IsGoalOfView, reached_by_used}
@@ -79,7 +80,7 @@ module _ (c : Catalogue) where
       ])
       (λ m h. elim (a.only m h) [
         | inl e ↦ inl e
-        | inr u ↦ inr (used_reaches c w n v.own v.columns v.formula v.entry u.name m (sym (used_by_goal c n g v u.name) ∙ u.used) u.reaches)
+        | inr u ↦ inr (used_reaches c w n v.own v.columns v.formula v.entry (base u.name) m (speaks_used v.formula u.name (sym (used_by_goal c n g v u.name) ∙ u.used)) u.reaches)
       ])
       (is n ∙ or_left (bytes_eq n n) _ (own_name n))
 

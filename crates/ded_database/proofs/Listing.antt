@@ -1,12 +1,12 @@
 -- The list that is held of a view, and what it says.
-use Rattle.std.proofs.Common.{◌≡◌, ℕ, Bool, true, false, ◌||◌, ◌⊎◌, inl, inr, is_some, Option, Some, None, Result, Ok, Err, cond, map, List, [], ◌∷◌, ◌++◌, refl, sym, ap, ◌∙◌, subst, true≢false, bytes_eq}
+use Rattle.std.proofs.Common.{◌≡◌, ℕ, Bool, true, false, ◌||◌, ◌⊎◌, inl, inr, is_some, Option, Some, None, Result, Ok, Err, cond, map, List, [], ◌∷◌, ◌++◌, length, refl, sym, ap, ◌∙◌, subst, true≢false, bytes_eq}
 use Rattle.std.specs.Prelude.{◌↔◌, IsTrue, IfSome, OnOk, OnErr}
 use Rattle.std.proofs.Math.Bool.{or-false}
 use Rattle.std.specs.List.{AllByRecursion}
 use Rattle.std.specs.Option.{option_map}
 use Rattle.ded_model.specs.Row.{Atom, tuples_hold}
 use Rattle.ded_model.specs.Catalogue.{Entry, Catalogue, relation, view, tuples_of, at_slots, at_names, Holds}
-use Rattle.ded_model.specs.Entries.{known, entry_of, relation_in, view_in}
+use Rattle.ded_model.specs.Entries.{known, entry_of, relation_in, view_in, columns_in}
 use Rattle.ded_model.proofs.Rows.{or_left, or_right}
 use Rattle.ded_model.specs.Known.{IsWellFormed, IsTupleOver}
 use Rattle.ded_model.specs.Lines.{IsSubset, tuples_lines}
@@ -17,10 +17,11 @@ use Rattle.ded_sorts.proofs.KnownEntries.{columns_there, view_there}
 use Rattle.ded_eval.specs.declared.given.GivenRelation.{GivenRelation}
 use Rattle.ded_algebra.specs.Evaluation.{given_tuples}
 use Rattle.ded_eval.specs.Given.{unnumbered, given_entry, given_catalogue, given_under, has_name}
-use Rattle.ded_query.proofs.Arguments.{byte_arguments}
+use Rattle.ded_query.proofs.Arguments.{byte_arguments, arguments_long}
+use Rattle.ded_query.proofs.Entries.{plain_base}
 use Rattle.ded_eval.proofs.Taken.{none_under}
 use Rattle.ded_views.proofs.Named.{own_name}
-use Rattle.ded_views.proofs.Views.{view_means}
+use Rattle.ded_views.proofs.Views.{view_means, plain_there}
 use Rattle.ded_database.specs.declared.mark.Mark.{Mark}
 use Rattle.ded_database.specs.Held.{IsHeld, IsListOf, held_under, is_marked}
 use Rattle.ded_database.specs.Upkeep.{IsTightView}
@@ -32,7 +33,8 @@ use Rattle.ded_database.specs.Keeping.{IsMarkedWith, IsListedWith}
 pub list_of : (c : Catalogue) → IsWellFormed c → (r : GivenRelation) → IsHeld c r → IsListOf c r.name r.tuples
 list_of c w r k =
     let v = k.view.view in
-    let same : v.columns ≡ r.heading = sym (columns_there c r.name (view v.own v.columns v.formula) w v.entry) ∙ k.given.columns in
+    let plain = plain_base r.name (plain_there c w r.name (view v.own v.columns v.formula) v.entry) in
+    let same : v.columns ≡ r.heading = sym (columns_there c r.name (view v.own v.columns v.formula) w v.entry) ∙ ap (columns_in c) (sym plain) ∙ k.given.columns in
     record {
       own = v.own;
       columns = v.columns;
@@ -40,7 +42,7 @@ list_of c w r k =
       entry = v.entry;
       over = subst (λ h. AllByRecursion (IsTupleOver h) r.tuples) (sym same) k.given.over;
       holds = λ d xs i a.
-          let given = k.given.means d xs i (byte_arguments v.columns xs a) in
+          let given = k.given.means d xs i (byte_arguments v.columns xs a) (arguments_long v.columns xs a ∙ ap length same) in
           let means = view_means c w r.name v.own v.columns v.formula v.entry d xs in
           subst (λ h. IsTrue (tuples_hold r.tuples (record { den = d; coords = at_slots 0 h xs })) ↔ Holds c v.formula (record { den = d; coords = at_names v.columns xs })) (sym same)
           (λ s. means.0 (given.1 s), λ s. given.0 (means.1 s));

@@ -11,6 +11,7 @@ use Rattle.ded_model.specs.Form.{Form, uses}
 use Rattle.ded_model.specs.Goal.{GoalForm}
 use Rattle.ded_model.specs.Known.{IsWellFormed}
 use Rattle.ded_model.specs.Logic.{conjunctive, count_atoms}
+use Rattle.ded_model.specs.Made.{base}
 use Rattle.ded_model.specs.PlanForm.{plan_form}
 use Rattle.ded_model.specs.Row.{Atom}
 use Rattle.ded_model.specs.Slotted.{goal_of}
@@ -25,6 +26,7 @@ use Rattle.ded_plan.specs.Planned.{IsPlanned}
 use Rattle.ded_views.specs.Reaching.{reaches}
 use Rattle.ded_views.specs.Unaffected.{AreUnaffected}
 use Rattle.ded_views.proofs.Changing.{fails, entry_there, same_entry, reach_alike}
+use Rattle.ded_views.proofs.GoalNames.{speaks_used}
 use Rattle.ded_views.proofs.Named.{own_name}
 use Rattle.ded_views.proofs.Unaffected.{unaffected}
 use Rattle.ded_views.proofs.ViewGoals.{IsGoalOfView, reached_by_used}
@@ -85,28 +87,28 @@ pub marks_reach : (c : Catalogue) (m : Mark) (n : List ℕ) → IsWellFormed c �
 marks_reach c m n w k o =
     both_ways (mark_reaches m n) (reaches c m.name n)
     (λ h. some_reach (IsReach c) (λ u. has u.reached.items n) m.used.items (reaches c m.name n ≡ true) k.reached
-    (λ u i p t. used_reaches c w m.name k.own k.columns k.formula k.entry u.name n (k.used u.name ∙ i) (sym (p n) ∙ t)) h)
+    (λ u i p t. used_reaches c w m.name k.own k.columns k.formula k.entry (base u.name) n (speaks_used k.formula u.name (k.used u.name ∙ i)) (sym (p n) ∙ t)) h)
     (λ h. elim (or_split (bytes_eq m.name n) _ (sym (view_reaches c w m.name k.own k.columns k.formula k.entry n) ∙ h)) [
       | inl e ↦ absurd (true≢false (sym e ∙ o))
       | inr e ↦
           let u = reached_by_used (reaches c) n k.formula e in
-          named_reach (IsReach c) (λ v. has v.reached.items n) m.used.items u.name k.reached (sym (k.used u.name) ∙ u.used) (λ v p i. p n ∙ ap (λ x. reaches c x n) (sym i) ∙ u.reaches)
+          named_reach (IsReach c) (λ v. has v.reached.items n) m.used.items u.name k.reached (sym (k.used u.name) ∙ u.used) (λ v p i. p n ∙ ap (λ x. reaches c (base x) n) (sym i) ∙ u.reaches)
     ])
 
-pub nothing_beside : (c : Catalogue) (m : Mark) (n : List ℕ) → (k : IsMark c m) → reaches_beside m n ≡ false → (other : List ℕ) → uses other k.formula ≡ true → bytes_eq other n ≡ false → reaches c other n ≡ false
-nothing_beside c m n k h other u o = fails (reaches c other n) (λ r. true≢false (sym (named_reach (IsReach c) (λ v. not (bytes_eq v.name n) && has v.reached.items n) m.used.items other k.reached (sym (k.used other) ∙ u) (step r)) ∙ h))
+pub nothing_beside : (c : Catalogue) (m : Mark) (n : List ℕ) → (k : IsMark c m) → reaches_beside m n ≡ false → (other : List ℕ) → uses other k.formula ≡ true → bytes_eq other n ≡ false → reaches c (base other) n ≡ false
+nothing_beside c m n k h other u o = fails (reaches c (base other) n) (λ r. true≢false (sym (named_reach (IsReach c) (λ v. not (bytes_eq v.name n) && has v.reached.items n) m.used.items other k.reached (sym (k.used other) ∙ u) (step r)) ∙ h))
   where
     both : (a b : Bool) → a ≡ false → b ≡ true → (not a && b) ≡ true
     both false b e f = f
     both true b e f = absurd (true≢false e)
 
-    step : reaches c other n ≡ true → (v : Reach) → IsReach c v → other ≡ v.name → (not (bytes_eq v.name n) && has v.reached.items n) ≡ true
-    step r v p i = both (bytes_eq v.name n) (has v.reached.items n) (ap (λ x. bytes_eq x n) (sym i) ∙ o) (p n ∙ ap (λ x. reaches c x n) (sym i) ∙ r)
+    step : reaches c (base other) n ≡ true → (v : Reach) → IsReach c v → other ≡ v.name → (not (bytes_eq v.name n) && has v.reached.items n) ≡ true
+    step r v p i = both (bytes_eq v.name n) (has v.reached.items n) (ap (λ x. bytes_eq x n) (sym i) ∙ o) (p n ∙ ap (λ x. reaches c (base x) n) (sym i) ∙ r)
 
 -- ---- views that only add
 
 -- the name is reached by no other name in the formula
-beside_none : (c : Catalogue) (m : Mark) (n : List ℕ) (k : IsMark c m) → ((other : List ℕ) → uses other k.formula ≡ true → bytes_eq other n ≡ false → reaches c other n ≡ false) → reaches_beside m n ≡ false
+beside_none : (c : Catalogue) (m : Mark) (n : List ℕ) (k : IsMark c m) → ((other : List ℕ) → uses other k.formula ≡ true → bytes_eq other n ≡ false → reaches c (base other) n ≡ false) → reaches_beside m n ≡ false
 beside_none c m n k none = fails (reaches_beside m n) (λ h. some_reach (IsReach c) (λ v. not (bytes_eq v.name n) && has v.reached.items n) m.used.items ⊥ k.reached step h)
   where
     parts : (a b : Bool) → (not a && b) ≡ true → (a ≡ false) × (b ≡ true)
@@ -133,7 +135,7 @@ conjunctive_views c m n k o =
 -- ---- changes
 
 -- with the same entry, and where the names that the view uses reach the same
-kept_mark : (c d : Catalogue) (m : Mark) (k : IsMark c m) → entry_of d.entries m.name ≡ entry_of c.entries m.name → ((u n : List ℕ) → uses u k.formula ≡ true → reaches d u n ≡ reaches c u n) → IsMark d m
+kept_mark : (c d : Catalogue) (m : Mark) (k : IsMark c m) → entry_of d.entries m.name ≡ entry_of c.entries m.name → ((u n : List ℕ) → uses u k.formula ≡ true → reaches d (base u) n ≡ reaches c (base u) n) → IsMark d m
 kept_mark c d m k same reach = record {
   own = k.own;
   columns = k.columns;
@@ -147,14 +149,14 @@ kept_mark c d m k same reach = record {
 pub untouched_marks : (c d : Catalogue) (among : List ℕ → Bool) (m : Mark) → IsWellFormed c → IsWellFormed d → AreUnaffected c d among → among m.name ≡ true → IsMark c m → IsMark d m
 untouched_marks c d among m w v a i k =
     kept_mark c d m k (a.same m.name i)
-    (λ u n used. (unaffected c d w v among a u (a.closed m.name k.own u k.columns k.formula i k.entry used)).reached n)
+    (λ u n used. (unaffected c d w v among a (base u) (a.closed m.name k.own (base u) k.columns k.formula i k.entry (speaks_used k.formula u used))).reached n)
 
 pub lasting_marks : (c d : Catalogue) (n : List ℕ) (h : List Column) (i j : ℕ) (ts us : List (ℕ × List Atom)) (m : Mark) → IsWellFormed c
     → ChangesEntry c d n (relation n h i ts) (relation n h j us) → IsMark c m → IsMark d m
 lasting_marks c d n h i j ts us m w x k =
     kept_mark c d m k
     (same_entry c d n h i j ts us x m.name (fails (bytes_eq m.name n) (λ e. views_differ (sym (there e) ∙ k.entry))))
-    (λ u r used. reach_alike c d n h i j ts us x u r)
+    (λ u r used. reach_alike c d n h i j ts us x (base u) r)
   where
     -- the name would be a relation
     there : bytes_eq m.name n ≡ true → entry_of c.entries m.name ≡ Some (relation n h i ts)

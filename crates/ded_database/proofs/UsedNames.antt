@@ -4,14 +4,15 @@ use Rattle.std.specs.List.{list_any, AllByRecursion}
 use Rattle.std.proofs.lemmas.List.{map-append}
 use Rattle.ded_model.specs.Catalogue.{Catalogue}
 use Rattle.ded_model.specs.Goal.{GoalForm}
+use Rattle.ded_model.specs.Made.{base}
 use Rattle.ded_model.specs.Uses.{goal_uses}
 use Rattle.ded_views.specs.Reaching.{reaches}
 use Rattle.ded_database.specs.declared.mark.Reach.{Reach}
 use Rattle.ded_database.specs.Closed.{has, IsReachedAfter}
 
--- it has what its name reaches
+-- it has what its name is made of reaches
 abbrev pub IsReach : Catalogue → Reach → Type 0
-IsReach c u = (n : List ℕ) → has u.reached.items n ≡ reaches c u.name n
+IsReach c u = (n : List ℕ) → has u.reached.items n ≡ reaches c (base u.name) n
 
 -- of a list that was empty
 pub reached_alone : (c : Catalogue) (n : List ℕ) (old new : List (List ℕ)) → old ≡ [] → IsReachedAfter c n old new → (m : List ℕ) → has new m ≡ reaches c n m

@@ -6,6 +6,7 @@ use Rattle.ded_model.specs.Catalogue.{Catalogue}
 use Rattle.ded_model.specs.Entries.{known}
 use Rattle.ded_model.specs.Goal.{GoalForm}
 use Rattle.ded_model.specs.Known.{level_with}
+use Rattle.ded_model.specs.Made.{base}
 use Rattle.ded_model.specs.Uses.{goal_uses}
 use Rattle.ded_views.specs.Reaching.{reaches}
 
@@ -22,11 +23,11 @@ pub record IsReachedAfter (c : Catalogue) (n : List ℕ) (old new : List (List �
   pub closed : IsClosed c new
   pub all : (m : List ℕ) → has new m ≡ (has old m || reaches c n m)
 
--- some name in the goal reaches the name
+-- some name in the goal is made of one that reaches the name
 pub record ReachesFrom (c : Catalogue) (g : GoalForm) (m : List ℕ) : Type 0 where
   pub name : List ℕ
   pub used : goal_uses name g ≡ true
-  pub reaches : reaches c name m ≡ true
+  pub reaches : reaches c (base name) m ≡ true
 
 -- closed, with what the names in the goal reach besides
 pub record AreReachedAfter (c : Catalogue) (g : GoalForm) (old new : List (List ℕ)) : Type 0 where
@@ -35,6 +36,6 @@ pub record AreReachedAfter (c : Catalogue) (g : GoalForm) (old new : List (List 
   pub more : (m : List ℕ) → ReachesFrom c g m → has new m ≡ true
   pub only : (m : List ℕ) → has new m ≡ true → (has old m ≡ true) ⊎ ReachesFrom c g m
 
--- each name in the goal is defined, and has a level below this one
+-- each name in the goal is made of a defined one, which has a level below this one
 abbrev pub AreUsedBelow : Catalogue → GoalForm → ℕ → Type 0
-AreUsedBelow c g level = (n : List ℕ) → goal_uses n g ≡ true → (is_some (known c n) ≡ true) × (level_with (known c n) < level)
+AreUsedBelow c g level = (n : List ℕ) → goal_uses n g ≡ true → (is_some (known c (base n)) ≡ true) × (level_with (known c (base n)) < level)

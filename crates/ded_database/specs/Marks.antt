@@ -7,6 +7,7 @@ use Rattle.ded_model.specs.Catalogue.{Catalogue, view}
 use Rattle.ded_model.specs.Entries.{entry_of}
 use Rattle.ded_model.specs.Form.{Form, uses}
 use Rattle.ded_model.specs.Logic.{conjunctive, count_atoms}
+use Rattle.ded_model.specs.Made.{base}
 use Rattle.ded_model.specs.PlanForm.{plan_form}
 use Rattle.ded_model.specs.Slotted.{goal_of}
 use Rattle.ded_algebra.specs.Compiled.{is_member_of}
@@ -29,7 +30,7 @@ reaches_beside m n = list_any (λ (u : Reach). not (bytes_eq u.name n) && has u.
 abbrev pub mark_adds : Mark → List ℕ → Bool
 mark_adds m n = is_additive n (plan_form m.plan) && not (reaches_beside m n)
 
--- the mark is of a view of the catalogue: with a plan of its formula's goal, and the names that the formula uses, each with all that it reaches
+-- the mark is of a view of the catalogue: with a plan of its formula's goal, and the names that the formula uses, each with all that what it is made of reaches
 pub record IsMark (c : Catalogue) (m : Mark) : Type 0 where
   pub own : List ℕ
   pub columns : List Column
@@ -37,9 +38,9 @@ pub record IsMark (c : Catalogue) (m : Mark) : Type 0 where
   pub entry : entry_of c.entries m.name ≡ Some (view own columns formula)
   pub planned : IsPlanned (goal_of columns formula) (plan_form m.plan)
   pub used : (n : List ℕ) → uses n formula ≡ list_any (λ (u : Reach). bytes_eq n u.name) m.used.items
-  pub reached : AllByRecursion (λ (u : Reach). (n : List ℕ) → has u.reached.items n ≡ reaches c u.name n) m.used.items
+  pub reached : AllByRecursion (λ (u : Reach). (n : List ℕ) → has u.reached.items n ≡ reaches c (base u.name) n) m.used.items
 
--- the view's goal is conjunctive and has an atom of the name once, and no other name in it reaches the name
+-- the view's goal is conjunctive and has an atom of the name once, and no other name in it is made of one that reaches the name
 pub record IsOnceIn (c : Catalogue) (v n : List ℕ) : Type 0 where
   pub own : List ℕ
   pub columns : List Column
@@ -47,4 +48,4 @@ pub record IsOnceIn (c : Catalogue) (v n : List ℕ) : Type 0 where
   pub entry : entry_of c.entries v ≡ Some (view own columns formula)
   pub conjunctive : conjunctive (goal_of columns formula) ≡ true
   pub once : count_atoms (is_member_of n) (goal_of columns formula) ≡ 1
-  pub beside : (m : List ℕ) → uses m formula ≡ true → bytes_eq m n ≡ false → reaches c m n ≡ false
+  pub beside : (m : List ℕ) → uses m formula ≡ true → bytes_eq m n ≡ false → reaches c (base m) n ≡ false

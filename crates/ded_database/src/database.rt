@@ -55,7 +55,10 @@ impl Database {
     ghost use Rattle.ded_model.specs.Catalogue.{relation, view, IsTruth};
     ghost use Rattle.ded_model.specs.Form.{Form, form};
     ghost use Rattle.ded_model.specs.Goal.{goal_form};
-    ghost use Rattle.ded_model.specs.Known.{IsAccepted, IsTupleOver, level_of};
+    ghost use Rattle.ded_model.specs.Known.{IsAccepted, IsNewName, IsTupleOver, level_of};
+    ghost use Rattle.ded_model.specs.Logic.{some_atom};
+    ghost use Rattle.ded_model.specs.LongRows.{is_long_atom};
+    ghost use Rattle.ded_model.specs.Plain.{IsPlain};
     ghost use Rattle.ded_model.specs.Measure.{IsTight};
     ghost use Rattle.ded_model.specs.Slotted.{goal_of};
     ghost use Rattle.ded_model.specs.Width.{tuple_length};
@@ -124,7 +127,7 @@ impl Database {
     /// # Errors
     /// Out of memory; nothing is changed then.
     pub fn define(&mut self, name: Name, heading: Heading) -> Result<(), NoMemory>
-        requires new { known (catalogue_at self.old) name ≡ None }
+        requires new { IsNewName (known (catalogue_at self.old)) name }
         requires few { length heading ≤ 16 }
         ensures ok { OnOk result (AddsEntry (catalogue_at self.old) (catalogue_at self.new) (relation name heading 0 [])) }
         ensures err { OnErr result ((catalogue_at self.new) ≡ (catalogue_at self.old)) }
@@ -147,9 +150,11 @@ impl Database {
         formula: Formula,
         goal: Goal,
     ) -> Result<(), NoMemory>
-        requires new { known (catalogue_at self.old) name ≡ None }
+        requires new { IsNewName (known (catalogue_at self.old)) name }
         requires accepted { IsAccepted (known (catalogue_at self.old)) heading (form formula) }
         requires level { level_of (known (catalogue_at self.old)) (form formula) ≤ 16 }
+        requires plain { IsPlain (form formula) }
+        requires short { some_atom is_long_atom (form formula) ≡ false }
         requires goal { goal_form goal ≡ goal_of heading (form formula) }
         ensures ok { OnOk result (AddsEntry (catalogue_at self.old) (catalogue_at self.new) (view name heading (form formula))) }
         ensures err { OnErr result ((catalogue_at self.new) ≡ (catalogue_at self.old)) }

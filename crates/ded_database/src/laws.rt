@@ -7,6 +7,7 @@ ghost use Rattle.ded_model.specs.Form.{uses};
 ghost use Rattle.ded_model.specs.Known.{IsWellFormed};
 ghost use Rattle.ded_model.specs.Row.{Atom};
 ghost use Rattle.ded_sorts.specs.Changes.{ChangesEntry};
+ghost use Rattle.ded_model.specs.Made.{base};
 ghost use Rattle.ded_views.specs.Reaching.{reaches};
 ghost use Rattle.ded_views.specs.Unaffected.{AreUnaffected};
 ghost use Rattle.ded_database.specs.declared.mark.Mark.{Mark};
@@ -20,7 +21,7 @@ pub fn marks_reach()
 /// Where a mark reaches no name beside that one, no other name in the view's formula reaches it.
 pub fn nothing_beside()
     ensures { (c : Catalogue) (m : Mark) (n : List ℕ) → (k : IsMark c m) → reaches_beside m n ≡ false
-        → (other : List ℕ) → uses other k.formula ≡ true → bytes_eq other n ≡ false → reaches c other n ≡ false }
+        → (other : List ℕ) → uses other k.formula ≡ true → bytes_eq other n ≡ false → reaches c (base other) n ≡ false }
 {}
 
 /// A view whose goal is conjunctive and has a name once, which no other name in it reaches, only adds where that name does.

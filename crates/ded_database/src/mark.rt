@@ -15,7 +15,7 @@ use ded_model::plan::Plan;
 use ded_plan::plan;
 use std::alloc::Global;
 
-/// A name, and all names that it reaches.
+/// A name, and all names that it reaches, or that what it is made of does.
 #[derive(Drop)]
 pub struct Reach {
     pub name: Name,

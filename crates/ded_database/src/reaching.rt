@@ -6,6 +6,7 @@ ghost use Rattle.ded_model.specs.Catalogue.{Catalogue};
 ghost use Rattle.ded_model.specs.Entries.{known};
 ghost use Rattle.ded_model.specs.Goal.{goal_form};
 ghost use Rattle.ded_model.specs.Known.{level_with};
+ghost use Rattle.ded_model.specs.Made.{base};
 ghost use Rattle.ded_model.specs.Uses.{goal_uses};
 ghost use Rattle.ded_catalog.specs.State.{catalogue_of};
 ghost use Rattle.ded_views.specs.Reaching.{reaches};
@@ -14,15 +15,13 @@ ghost use Rattle.ded_database.specs.Closed.{has, IsClosed, IsReachedAfter, AreRe
 use crate::mark::Reach;
 use ded_catalog::Catalogue;
 use ded_model::goal::Goal;
+use ded_model::limits;
 use ded_model::memory::NoMemory;
 use ded_model::name::Name;
 use ded_plan::used_names;
 use std::alloc::Global;
 
-/// The greatest level of a view.
-const GREATEST_LEVEL: u32 = 16;
-
-/// The names that a goal uses, each with all names that it reaches. All of them are defined.
+/// The names that a goal uses, each with all names that what it is made of reaches. All of these are defined.
 ///
 /// # Errors
 /// Out of memory.
@@ -33,12 +32,12 @@ pub(crate) fn uses_of(
 ) -> Result<Vec<Reach>, NoMemory>
     requires below { AreUsedBelow (catalogue_of catalogue.now) (goal_form goal.now) 17 }
     ensures used { IfOk result (λ v. (n : List ℕ) → goal_uses n (goal_form goal.now) ≡ list_any (λ u. bytes_eq n u.name) v.items) }
-    ensures reached { IfOk result (λ v. AllByRecursion (λ u. (n : List ℕ) → has u.reached.items n ≡ reaches (catalogue_of catalogue.now) u.name n) v.items) }
+    ensures reached { IfOk result (λ v. AllByRecursion (λ u. (n : List ℕ) → has u.reached.items n ≡ reaches (catalogue_of catalogue.now) (base u.name) n) v.items) }
 {
     let mut uses = Vec::new(alloc);
     for name in used_names(alloc, goal)? {
         let mut reached = Vec::new(alloc);
-        add_reached(alloc, catalogue, &name, GREATEST_LEVEL, &mut reached)?;
+        add_reached(alloc, catalogue, &name.base_name()?, limits::LEVELS, &mut reached)?;
         uses.push(Reach { name, reached })?;
     }
     Ok(uses)
@@ -90,7 +89,7 @@ fn add_used(
 {
     let names = used_names(alloc, goal)?;
     for name in &names {
-        add_reached(alloc, catalogue, name, level - 1, reached)?;
+        add_reached(alloc, catalogue, &name.base_name()?, level - 1, reached)?;
     }
     Ok(())
 }

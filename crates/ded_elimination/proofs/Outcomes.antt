@@ -13,9 +13,9 @@ use Rattle.ded_elimination.specs.LinearAtoms.{IsLinearAtom}
 use Rattle.ded_elimination.specs.Adding.{HoldExtended, IsRemaining, Adds}
 use Rattle.ded_elimination.proofs.Conjunctions.{Rows, In-all, In-conj, mentions-In, lines-In}
 
-module _ (s : Slot) (rows out : Rows) (added : Adds s rows (HoldExtended s rows) [] true out) where
+module _ (Kind : LinearConstraint → Type 0) (s : Slot) (rows out : Rows) (added : Adds Kind s rows (HoldExtended s rows) [] true out) where
   -- each row is one that the elimination may leave
-  all_remain : (r : LinearConstraint) → In r out → IsRemaining s rows r
+  all_remain : (r : LinearConstraint) → In r out → IsRemaining Kind s rows r
   all_remain r i = elim (added.remaining r i) [ inl none ↦ absurd none | inr l ↦ l ]
 
   pub outcome_holds : (p : Point) → 0 < p.den → IsTrue (conj_holds row_holds out p) ↔ HoldExtended s rows p
@@ -23,6 +23,9 @@ module _ (s : Slot) (rows out : Rows) (added : Adds s rows (HoldExtended s rows)
 
   pub outcome_normal : AllByRecursion IsLinearAtom out
   outcome_normal = In-all IsLinearAtom out (λ r i. (all_remain r i).normal)
+
+  pub outcome_kind : AllByRecursion Kind out
+  outcome_kind = In-all Kind out (λ r i. (all_remain r i).kind)
 
   pub outcome_slots : (t : Slot) → conj_mentions row_mentions out t ≡ true → (same_slot t s ≡ false) × (conj_mentions row_mentions rows t ≡ true)
   outcome_slots t m = let r = mentions-In out t m in (all_remain r.0 r.1).slots t r.2

@@ -1,4 +1,5 @@
--- The rows that an elimination may leave: rows without the slot, and combinations of two rows that don't clash.
+-- The rows that an elimination may leave: rows without the slot, and combinations of two rows, which don't clash where a slot is
+-- left.
 use Rattle.std.proofs.Common.{◌≡◌, ◌≢◌, ◌<◌, Bool, true, false, not, ◌&&◌, cond, List, [], ◌∷◌, arith, refl, sym, ap, ◌∙◌, subst, true≢false, inl, inr}
 use Rattle.std.specs.Prelude.{ℤ, pos, ◌<ℤ◌, int_lt}
 use Rattle.std.specs.Ordering.{int_eq}
@@ -114,14 +115,15 @@ line_without s r l n i = go r.op r.constant r.coefs n i
     go op m (c ∷ cs) n (inr i) = absurd i
     go op m (c ∷ cs) n (inl e) = ap (λ (x : Line). has_slot x.coefs s) e ∙ row_mentions-normal (record { coefs = c ∷ cs; constant = m; op = Zero }) s ∙ n
 
-module _ (s : Slot) (rows : Rows) (linear : AreLinear rows) where
+module _ (Kind : LinearConstraint → Type 0) (s : Slot) (rows : Rows) (linear : AreLinear rows) where
   -- ---- rows without the slot
-  pub level_remains : (r : LinearConstraint) → In r rows → coef_at r.coefs s ≡ pos 0 → IsRemaining s rows r
-  level_remains r i z =
+  pub level_remains : (r : LinearConstraint) → Kind r → In r rows → coef_at r.coefs s ≡ pos 0 → IsRemaining Kind s rows r
+  level_remains r kind i z =
       let normal = all-In IsLinearAtom rows r linear i in
       let n = unmentioned r s normal.coefs z in
       record {
         normal = normal;
+        kind = kind;
         slots = λ t m. (other_slot r s t n m, In-mentions rows r t i m);
         lines = λ l h. In-elim-kept s (conj_lines row_lines rows) l (In-lines rows r l i h) (line_without s r l n h);
         follows = λ p h w. level_alike s r p w.0 h w.1 n ∙ conj-In rows w.0 r w.2 i;
@@ -150,12 +152,12 @@ module _ (s : Slot) (rows : Rows) (linear : AreLinear rows) where
     taken l m k true e i = i
     taken l m k false e i = absurd (true≢false (sym e))
 
-    mixed_lines : lines_clash s q r ≡ false → (k : Line) → In k (row_lines (mix_of s q r)) → In k (elim_at s (conj_lines row_lines rows))
+    mixed_lines : ((k : Line) → In k (row_lines (mix_of s q r)) → lines_clash s q r ≡ false) → (k : Line) → In k (row_lines (mix_of s q r)) → In k (elim_at s (conj_lines row_lines rows))
     mixed_lines short k i =
         let l = line_at s q some_q in
         let m = line_at s r some_r in
         let is = mix-line s q r some_q some_r ∙ lines_combination s q r l.line m.line (begins q.coefs linear_q.coefs) (begins r.coefs linear_r.coefs) l.inside m.inside in
-        let apart : not (lines_clash s l.line m.line) ≡ true = ap not (sym (clash_alike l m) ∙ short) in
+        let apart : not (lines_clash s l.line m.line) ≡ true = ap not (sym (clash_alike l m) ∙ short k i) in
         let mention = both (row_mentions l.line s) (row_mentions m.line s) l.mentions m.mentions in
         In-elim-pair s (conj_lines row_lines rows) k (record {
           first = l.line;
@@ -165,9 +167,10 @@ module _ (s : Slot) (rows : Rows) (linear : AreLinear rows) where
           combined = taken l.line m.line k (both_mention s l.line m.line && not (lines_clash s l.line m.line)) (both (both_mention s l.line m.line) (not (lines_clash s l.line m.line)) mention apart) (subst (In k) is i);
         })
 
-    pub mixed_remains : lines_clash s q r ≡ false → IsLinearAtom (mix_of s q r) → IsRemaining s rows (mix_of s q r)
-    mixed_remains short normal = record {
+    pub mixed_remains : ((k : Line) → In k (row_lines (mix_of s q r)) → lines_clash s q r ≡ false) → IsLinearAtom (mix_of s q r) → Kind (mix_of s q r) → IsRemaining Kind s rows (mix_of s q r)
+    mixed_remains short normal kind = record {
       normal = normal;
+      kind = kind;
       slots = λ t m. (other_slot (mix_of s q r) s t (mix_without s q r) m, elim (mix_over s q r t m) [ inl a ↦ In-mentions rows q t iq a | inr b ↦ In-mentions rows r t ir b ]);
       lines = λ k i. mixed_lines short k i;
       follows = λ p h w.
@@ -200,13 +203,14 @@ module _ (s : Slot) (rows : Rows) (linear : AreLinear rows) where
     lower n h = below_by r.op (coef_at r.coefs s) (under_0 (coef_at r.coefs s) n h)
 
     remains_by : (b d : Bool) → int_eq (coef_at r.coefs s) (pos 0) ≡ b → int_lt (pos 0) (coef_at r.coefs s) ≡ d
-        → cond b false (cond d (lines_clash s r e) (lines_clash s e r)) ≡ false → IsLinearAtom (cond b r (cond d (mix_of s r e) (mix_of s e r))) → IsRemaining s rows (cond b r (cond d (mix_of s r e) (mix_of s e r)))
-    remains_by true d z h short normal = level_remains r ir ((Decides-int_eq (coef_at r.coefs s) (pos 0)).0 z)
-    remains_by false true z h short normal = mixed_remains r e ir ie (upper h) equal_below short normal
-    remains_by false false z h short normal = mixed_remains e r ie ir equal_above (lower z h) short normal
+        → ((k : Line) → In k (row_lines (cond b r (cond d (mix_of s r e) (mix_of s e r)))) → cond b false (cond d (lines_clash s r e) (lines_clash s e r)) ≡ false)
+        → IsLinearAtom (cond b r (cond d (mix_of s r e) (mix_of s e r))) → Kind (cond b r (cond d (mix_of s r e) (mix_of s e r))) → IsRemaining Kind s rows (cond b r (cond d (mix_of s r e) (mix_of s e r)))
+    remains_by true d z h short normal kind = level_remains r kind ir ((Decides-int_eq (coef_at r.coefs s) (pos 0)).0 z)
+    remains_by false true z h short normal kind = mixed_remains r e ir ie (upper h) equal_below short normal kind
+    remains_by false false z h short normal kind = mixed_remains e r ie ir equal_above (lower z h) short normal kind
 
-    pub settled_remains : settled_clash s e r ≡ false → IsLinearAtom (settled_row s e r) → IsRemaining s rows (settled_row s e r)
-    settled_remains short normal = remains_by (int_eq (coef_at r.coefs s) (pos 0)) (int_lt (pos 0) (coef_at r.coefs s)) refl refl short normal
+    pub settled_remains : ((k : Line) → In k (row_lines (settled_row s e r)) → settled_clash s e r ≡ false) → IsLinearAtom (settled_row s e r) → Kind (settled_row s e r) → IsRemaining Kind s rows (settled_row s e r)
+    settled_remains short normal kind = remains_by (int_eq (coef_at r.coefs s) (pos 0)) (int_lt (pos 0) (coef_at r.coefs s)) refl refl short normal kind
 
     clash_by : (b d : Bool) → int_eq (coef_at r.coefs s) (pos 0) ≡ b → int_lt (pos 0) (coef_at r.coefs s) ≡ d
         → cond b false (cond d (lines_clash s r e) (lines_clash s e r)) ≡ true → clash_at s (conj_lines row_lines rows) ≡ true

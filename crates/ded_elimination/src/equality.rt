@@ -1,20 +1,22 @@
 //! Elimination of a slot that an equality mentions.
 ghost use Rattle.std.specs.Prelude.{◌≡◌, ◌≢◌, ℕ, pos, true, false, List, length, MatchOption, IfOk, IsErrOf};
+ghost use Rattle.std.specs.List.{AllByRecursion};
 ghost use Rattle.ded_model.specs.declared.memory.Refused.TheVariants.{Wide};
 ghost use Rattle.ded_model.specs.declared.row.RowOp.TheVariants.{Zero};
 ghost use Rattle.ded_model.specs.Constraint.{LinearConstraint};
 ghost use Rattle.ded_model.specs.Coefs.{coef_at};
 ghost use Rattle.ded_model.specs.Normal.{IsNormalRow};
-ghost use Rattle.ded_model.specs.Lines.{In, row_lines, clash_at};
+ghost use Rattle.ded_model.specs.Lines.{Line, In, row_lines, clash_at};
 ghost use Rattle.ded_theory.specs.Conjunctions.{conj_lines};
+ghost use Rattle.ded_elimination.specs.LinearAtoms.{IsLinearAtom};
 ghost use Rattle.ded_elimination.specs.Adding.{AreLinear, HoldExtended, Adds};
 ghost use Rattle.ded_elimination.specs.Equalities.{equal_size, NoEquality, IsEqualityAt, IsLeastEquality, settled_row, settled_clash, SettledHolds};
 
 use crate::keeping::keep;
+use crate::mixing::Mixing;
 use ded_model::memory::Refused;
 use ded_model::row::{Row, RowOp};
 use ded_model::slot::Slot;
-use ded_row::mix;
 
 /// The place of the equality that mentions the slot with the coefficient of the least magnitude; none where no equality does.
 pub fn find_equality(rows: &[Row], slot: Slot) -> Option<usize>
@@ -46,21 +48,23 @@ fn equal_size(row: &Row, slot: Slot) -> u128
 /// something may satisfy the rows.
 ///
 /// # Errors
-/// `Wide` only where two lines of the rows clash at the slot, otherwise out of memory.
-pub fn by_equality(
+/// `Wide` only where two lines of the rows clash at the slot, and never of a mixing that decides; otherwise out of memory.
+pub fn by_equality<M: Mixing>(
     out: &mut Vec<Row>,
     rows: &[Row],
     place: usize,
     slot: Slot,
 ) -> Result<bool, Refused>
     requires normal { AreLinear rows.now }
+    requires rows { AllByRecursion M.rows rows.now }
     requires equality { (n : ℕ) × IsEqualityAt slot rows.now n place }
-    ensures adds { IfOk result (λ more. Adds slot rows.now (HoldExtended slot rows.now) out.old.items more out.new.items) }
+    ensures adds { IfOk result (λ more. Adds M.rows slot rows.now (HoldExtended slot rows.now) out.old.items more out.new.items) }
     ensures wide { IsErrOf result Wide → clash_at slot (conj_lines row_lines rows.now) ≡ true }
+    ensures never_wide { M.decides → IsErrOf result Wide → ⊥ }
 {
     let equal = &rows[place];
     for (i, row) in rows.iter().enumerate() {
-        if i != place && !add_settled(out, equal, row, slot)? {
+        if i != place && !add_settled::<M>(out, equal, row, slot)? {
             return Ok(false);
         }
     }
@@ -69,36 +73,46 @@ pub fn by_equality(
 
 /// Adds what is left of a row after the equality has taken the slot from it. Returns whether something may satisfy the
 /// rows.
-fn add_settled(out: &mut Vec<Row>, equal: &Row, row: &Row, slot: Slot) -> Result<bool, Refused>
+fn add_settled<M: Mixing>(
+    out: &mut Vec<Row>,
+    equal: &Row,
+    row: &Row,
+    slot: Slot,
+) -> Result<bool, Refused>
     requires equality { equal.now.op ≡ Zero }
     requires mentions { coef_at equal.now.coefs slot ≢ pos 0 }
-    requires normal { IsNormalRow row.now }
+    requires normal { IsLinearAtom equal.now × IsLinearAtom row.now }
+    requires rows { M.rows equal.now × M.rows row.now }
     ensures adds { IfOk result (λ more. (rows : List LinearConstraint) → AreLinear rows → In equal.now rows → In row.now rows
-        → Adds slot rows (SettledHolds slot equal.now row.now) out.old.items more out.new.items) }
+        → Adds M.rows slot rows (SettledHolds slot equal.now row.now) out.old.items more out.new.items) }
     ensures wide { IsErrOf result Wide → (rows : List LinearConstraint) → AreLinear rows → In equal.now rows → In row.now rows
         → clash_at slot (conj_lines row_lines rows) ≡ true }
+    ensures never_wide { M.decides → IsErrOf result Wide → ⊥ }
 {
-    let row = settled(equal, row, slot)?;
+    let row = settled::<M>(equal, row, slot)?;
     Ok(keep(out, row)?)
 }
 
 /// What is left of a row after the equality has taken the slot from it: the row itself where it is without the slot.
-fn settled(equal: &Row, row: &Row, slot: Slot) -> Result<Row, Refused>
+fn settled<M: Mixing>(equal: &Row, row: &Row, slot: Slot) -> Result<Row, Refused>
     requires equality { equal.now.op ≡ Zero }
     requires mentions { coef_at equal.now.coefs slot ≢ pos 0 }
-    requires normal { IsNormalRow row.now }
+    requires normal { IsLinearAtom equal.now × IsLinearAtom row.now }
+    requires rows { M.rows equal.now × M.rows row.now }
     ensures value { IfOk result (λ r. r ≡ settled_row slot equal.now row.now) }
     ensures normal { IfOk result (λ r. IsNormalRow r) }
-    ensures short { IfOk result (λ r. settled_clash slot equal.now row.now ≡ false) }
+    ensures rows { IfOk result M.rows }
+    ensures short { IfOk result (λ r. (l : Line) → In l (row_lines r) → settled_clash slot equal.now row.now ≡ false) }
     ensures wide { IsErrOf result Wide → settled_clash slot equal.now row.now ≡ true }
+    ensures never_wide { M.decides → IsErrOf result Wide → ⊥ }
 {
     let a = row.coefs.at(slot);
     if a == 0 {
         return Ok(row.copy()?);
     }
     if a > 0 {
-        mix(row, equal, slot)
+        M::mix(row, equal, slot)
     } else {
-        mix(equal, row, slot)
+        M::mix(equal, row, slot)
     }
 }

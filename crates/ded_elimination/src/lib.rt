@@ -5,8 +5,9 @@
 //! above is combined with every row that bounds it from below. Of rows that differ in their constant or op alone only the
 //! stronger is kept, true rows are left out, and a false row ends the work.
 //!
-//! It stands on `ded_row` for the combination of two rows. No row of the answer mentions the slot, and its lines are among those
-//! that an elimination makes of the lines of the given rows. `Wide` comes only where two of these lines clash.
+//! How two rows are combined is a parameter, a [`Mixing`]; [`Checked`] is that of `ded_row`, for any rows. No row of the answer
+//! mentions the slot, and its lines are among those that an elimination makes of the lines of the given rows. `Wide` comes only
+//! where two of these lines clash, and never of a mixing that decides.
 #![tactic(auto)]
 
 ghost use Rattle.std.specs.Prelude.{◌≡◌, ◌↔◌, true, false, IsTrue, IfOk, IsErrOf};
@@ -24,6 +25,7 @@ ghost use Rattle.ded_elimination.specs.Adding.{AreLinear, HoldExtended, Adds};
 
 mod equality;
 mod keeping;
+mod mixing;
 mod pairs;
 
 use crate::equality::{by_equality, find_equality};
@@ -32,24 +34,32 @@ use ded_model::memory::Refused;
 use ded_model::row::Row;
 use ded_model::slot::Slot;
 use ded_theory::Eliminated;
+pub use mixing::{Checked, Mixing};
 use std::alloc::Global;
 
 /// Rows that hold at a point exactly where some extension of the point at the slot satisfies all the given ones; `Never` holds
-/// nowhere. They are in normal form, don't mention the slot and mention no new one, and their lines are among those that the
+/// nowhere. They are in normal form and of the kind that the mixing combines, don't mention the slot and mention no new one, and their lines are among those that the
 /// elimination makes of the given rows' lines.
 ///
 /// # Errors
-/// `Wide` only where two lines of the rows clash at the slot, otherwise out of memory.
-pub fn eliminate(alloc: Global, rows: &[Row], slot: Slot) -> Result<Eliminated<Row>, Refused>
+/// `Wide` only where two lines of the rows clash at the slot, and never of a mixing that decides; otherwise out of memory.
+pub fn eliminate<M: Mixing>(
+    alloc: Global,
+    rows: &[Row],
+    slot: Slot,
+) -> Result<Eliminated<Row>, Refused>
     requires normal { AllByRecursion IsLinearAtom rows.now }
+    requires rows { AllByRecursion M.rows rows.now }
     ensures holds { IfOk result (λ e. (p : Point) → IsPoint p → IsTrue (eliminated_holds row_holds e p) ↔ SomeExtension slot (conj_holds row_holds rows.now) p) }
     ensures normal { IfOk result (λ e. AllByRecursion IsLinearAtom (eliminated_atoms e)) }
+    ensures rows { IfOk result (λ e. AllByRecursion M.rows (eliminated_atoms e)) }
     ensures slots { IfOk result (λ e. (s : Slot) → conj_mentions row_mentions (eliminated_atoms e) s ≡ true → (same_slot s slot ≡ false) × (conj_mentions row_mentions rows.now s ≡ true)) }
     ensures lines { IfOk result (λ e. IsSubset (conj_lines row_lines (eliminated_atoms e)) (elim_at slot (conj_lines row_lines rows.now))) }
     ensures wide { IsErrOf result Wide → clash_at slot (conj_lines row_lines rows.now) ≡ true }
+    ensures never_wide { M.decides → IsErrOf result Wide → ⊥ }
 {
     let mut out = Vec::new(alloc);
-    if eliminate_into(&mut out, rows, slot)? {
+    if eliminate_into::<M>(&mut out, rows, slot)? {
         Ok(Eliminated::Conj(out))
     } else {
         Ok(Eliminated::Never)
@@ -57,13 +67,15 @@ pub fn eliminate(alloc: Global, rows: &[Row], slot: Slot) -> Result<Eliminated<R
 }
 
 /// Adds what is left of the rows without the slot. Returns whether something may satisfy the rows.
-fn eliminate_into(out: &mut Vec<Row>, rows: &[Row], slot: Slot) -> Result<bool, Refused>
+fn eliminate_into<M: Mixing>(out: &mut Vec<Row>, rows: &[Row], slot: Slot) -> Result<bool, Refused>
     requires normal { AreLinear rows.now }
-    ensures adds { IfOk result (λ more. Adds slot rows.now (HoldExtended slot rows.now) out.old.items more out.new.items) }
+    requires rows { AllByRecursion M.rows rows.now }
+    ensures adds { IfOk result (λ more. Adds M.rows slot rows.now (HoldExtended slot rows.now) out.old.items more out.new.items) }
     ensures wide { IsErrOf result Wide → clash_at slot (conj_lines row_lines rows.now) ≡ true }
+    ensures never_wide { M.decides → IsErrOf result Wide → ⊥ }
 {
     match find_equality(rows, slot) {
-        Some(place) => by_equality(out, rows, place, slot),
-        None => by_pairs(out, rows, slot),
+        Some(place) => by_equality::<M>(out, rows, place, slot),
+        None => by_pairs::<M>(out, rows, slot),
     }
 }

@@ -33,7 +33,7 @@ use std::alloc::Global;
 /// scan's slots, and the theory reads all atoms. `met` grows by the count of pairs that joins meet, up to the greatest `u64`.
 ///
 /// # Errors
-/// `Wide` only where the plan clashes over the given relations, otherwise out of memory.
+/// `Wide` only where the plan clashes over the given relations, and never over a theory that decides; otherwise out of memory.
 #[cycle(evaluate)]
 pub fn evaluate_counted<T: OfTuples, R: Relations>(
     alloc: Global,
@@ -44,6 +44,7 @@ pub fn evaluate_counted<T: OfTuples, R: Relations>(
     requires { IsEvaluable T.reads (R.catalogue relations.now) (plan_form plan.now) }
     ensures is { IfOk result (λ r. IsEvaluation (R.catalogue relations.now) (plan_form plan.now) (conjs_hold T.holds r) (conjs_mention T.mentions r) (conjs_lines T.lines r)) }
     ensures wide { IsErrOf result Wide → plan_clashes (stored_measures (R.catalogue relations.now)) (plan_form plan.now) ≡ true }
+    ensures never_wide { T.decides → IsErrOf result Wide → ⊥ }
 {
     match plan {
         Plan::Scan(name, slots) => Ok(scanned(alloc, name, slots, relations)?),
@@ -78,6 +79,7 @@ fn complemented<T: OfTuples, R: Relations>(
     requires { IsEvaluable T.reads (R.catalogue relations.now) (plan_form plan.now) }
     ensures is { IfOk result (λ r. IsEvaluation (R.catalogue relations.now) (negation (plan_form plan.now)) (conjs_hold T.holds r) (conjs_mention T.mentions r) (conjs_lines T.lines r)) }
     ensures wide { IsErrOf result Wide → plan_clashes (stored_measures (R.catalogue relations.now)) (plan_form plan.now) ≡ true }
+    ensures never_wide { T.decides → IsErrOf result Wide → ⊥ }
 {
     if let Plan::Union(parts) = plan {
         if let [first, other] = parts.as_slice() {
@@ -103,6 +105,7 @@ fn joined<T: OfTuples, R: Relations>(
     requires { AllAtomsOf (IsScannable T.reads (R.catalogue relations.now)) (plan_forms parts.now.items) }
     ensures is { IfOk result (λ r. IsEvaluation (R.catalogue relations.now) (every_of (plan_forms parts.now.items)) (conjs_hold T.holds r) (conjs_mention T.mentions r) (conjs_lines T.lines r)) }
     ensures wide { IsErrOf result Wide → any_clashes (plan_atom_lines (stored_measures (R.catalogue relations.now))) (plan_atom_clash (stored_measures (R.catalogue relations.now))) (plan_forms parts.now.items) ≡ true }
+    ensures never_wide { T.decides → IsErrOf result Wide → ⊥ }
 {
     let mut list = None;
     let mut slots = Vec::new(alloc);
@@ -131,6 +134,7 @@ fn united<T: OfTuples, R: Relations>(
     requires { AllAtomsOf (IsScannable T.reads (R.catalogue relations.now)) (plan_forms parts.now.items) }
     ensures is { IfOk result (λ r. IsEvaluation (R.catalogue relations.now) (some_of (plan_forms parts.now.items)) (conjs_hold T.holds r) (conjs_mention T.mentions r) (conjs_lines T.lines r)) }
     ensures wide { IsErrOf result Wide → any_clashes (plan_atom_lines (stored_measures (R.catalogue relations.now))) (plan_atom_clash (stored_measures (R.catalogue relations.now))) (plan_forms parts.now.items) ≡ true }
+    ensures never_wide { T.decides → IsErrOf result Wide → ⊥ }
 {
     let mut list = GenRel::new(alloc);
     for part in parts {

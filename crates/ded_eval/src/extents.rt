@@ -104,7 +104,7 @@ fn hull(a: (Bound, Bound), b: (Bound, Bound)) -> (Bound, Bound)
 /// The exact bounds of each rational column over the points that satisfy all the atoms.
 ///
 /// # Errors
-/// `Wide` only where the atoms are wide, otherwise out of memory.
+/// `Wide` only where the atoms are wide, and never over a theory that decides; otherwise out of memory.
 fn conj_extent<T: Theory>(
     alloc: Global,
     columns: &[Column],
@@ -113,6 +113,7 @@ fn conj_extent<T: Theory>(
     requires { AllByRecursion T.normal atoms.now }
     ensures is { IfOk result (λ r. IsBox (conj_holds T.holds atoms.now) columns.now r) }
     ensures wide { IsErrOf result Wide → IsWide T.mentions T.lines atoms.now }
+    ensures never_wide { T.decides → IsErrOf result Wide → ⊥ }
 {
     match T::refute(alloc, atoms)? {
         Verdict::Empty => Ok(BoxReply::Nowhere),
@@ -138,6 +139,7 @@ fn spans<T: Theory>(
     requires inhabited { HoldsSomewhere (conj_holds T.holds atoms.now) }
     ensures is { IfOk result (λ v. AreBounds (conj_holds T.holds atoms.now) 0 columns.now v.items) }
     ensures wide { IsErrOf result Wide → IsWide T.mentions T.lines atoms.now }
+    ensures never_wide { T.decides → IsErrOf result Wide → ⊥ }
 {
     let mut spans = Vec::new(alloc);
     let mut number = 0;
@@ -158,6 +160,7 @@ fn span<T: Theory>(alloc: Global, atoms: &[T::Atom], number: u32) -> Result<(Bou
         × IsExactBound (conj_holds T.holds atoms.now) (record { number = number; sort = Rat }) bound.lower b.0
         × IsExactBound (conj_holds T.holds atoms.now) (record { number = number; sort = Rat }) bound.upper b.1) }
     ensures wide { IsErrOf result Wide → IsWide T.mentions T.lines atoms.now }
+    ensures never_wide { T.decides → IsErrOf result Wide → ⊥ }
 {
     let slot = Slot {
         number,

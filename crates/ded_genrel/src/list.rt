@@ -3,6 +3,7 @@ ghost use Rattle.std.specs.Prelude.{◌≡◌, true, List, [], ◌∷◌, ◌++�
 ghost use Rattle.std.specs.List.{AllByRecursion};
 ghost use Rattle.ded_model.specs.declared.memory.Refused.TheVariants.{Wide};
 ghost use Rattle.ded_model.specs.Renaming.{IsOneToOne, KeepsSorts};
+ghost use Rattle.ded_theory.specs.declared.answers.Verdict.TheVariants.{Unknown};
 ghost use Rattle.ded_genrel.specs.Lists.{conjs_of, AreNormal, conjs_hold, conjs_mention, conjs_lines, conjs_clash, pairs_with, pairs};
 ghost use Rattle.ded_genrel.specs.Operations.{IsUnion, IsMeet, IsProjection, IsRenaming, IsInhabitedPart, IsVerdictOn};
 
@@ -104,10 +105,12 @@ impl<T: Theory> GenRel<T> {
     /// one of this list.
     ///
     /// # Errors
-    /// `Wide` only where two lines of one conjunction clash at the slot, otherwise out of memory.
+    /// `Wide` only where two lines of one conjunction clash at the slot, and never over a theory that decides; otherwise out of
+    /// memory.
     pub fn project(&self, slot: Slot) -> Result<Self, Refused>
         ensures is { IfOk result (λ r. IsProjection T.holds T.mentions T.lines self.now slot r) }
         ensures wide { IsErrOf result Wide → conjs_clash T.lines slot self.now ≡ true }
+        ensures never_wide { T.decides → IsErrOf result Wide → ⊥ }
     {
         let alloc = *self.conjs.allocator();
         let mut out = GenRel::new(alloc);
@@ -138,12 +141,13 @@ impl<T: Theory> GenRel<T> {
         Ok(out)
     }
 
-    /// Whether the list holds somewhere. `Unknown` only where some conjunction is wide.
+    /// Whether the list holds somewhere. `Unknown` only where some conjunction is wide, and never over a theory that decides.
     ///
     /// # Errors
     /// Out of memory.
     pub fn is_empty(&self, alloc: Global) -> Result<Verdict, NoMemory>
-        ensures { IfOk result (λ v. IsVerdictOn T.holds T.mentions T.lines self.now v) }
+        ensures verdict { IfOk result (λ v. IsVerdictOn T.holds T.mentions T.lines self.now v) }
+        ensures decided { T.decides → IfOk result (λ v. v ≡ Unknown → ⊥) }
     {
         let mut verdict = Verdict::Empty;
         for conj in self.list() {

@@ -1,5 +1,5 @@
 -- What names mean where one of them has given tuples alone and the others are as they are given.
-use Rattle.std.proofs.Common.{◌≡◌, ℕ, ◌<◌, Bool, true, false, cond, ◌||◌, ◌⊎◌, List, [], ◌∷◌, map, Option, Some, None, is_none, refl, sym, ap, ◌∙◌, subst, true≢false, bytes_eq}
+use Rattle.std.proofs.Common.{◌≡◌, ℕ, Bool, true, false, cond, ◌||◌, ◌⊎◌, List, [], ◌∷◌, map, length, Option, Some, None, is_none, refl, sym, ap, ◌∙◌, subst, true≢false, bytes_eq}
 use Rattle.std.specs.Prelude.{◌↔◌, IsTrue, MatchBool}
 use Rattle.std.specs.List.{list_any}
 use Rattle.std.specs.Option.{option_map}
@@ -9,20 +9,20 @@ use Rattle.std.proofs.lemmas.Simd.{map-map}
 use Rattle.std.proofs.lemmas.Option.{none-some}
 use Rattle.std.proofs.lemmas.Slice.Eq.{bytes_eq-Decides}
 use Rattle.ded_model.specs.declared.name.Column.{Column}
-use Rattle.ded_model.specs.Catalogue.{Entry, relation, view, Catalogue, entry_name, tuples_of, at_slots, with_entry, meaning_from, meaning, PlanHolds}
+use Rattle.ded_model.specs.Catalogue.{Entry, relation, view, Catalogue, entry_name, tuples_of, at_slots, with_entry, meaning_from, stored, meaning, PlanHolds, GivenHolds}
 use Rattle.ded_model.specs.Entries.{entry_of, relation_in}
-use Rattle.ded_model.specs.PlanForm.{PlanForm}
+use Rattle.ded_model.specs.PlanForm.{PlanAtom, scan, rows, PlanForm}
 use Rattle.ded_model.specs.Point.{Point, IsPoint}
 use Rattle.ded_model.specs.Row.{Atom, tuple_holds, tuples_hold}
-use Rattle.ded_model.specs.Uses.{plan_uses}
 use Rattle.ded_model.specs.Value.{Argument, Meaning}
 use Rattle.ded_algebra.specs.Evaluation.{AreGiven, given_tuples}
-use Rattle.ded_views.specs.Same.{AreByteArguments, MeansSame}
+use Rattle.ded_views.specs.Same.{IsSameOf}
+use Rattle.ded_views.proofs.Atoms.{all_weaker}
 use Rattle.ded_views.proofs.Folds.{kept}
 use Rattle.ded_views.proofs.Placing.{none_means, means_own, means_other}
-use Rattle.ded_keep.specs.Additive.{is_additive, AddsMeaning}
+use Rattle.ded_keep.specs.Additive.{is_additive, AddsMeaning, IsOtherScan}
 use Rattle.ded_keep.specs.Adding.{with_tuples, with_alone, IsAddition}
-use Rattle.ded_keep.proofs.AdditivePlans.{additive_plans}
+use Rattle.ded_keep.proofs.AdditivePlans.{added_given}
 
 -- ---- meanings
 
@@ -36,16 +36,16 @@ given_alike (relation m h i ts ∷ es) g I J n e =
     (λ j den xs. MatchBool (bytes_eq n m) (IsTrue (tuples_hold (tuples_of ts) (record { den = den; coords = at_slots 0 h xs }))) (e j den xs))
 
 -- each other name means the same
-other_means : (c : Catalogue) → AreGiven c.entries → (n : List ℕ) (h : List Column) (ts : List (List Atom)) (m : List ℕ) → bytes_eq m n ≡ false → meaning c m ≡ meaning (with_tuples c n h ts) m
-unfolding meaning
+other_means : (c : Catalogue) → AreGiven c.entries → (n : List ℕ) (h : List Column) (ts : List (List Atom)) (m : List ℕ) → bytes_eq m n ≡ false → stored c m ≡ stored (with_tuples c n h ts) m
+unfolding stored
 other_means c g n h ts m o =
     let r = relation n h 0 (map (λ t. (0, t)) ts) in
     given_alike c.entries g none_means (with_entry none_means r) m (sym (means_other none_means r m o))
 
 -- the name itself holds where the one tuple does
 own_means : (c : Catalogue) (n : List ℕ) (h : List Column) (t : List Atom) → entry_of c.entries n ≡ None → (den : ℕ) (xs : List Argument)
-    → meaning (with_alone c n h t) n den xs ≡ IsTrue (tuple_holds t (record { den = den; coords = at_slots 0 h xs }))
-unfolding meaning tuples_hold
+    → stored (with_alone c n h t) n den xs ≡ IsTrue (tuple_holds t (record { den = den; coords = at_slots 0 h xs }))
+unfolding stored tuples_hold
 own_means c n h t e den xs =
     let r = relation n h 0 ((0, t) ∷ []) in
     ap (λ (f : ℕ → List Argument → Type 0). f den xs) (kept with_entry meaning_from (λ J. refl) (λ J d es. refl) means_other c.entries (with_entry none_means r) n e ∙ means_own none_means r n ((bytes_eq-Decides n n).1 refl))
@@ -55,17 +55,14 @@ own_means c n h t e den xs =
 
 -- of an additive plan
 pub added_alone : (c b d : Catalogue) (n : List ℕ) (h : List Column) (t : List Atom) (f : PlanForm) → AreGiven c.entries → entry_of c.entries n ≡ None → is_additive n f ≡ true → IsAddition c b d n h t f
-    → (p : Point) → IsPoint p → PlanHolds d f p ↔ (PlanHolds b f p ⊎ PlanHolds (with_alone c n h t) f p)
-added_alone c b d n h t f g e k a = additive_plans b (with_alone c n h t) d n f k others adds
+    → (p : Point) → IsPoint p → PlanHolds d f p ↔ (PlanHolds b f p ⊎ GivenHolds (with_alone c n h t) f p)
+added_alone c b d n h t f g e k a = added_given b (with_alone c n h t) d n f k (all_weaker (IsOtherScan (meaning b) (stored c) (meaning d) n) (IsOtherScan (meaning b) (stored (with_alone c n h t)) (meaning d) n) others f a.others) adds
   where
-    others : (m : List ℕ) → plan_uses m f ≡ true → bytes_eq m n ≡ false → MeansSame b d m × MeansSame (with_alone c n h t) d m
-    others m u o =
-        let kept = a.others m u o in (
-          λ den xs i j. (λ x. ((kept.1 den xs i j).0 ((kept.0 den xs i j).1 x)), λ x. (kept.0 den xs i j).0 ((kept.1 den xs i j).1 x)),
-          subst (λ (I : ℕ → List Argument → Type 0). (den : ℕ) (xs : List Argument) → 0 < den → AreByteArguments xs → I den xs ↔ meaning d m den xs) (other_means c g n h (t ∷ []) m o) kept.1,
-        )
+    others : (a : PlanAtom) → IsOtherScan (meaning b) (stored c) (meaning d) n a → IsOtherScan (meaning b) (stored (with_alone c n h t)) (meaning d) n a
+    others (scan m ss) same = λ o. ((same o).0, subst (λ (R : ℕ → List Argument → Type 0). IsSameOf (length ss) R (meaning d m)) (other_means c g n h (t ∷ []) m o) (same o).1)
+    others (rows ts) same = tt
 
-    adds : AddsMeaning b (with_alone c n h t) d n
+    adds : AddsMeaning (meaning b) (stored (with_alone c n h t)) (meaning d) n
     adds den xs i j = subst (λ (A : Type 0). meaning d n den xs ↔ (meaning b n den xs ⊎ A)) (sym (own_means c n h t e den xs)) (a.adds den xs i j)
 
 -- ---- entries

@@ -6,7 +6,7 @@ use Rattle.std.proofs.lemmas.List.Folds.{list_any-append}
 use Rattle.ded_model.specs.declared.slot.Slot.{Slot}
 use Rattle.ded_model.specs.Catalogue.{Catalogue}
 use Rattle.ded_model.specs.Lines.{IsSubset, atoms_lines, tuples_lines}
-use Rattle.ded_model.specs.Measure.{measures, plan_lines}
+use Rattle.ded_model.specs.Measure.{stored_measures, plan_lines}
 use Rattle.ded_model.specs.PlanForm.{PlanForm}
 use Rattle.ded_model.specs.Point.{Point}
 use Rattle.ded_model.specs.Row.{Atom, tuple_holds, tuple_mentions, tuples_hold, tuples_mention}
@@ -37,7 +37,7 @@ extended c f kept more ts e v = record {
     λ h. holds p ∙ elim h [ inl x ↦ or_left _ _ x | inr x ↦ or_right (tuples_hold kept p) _ ((v.holds p i).1 x) ],
   );
   slots = λ s h. elim (or_split _ _ (sym (ap (λ us. tuples_mention us s) e ∙ tuples_mention-append kept more s) ∙ h)) [ inl x ↦ inl x | inr x ↦ inr (v.slots s x) ];
-  lines = subst (λ ls. IsSubset ls (tuples_lines kept ++ plan_lines (measures c) f)) (sym (ap tuples_lines e ∙ tuples_lines-append kept more)) (subset_append _ _ _ _ (subset_refl (tuples_lines kept)) v.lines);
+  lines = subst (λ ls. IsSubset ls (tuples_lines kept ++ plan_lines (stored_measures c) f)) (sym (ap tuples_lines e ∙ tuples_lines-append kept more)) (subset_append _ _ _ _ (subset_refl (tuples_lines kept)) v.lines);
 }
   where
     holds : (p : Point) → tuples_hold ts p ≡ (tuples_hold kept p || tuples_hold more p)

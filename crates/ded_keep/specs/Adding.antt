@@ -1,17 +1,17 @@
 -- One tuple more in a relation, and what it adds to the tuples of a plan.
-use Rattle.std.specs.Prelude.{◌≡◌, ◌↔◌, ◌⊎◌, ◌<◌, ℕ, true, false, IsTrue, List, [], ◌∷◌, ◌++◌, map}
-use Rattle.std.specs.Str.{bytes_eq}
+use Rattle.std.specs.Prelude.{◌≡◌, ◌↔◌, ◌⊎◌, ◌<◌, ℕ, true, IsTrue, List, [], ◌∷◌, ◌++◌, map}
 use Rattle.ded_model.specs.declared.name.Column.{Column}
 use Rattle.ded_model.specs.declared.slot.Slot.{Slot}
-use Rattle.ded_model.specs.Catalogue.{relation, Catalogue, at_slots, meaning, PlanHolds}
+use Rattle.ded_model.specs.Catalogue.{relation, Catalogue, at_slots, stored, meaning, GivenHolds}
 use Rattle.ded_model.specs.Lines.{IsSubset, tuples_lines}
-use Rattle.ded_model.specs.Measure.{measures, plan_lines}
+use Rattle.ded_model.specs.Logic.{AllAtoms}
+use Rattle.ded_model.specs.Measure.{stored_measures, plan_lines}
 use Rattle.ded_model.specs.PlanForm.{PlanForm, plan_mentions}
 use Rattle.ded_model.specs.Point.{slot, Point, IsPoint}
 use Rattle.ded_model.specs.Row.{Atom, tuple_holds, tuples_hold, tuples_mention}
-use Rattle.ded_model.specs.Uses.{plan_uses}
 use Rattle.ded_model.specs.Value.{Argument}
-use Rattle.ded_views.specs.Same.{AreByteArguments, MeansSame}
+use Rattle.ded_views.specs.Same.{AreByteArguments}
+use Rattle.ded_keep.specs.Additive.{IsOtherScan}
 
 -- the given relations, and the name as a relation of the tuples alone, under numbers that don't count
 abbrev pub with_tuples : Catalogue → List ℕ → List Column → List (List Atom) → Catalogue
@@ -26,12 +26,12 @@ with_alone c n h t = with_tuples c n h (t ∷ [])
 pub record IsExtended (c : Catalogue) (f : PlanForm) (kept ts : List (List Atom)) : Type 0 where
   pub more : List (List Atom)
   pub is : ts ≡ kept ++ more
-  pub holds : (p : Point) → IsPoint p → IsTrue (tuples_hold ts p) ↔ (IsTrue (tuples_hold kept p) ⊎ PlanHolds c f p)
+  pub holds : (p : Point) → IsPoint p → IsTrue (tuples_hold ts p) ↔ (IsTrue (tuples_hold kept p) ⊎ GivenHolds c f p)
   pub slots : (s : Slot) → tuples_mention ts s ≡ true → (tuples_mention kept s ≡ true) ⊎ (plan_mentions f (slot s) ≡ true)
-  pub lines : IsSubset (tuples_lines ts) (tuples_lines kept ++ plan_lines (measures c) f)
+  pub lines : IsSubset (tuples_lines ts) (tuples_lines kept ++ plan_lines (stored_measures c) f)
 
 -- from the one catalogue to the next the name gains the tuple, and each other name that the plan scans means what is given of it
 pub record IsAddition (given before after : Catalogue) (n : List ℕ) (h : List Column) (t : List Atom) (f : PlanForm) : Type 0 where
-  pub others : (m : List ℕ) → plan_uses m f ≡ true → bytes_eq m n ≡ false → MeansSame given before m × MeansSame given after m
+  pub others : AllAtoms (IsOtherScan (meaning before) (stored given) (meaning after) n) f
   pub adds : (den : ℕ) (xs : List Argument) → 0 < den → AreByteArguments xs
       → meaning after n den xs ↔ (meaning before n den xs ⊎ IsTrue (tuple_holds t (record { den = den; coords = at_slots 0 h xs })))

@@ -4,7 +4,7 @@ ghost use Rattle.ded_model.specs.declared.memory.Refused.TheVariants.{Wide};
 ghost use Rattle.ded_model.specs.Catalogue.{Catalogue, PlanHolds};
 ghost use Rattle.ded_model.specs.Entries.{entry_of};
 ghost use Rattle.ded_model.specs.Lines.{tuples_lines};
-ghost use Rattle.ded_model.specs.Measure.{measures, plan_clashes};
+ghost use Rattle.ded_model.specs.Measure.{stored_measures, plan_clashes};
 ghost use Rattle.ded_model.specs.PlanForm.{plan_form};
 ghost use Rattle.ded_model.specs.Point.{Point, IsPoint};
 ghost use Rattle.ded_model.specs.Row.{tuples_hold, tuples_mention};
@@ -34,13 +34,15 @@ pub fn refresh<E: Evaluate, R: Relations>(
 ) -> Result<Tuples, Refused>
     requires { IsEvaluable IsAnyAtom (R.catalogue relations.now) (plan_form plan.now) }
     ensures is { IfOk result (λ ts. IsEvaluation (R.catalogue relations.now) (plan_form plan.now) (tuples_hold ts) (tuples_mention ts) (tuples_lines ts)) }
-    ensures wide { IsErrOf result Wide → plan_clashes (measures (R.catalogue relations.now)) (plan_form plan.now) ≡ true }
+    ensures wide { IsErrOf result Wide → plan_clashes (stored_measures (R.catalogue relations.now)) (plan_form plan.now) ≡ true }
 {
     engine.evaluate(alloc, plan, relations)
 }
 
 /// Tuples that hold where `kept` does or where the plan does with `added` alone as the tuples of `changed`: `kept`, and more behind it.
-/// So where `kept` held exactly where the plan did, and `added` is inserted into `changed`, they hold exactly where the plan does then.
+/// So where `kept` held exactly where the plan did, and `added` is inserted into `changed`, they hold exactly where the plan does then,
+/// if each other name that the plan scans means what is given of it before and after. The closure and the interior of `changed` are such
+/// names.
 /// The plan is additive in `changed`, whose heading is `heading`. The other relations don't give `changed`, and give each other name
 /// that the plan scans, with tuples over columns of the sorts of the scan's slots.
 ///
@@ -63,7 +65,7 @@ pub fn add_tuple<E: Evaluate, R: Relations>(
     ensures adds { IfOk result (λ ts. (b d : Catalogue) → IsAddition (R.catalogue others.now) b d changed.now heading.now added.now (plan_form plan.now)
         → ((p : Point) → IsPoint p → IsTrue (tuples_hold kept p) ↔ PlanHolds b (plan_form plan.now) p)
         → (p : Point) → IsPoint p → IsTrue (tuples_hold ts p) ↔ PlanHolds d (plan_form plan.now) p) }
-    ensures wide { IsErrOf result Wide → plan_clashes (measures (with_alone (R.catalogue others.now) changed.now heading.now added.now)) (plan_form plan.now) ≡ true }
+    ensures wide { IsErrOf result Wide → plan_clashes (stored_measures (with_alone (R.catalogue others.now) changed.now heading.now added.now)) (plan_form plan.now) ≡ true }
 {
     // asked for what it ensures: only relations are given, each with a name of its own
     let _ = others.tuples(changed);

@@ -4,7 +4,8 @@
 //! ([`is_additive`]), a kept answer only has to be extended by what the plan gives for the new tuple alone ([`add_tuple`]). So an
 //! insert costs nothing of the size of the changed relation. [`refresh`] computes an answer anew; a database does the same through
 //! `ded_query`, which gathers what the plan scans. `laws` says why adding is right: an additive plan holds, where the name gains
-//! tuples, exactly where it did or where it does for these alone.
+//! tuples, exactly where it did or where it does for these alone. All other names that it scans have to mean the same, among them the
+//! closure and the interior of the name, to which an insert does more than add.
 //!
 //! It stands on `ded_algebra` for what evaluates plans, and on `ded_views` for plans over catalogues that agree. What evaluates is
 //! passed by the caller.

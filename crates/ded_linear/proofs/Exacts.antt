@@ -137,6 +137,7 @@ same_gap upper a b c d h = level (a *ℤ d) (c *ℤ b) h
 excluded : (test : Point → Bool) (s : Slot) (e : End) (f : Fraction) (far : Bound) → IsBetween test s e (Excluded f) far → IsPositive f → HasPositive far → IsLowest f
     → OnFraction (λ h. Meets Below (gap_at e f h)) far → IsExcluded test s e f
 excluded test s e f far is pn pf low clear = record {
+  positive = pn;
   lowest = low;
   free = λ at. let h = (is.to at.0 at.1 at.2).0 in
       let z = same_gap e (number_at at.0 (slot s)) (pos at.0.den) f.num f.den at.3 in
@@ -157,6 +158,7 @@ included : (test : Point → Bool) (s : Slot) (e : End) (f : Fraction) (far : Bo
     → Inside (other e) far f → IsIncluded test s e f
 included test s e f far is pn pf low clear =
     let same = point_with-value s f pn in record {
+      positive = pn;
       lowest = low;
       attained = (
         point_with s f,

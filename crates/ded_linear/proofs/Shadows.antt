@@ -167,12 +167,13 @@ module _ (f g : Point → Bool) (s : Slot) (is : IsShadow f g s) where
   pub exact_before : (e : End) (b : Bound) → IsExactBound f s e b → IsExactBound g s e b
   exact_before e Infinite x = λ h ph. some_outside e h ph (x h ph)
   exact_before e (Excluded h) x = record {
+    positive = x.positive;
     lowest = x.lowest;
     free = λ a. x.free (at_before h a);
     none = none_outside e h x.none;
     near = λ k pk o. some_outside e k pk (x.near k pk o);
   }
-  exact_before e (Included h) x = record { lowest = x.lowest; attained = some_at h x.attained; none = none_outside e h x.none }
+  exact_before e (Included h) x = record { positive = x.positive; lowest = x.lowest; attained = some_at h x.attained; none = none_outside e h x.none }
 
   pub bound_before : (e : End) (b : Bound) → IsBound f s e b → IsBound g s e b
   bound_before e Infinite x = tt

@@ -6,7 +6,7 @@ ghost use Rattle.ded_model.specs.declared.bound.Bound.TheVariants.{Infinite};
 ghost use Rattle.ded_model.specs.Row.{row_holds, row_mentions, sign_meets};
 ghost use Rattle.ded_model.specs.Bound.{lower, upper};
 ghost use Rattle.ded_model.specs.Lines.{row_lines};
-ghost use Rattle.ded_theory.specs.Verdicts.{IsSpan, IsVerdict};
+ghost use Rattle.ded_theory.specs.Verdicts.{IsSpan, IsVerdict, IsAround};
 ghost use Rattle.ded_elimination.specs.LinearAtoms.{IsLinearAtom};
 ghost use Rattle.ded_box.specs.Intervals.{end_of, may_meet};
 ghost use Rattle.ded_linear.specs.Intervals.{root_of, faces, row_bound, narrowed, is_single, row_fits, same_place};
@@ -32,6 +32,7 @@ pub fn interval(rows: &[Row], slot: Slot) -> Span
     requires single { list_all is_single rows.now ≡ true }
     ensures span { IsSpan row_holds row_mentions row_lines rows.now slot result }
     ensures verdict { IsVerdict row_holds row_mentions row_lines rows.now (verdict_of result) }
+    ensures exact { IsAround result → ⊥ }
 {
     if !all_fit(rows, slot) {
         return Span::Nothing;

@@ -5,14 +5,19 @@
 //! has an interval of values, and their ends are compared exactly. Each answer is exact, and it is left open only where a
 //! number on the way would have more than 127 digits, which only wide rows come to.
 //!
+//! [`refute`] and [`bounds`] take the way of combining two rows as a parameter, a `Mixing`, so that a theory of rows of some
+//! kind, whose combinations are never refused, answers by them too. `Linear` combines any rows.
+//!
 //! It stands on `ded_row` for rows, on `ded_elimination` for one elimination, and on `ded_box` for the comparison of bounds.
 //! What a theory promises is `ded_theory`'s to say.
 #![tactic(auto)]
 
-mod bounds;
+mod bounding;
 mod interval;
 mod order;
 mod theory;
 mod verdict;
 
+pub use bounding::bounds;
 pub use theory::Linear;
+pub use verdict::refute;

@@ -7,7 +7,8 @@ ghost use Rattle.ded_elimination.specs.LinearAtoms.{IsLinearAtom, is_rational};
 ghost use Rattle.ded_model.proofs.Rows.{row_holds-same};
 ghost use Rattle.ded_linear.specs.Laws.{cells_tell, owned_slots, slots_of_lines};
 
-use crate::{bounds, verdict};
+use crate::{bounding, verdict};
+use ded_elimination::Checked;
 use ded_model::memory::{NoMemory, Refused};
 use ded_model::row::Row;
 use ded_model::slot::{Slot, Sort};
@@ -33,6 +34,8 @@ impl Theory for Linear {
 
     ghost owned = { is_rational };
 
+    ghost decides = { ⊥ };
+
     fn owns(sort: Sort) -> bool {
         match sort {
             Sort::Rat => true,
@@ -53,15 +56,15 @@ impl Theory for Linear {
     }
 
     fn eliminate(alloc: Global, atoms: &[Row], slot: Slot) -> Result<Eliminated<Row>, Refused> {
-        ded_elimination::eliminate(alloc, atoms, slot)
+        ded_elimination::eliminate::<Checked>(alloc, atoms, slot)
     }
 
     fn refute(alloc: Global, atoms: &[Row]) -> Result<Verdict, NoMemory> {
-        verdict::refute(alloc, atoms)
+        verdict::refute::<Checked>(alloc, atoms)
     }
 
     fn bounds(alloc: Global, atoms: &[Row], slot: Slot) -> Result<Span, NoMemory> {
-        bounds::bounds(alloc, atoms, slot)
+        bounding::bounds::<Checked>(alloc, atoms, slot)
     }
 
     ghost respects = { row_holds-same };

@@ -1,34 +1,39 @@
-//! Whether some point satisfies some rows.
+//! Whether some point satisfies some rows, with any way of combining two of them.
 ghost use Rattle.std.specs.Prelude.{◌≡◌, IfOk};
 ghost use Rattle.std.specs.List.{AllByRecursion};
 ghost use Rattle.ded_model.specs.Row.{row_holds, row_mentions};
 ghost use Rattle.ded_model.specs.Lines.{row_lines};
+ghost use Rattle.ded_theory.specs.declared.answers.Verdict.TheVariants.{Unknown};
 ghost use Rattle.ded_theory.specs.Verdicts.{IsVerdict};
 ghost use Rattle.ded_elimination.specs.LinearAtoms.{IsLinearAtom};
 ghost use Rattle.ded_linear.specs.Told.{verdict_of};
 
-use crate::bounds::bounds;
+use crate::bounding::bounds;
 use crate::interval::{are_single, interval};
 use crate::order::costliest;
+use ded_elimination::Mixing;
 use ded_model::memory::NoMemory;
 use ded_model::row::Row;
 use ded_model::slot::Slot;
 use ded_theory::{Span, Verdict};
 use std::alloc::Global;
 
-/// Whether some point satisfies all the rows. `Unknown` only where a number on the way got too long.
+/// Whether some point satisfies all the rows. `Unknown` only where a number on the way got too long, which a mixing that
+/// decides never lets happen.
 ///
 /// # Errors
 /// Out of memory.
-pub fn refute(alloc: Global, rows: &[Row]) -> Result<Verdict, NoMemory>
+pub fn refute<M: Mixing>(alloc: Global, rows: &[Row]) -> Result<Verdict, NoMemory>
     requires normal { AllByRecursion IsLinearAtom rows.now }
-    ensures { IfOk result (λ v. IsVerdict row_holds row_mentions row_lines rows.now v) }
+    requires rows { AllByRecursion M.rows rows.now }
+    ensures verdict { IfOk result (λ v. IsVerdict row_holds row_mentions row_lines rows.now v) }
+    ensures decided { M.decides → IfOk result (λ v. v ≡ Unknown → ⊥) }
 {
     if are_single(rows) {
         return Ok(verdict_of(&interval(rows, Slot::default())));
     }
     let last = costliest(alloc, rows)?;
-    match bounds(alloc, rows, last) {
+    match bounds::<M>(alloc, rows, last) {
         Ok(span) => Ok(verdict_of(&span)),
         Err(error) => Err(error),
     }

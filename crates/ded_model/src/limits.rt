@@ -12,8 +12,11 @@ pub const GREATEST_NUMBER: u64 = 9_223_372_036_854_775_807;
 /// The nested formulas of a formula, at most.
 pub const NESTING: usize = 64;
 
-/// The columns of a heading with the quantifiers of a formula, at most.
+/// The columns of a heading, at most.
 pub const COLUMNS: usize = 16;
+
+/// The columns of a heading and the quantifiers of its formula together, at most.
+pub const PLACES: usize = 64;
 
 /// The level of a view, at most: 1 more than the greatest level of the names that it mentions.
 pub const LEVELS: u32 = 16;

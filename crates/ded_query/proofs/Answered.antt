@@ -12,6 +12,7 @@ use Rattle.ded_model.specs.Goal.{GoalForm, goal_mentions}
 use Rattle.ded_model.specs.Entries.{known}
 use Rattle.ded_model.specs.Known.{IsWellFormed, level_with}
 use Rattle.ded_model.specs.Lines.{In}
+use Rattle.ded_model.specs.Made.{base}
 use Rattle.ded_model.specs.Measure.{measures, goal_lines, goal_clashes, IsTight}
 use Rattle.ded_model.specs.Normal.{IsNormalTuple}
 use Rattle.ded_model.specs.Point.{slot, Point}
@@ -32,9 +33,9 @@ question_posed c h g f w q = record { columns = h; formula = f; question = q; le
 pub view_is_posed : (c : Catalogue) (n : List ℕ) (g : GoalForm) → IsWellFormed c → IsViewGoal c n g → IsPosed c g 16
 view_is_posed c n g w v = question_posed c v.columns g v.formula w (record { goal = v.goal; accepted = view_accepted c w n v.own v.columns v.formula v.entry })
 
-pub names_low : (c : Catalogue) (names : List (List ℕ)) → IsWellFormed c → AllByRecursion (λ n. level_with (known c n) ≤ 16) names
+pub names_low : (c : Catalogue) (names : List (List ℕ)) → IsWellFormed c → AllByRecursion (λ n. level_with (known c (base n)) ≤ 16) names
 names_low c [] w = tt
-names_low c (n ∷ ns) w = (name_level c w n, names_low c ns w)
+names_low c (n ∷ ns) w = (name_level c w (base n), names_low c ns w)
 
 -- the formula isn't tight where its goal clashes
 pub not_tight : (c : Catalogue) (h : List Column) (g : GoalForm) (f : Form) → IsQuestion c h g f → goal_clashes (measures c) g ≡ true → IsTight c h f → ⊥

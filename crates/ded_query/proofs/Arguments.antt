@@ -1,5 +1,5 @@
 -- Points at the values of a heading's columns.
-use Rattle.std.proofs.Common.{ℕ, ◌+◌, ◌<◌, List, [], ◌∷◌}
+use Rattle.std.proofs.Common.{◌≡◌, ℕ, suc, ◌+◌, ◌<◌, List, [], ◌∷◌, length, refl, ap}
 use Rattle.ded_model.specs.declared.slot.Sort.{Sort}
 use Rattle.ded_model.specs.declared.slot.Sort.TheVariants.{Rat, Text}
 use Rattle.ded_model.specs.declared.name.Column.{Column}
@@ -28,3 +28,10 @@ byte_arguments [] [] k = tt
 byte_arguments [] (x ∷ xs) k = absurd k
 byte_arguments (c ∷ cs) [] k = absurd k
 byte_arguments (c ∷ cs) (x ∷ xs) k = (k.0, byte_arguments cs xs k.1)
+
+-- there are as many as columns
+pub arguments_long : (h : List Column) (xs : List Argument) → AreArguments h xs → length xs ≡ length h
+arguments_long [] [] k = refl
+arguments_long [] (x ∷ xs) k = absurd k
+arguments_long (c ∷ cs) [] k = absurd k
+arguments_long (c ∷ cs) (x ∷ xs) k = ap suc (arguments_long cs xs k.1)

@@ -1,5 +1,5 @@
 -- Relations and views as what is given of them.
-use Rattle.std.proofs.Common.{◌≡◌, ℕ, ◌-◌, ◌<◌, ◌≤◌, arith, true, List, [], ◌∷◌, Option, Some, None, is_some, refl, sym, ap, ◌∙◌, subst, true≢false}
+use Rattle.std.proofs.Common.{◌≡◌, ℕ, ◌-◌, ◌<◌, ◌≤◌, arith, true, false, List, [], ◌∷◌, Option, Some, None, is_some, is_none, refl, sym, ap, ◌∙◌, subst, true≢false}
 use Rattle.std.specs.Prelude.{◌↔◌, IsTrue}
 use Rattle.std.specs.List.{AllByRecursion}
 use Rattle.std.specs.Option.{option_map}
@@ -13,6 +13,7 @@ use Rattle.ded_model.specs.Form.{Form}
 use Rattle.ded_model.specs.Goal.{GoalForm, goal_mentions}
 use Rattle.ded_model.specs.Known.{Known, IsTupleOver, IsWellFormed, heading_slots, known_of, level_with, columns_with}
 use Rattle.ded_model.specs.Lines.{In}
+use Rattle.ded_model.specs.Made.{Reading, itself, closure_of, interior_of, reading, base_by, base, is_made_by, is_made}
 use Rattle.ded_model.specs.Measure.{Measure, measures, goal_lines, goal_clashes}
 use Rattle.ded_model.specs.Normal.{IsNormalTuple}
 use Rattle.ded_model.specs.Point.{slot, stands_in}
@@ -23,10 +24,19 @@ use Rattle.ded_sorts.proofs.Frees.{goal_free}
 use Rattle.ded_sorts.proofs.Headings.{goals_mean}
 use Rattle.ded_views.specs.Same.{AreByteArguments}
 use Rattle.ded_views.proofs.Placing.{unknown}
-use Rattle.ded_views.proofs.Views.{relation_means, view_means, name_measure, name_known, tuples_over, view_accepted, lesser_level}
+use Rattle.ded_views.proofs.Views.{relation_means, view_means, plain_there, name_measure, name_known, tuples_over, view_accepted, lesser_level}
 use Rattle.ded_query.specs.Gathering.{IsGivenOf, IsGivenAs, IsPosed, IsEvaluated, IsViewGoal}
 use Rattle.ded_query.specs.Questions.{IsQuestion}
 use Rattle.ded_query.proofs.Arguments.{slots_point}
+
+-- a name that isn't made is that which it is made of
+base_when : (n : List ℕ) (r : Reading) → is_made_by r ≡ false → base_by n r ≡ n
+base_when n itself e = refl
+base_when n (closure_of m) e = absurd (true≢false e)
+base_when n (interior_of m) e = absurd (true≢false e)
+
+pub plain_base : (n : List ℕ) → is_made n ≡ false → base n ≡ n
+plain_base n e = base_when n (reading n) e
 
 -- ---- headings
 
@@ -78,6 +88,10 @@ view_posed c n g level w v l = record {
   levels = λ k u. let less = lesser_level c w n v.own v.columns v.formula v.entry k u in omega arith;
 }
 
+-- it has at most the level that what it is made of has
+pub view_low : (c : Catalogue) (n : List ℕ) (g : GoalForm) (level : ℕ) → IsWellFormed c → IsViewGoal c n g → level_with (known c (base n)) ≤ level → level_with (known c n) ≤ level
+view_low c n g level w v l = subst (λ m. level_with (known c m) ≤ level) (plain_base n (plain_there c w n (view v.own v.columns v.formula) v.entry)) l
+
 -- its level is not 0
 pub view_level : (c : Catalogue) (n : List ℕ) (g : GoalForm) (level : ℕ) → IsWellFormed c → IsViewGoal c n g → level_with (known c n) ≤ level → 1 ≤ level
 view_level c n g level w v l =
@@ -88,14 +102,15 @@ view_level c n g level w v l =
 -- what its goal is evaluated to is what is given of it
 pub view_given : (c : Catalogue) (n : List ℕ) (g : GoalForm) (h : List Column) (ts : List (List Atom)) → IsWellFormed c → IsViewGoal c n g → IsEvaluated c g ts → AllByRecursion IsNormalTuple ts
     → Some h ≡ option_map (λ k. k.columns) (known c n) → IsGivenOf c (record { name = n; heading = h; tuples = ts })
+unfolding measures
 view_given c n g h ts w v e k i =
     let q : IsQuestion c v.columns g v.formula = record { goal = v.goal; accepted = view_accepted c w n v.own v.columns v.formula v.entry } in
     let same : v.columns ≡ h = ap columns_with (sym (name_known c w n (view v.own v.columns v.formula) v.entry)) ∙ named_columns c n h i in
     subst (λ x. IsGivenOf c (record { name = n; heading = x; tuples = ts })) same
     (record {
-      columns = named_columns c n h i ∙ sym same;
+      columns = ap (columns_in c) (plain_base n (plain_there c w n (view v.own v.columns v.formula) v.entry)) ∙ named_columns c n h i ∙ sym same;
       over = evaluated_over c v.columns g v.formula ts q e k;
-      means = λ d xs j b.
+      means = λ d xs j b l.
           let holds = evaluated_holds c v.columns g v.formula ts q e d xs j b in
           let means = view_means c w n v.own v.columns v.formula v.entry d xs in
           (λ x. holds.1 (means.0 x), λ x. means.1 (holds.0 x));
@@ -104,19 +119,30 @@ view_given c n g h ts w v e k i =
 
 -- a view clashes where its goal does
 pub view_clash : (c : Catalogue) (n : List ℕ) (g : GoalForm) → IsWellFormed c → IsViewGoal c n g → goal_clashes (measures c) g ≡ true → (measures c n).clash ≡ true
+unfolding measures
 view_clash c n g w v e =
     ap (λ (m : Measure). m.clash) (name_measure c w n (view v.own v.columns v.formula) v.entry) ∙ ap (goal_clashes (measures c)) (sym v.goal) ∙ e
 
 -- ---- relations
 
--- a name that is defined and of which there is no goal is a relation
-pub relation_there : (c : Catalogue) (n : List ℕ) → is_some (known c n) ≡ true → None ≡ option_map (λ v. goal_of v.0 v.1) (view_in (entry_of c.entries n)) → is_some (relation_in (entry_of c.entries n)) ≡ true
+-- a name that is defined and is no view is a relation
+pub relation_there : (c : Catalogue) (n : List ℕ) → is_some (known c n) ≡ true → is_none (view_in (entry_of c.entries n)) ≡ true → is_some (relation_in (entry_of c.entries n)) ≡ true
 relation_there c n k e = by (entry_of c.entries n) refl e
   where
-    by : (o : Option Entry) → entry_of c.entries n ≡ o → None ≡ option_map (λ v. goal_of v.0 v.1) (view_in o) → is_some (relation_in o) ≡ true
+    by : (o : Option Entry) → entry_of c.entries n ≡ o → is_none (view_in o) ≡ true → is_some (relation_in o) ≡ true
     by None f e = absurd (true≢false (sym k ∙ ap is_some (unknown c n f)))
     by (Some (relation m h i ts)) f e = refl
-    by (Some (view m h x)) f e = absurd (none-some (goal_of h x) e)
+    by (Some (view m h x)) f e = absurd (true≢false (sym e))
+
+-- a name of which there is no goal is no view
+pub no_view : (o : Option (List Column × Form)) → None ≡ option_map (λ v. goal_of v.0 v.1) o → is_none o ≡ true
+no_view None e = refl
+no_view (Some v) e = absurd (none-some (goal_of v.0 v.1) e)
+
+-- a name that has a heading is known
+pub heading_known : (h : List Column) (o : Option Known) → Some h ≡ option_map (λ k. k.columns) o → is_some o ≡ true
+heading_known h None e = absurd (none-some h (sym e))
+heading_known h (Some k) e = refl
 
 -- its tuples are what is given of it
 pub relation_given : (c : Catalogue) (n : List ℕ) (h : List Column) (ts : List (List Atom)) → IsWellFormed c → Some ts ≡ option_map tuples_of (relation_in (entry_of c.entries n))
@@ -132,9 +158,9 @@ relation_given c n h ts w e i = by (entry_of c.entries n) refl e
         subst (λ x. IsGivenOf c (record { name = n; heading = h; tuples = x })) stored
         (subst (λ x. IsGivenOf c (record { name = n; heading = x; tuples = tuples_of us })) same
         (record {
-          columns = named_columns c n h i ∙ sym same;
+          columns = ap (columns_in c) (plain_base n (plain_there c w n (relation m k j us) f)) ∙ named_columns c n h i ∙ sym same;
           over = tuples_over c w n m k j us f;
-          means = λ d xs l b. relation_means c w n m k j us f d xs;
+          means = λ d xs l b r. relation_means c w n m k j us f d xs;
           lines = λ l x. subst (λ (y : Measure). In l y.lines) (sym (name_measure c w n (relation m k j us) f)) x;
         }))
 

@@ -1,14 +1,16 @@
 -- A plan over names that are given can be evaluated, and what it is evaluated to holds where its goal does over the catalogue.
-use Rattle.std.proofs.Common.{◌≡◌, ℕ, true, List, [], ◌∷◌, refl, sym, ap, ◌∙◌, subst}
+use Rattle.std.proofs.Common.{◌≡◌, ℕ, suc, true, List, [], ◌∷◌, length, refl, sym, ap, ◌∙◌, subst}
 use Rattle.std.specs.List.{AllByRecursion}
 use Rattle.std.proofs.lemmas.Slice.Eq.{bytes_eq-Decides}
 use Rattle.ded_model.specs.declared.name.Column.{Column}
+use Rattle.ded_model.specs.declared.slot.Slot.{Slot}
 use Rattle.ded_model.specs.Row.{Atom}
-use Rattle.ded_model.specs.Catalogue.{Catalogue, tuples_of}
+use Rattle.ded_model.specs.Catalogue.{Catalogue, tuples_of, stored, meaning}
 use Rattle.ded_model.specs.Entries.{columns_in}
 use Rattle.ded_model.specs.Form.{Form}
 use Rattle.ded_model.specs.Known.{IsTupleOver}
 use Rattle.ded_model.specs.Logic.{atom, always, never, negation, every_of, some_of, implies, minus, exists, forall, Logics, none, also, AllAtoms, AllAtomsOf, some_atom_of}
+use Rattle.ded_model.specs.Made.{base}
 use Rattle.ded_model.specs.PlanForm.{PlanAtom, scan, rows, PlanForm}
 use Rattle.ded_model.specs.Uses.{plan_atom_uses, plan_uses}
 use Rattle.ded_model.proofs.Rows.{or_left, or_right}
@@ -17,7 +19,8 @@ use Rattle.ded_plan.specs.Plans.{IsScanOf}
 use Rattle.ded_eval.specs.declared.given.GivenRelation.{GivenRelation}
 use Rattle.ded_eval.specs.Given.{unnumbered, given_catalogue, has_name}
 use Rattle.ded_query.specs.Gathering.{IsGivenOf}
-use Rattle.ded_query.proofs.GivenNames.{found_of}
+use Rattle.ded_views.specs.Same.{ScansSame}
+use Rattle.ded_query.proofs.GivenNames.{found_of, given_means}
 
 -- what follows of an atom from a property of it and one of the names that it uses follows of all atoms
 module _ (Q R : PlanAtom → Type 0) (P : List ℕ → Type 0) (step : (a : PlanAtom) → Q a → ((n : List ℕ) → plan_atom_uses n a ≡ true → P n) → R a) where
@@ -52,10 +55,24 @@ module _ (c : Catalogue) (f : Form) (rs : List GivenRelation) (g : AllByRecursio
   scannable (rows t) q u = any_atoms t
   scannable (scan n ss) q u =
       let found = found_of c rs n g (u n ((bytes_eq-Decides n n).1 refl)) in
-      let columns : columns_in c n ≡ found.relation.heading = ap (columns_in c) (sym found.named) ∙ found.of.columns in
+      let columns : columns_in c (base n) ≡ found.relation.heading = ap (λ m. columns_in c (base m)) (sym found.named) ∙ found.of.columns in
       subst (λ e. IsScannedFrom IsAnyAtom e ss) (sym found.entry)
       (subst (λ h. HaveSorts h ss) columns q.1, read_over found.relation.heading found.relation.tuples found.of.over)
 
   -- the law
   pub evaluable : (plan : PlanForm) → AllAtoms (IsScanOf c f) plan → ((n : List ℕ) → plan_uses n plan ≡ true → has_name n rs ≡ true) → IsEvaluable IsAnyAtom (given_catalogue rs) plan
   evaluable plan q u = all_with (IsScanOf c f) (IsScannable IsAnyAtom (given_catalogue rs)) (λ n. has_name n rs ≡ true) scannable plan q u
+
+  -- each scan is of what is given, and means over it what it means over the catalogue
+  sorts_long : (h : List Column) (ss : List Slot) → HaveSorts h ss → length ss ≡ length h
+  sorts_long [] [] k = refl
+  sorts_long [] (s ∷ ss) k = absurd k
+  sorts_long (x ∷ h) [] k = absurd k
+  sorts_long (x ∷ h) (s ∷ ss) k = ap suc (sorts_long h ss k.1)
+
+  pub scans_same : (a : PlanAtom) → IsScanOf c f a → ((n : List ℕ) → plan_atom_uses n a ≡ true → has_name n rs ≡ true) → ScansSame (stored (given_catalogue rs)) (meaning c) a
+  scans_same (rows t) q u = tt
+  scans_same (scan n ss) q u = λ d xs i b l. given_means c rs n g (u n ((bytes_eq-Decides n n).1 refl)) d xs i b (l ∙ sorts_long (columns_in c (base n)) ss q.1)
+
+  pub scanned_same : (plan : PlanForm) → AllAtoms (IsScanOf c f) plan → ((n : List ℕ) → plan_uses n plan ≡ true → has_name n rs ≡ true) → AllAtoms (ScansSame (stored (given_catalogue rs)) (meaning c)) plan
+  scanned_same plan q u = all_with (IsScanOf c f) (ScansSame (stored (given_catalogue rs)) (meaning c)) (λ n. has_name n rs ≡ true) scans_same plan q u

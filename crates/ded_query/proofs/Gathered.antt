@@ -10,6 +10,7 @@ use Rattle.ded_model.specs.Entries.{known}
 use Rattle.ded_model.specs.Goal.{GoalForm}
 use Rattle.ded_model.specs.Known.{level_with}
 use Rattle.ded_model.specs.Logic.{AllAtoms}
+use Rattle.ded_model.specs.Made.{base}
 use Rattle.ded_model.specs.Measure.{measures, goal_clashes}
 use Rattle.ded_model.specs.PlanForm.{PlanForm}
 use Rattle.ded_model.specs.Uses.{plan_uses}
@@ -20,6 +21,7 @@ use Rattle.ded_plan.proofs.PlansOfFormulas.{plan_scans}
 use Rattle.ded_eval.specs.declared.given.GivenRelation.{GivenRelation}
 use Rattle.ded_eval.specs.Given.{has_name}
 use Rattle.ded_views.proofs.Clashing.{plan_clashing}
+use Rattle.ded_views.proofs.GoalNames.{speaks_used}
 use Rattle.ded_query.specs.Gathering.{IsGivenOf, IsGathered, IsFront, IsPosed}
 use Rattle.ded_query.proofs.Names.{scanned_used, used_known, all_named, some_named}
 
@@ -63,11 +65,11 @@ module _ (c : Catalogue) (g : GoalForm) (plan : PlanForm) (level : ℕ) (p : IsP
   pub posed_scans : AllAtoms (IsScanOf c p.formula) plan
   posed_scans = plan_scans c p.columns p.formula plan p.question.accepted (subst (λ x. IsPlanned x plan) p.question.goal k)
 
-  pub posed_known : (names : List (List ℕ)) → ((n : List ℕ) → plan_uses n plan ≡ list_any (bytes_eq n) names) → AllByRecursion (λ n. is_some (known c n) ≡ true) names
-  posed_known names all = all_named (λ n. is_some (known c n) ≡ true) names (λ n e. used_known (known c) p.formula n p.question.accepted.known (scanned_used c p.formula plan n posed_scans (all n ∙ e)))
+  pub posed_known : (names : List (List ℕ)) → ((n : List ℕ) → plan_uses n plan ≡ list_any (bytes_eq n) names) → AllByRecursion (λ n. is_some (known c (base n)) ≡ true) names
+  posed_known names all = all_named (λ n. is_some (known c (base n)) ≡ true) names (λ n e. used_known (known c) p.formula n p.question.accepted.known (scanned_used c p.formula plan n posed_scans (all n ∙ e)))
 
-  pub posed_levels : (names : List (List ℕ)) → ((n : List ℕ) → plan_uses n plan ≡ list_any (bytes_eq n) names) → AllByRecursion (λ n. level_with (known c n) ≤ level) names
-  posed_levels names all = all_named (λ n. level_with (known c n) ≤ level) names (λ n e. p.levels n (scanned_used c p.formula plan n posed_scans (all n ∙ e)))
+  pub posed_levels : (names : List (List ℕ)) → ((n : List ℕ) → plan_uses n plan ≡ list_any (bytes_eq n) names) → AllByRecursion (λ n. level_with (known c (base n)) ≤ level) names
+  posed_levels names all = all_named (λ n. level_with (known c (base n)) ≤ level) names (λ n e. p.levels (base n) (speaks_used p.formula n (scanned_used c p.formula plan n posed_scans (all n ∙ e))))
 
   -- a name that clashes makes the goal clash
   pub posed_clash : (names : List (List ℕ)) → ((n : List ℕ) → plan_uses n plan ≡ list_any (bytes_eq n) names) → list_any (λ n. (measures c n).clash) names ≡ true → goal_clashes (measures c) g ≡ true

@@ -1,20 +1,21 @@
 -- What the names of given relations mean and measure, where these hold what the names do over a catalogue.
-use Rattle.std.proofs.Common.{◌≡◌, ℕ, ◌<◌, Bool, true, false, cond, ◌||◌, ◌⊎◌, inl, inr, List, [], ◌∷◌, ◌++◌, map, Option, Some, None, is_some, refl, sym, ap, ◌∙◌, subst, true≢false, bytes_eq}
+use Rattle.std.proofs.Common.{◌≡◌, ℕ, ◌<◌, Bool, true, false, cond, ◌||◌, ◌⊎◌, inl, inr, List, [], ◌∷◌, ◌++◌, length, map, Option, Some, None, is_some, refl, sym, ap, ◌∙◌, subst, true≢false, bytes_eq}
 use Rattle.std.specs.Prelude.{◌↔◌, IsTrue, MatchBool}
 use Rattle.std.specs.List.{AllByRecursion}
 use Rattle.std.proofs.lemmas.Slice.Eq.{bytes_eq-Decides}
 use Rattle.ded_model.specs.Row.{Atom, tuples_hold}
-use Rattle.ded_model.specs.Catalogue.{Catalogue, tuples_of, at_slots, with_entry, meaning_from, meaning}
+use Rattle.ded_model.specs.Catalogue.{Catalogue, tuples_of, at_slots, with_entry, meaning_from, stored, meaning}
 use Rattle.std.specs.Option.{option_map}
-use Rattle.ded_model.specs.Entries.{entry_of, relation_in}
+use Rattle.ded_model.specs.Entries.{entry_of, relation_in, columns_in}
 use Rattle.ded_model.proofs.Rows.{or_left, or_right}
 use Rattle.ded_algebra.specs.Evaluation.{given_tuples}
 use Rattle.ded_model.specs.Lines.{IsSubset, tuples_lines}
-use Rattle.ded_model.specs.Measure.{Measures, with_measure, measures_from, measures}
+use Rattle.ded_model.specs.Measure.{Measures, with_measure, measures_from, stored_measures, measures}
+use Rattle.ded_model.specs.Made.{base}
 use Rattle.ded_model.specs.Value.{Argument, Meaning}
 use Rattle.ded_eval.specs.declared.given.GivenRelation.{GivenRelation}
 use Rattle.ded_eval.specs.Given.{unnumbered, given_entry, given_catalogue, has_name}
-use Rattle.ded_views.specs.Same.{AreByteArguments, MeansSame}
+use Rattle.ded_views.specs.Same.{AreByteArguments, IsSameOf}
 use Rattle.ded_query.specs.Gathering.{IsGivenOf}
 
 -- numbers don't count
@@ -27,13 +28,13 @@ same_name n m e = sym ((bytes_eq-Decides n m).0 e)
 
 -- ---- meanings
 
-module _ (c : Catalogue) (n : List ℕ) (d : ℕ) (xs : List Argument) (i : 0 < d) (k : AreByteArguments xs) where
+module _ (c : Catalogue) (n : List ℕ) (d : ℕ) (xs : List Argument) (i : 0 < d) (k : AreByteArguments xs) (l : length xs ≡ length (columns_in c (base n))) where
   -- of the relation's own name
   own_means : (r : GivenRelation) → IsGivenOf c r → bytes_eq n r.name ≡ true → (I : Meaning) → meaning c n d xs ↔ with_entry I (given_entry r) n d xs
   own_means r g e I =
       subst (λ (b : Bool). meaning c n d xs ↔ MatchBool b (IsTrue (tuples_hold (tuples_of (unnumbered r.tuples)) (record { den = d; coords = at_slots 0 r.heading xs }))) (I n d xs)) (sym e)
       (subst (λ (ts : List (List Atom)). meaning c n d xs ↔ IsTrue (tuples_hold ts (record { den = d; coords = at_slots 0 r.heading xs }))) (sym (unnumbered-tuples r.tuples))
-      (subst (λ (m : List ℕ). meaning c m d xs ↔ IsTrue (tuples_hold r.tuples (record { den = d; coords = at_slots 0 r.heading xs }))) (same_name n r.name e) (g.means d xs i k)))
+      (subst (λ (m : List ℕ). meaning c m d xs ↔ IsTrue (tuples_hold r.tuples (record { den = d; coords = at_slots 0 r.heading xs }))) (same_name n r.name e) (g.means d xs i k (l ∙ ap (λ m. length (columns_in c (base m))) (sym (same_name n r.name e)) ∙ ap length g.columns))))
 
   -- of another name
   other_means : (r : GivenRelation) → bytes_eq n r.name ≡ false → (I : Meaning) → meaning c n d xs ↔ I n d xs → meaning c n d xs ↔ with_entry I (given_entry r) n d xs
@@ -51,10 +52,11 @@ module _ (c : Catalogue) (n : List ℕ) (d : ℕ) (xs : List Argument) (i : 0 < 
       by false e (inl f) = inl f
       by false e (inr f) = inr (other_means r e I f)
 
--- a name that is given means the same
-pub given_means : (c : Catalogue) (rs : List GivenRelation) (n : List ℕ) → AllByRecursion (IsGivenOf c) rs → has_name n rs ≡ true → MeansSame c (given_catalogue rs) n
-unfolding meaning
-given_means c rs n g e = λ d xs i k. means_from c n d xs i k rs (λ n d xs. ⊥) g (inl e)
+-- a name that is given means the same of as many arguments as it has columns
+pub given_means : (c : Catalogue) (rs : List GivenRelation) (n : List ℕ) → AllByRecursion (IsGivenOf c) rs → has_name n rs ≡ true
+    → IsSameOf (length (columns_in c (base n))) (stored (given_catalogue rs) n) (meaning c n)
+unfolding stored
+given_means c rs n g e = λ d xs i k l. let h = means_from c n d xs i k l rs (λ n d xs. ⊥) g (inl e) in (h.1, h.0)
 
 -- ---- lines
 
@@ -83,13 +85,13 @@ module _ (c : Catalogue) (n : List ℕ) where
   clash_from (r ∷ rs) M h = clash_from rs (with_measure M (given_entry r)) (own_clash r M h)
 
 -- each name has lines among those that it has over the catalogue
-pub given_lines : (c : Catalogue) (rs : List GivenRelation) → AllByRecursion (IsGivenOf c) rs → (n : List ℕ) → IsSubset (measures (given_catalogue rs) n).lines (measures c n).lines
-unfolding measures
+pub given_lines : (c : Catalogue) (rs : List GivenRelation) → AllByRecursion (IsGivenOf c) rs → (n : List ℕ) → IsSubset (stored_measures (given_catalogue rs) n).lines (measures c n).lines
+unfolding stored_measures
 given_lines c rs g n = lines_from c n rs _ g (λ l i. absurd i)
 
 -- and no clash
-pub given_clash : (rs : List GivenRelation) (n : List ℕ) → (measures (given_catalogue rs) n).clash ≡ false
-unfolding measures
+pub given_clash : (rs : List GivenRelation) (n : List ℕ) → (stored_measures (given_catalogue rs) n).clash ≡ false
+unfolding stored_measures
 given_clash rs n = clash_from (given_catalogue rs) n rs _ refl
 
 -- ---- entries

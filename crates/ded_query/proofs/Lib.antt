@@ -6,4 +6,3 @@ pub mod Evaluations
 pub mod Gathered
 pub mod GivenNames
 pub mod Names
-pub mod Simplest

@@ -6,6 +6,7 @@ use Rattle.ded_model.specs.Catalogue.{Catalogue}
 use Rattle.ded_model.specs.Form.{Form, FormAtom, compare, member, atom_uses, uses}
 use Rattle.ded_model.specs.Known.{KnownNames, is_unknown_atom, uses_unknown}
 use Rattle.ded_model.specs.Logic.{Logic, atom, always, never, negation, every_of, some_of, implies, minus, exists, forall, Logics, none, also, AllAtoms, AllAtomsOf, some_atom, some_atom_of}
+use Rattle.ded_model.specs.Made.{base}
 use Rattle.ded_model.specs.PlanForm.{PlanAtom, scan, rows, PlanForm}
 use Rattle.ded_model.specs.Uses.{plan_atom_uses, plan_uses}
 use Rattle.ded_model.proofs.Rows.{or_left, or_right}
@@ -41,13 +42,13 @@ scanned_used c f plan n q u = some_with (plan_atom_uses n) (IsScanOf c f) (uses 
     step (scan m ss) k h = subst (λ x. uses x f ≡ true) (sym ((bytes_eq-Decides n m).0 h)) k.0
     step (rows t) k h = absurd (true≢false (sym h))
 
--- and a name that an accepted formula uses is defined
-pub used_known : (K : KnownNames) (f : Form) (n : List ℕ) → uses_unknown K f ≡ false → uses n f ≡ true → is_some (K n) ≡ true
-used_known K f n k u = some_with (atom_uses n) (λ a. (m : List ℕ) → atom_uses m a ≡ true → is_some (K m) ≡ true) (is_some (K n) ≡ true) (λ a h e. h n e) f (all_where_none (is_unknown_atom K) _ step f k) u
+-- and a name that an accepted formula uses is made of a defined one
+pub used_known : (K : KnownNames) (f : Form) (n : List ℕ) → uses_unknown K f ≡ false → uses n f ≡ true → is_some (K (base n)) ≡ true
+used_known K f n k u = some_with (atom_uses n) (λ a. (m : List ℕ) → atom_uses m a ≡ true → is_some (K (base m)) ≡ true) (is_some (K (base n)) ≡ true) (λ a h e. h n e) f (all_where_none (is_unknown_atom K) _ step f k) u
   where
-    step : (a : FormAtom) → is_unknown_atom K a ≡ false → (m : List ℕ) → atom_uses m a ≡ true → is_some (K m) ≡ true
+    step : (a : FormAtom) → is_unknown_atom K a ≡ false → (m : List ℕ) → atom_uses m a ≡ true → is_some (K (base m)) ≡ true
     step (compare l op r) h m e = absurd (true≢false (sym e))
-    step (member x ts) h m e = subst (λ y. is_some (K y) ≡ true) (sym ((bytes_eq-Decides m x).0 e)) (is_known (K x) h)
+    step (member x ts) h m e = subst (λ y. is_some (K (base y)) ≡ true) (sym ((bytes_eq-Decides m x).0 e)) (is_known (K (base x)) h)
 
 -- ---- lists of names
 

@@ -1,14 +1,15 @@
 -- What is gathered for the evaluation of a plan.
-use Rattle.std.specs.Prelude.{◌≡◌, ◌↔◌, ◌<◌, ◌≤◌, ℕ, true, IsTrue, Some, List, ◌++◌}
+use Rattle.std.specs.Prelude.{◌≡◌, ◌↔◌, ◌<◌, ◌≤◌, ℕ, true, IsTrue, Some, List, ◌++◌, length}
 use Rattle.std.specs.List.{AllByRecursion}
 use Rattle.ded_model.specs.declared.name.Column.{Column}
 use Rattle.ded_model.specs.declared.slot.Slot.{Slot}
 use Rattle.ded_model.specs.Catalogue.{Catalogue, at_slots, meaning, GoalHolds, view}
 use Rattle.ded_model.specs.Entries.{known, columns_in, entry_of}
-use Rattle.ded_model.specs.Form.{Form, uses}
+use Rattle.ded_model.specs.Form.{Form, speaks_of}
 use Rattle.ded_model.specs.Goal.{GoalForm, goal_mentions}
 use Rattle.ded_model.specs.Known.{IsTupleOver, level_with}
 use Rattle.ded_model.specs.Lines.{IsSubset, tuples_lines}
+use Rattle.ded_model.specs.Made.{base}
 use Rattle.ded_model.specs.Measure.{measures, goal_lines}
 use Rattle.ded_model.specs.Normal.{IsNormalTuple}
 use Rattle.ded_model.specs.Point.{slot, Point, IsPoint}
@@ -22,12 +23,12 @@ use Rattle.ded_query.specs.Questions.{IsQuestion}
 
 -- ---- relations
 
--- the tuples that are given under the name hold where the name does over the catalogue, are over its columns, and have lines
--- among those of the name
+-- the tuples that are given under the name hold where the name does over the catalogue, are over the columns of what it is made of,
+-- and have lines among those of the name
 pub record IsGivenOf (c : Catalogue) (r : GivenRelation) : Type 0 where
-  pub columns : columns_in c r.name ≡ r.heading
+  pub columns : columns_in c (base r.name) ≡ r.heading
   pub over : AllByRecursion (IsTupleOver r.heading) r.tuples
-  pub means : (d : ℕ) (xs : List Argument) → 0 < d → AreByteArguments xs
+  pub means : (d : ℕ) (xs : List Argument) → 0 < d → AreByteArguments xs → length xs ≡ length r.heading
       → meaning c r.name d xs ↔ IsTrue (tuples_hold r.tuples (record { den = d; coords = at_slots 0 r.heading xs }))
   pub lines : IsSubset (tuples_lines r.tuples) (measures c r.name).lines
 
@@ -43,12 +44,12 @@ pub record IsFront (old new : List GivenRelation) : Type 0 where
 
 -- ---- goals
 
--- the goal is that of a formula over some heading that is accepted over the names, each of which that it uses has at most the level
+-- the goal is that of a formula over some heading that is accepted over the names, each of which that it speaks of has at most the level
 pub record IsPosed (c : Catalogue) (g : GoalForm) (level : ℕ) : Type 0 where
   pub columns : List Column
   pub formula : Form
   pub question : IsQuestion c columns g formula
-  pub levels : (n : List ℕ) → uses n formula ≡ true → level_with (known c n) ≤ level
+  pub levels : (n : List ℕ) → speaks_of n formula ≡ true → level_with (known c n) ≤ level
 
 -- tuples that hold exactly where the goal does over the catalogue, mention only slots that the goal mentions freely, and have lines
 -- among the goal's

@@ -7,6 +7,7 @@ ghost use Rattle.ded_model.specs.Cell.{IsReduced};
 ghost use Rattle.ded_model.specs.Entries.{known, entry_of, view_in};
 ghost use Rattle.ded_model.specs.Form.{Form};
 ghost use Rattle.ded_model.specs.Goal.{goal_form};
+ghost use Rattle.ded_model.specs.Made.{base};
 ghost use Rattle.ded_model.specs.Measure.{measures, goal_clashes, IsTight};
 ghost use Rattle.ded_model.specs.Row.{atom_holds};
 ghost use Rattle.ded_model.specs.Width.{IsNarrowList};
@@ -20,13 +21,11 @@ use ded_answers::{holds_everywhere, reduced};
 use ded_catalog::Snapshot;
 use ded_eval::Given;
 use ded_model::goal::Goal;
+use ded_model::limits;
 use ded_model::memory::Refused;
 use ded_model::name::{Heading, Name};
 use ded_model::tuple::Tuples;
 use std::alloc::Global;
-
-/// The greatest level of a view.
-const GREATEST_LEVEL: u32 = 16;
 
 /// Whether a closed formula, given as its goal, is true over the catalogue. What is held of views is read in their place, and is
 /// the same after it.
@@ -104,7 +103,7 @@ pub fn view_tuples(
     Ok(reduced(alloc, tuples)?)
 }
 
-/// Gives the names as well, which are defined. What was given stays at the front.
+/// Gives the names as well, which are made of defined ones. What was given stays at the front.
 ///
 /// # Errors
 /// `Wide` only where one of the names clashes, otherwise out of memory. More may be given then.
@@ -114,7 +113,7 @@ pub fn give_names(
     names: &[Name],
     held: &mut Given,
 ) -> Result<(), Refused>
-    requires defined { AllByRecursion (λ n. is_some (known (snapshot_of snapshot.now) n) ≡ true) names.now }
+    requires defined { AllByRecursion (λ n. is_some (known (snapshot_of snapshot.now) (base n)) ≡ true) names.now }
     requires held { AllByRecursion (IsGivenOf (snapshot_of snapshot.now)) held.old }
     ensures gathered { OnOk result (IsGathered (snapshot_of snapshot.now) held.old held.new) }
     ensures all { OnOk result (AllByRecursion (λ n. has_name n held.new ≡ true) names.now) }
@@ -122,7 +121,7 @@ pub fn give_names(
     ensures wide { IsErrOf result Wide → list_any (λ n. (measures (snapshot_of snapshot.now) n).clash) names.now ≡ true }
 {
     snapshot.formed();
-    give_all(alloc, snapshot, names, GREATEST_LEVEL, held)
+    give_all(alloc, snapshot, names, limits::LEVELS, held)
 }
 
 /// What the goal of an accepted formula is evaluated to. What is held is the same after it.
@@ -142,7 +141,7 @@ fn evaluated_over(
     ensures wide { IsErrOf result Wide → goal_clashes (measures (snapshot_of snapshot.now)) (goal_form goal.now) ≡ true }
 {
     let count = held.count();
-    let tuples = evaluated(alloc, snapshot, goal, GREATEST_LEVEL, held);
+    let tuples = evaluated(alloc, snapshot, goal, limits::LEVELS, held);
     held.keep_first(count);
     tuples
 }

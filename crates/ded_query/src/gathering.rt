@@ -1,12 +1,13 @@
 //! What a plan scans, gathered: the tuples of relations, and views as what their goals are evaluated to.
-ghost use Rattle.std.specs.Prelude.{◌≡◌, ◌≤◌, true, is_some, Some, None, IfOk, IsErrOf, OnOk};
+ghost use Rattle.std.specs.Prelude.{◌≡◌, ◌≤◌, true, is_some, is_none, Some, None, IfOk, IsErrOf, OnOk};
 ghost use Rattle.std.specs.List.{AllByRecursion, list_any};
 ghost use Rattle.std.specs.Option.{option_map};
 ghost use Rattle.ded_model.specs.declared.memory.Refused.TheVariants.{Wide};
 ghost use Rattle.ded_model.specs.Catalogue.{Catalogue};
-ghost use Rattle.ded_model.specs.Entries.{known, entry_of, relation_in};
+ghost use Rattle.ded_model.specs.Entries.{known, entry_of, relation_in, view_in};
 ghost use Rattle.ded_model.specs.Goal.{goal_form};
 ghost use Rattle.ded_model.specs.Known.{level_with};
+ghost use Rattle.ded_model.specs.Made.{base};
 ghost use Rattle.ded_model.specs.Measure.{measures, goal_clashes};
 ghost use Rattle.ded_catalog.specs.Snapshots.{snapshot_of};
 ghost use Rattle.ded_eval.specs.Given.{has_name};
@@ -52,7 +53,7 @@ pub(crate) fn evaluated(
     Engine {}.evaluate(alloc, &plan, &*given)
 }
 
-/// Gives the names, which are defined and have at most the level.
+/// Gives the names, which are made of defined ones that have at most the level.
 ///
 /// # Errors
 /// `Wide` only where one of the names clashes, otherwise out of memory. More may be given then.
@@ -64,8 +65,8 @@ pub(crate) fn give_all(
     level: u32,
     given: &mut Given,
 ) -> Result<(), Refused>
-    requires defined { AllByRecursion (λ n. is_some (known (snapshot_of snapshot.now) n) ≡ true) names.now }
-    requires levels { AllByRecursion (λ n. level_with (known (snapshot_of snapshot.now) n) ≤ level) names.now }
+    requires defined { AllByRecursion (λ n. is_some (known (snapshot_of snapshot.now) (base n)) ≡ true) names.now }
+    requires levels { AllByRecursion (λ n. level_with (known (snapshot_of snapshot.now) (base n)) ≤ level) names.now }
     requires given { AllByRecursion (IsGivenOf (snapshot_of snapshot.now)) given.old }
     ensures gathered { OnOk result (IsGathered (snapshot_of snapshot.now) given.old given.new) }
     ensures all { OnOk result (AllByRecursion (λ n. has_name n given.new ≡ true) names.now) }
@@ -78,7 +79,7 @@ pub(crate) fn give_all(
     Ok(())
 }
 
-/// Gives the name, which is defined and has at most the level, unless it is given already.
+/// Gives the name, which is made of a defined one that has at most the level, unless it is given already.
 ///
 /// # Errors
 /// `Wide` only where the name clashes, otherwise out of memory. More may be given then.
@@ -90,23 +91,47 @@ fn give(
     level: u32,
     given: &mut Given,
 ) -> Result<(), Refused>
-    requires defined { is_some (known (snapshot_of snapshot.now) name.now) ≡ true }
-    requires level { level_with (known (snapshot_of snapshot.now) name.now) ≤ level }
+    requires defined { is_some (known (snapshot_of snapshot.now) (base name.now)) ≡ true }
+    requires level { level_with (known (snapshot_of snapshot.now) (base name.now)) ≤ level }
     requires given { AllByRecursion (IsGivenOf (snapshot_of snapshot.now)) given.old }
     ensures gathered { OnOk result (IsGathered (snapshot_of snapshot.now) given.old given.new) }
     ensures is { OnOk result (has_name name.now given.new ≡ true) }
     ensures front { IsFront given.old given.new }
     ensures wide { IsErrOf result Wide → (measures (snapshot_of snapshot.now) name.now).clash ≡ true }
 {
+    snapshot.formed();
     if is_given(given, name) {
         return Ok(());
     }
     match snapshot.goal(name) {
         Some(goal) => give_view(alloc, snapshot, name, goal, level, given),
-        None => {
+        None => give_relation(alloc, snapshot, name, given),
+    }
+}
+
+/// Gives a relation. A closure or an interior isn't evaluated yet, and counts as out of memory.
+///
+/// # Errors
+/// Out of memory; nothing is changed then.
+fn give_relation(
+    alloc: Global,
+    snapshot: &Snapshot<'_>,
+    name: &Name,
+    given: &mut Given,
+) -> Result<(), Refused>
+    requires goal { is_none (view_in (entry_of (snapshot_of snapshot.now).entries name.now)) ≡ true }
+    requires given { AllByRecursion (IsGivenOf (snapshot_of snapshot.now)) given.old }
+    ensures gathered { OnOk result (IsGathered (snapshot_of snapshot.now) given.old given.new) }
+    ensures is { OnOk result (has_name name.now given.new ≡ true) }
+    ensures front { IsFront given.old given.new }
+    ensures memory { IsErrOf result Wide → ⊥ }
+{
+    match snapshot.heading(name) {
+        Some(_) => {
             let relation = relation(alloc, snapshot, name)?;
             Ok(add(snapshot, given, relation)?)
         }
+        None => Err(Refused::Memory),
     }
 }
 

@@ -2,7 +2,8 @@
 --
 -- An atom is implied by others where they hold nowhere together with any piece of its negation; then they hold at the same points
 -- without it. Where some point satisfies the others and a piece, the atom is needed. With the exact bounds on the lengths of
--- numbers this is decided for each atom of a conjunction that isn't wide, so what is left is irredundant.
+-- numbers this is decided for each atom of a conjunction that isn't wide, and by a theory that decides for each of any conjunction, so
+-- what is left is irredundant.
 use Rattle.std.proofs.Common.{◌≡◌, ℕ, zero, suc, ◌+◌, ◌<◌, ◌≤◌, length, take, drop, get_or, arith, Bool, true, false, not, ◌&&◌, ◌||◌, List, [], ◌∷◌, ◌++◌, inl, inr, refl, sym, ap, ap₂, ◌∙◌, subst, true≢false, below_more}
 use Rattle.std.specs.List.{AllByRecursion}
 use Rattle.ded_model.specs.declared.slot.Slot.{Slot}
@@ -22,7 +23,7 @@ use Rattle.ded_theory.specs.Verdicts.{HoldsNowhere, IsVerdict}
 use Rattle.ded_theory.proofs.Conjunctions.{conj_holds-append, conj_mentions-append}
 use Rattle.ded_theory.proofs.Parted.{wide_more}
 use Rattle.ded_genrel.proofs.Laws.{or_false, and_true, conj_lines-append}
-use Rattle.ded_reduce.specs.Kept.{IsSublist, IsNeeded, IsImplied, IsSifted}
+use Rattle.ded_reduce.specs.Kept.{IsSublist, MayBeOpen, IsNeeded, IsImplied, IsSifted}
 use Rattle.ded_reduce.proofs.Sublists.{sublist_refl, sublist_trans, sublist_without, length_without, sublist_all, parted_at, parted_others, parted_length}
 
 -- ---- tests
@@ -50,7 +51,7 @@ with_either : (x a b c : Bool) → (a || b) ≡ c → (x && c) ≡ ((x && a) || 
 with_either true a b c e = sym e
 with_either false a b c e = refl
 
-module _ {A : Type 0} (h : A → Point → Bool) (m : A → Slot → Bool) (l : A → List Line) where
+module _ {A : Type 0} (D : Type 0) (h : A → Point → Bool) (m : A → Slot → Bool) (l : A → List Line) where
   push_holds : (xs : List A) (a : A) (p : Point) → conj_holds h (xs ++ a ∷ []) p ≡ (conj_holds h xs p && h a p)
   push_holds xs a p = conj_holds-append h xs (a ∷ []) p ∙ ap (λ b. conj_holds h xs p && b) (and_true (h a p))
 
@@ -59,10 +60,10 @@ module _ {A : Type 0} (h : A → Point → Bool) (m : A → Slot → Bool) (l : 
   pub with_nowhere : (others all : List A) (a : A) (v : Verdict) → all ≡ others ++ a ∷ [] → v ≡ Empty → IsVerdict h m l all v → HoldsNowhere (λ p. conj_holds h others p && h a p)
   with_nowhere others all a v e f k = λ p i. sym (ap (λ xs. conj_holds h xs p) e ∙ push_holds others a p) ∙ subst (IsVerdict h m l all) f k p i
 
-  pub with_somewhere : (others all : List A) (a : A) (v : Verdict) → all ≡ others ++ a ∷ [] → (v ≡ Empty → ⊥) → IsVerdict h m l all v → (IsWide m l (others ++ a ∷ []) → ⊥) → HoldsSomewhere (λ p. conj_holds h others p && h a p)
-  with_somewhere others all a Empty e f k n = absurd (f refl)
-  with_somewhere others all a Inhabited e f k n = (k.0, k.1, sym (ap (λ xs. conj_holds h xs k.0) e ∙ push_holds others a k.0) ∙ k.2)
-  with_somewhere others all a Unknown e f k n = absurd (n (subst (IsWide m l) e k))
+  pub with_somewhere : (others all : List A) (a : A) (v : Verdict) → all ≡ others ++ a ∷ [] → (v ≡ Empty → ⊥) → IsVerdict h m l all v → (D → v ≡ Unknown → ⊥) → (MayBeOpen D m l (others ++ a ∷ []) → ⊥) → HoldsSomewhere (λ p. conj_holds h others p && h a p)
+  with_somewhere others all a Empty e f k d n = absurd (f refl)
+  with_somewhere others all a Inhabited e f k d n = (k.0, k.1, sym (ap (λ xs. conj_holds h xs k.0) e ∙ push_holds others a k.0) ∙ k.2)
+  with_somewhere others all a Unknown e f k d n = absurd (n ((λ x. d x refl), subst (IsWide m l) e k))
 
   -- ---- the negation of an atom
 
@@ -71,24 +72,26 @@ module _ {A : Type 0} (h : A → Point → Bool) (m : A → Slot → Bool) (l : 
     pub slots : EachPiece (λ b. (s : Slot) → m b s ≡ true → m a s ≡ true) n
     pub lines : EachPiece (λ b. l b ≡ l a) n
 
-  -- others are wide with an atom where they are with a piece of its negation
-  wide_piece : (others : List A) (a b : A) → ((s : Slot) → m b s ≡ true → m a s ≡ true) → l b ≡ l a → IsWide m l (others ++ b ∷ []) → IsWide m l (others ++ a ∷ [])
-  wide_piece others a b slots same w =
-      wide_more m l m l (others ++ b ∷ []) (others ++ a ∷ [])
-      (λ x i. subst (In x) (conj_lines-append l others (b ∷ []) ∙ ap (λ ls. conj_lines l others ++ (ls ++ [])) same ∙ sym (conj_lines-append l others (a ∷ []))) i)
-      (λ s e. conj_mentions-append m others (a ∷ []) s ∙ (elim (or_split (conj_mentions m others s) (m b s || false) (sym (conj_mentions-append m others (b ∷ []) s) ∙ e)) [
-        | inl i ↦ or_left (conj_mentions m others s) (m a s || false) i
-        | inr j ↦ or_right (conj_mentions m others s) (m a s || false) (or_left (m a s) false (slots s (sym (or_false (m b s)) ∙ j)))
-      ])) w
+  -- others may be left open with an atom where they may with a piece of its negation
+  open_piece : (others : List A) (a b : A) → ((s : Slot) → m b s ≡ true → m a s ≡ true) → l b ≡ l a → MayBeOpen D m l (others ++ b ∷ []) → MayBeOpen D m l (others ++ a ∷ [])
+  open_piece others a b slots same w = (
+    w.0,
+    wide_more m l m l (others ++ b ∷ []) (others ++ a ∷ [])
+        (λ x i. subst (In x) (conj_lines-append l others (b ∷ []) ∙ ap (λ ls. conj_lines l others ++ (ls ++ [])) same ∙ sym (conj_lines-append l others (a ∷ []))) i)
+        (λ s e. conj_mentions-append m others (a ∷ []) s ∙ (elim (or_split (conj_mentions m others s) (m b s || false) (sym (conj_mentions-append m others (b ∷ []) s) ∙ e)) [
+          | inl i ↦ or_left (conj_mentions m others s) (m a s || false) i
+          | inr j ↦ or_right (conj_mentions m others s) (m a s || false) (or_left (m a s) false (slots s (sym (or_false (m b s)) ∙ j)))
+        ])) w.1,
+  )
 
   pub one_nowhere : (others : List A) (a b : A) (n : Negated A) → n ≡ One b → IsNegation a n → HoldsNowhere (λ p. conj_holds h others p && h b p) → HoldsNowhere (λ p. conj_holds h others p && not (h a p))
   one_nowhere others a b n e k z = let i = subst (IsNegation a) e k in λ p j. ap (λ x. conj_holds h others p && x) (sym (i.holds p j.positive)) ∙ z p j
 
-  pub one_somewhere : (others : List A) (a b : A) (n : Negated A) → n ≡ One b → IsNegation a n → ((IsWide m l (others ++ b ∷ []) → ⊥) → HoldsSomewhere (λ p. conj_holds h others p && h b p))
-      → (IsWide m l (others ++ a ∷ []) → ⊥) → HoldsSomewhere (λ p. conj_holds h others p && not (h a p))
+  pub one_somewhere : (others : List A) (a b : A) (n : Negated A) → n ≡ One b → IsNegation a n → ((MayBeOpen D m l (others ++ b ∷ []) → ⊥) → HoldsSomewhere (λ p. conj_holds h others p && h b p))
+      → (MayBeOpen D m l (others ++ a ∷ []) → ⊥) → HoldsSomewhere (λ p. conj_holds h others p && not (h a p))
   one_somewhere others a b n e k z w =
       let i = subst (IsNegation a) e k in
-      let v = z (λ x. w (wide_piece others a b i.slots i.lines x)) in
+      let v = z (λ x. w (open_piece others a b i.slots i.lines x)) in
       (v.0, v.1, ap (λ x. conj_holds h others v.0 && x) (sym (i.holds v.0 v.1.positive)) ∙ v.2)
 
   pub two_nowhere : (others copies : List A) (a b c : A) (n : Negated A) → n ≡ Two b c → copies ≡ others → IsNegation a n → HoldsNowhere (λ p. conj_holds h copies p && h b p) → HoldsNowhere (λ p. conj_holds h others p && h c p)
@@ -97,22 +100,22 @@ module _ {A : Type 0} (h : A → Point → Bool) (m : A → Slot → Bool) (l : 
       let i = subst (IsNegation a) e k in
       λ p j. with_either (conj_holds h others p) (h b p) (h c p) (not (h a p)) (i.holds p j.positive) ∙ ap₂ (λ u v. u || v) (ap (λ xs. conj_holds h xs p && h b p) (sym f) ∙ y p j) (z p j)
 
-  pub first_somewhere : (others copies : List A) (a b c : A) (n : Negated A) → n ≡ Two b c → copies ≡ others → IsNegation a n → ((IsWide m l (copies ++ b ∷ []) → ⊥) → HoldsSomewhere (λ p. conj_holds h copies p && h b p))
-      → (IsWide m l (others ++ a ∷ []) → ⊥) → HoldsSomewhere (λ p. conj_holds h others p && not (h a p))
+  pub first_somewhere : (others copies : List A) (a b c : A) (n : Negated A) → n ≡ Two b c → copies ≡ others → IsNegation a n → ((MayBeOpen D m l (copies ++ b ∷ []) → ⊥) → HoldsSomewhere (λ p. conj_holds h copies p && h b p))
+      → (MayBeOpen D m l (others ++ a ∷ []) → ⊥) → HoldsSomewhere (λ p. conj_holds h others p && not (h a p))
   first_somewhere others copies a b c n e f k z w =
       let i = subst (IsNegation a) e k in
-      let v = z (λ x. w (wide_piece others a b i.slots.0 i.lines.0 (subst (λ xs. IsWide m l (xs ++ b ∷ [])) f x))) in (
+      let v = z (λ x. w (open_piece others a b i.slots.0 i.lines.0 (subst (λ xs. MayBeOpen D m l (xs ++ b ∷ [])) f x))) in (
         v.0,
         v.1,
         with_either (conj_holds h others v.0) (h b v.0) (h c v.0) (not (h a v.0)) (i.holds v.0 v.1.positive)
             ∙ or_left (conj_holds h others v.0 && h b v.0) (conj_holds h others v.0 && h c v.0) (ap (λ xs. conj_holds h xs v.0 && h b v.0) (sym f) ∙ v.2),
       )
 
-  pub second_somewhere : (others : List A) (a b c : A) (n : Negated A) → n ≡ Two b c → IsNegation a n → ((IsWide m l (others ++ c ∷ []) → ⊥) → HoldsSomewhere (λ p. conj_holds h others p && h c p))
-      → (IsWide m l (others ++ a ∷ []) → ⊥) → HoldsSomewhere (λ p. conj_holds h others p && not (h a p))
+  pub second_somewhere : (others : List A) (a b c : A) (n : Negated A) → n ≡ Two b c → IsNegation a n → ((MayBeOpen D m l (others ++ c ∷ []) → ⊥) → HoldsSomewhere (λ p. conj_holds h others p && h c p))
+      → (MayBeOpen D m l (others ++ a ∷ []) → ⊥) → HoldsSomewhere (λ p. conj_holds h others p && not (h a p))
   second_somewhere others a b c n e k z w =
       let i = subst (IsNegation a) e k in
-      let v = z (λ x. w (wide_piece others a c i.slots.1 i.lines.1 x)) in (
+      let v = z (λ x. w (open_piece others a c i.slots.1 i.lines.1 x)) in (
         v.0,
         v.1,
         with_either (conj_holds h others v.0) (h b v.0) (h c v.0) (not (h a v.0)) (i.holds v.0 v.1.positive)
@@ -166,10 +169,10 @@ module _ {A : Type 0} (h : A → Point → Bool) (m : A → Slot → Bool) (l : 
       (subst (λ ys. HoldsNowhere (λ p. conj_holds h ys p && not (h a p))) f z)
 
   pub needed_at : (xs others : List A) (k : ℕ) (a : A) → k < length xs → a ≡ get_or xs k a → others ≡ take k xs ++ drop (suc k) xs
-      → ((IsWide m l (others ++ a ∷ []) → ⊥) → HoldsSomewhere (λ p. conj_holds h others p && not (h a p))) → (IsWide m l xs → ⊥) → IsNeeded h xs k
+      → ((MayBeOpen D m l (others ++ a ∷ []) → ⊥) → HoldsSomewhere (λ p. conj_holds h others p && not (h a p))) → (MayBeOpen D m l xs → ⊥) → IsNeeded h xs k
   needed_at xs others k a lt e f z n b i =
-      let wide = λ (w : IsWide m l (others ++ a ∷ [])). wide_more m l m l ((take k xs ++ drop (suc k) xs) ++ a ∷ []) xs (others_lines xs k a lt e) (λ s j. others_mention xs k a s lt e j) (subst (λ ys. IsWide m l (ys ++ a ∷ [])) f w) in
-      let v = z (λ w. n (wide w)) in (
+      let wide = λ (w : MayBeOpen D m l (others ++ a ∷ [])). wide_more m l m l ((take k xs ++ drop (suc k) xs) ++ a ∷ []) xs (others_lines xs k a lt e) (λ s j. others_mention xs k a s lt e j) (subst (λ ys. IsWide m l (ys ++ a ∷ [])) f w.1) in
+      let v = z (λ w. n (w.0, wide w)) in (
         v.0,
         v.1,
         ap (λ ys. conj_holds h ys v.0) (sym f) ∙ and_left (conj_holds h others v.0) (not (h a v.0)) v.2,
@@ -185,7 +188,7 @@ module _ {A : Type 0} (h : A → Point → Bool) (m : A → Slot → Bool) (l : 
     pub all_normal : AllByRecursion normal left
     pub shorter : removed ≡ true → length left < length old
     pub same : removed ≡ false → left ≡ old
-    pub needed : removed ≡ false → (IsWide m l left → ⊥) → (k : ℕ) → k < index → IsNeeded h left k
+    pub needed : removed ≡ false → (MayBeOpen D m l left → ⊥) → (k : ℕ) → k < index → IsNeeded h left k
 
   pub sifting_none : (normal : A → Type 0) (old : List A) → AllByRecursion normal old → Sifting normal old old 0 false
   sifting_none normal old n = record {
@@ -212,7 +215,7 @@ module _ {A : Type 0} (h : A → Point → Bool) (m : A → Slot → Bool) (l : 
       shorter true f = let r = length_without left index lt in let t = s.shorter f in omega (arith, r, t)
       shorter false f = subst (λ xs. length (take index left ++ drop (suc index) left) < length xs) (s.same f) (length_without left index lt)
 
-  pub sifting_kept : (normal : A → Type 0) (old left : List A) (index : ℕ) (removed : Bool) → ((IsWide m l left → ⊥) → IsNeeded h left index) → Sifting normal old left index removed → Sifting normal old left (index + 1) removed
+  pub sifting_kept : (normal : A → Type 0) (old left : List A) (index : ℕ) (removed : Bool) → ((MayBeOpen D m l left → ⊥) → IsNeeded h left index) → Sifting normal old left index removed → Sifting normal old left (index + 1) removed
   sifting_kept normal old left index removed z s = record {
     kept = s.kept;
     holds = s.holds;
@@ -222,7 +225,7 @@ module _ {A : Type 0} (h : A → Point → Bool) (m : A → Slot → Bool) (l : 
     needed = λ f w. below_more (IsNeeded h left) index (s.needed f w) (z w);
   }
 
-  pub sifting_all : (normal : A → Type 0) (old left : List A) (index : ℕ) (removed : Bool) → length left ≤ index → Sifting normal old left index removed → IsSifted h m l normal old left removed
+  pub sifting_all : (normal : A → Type 0) (old left : List A) (index : ℕ) (removed : Bool) → length left ≤ index → Sifting normal old left index removed → IsSifted D h m l normal old left removed
   sifting_all normal old left index removed le s = record {
     kept = s.kept;
     holds = s.holds;
@@ -242,20 +245,20 @@ module _ {A : Type 0} (h : A → Point → Bool) (m : A → Slot → Bool) (l : 
   pub reducing_none : (normal : A → Type 0) (conj left : List A) → left ≡ conj → AllByRecursion normal conj → Reducing normal conj left
   reducing_none normal conj left e n = subst (Reducing normal conj) (sym e) (record { kept = sublist_refl conj; holds = λ p i. refl; all_normal = n })
 
-  pub reducing_more : (normal : A → Type 0) (conj left new : List A) (removed : Bool) → Reducing normal conj left → IsSifted h m l normal left new removed → Reducing normal conj new
+  pub reducing_more : (normal : A → Type 0) (conj left new : List A) (removed : Bool) → Reducing normal conj left → IsSifted D h m l normal left new removed → Reducing normal conj new
   reducing_more normal conj left new removed r s = record { kept = sublist_trans new left conj s.kept r.kept; holds = λ p i. s.holds p i ∙ r.holds p i; all_normal = s.all_normal }
 
   -- each atom is needed, and they hold somewhere
-  pub reduced_is : (normal : A → Type 0) (copy left new : List A) (v : Verdict) (removed : Bool) → copy ≡ left → (v ≡ Empty → ⊥) → IsVerdict h m l copy v → removed ≡ false → IsSifted h m l normal left new removed → (IsWide m l new → ⊥) → IsReduced h new
-  reduced_is normal copy left new v removed e f k g s n = record {
-    inhabited = subst (λ xs. HoldsSomewhere (conj_holds h xs)) (sym (s.same g)) (somewhere v f (subst (λ xs. IsVerdict h m l xs v) e k));
+  pub reduced_is : (normal : A → Type 0) (copy left new : List A) (v : Verdict) (removed : Bool) → copy ≡ left → (v ≡ Empty → ⊥) → IsVerdict h m l copy v → (D → v ≡ Unknown → ⊥) → removed ≡ false → IsSifted D h m l normal left new removed → (MayBeOpen D m l new → ⊥) → IsReduced h new
+  reduced_is normal copy left new v removed e f k d g s n = record {
+    inhabited = subst (λ xs. HoldsSomewhere (conj_holds h xs)) (sym (s.same g)) (somewhere v f d (subst (λ xs. IsVerdict h m l xs v) e k));
     needed = λ before a after i.
         let lt : length before < length new = subst (λ xs. length before < length xs) (sym i) (parted_length before a after) in
         let w = s.needed g n (length before) lt a (subst (λ xs. a ≡ get_or xs (length before) a) (sym i) (parted_at before a after)) in
         (w.0, w.1, ap (λ xs. conj_holds h xs w.0) (sym (ap (λ xs. take (length before) xs ++ drop (suc (length before)) xs) i ∙ parted_others before a after)) ∙ w.2, w.3);
   }
     where
-      somewhere : (v : Verdict) → (v ≡ Empty → ⊥) → IsVerdict h m l left v → HoldsSomewhere (conj_holds h left)
-      somewhere Empty f k = absurd (f refl)
-      somewhere Inhabited f k = k
-      somewhere Unknown f k = absurd (n (subst (IsWide m l) (sym (s.same g)) k))
+      somewhere : (v : Verdict) → (v ≡ Empty → ⊥) → (D → v ≡ Unknown → ⊥) → IsVerdict h m l left v → HoldsSomewhere (conj_holds h left)
+      somewhere Empty f d k = absurd (f refl)
+      somewhere Inhabited f d k = k
+      somewhere Unknown f d k = absurd (n ((λ x. d x refl), subst (IsWide m l) (sym (s.same g)) k))

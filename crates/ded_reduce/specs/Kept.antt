@@ -25,6 +25,10 @@ abbrev pub IfKept : {A : Type 0} → (List A → Type 0) → Reduced A → Type 
 IfKept P Gone = Unit {0}
 IfKept P (Kept atoms) = P atoms.items
 
+-- whether something satisfies the atoms may be left open: the theory doesn't decide every conjunction, and they are wide
+abbrev pub MayBeOpen : {A : Type 0} → Type 0 → (A → Slot → Bool) → (A → List Line) → List A → Type 0
+MayBeOpen decides mentions lines atoms = (decides → ⊥) × IsWide mentions lines atoms
+
 -- the others hold at some point at which the atom at the index doesn't
 abbrev pub IsNeeded : {A : Type 0} → (A → Point → Bool) → List A → ℕ → Type 0
 IsNeeded {A = A} h atoms k =
@@ -35,11 +39,12 @@ abbrev pub IsImplied : {A : Type 0} → (A → Point → Bool) → List A → �
 IsImplied {A = A} h atoms k =
     (a : A) → a ≡ get_or atoms k a → HoldsNowhere (λ p. conj_holds h (take k atoms ++ drop (suc k) atoms) p && not (h a p))
 
--- atoms were removed from the old list that the others imply; where none was, and the atoms aren't wide, each of them is needed
-pub record IsSifted {A : Type 0} (h : A → Point → Bool) (m : A → Slot → Bool) (l : A → List Line) (normal : A → Type 0) (old new : List A) (removed : Bool) : Type 0 where
+-- atoms were removed from the old list that the others imply; where none was, and nothing may be left open of the atoms, each of them
+-- is needed
+pub record IsSifted {A : Type 0} (decides : Type 0) (h : A → Point → Bool) (m : A → Slot → Bool) (l : A → List Line) (normal : A → Type 0) (old new : List A) (removed : Bool) : Type 0 where
   pub kept : IsSublist new old
   pub holds : (p : Point) → IsPoint p → conj_holds h new p ≡ conj_holds h old p
   pub all_normal : AllByRecursion normal new
   pub shorter : removed ≡ true → length new < length old
   pub same : removed ≡ false → new ≡ old
-  pub needed : removed ≡ false → (IsWide m l new → ⊥) → (k : ℕ) → k < length new → IsNeeded h new k
+  pub needed : removed ≡ false → (MayBeOpen decides m l new → ⊥) → (k : ℕ) → k < length new → IsNeeded h new k

@@ -25,8 +25,8 @@ pub enum Reduced<A> {
 }
 
 /// The atoms without those that the others imply, in the same order: they hold at the same points. `Gone` where they are found
-/// to hold nowhere. Where the atoms that are kept aren't wide, they hold somewhere, and each is needed: without it the others hold
-/// at a point at which it doesn't.
+/// to hold nowhere. Where the atoms that are kept aren't wide, or the theory decides, they hold somewhere, and each is needed:
+/// without it the others hold at a point at which it doesn't.
 ///
 /// # Errors
 /// Out of memory.
@@ -39,6 +39,7 @@ pub fn reduce<T: Theory>(alloc: Global, conj: &[T::Atom]) -> Result<Reduced<T::A
     ensures lines { IfOk result (λ r. IfKept (λ atoms. IsSubset (conj_lines T.lines atoms) (conj_lines T.lines conj.now)) r) }
     ensures normal { IfOk result (λ r. IfKept (λ atoms. AllByRecursion T.normal atoms) r) }
     ensures reduced { IfOk result (λ r. IfKept (λ atoms. (IsWide T.mentions T.lines atoms → ⊥) → IsReduced T.holds atoms) r) }
+    ensures decided { T.decides → IfOk result (λ r. IfKept (λ atoms. IsReduced T.holds atoms) r) }
 {
     let mut left = copy_conj::<T>(alloc, conj)?;
     loop {

@@ -2,9 +2,8 @@
 ghost use Rattle.std.specs.Prelude.{◌≡◌, ℕ, ◌<◌, true, false, not, ◌&&◌, List, [], ◌∷◌, ◌++◌, length, IfOk};
 ghost use Rattle.std.specs.List.{AllByRecursion};
 ghost use Rattle.ded_model.specs.Cell.{conj_holds, HoldsSomewhere};
-ghost use Rattle.ded_theory.specs.Conjunctions.{IsWide};
 ghost use Rattle.ded_theory.specs.Verdicts.{HoldsNowhere};
-ghost use Rattle.ded_reduce.specs.Kept.{IsNeeded, IsImplied, IsSifted};
+ghost use Rattle.ded_reduce.specs.Kept.{MayBeOpen, IsNeeded, IsImplied, IsSifted};
 
 use ded_genrel::{both_conjs, copy_conj};
 use ded_model::memory::NoMemory;
@@ -19,7 +18,7 @@ use std::alloc::Global;
 /// Out of memory.
 pub(crate) fn sift<T: Theory>(alloc: Global, conj: &mut Vec<T::Atom>) -> Result<bool, NoMemory>
     requires normal { AllByRecursion T.normal conj.old.items }
-    ensures { IfOk result (λ removed. IsSifted T.holds T.mentions T.lines T.normal conj.old.items conj.new.items removed) }
+    ensures { IfOk result (λ removed. IsSifted T.decides T.holds T.mentions T.lines T.normal conj.old.items conj.new.items removed) }
 {
     let mut removed = false;
     let mut index = 0;
@@ -43,7 +42,7 @@ fn is_superfluous<T: Theory>(
     requires within { index < length conj.now }
     requires normal { AllByRecursion T.normal conj.now }
     ensures implied { IfOk result (λ b. b ≡ true → IsImplied T.holds conj.now index) }
-    ensures needed { IfOk result (λ b. b ≡ false → (IsWide T.mentions T.lines conj.now → ⊥) → IsNeeded T.holds conj.now index) }
+    ensures needed { IfOk result (λ b. b ≡ false → (MayBeOpen T.decides T.mentions T.lines conj.now → ⊥) → IsNeeded T.holds conj.now index) }
 {
     let others = both_conjs::<T>(alloc, &conj[..index], &conj[index + 1..])?;
     imply::<T>(alloc, others, &conj[index])
@@ -54,7 +53,7 @@ fn imply<T: Theory>(alloc: Global, others: Vec<T::Atom>, atom: &T::Atom) -> Resu
     requires normal { AllByRecursion T.normal others.items }
     requires normal_atom { T.normal atom.now }
     ensures implied { IfOk result (λ b. b ≡ true → HoldsNowhere (λ p. conj_holds T.holds others.items p && not (T.holds atom.now p))) }
-    ensures needed { IfOk result (λ b. b ≡ false → (IsWide T.mentions T.lines (others.items ++ atom.now ∷ []) → ⊥) → HoldsSomewhere (λ p. conj_holds T.holds others.items p && not (T.holds atom.now p))) }
+    ensures needed { IfOk result (λ b. b ≡ false → (MayBeOpen T.decides T.mentions T.lines (others.items ++ atom.now ∷ []) → ⊥) → HoldsSomewhere (λ p. conj_holds T.holds others.items p && not (T.holds atom.now p))) }
 {
     match T::negate(atom)? {
         Negated::One(only) => is_empty_with::<T>(alloc, others, only),
@@ -77,7 +76,7 @@ fn is_empty_with<T: Theory>(
     requires normal { AllByRecursion T.normal others.items }
     requires normal_atom { T.normal atom }
     ensures implied { IfOk result (λ b. b ≡ true → HoldsNowhere (λ p. conj_holds T.holds others.items p && T.holds atom p)) }
-    ensures needed { IfOk result (λ b. b ≡ false → (IsWide T.mentions T.lines (others.items ++ atom ∷ []) → ⊥) → HoldsSomewhere (λ p. conj_holds T.holds others.items p && T.holds atom p)) }
+    ensures needed { IfOk result (λ b. b ≡ false → (MayBeOpen T.decides T.mentions T.lines (others.items ++ atom ∷ []) → ⊥) → HoldsSomewhere (λ p. conj_holds T.holds others.items p && T.holds atom p)) }
 {
     others.push(atom)?;
     match T::refute(alloc, &others)? {

@@ -3,17 +3,21 @@ use Rattle.std.proofs.Common.{◌≡◌, ◌≤◌, ℕ, Bool, true, false, refl
 use Rattle.std.specs.Prelude.{None, Some, is_some, is_none, ◌==◌, ◌||◌, nat_lt}
 use Rattle.std.specs.List.{list_any}
 use Rattle.std.specs.declared.option.Option.{Option}
+use Rattle.std.specs.Option.{unwrap_or}
+use Rattle.ded_model.specs.declared.certificate.Entry.{Entry}
 use Rattle.std.proofs.lemmas.Bool.Decides.{nat_tests}
-use Rattle.ded_model.specs.declared.command.Refusal.TheVariants.{Many, Twice, Unknown, Taken, Kind, Arity, Unbound, WrongSort, Used, NoTuple, Level}
+use Rattle.ded_model.specs.declared.command.Refusal.TheVariants.{Many, Twice, Unknown, Taken, Kind, Arity, Unbound, WrongSort, Used, NoTuple, Level, Memory}
 use Rattle.ded_model.specs.declared.formula.Formula.{Formula}
 use Rattle.ded_model.specs.declared.goal.Goal.{Goal}
 use Rattle.ded_model.specs.declared.name.Column.{Column}
 use Rattle.ded_model.specs.Catalogue.{Catalogue}
-use Rattle.ded_model.specs.Command.{CommandForm, relation, insert, delete, drop, view, keep, show, box_of}
+use Rattle.ded_model.specs.Command.{CommandForm, header, relation, insert, delete, drop, view, keep, show, box_of, dump, disjoint, verify}
 use Rattle.ded_model.specs.Form.{Form, FormAtom, form}
 use Rattle.ded_model.specs.Goal.{goal_form}
-use Rattle.ded_model.specs.Known.{Known, IsAccepted, IsTupleOver, level_of, is_many, has_twice, uses_unknown, has_other_arity, has_unbound, has_missorted}
-use Rattle.ded_model.specs.Logic.{Logics}
+use Rattle.ded_model.specs.Known.{Known, IsNewName, IsAccepted, IsTupleOver, level_of, is_many, has_twice, uses_unknown, has_other_arity, has_unbound, has_missorted}
+use Rattle.ded_model.specs.Logic.{Logics, some_atom}
+use Rattle.ded_model.specs.LongRows.{is_long_atom, has_long_row}
+use Rattle.ded_model.specs.Plain.{IsPlain, IsPlainCommand}
 use Rattle.ded_model.specs.Row.{Atom}
 use Rattle.ded_model.specs.Slotted.{goal_of, tuple_of}
 use Rattle.ded_model.specs.Width.{tuple_length}
@@ -23,8 +27,10 @@ use Rattle.ded_sorts.specs.Causes.{is_relation_with, is_view_with}
 use Rattle.ded_sorts.specs.Checks.{HasNoCause, forms_of}
 use Rattle.ded_resolve.specs.Resolved.{IsResolved}
 use Rattle.ded_model.specs.Entries.{known, tuples_in, columns_in, entry_uses}
-use Rattle.ded_session.specs.Carrying.{IsReady, Carries}
-use Rattle.ded_session.specs.Replies.{ReplyForm}
+use Rattle.ded_session.specs.Carrying.{IsReady, Carries, refusal_left}
+use Rattle.ded_session.specs.PlainNames.{NamesPlainly}
+use Rattle.ded_session.specs.Replies.{ReplyForm, refused}
+use Rattle.ded_session.proofs.Unmade.{unmade}
 
 -- ---- tests
 
@@ -58,8 +64,8 @@ at_most n e = grind (arith, nat_tests)
 -- ---- commands
 
 module _ (c : Catalogue) where
-  new_relation : (n : List ℕ) (h : List Column) → HasNoCause c (relation n h) → (known c n ≡ None) × (length h ≤ 16)
-  new_relation n h a = (none_of (known c n) (a Taken refl), at_most (length h) (a Many refl))
+  new_relation : (n : List ℕ) (h : List Column) → HasNoCause c (relation n h) → NamesPlainly (relation n h) → IsNewName (known c) n × (length h ≤ 16)
+  new_relation n h a p = ((none_of (known c n) (a Taken refl), unmade n p.0), at_most (length h) (a Many refl))
 
   into_relation : (n : List ℕ) (fs : Logics FormAtom) → HasNoCause c (insert n fs) → is_relation_with (known c n) ≡ true
   into_relation n fs a = relation_of (known c n) (a Unknown refl) (a Kind refl)
@@ -137,10 +143,11 @@ module _ (c : Catalogue) where
   -- ---- what stands behind a command by slots
 
   module _ (k : Checked) (ready : IsReady c k) where
-    pub ready_relation : (n : List ℕ) (h : List Column) → k ≡ checked.Relation n h → (known c n ≡ None) × (length h ≤ 16)
+    pub ready_relation : (n : List ℕ) (h : List Column) → k ≡ checked.Relation n h → IsNewName (known c) n × (length h ≤ 16)
     ready_relation n h e =
         let r = subst (IsReady c) e ready in
-        new_relation n h (subst (HasNoCause c) (relation_is r.written n h r.resolved) r.accepted)
+        let same = relation_is r.written n h r.resolved in
+        new_relation n h (subst (HasNoCause c) same r.accepted) (subst NamesPlainly same r.named)
 
     pub ready_insert : (n : List ℕ) (t : List Atom) → k ≡ checked.Insert n t → (is_relation_with (known c n) ≡ true) × IsTupleOver (columns_in c n) t × (tuple_length t ≤ 63)
     ready_insert n t e =
@@ -175,12 +182,20 @@ module _ (c : Catalogue) where
         of_view n (subst (HasNoCause c) (keep_is r.written n r.resolved) r.accepted)
 
     pub ready_view : (n : List ℕ) (h : List Column) (f : Formula) (g : Goal) → k ≡ checked.View n h f g
-        → (known c n ≡ None) × IsAccepted (known c) h (form f) × (level_of (known c) (form f) ≤ 16) × (goal_form g ≡ goal_of h (form f))
+        → IsNewName (known c) n × IsAccepted (known c) h (form f) × (level_of (known c) (form f) ≤ 16) × (goal_form g ≡ goal_of h (form f)) × IsPlain (form f)
+        × (some_atom is_long_atom (form f) ≡ false)
     ready_view n h f g e =
         let r = subst (IsReady c) e ready in
         let v = view_is r.written n h f g r.resolved in
         let a = subst (HasNoCause c) v.0 r.accepted in
-        (none_of (known c n) (a Taken refl), accepted h (form f) (a Many refl) (a Twice refl) (a Unknown refl) (a Arity refl) (a Unbound refl) (a WrongSort refl), at_most (level_of (known c) (form f)) (a Level refl), v.1)
+        (
+          (none_of (known c n) (a Taken refl), unmade n (subst NamesPlainly v.0 r.named).0),
+          accepted h (form f) (a Many refl) (a Twice refl) (a Unknown refl) (a Arity refl) (a Unbound refl) (a WrongSort refl),
+          at_most (level_of (known c) (form f)) (a Level refl),
+          v.1,
+          subst IsPlainCommand v.0 r.plain,
+          sym (ap has_long_row v.0) ∙ r.short,
+        )
 
     -- what such a command says, as it is written
     pub written_relation : (n : List ℕ) (h : List Column) → k ≡ checked.Relation n h → (x : CommandForm) → IsResolved c x k → x ≡ relation n h
@@ -218,3 +233,25 @@ module _ (c : Catalogue) where
   written_insert d reply k n t e does x r =
       let i = insert_is x n t (subst (IsResolved c x) e r) in
       subst (λ (y : CommandForm). Carries y c reply d) (sym i.is) (does i.comparisons i.tuple)
+
+  -- ---- commands that aren't answered yet
+
+  left_header : (x : CommandForm) → IsResolved c x checked.Header → refusal_left c x ≡ None
+  left_header header r = refl
+  left_header _ r = absurd r
+
+  left_dump : (x : CommandForm) → IsResolved c x checked.Dump → refusal_left c x ≡ None
+  left_dump dump r = refl
+  left_dump _ r = absurd r
+
+  left_disjoint : (x : CommandForm) (n m : List ℕ) → IsResolved c x (checked.Disjoint n m) → refusal_left c x ≡ None
+  left_disjoint (disjoint k l) n m r = refl
+  left_disjoint _ n m r = absurd r
+
+  left_verify : (x : CommandForm) (n m : List ℕ) (es : Vec Entry) → IsResolved c x (checked.Verify n m es) → refusal_left c x ≡ None
+  left_verify (verify k l fs) n m es r = refl
+  left_verify _ n m es r = absurd r
+
+  -- what is refused for nothing may be refused as out of memory
+  pub wanting : (x : CommandForm) → refusal_left c x ≡ None → Carries x c (refused Memory) c
+  wanting x e = (sym (ap (λ o. unwrap_or o Memory) e), refl)

@@ -9,7 +9,7 @@ use Rattle.std.specs.Option.{unwrap_or}
 use Rattle.ded_model.specs.declared.command.Refusal.{Refusal}
 use Rattle.ded_model.specs.declared.command.Refusal.TheVariants.{LongStatement, Unfinished, Syntax, LongName, LongNumber, Deep, Many, Twice, Unknown, Taken, Kind, Arity, Unbound, WrongSort, Used, NoTuple, Full, Spent, Level, Wide, Memory}
 use Rattle.ded_model.specs.Catalogue.{Catalogue}
-use Rattle.ded_model.specs.Command.{CommandForm, relation, insert, delete, drop, view, keep, ask, query, show, box_of, explain}
+use Rattle.ded_model.specs.Command.{CommandForm, header, relation, insert, delete, drop, view, keep, ask, query, show, box_of, explain, dump, disjoint, verify}
 use Rattle.ded_model.specs.Form.{FormAtom}
 use Rattle.ded_model.specs.Logic.{Logics}
 use Rattle.ded_model.specs.Refusals.{refusal_number}
@@ -171,6 +171,7 @@ insert_refused Wide c n fs e = by (is_full c n) (is_spent c n) e
 insert_refused _ c n fs e = e
 
 no_refusal : (x : CommandForm) (c d : Catalogue) (r : Refusal) → Does x c (refused r) d → ⊥
+no_refusal header c d r k = k
 no_refusal (relation n h) c d r k = k
 no_refusal (insert n fs) c d r k = k
 no_refusal (delete n i) c d r k = k
@@ -182,6 +183,9 @@ no_refusal (query h f) c d r k = k
 no_refusal (show n) c d r k = k
 no_refusal (box_of n) c d r k = k
 no_refusal (explain h f) c d r k = k
+no_refusal dump c d r k = k
+no_refusal (disjoint n m) c d r k = k
+no_refusal (verify n m es) c d r k = k
 
 -- a command to which no refusal is left is carried out by what it does
 pub carries : (x : CommandForm) (c d : Catalogue) (reply : ReplyForm) → refusal_left c x ≡ None → Does x c reply d → Carries x c reply d

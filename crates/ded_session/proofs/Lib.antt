@@ -10,6 +10,7 @@ pub mod PlainNames
 pub mod PlainSpelling
 pub mod OneList
 mod StepLemmas
+mod Unmade
 mod Upheld
 mod Histories
 mod WideQuestions

@@ -15,8 +15,10 @@ use Rattle.ded_syntax.proofs.One.{one_command}
 use Rattle.ded_syntax.proofs.PlainSums.{spelled_plain}
 use Rattle.ded_session.specs.Carrying.{Answers, IsFirstCause, MayRefuseFor, NoCause}
 use Rattle.ded_session.specs.Causes.{Commands, Applies, NoneApplies}
+use Rattle.ded_session.specs.PlainNames.{NamesPlainly}
 use Rattle.ded_session.specs.Replies.{ReplyForm, done, number, truth, tuples, stored, boxes, steps, refused}
 use Rattle.ded_session.specs.Steps.{Step, MayRefuse}
+use Rattle.ded_session.proofs.PlainSpelling.{spelled_names}
 
 -- ---- a command that is read
 
@@ -31,6 +33,9 @@ module _ (l : Language) (bytes : List ℕ) (x : CommandForm) (h : IsRead l bytes
 
   pub read_plain : IsPlainCommand x
   read_plain = spelled_plain l bytes x h.depth h.spells
+
+  pub read_named : NamesPlainly x
+  read_named = spelled_names l bytes x h.depth h.spells
 
 -- ---- a statement
 

@@ -5,23 +5,29 @@ use Rattle.ded_model.specs.declared.command.Refusal.{Refusal}
 use Rattle.ded_model.specs.declared.command.Refusal.TheVariants.{Memory, Wide}
 use Rattle.ded_model.specs.Catalogue.{Catalogue}
 use Rattle.ded_model.specs.Command.{CommandForm, insert}
+use Rattle.ded_model.specs.LongRows.{has_long_row}
+use Rattle.ded_model.specs.Plain.{IsPlainCommand}
 use Rattle.ded_model.specs.Refusals.{refusal_number}
 use Rattle.ded_resolve.specs.declared.checked.Checked.{Checked}
 use Rattle.ded_sorts.specs.Causes.{has_cause, insert_refusal}
 use Rattle.ded_sorts.specs.Checks.{HasNoCause}
 use Rattle.ded_resolve.specs.Resolved.{IsResolved}
 use Rattle.ded_resolve.specs.Storing.{IsStorable}
+use Rattle.ded_session.specs.PlainNames.{NamesPlainly}
 use Rattle.ded_session.specs.Replies.{ReplyForm, refused}
 use Rattle.ded_session.specs.Steps.{Does, MayBeWide}
 
 -- ---- of a command that the names accept
 
--- some command is this one by slots, and is accepted
+-- some command is this one by slots, and is accepted; it is plain, without long rows, and names words alone
 pub record IsReady (c : Catalogue) (k : Checked) : Type 0 where
   pub written : CommandForm
   pub resolved : IsResolved c written k
   pub accepted : HasNoCause c written
   pub storable : IsStorable c k
+  pub plain : IsPlainCommand written
+  pub short : has_long_row written ≡ false
+  pub named : NamesPlainly written
 
 -- why it may still be refused: an insert into a relation that is full, or else spent
 abbrev pub refusal_left : Catalogue → CommandForm → Option Refusal

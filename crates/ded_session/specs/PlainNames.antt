@@ -4,7 +4,7 @@ use Rattle.std.specs.List.{AllByRecursion}
 use Rattle.ded_lex.specs.Lexemes.{BeginsWith, Each, letter_byte, word_byte}
 use Rattle.ded_model.specs.declared.name.Column.{Column}
 use Rattle.ded_model.specs.Catalogue.{Entry, Catalogue, entry_name, entry_columns}
-use Rattle.ded_model.specs.Command.{CommandForm, relation, insert, delete, drop, view, keep, ask, query, show, box_of, explain}
+use Rattle.ded_model.specs.Command.{CommandForm, header, relation, insert, delete, drop, view, keep, ask, query, show, box_of, explain, dump, disjoint, verify}
 use Rattle.ded_model.specs.Form.{Form, FormAtom, compare, member}
 use Rattle.ded_model.specs.Logic.{AllAtoms}
 
@@ -34,6 +34,7 @@ UsesPlainNames f = AllAtoms IsPlainUse f
 
 -- each name that the command gives or uses, and each column that it names, is such a one
 abbrev pub NamesPlainly : CommandForm → Type 0
+NamesPlainly header = Unit {0}
 NamesPlainly (relation n h) = IsPlainName n × ArePlainColumns h
 NamesPlainly (insert n fs) = IsPlainName n
 NamesPlainly (delete n k) = IsPlainName n
@@ -45,3 +46,6 @@ NamesPlainly (query h f) = ArePlainColumns h × UsesPlainNames f
 NamesPlainly (show n) = IsPlainName n
 NamesPlainly (box_of n) = IsPlainName n
 NamesPlainly (explain h f) = ArePlainColumns h × UsesPlainNames f
+NamesPlainly dump = Unit {0}
+NamesPlainly (disjoint n m) = IsPlainName n × IsPlainName m
+NamesPlainly (verify n m es) = IsPlainName n × IsPlainName m

@@ -4,8 +4,10 @@ ghost use Rattle.std.specs.List.{list_any};
 ghost use Rattle.ded_model.specs.Command.{relation, insert, delete, drop, view, keep};
 ghost use Rattle.ded_model.specs.Form.{FormAtom, form};
 ghost use Rattle.ded_model.specs.Goal.{goal_form};
-ghost use Rattle.ded_model.specs.Known.{IsAccepted, IsTupleOver, level_of};
-ghost use Rattle.ded_model.specs.Logic.{Logics};
+ghost use Rattle.ded_model.specs.Known.{IsAccepted, IsNewName, IsTupleOver, level_of};
+ghost use Rattle.ded_model.specs.Logic.{Logics, some_atom};
+ghost use Rattle.ded_model.specs.LongRows.{is_long_atom};
+ghost use Rattle.ded_model.specs.Plain.{IsPlain};
 ghost use Rattle.ded_model.specs.Slotted.{goal_of, tuple_of};
 ghost use Rattle.ded_model.specs.Width.{tuple_length};
 ghost use Rattle.ded_sorts.specs.Causes.{is_relation_with, is_view_with};
@@ -28,7 +30,7 @@ use ded_model::tuple::Tuple;
 
 /// Defines a relation without tuples.
 pub(crate) fn define(database: &mut Database, name: Name, heading: Heading) -> Reply
-    requires new { known (catalogue_at database.old) name ≡ None }
+    requires new { IsNewName (known (catalogue_at database.old)) name }
     requires few { length heading ≤ 16 }
     ensures carries { Carries (relation name heading) (catalogue_at database.old) (reply_form result) (catalogue_at database.new) }
     ensures upholds { Upholds (relation name heading) (reply_form result) database.old database.new }
@@ -80,9 +82,11 @@ pub(crate) fn define_view(
     formula: Formula,
     goal: Goal,
 ) -> Reply
-    requires new { known (catalogue_at database.old) name ≡ None }
+    requires new { IsNewName (known (catalogue_at database.old)) name }
     requires accepted { IsAccepted (known (catalogue_at database.old)) heading (form formula) }
     requires level { level_of (known (catalogue_at database.old)) (form formula) ≤ 16 }
+    requires plain { IsPlain (form formula) }
+    requires short { some_atom is_long_atom (form formula) ≡ false }
     requires goal { goal_form goal ≡ goal_of heading (form formula) }
     ensures carries { Carries (view name heading (form formula)) (catalogue_at database.old) (reply_form result) (catalogue_at database.new) }
     ensures upholds { Upholds (view name heading (form formula)) (reply_form result) database.old database.new }

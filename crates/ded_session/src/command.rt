@@ -9,6 +9,7 @@ ghost use Rattle.ded_database.specs.State.{catalogue_at};
 ghost use Rattle.ded_session.specs.Answered.{reply_form};
 ghost use Rattle.ded_session.specs.Carrying.{Answers, Carries, IsReady};
 ghost use Rattle.ded_session.specs.Keeping.{Upholds};
+ghost use Rattle.ded_session.specs.PlainNames.{NamesPlainly};
 
 use crate::boxes::bounds;
 use crate::changes::{define, define_view, delete, drop_name, insert, keep};
@@ -17,7 +18,7 @@ use crate::questions::{steps, truth, tuples};
 use crate::reply::Reply;
 use crate::shown::show;
 use ded_database::Database;
-use ded_model::command::Command;
+use ded_model::command::{Command, Refusal};
 use ded_resolve::{Checked, resolve};
 use std::alloc::Global;
 
@@ -25,6 +26,7 @@ use std::alloc::Global;
 pub(crate) fn answer(alloc: Global, command: Command, database: &mut Database) -> Reply
     requires plain { IsPlainCommand (command_form command) }
     requires short { has_long_row (command_form command) ≡ false }
+    requires named { NamesPlainly (command_form command) }
     ensures answers { Answers (command_form command) (catalogue_at database.old) (reply_form result) (catalogue_at database.new) }
     ensures upholds { Upholds (command_form command) (reply_form result) database.old database.new }
 {
@@ -56,5 +58,8 @@ fn carry_out(alloc: Global, command: Checked, database: &mut Database) -> Reply
         Checked::BoxOf(name) => reply_of(bounds(alloc, database.catalogue(), &name)),
         Checked::Explain(_, goal) => reply_of(steps(alloc, &goal)),
         Checked::Keep(name) => keep(database, &name),
+        Checked::Header | Checked::Dump | Checked::Disjoint(_, _) | Checked::Verify(_, _, _) => {
+            Reply::Refused(Refusal::Memory)
+        }
     }
 }

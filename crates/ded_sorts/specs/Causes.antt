@@ -1,5 +1,5 @@
 -- When a command is refused over a catalogue, and with which number.
-use Rattle.std.specs.Prelude.{◌==◌, ℕ, nat_lt, nat_le, Bool, false, not, ◌||◌, ◌&&◌, is_some, is_none, Option, Some, None, List, [], length, if◌then◌else◌}
+use Rattle.std.specs.Prelude.{◌==◌, ℕ, nat_lt, nat_le, Bool, false, not, ◌||◌, ◌&&◌, is_some, is_none, Option, Some, None, List, [], ◌∷◌, length, if◌then◌else◌}
 use Rattle.std.specs.List.{list_any}
 use Rattle.ded_model.specs.declared.command.Refusal.{Refusal}
 use Rattle.ded_model.specs.declared.command.Refusal.TheVariants.{Many, Twice, Unknown, Taken, Kind, Arity, Unbound, WrongSort, Used, NoTuple, Full, Spent, Level}
@@ -7,7 +7,7 @@ use Rattle.ded_model.specs.declared.formula.CompareOp.TheVariants.{NotEqual}
 use Rattle.ded_model.specs.declared.name.Column.{Column}
 use Rattle.ded_model.specs.declared.slot.Sort.TheVariants.{Rat}
 use Rattle.ded_model.specs.Catalogue.{Catalogue}
-use Rattle.ded_model.specs.Command.{CommandForm, relation, insert, delete, drop, view, keep, ask, query, show, box_of, explain}
+use Rattle.ded_model.specs.Command.{CommandForm, header, relation, insert, delete, drop, view, keep, ask, query, show, box_of, explain, dump, disjoint, verify}
 use Rattle.ded_model.specs.Form.{Form, FormAtom, compare}
 use Rattle.ded_model.specs.Known.{Known, level_of, is_many, has_twice, uses_unknown, has_other_arity, has_unbound, has_missorted, scope_of, operand_sort}
 use Rattle.ded_model.specs.Logic.{Scope, every_of, some_below}
@@ -35,6 +35,7 @@ names_twice _ = false
 
 -- the command, or an atom in its formula, uses a name that isn't defined
 abbrev pub names_unknown : Catalogue → CommandForm → Bool
+names_unknown c header = false
 names_unknown c (relation n h) = false
 names_unknown c (insert n fs) = is_none (known c n)
 names_unknown c (delete n k) = is_none (known c n)
@@ -46,6 +47,9 @@ names_unknown c (query h f) = uses_unknown (known c) f
 names_unknown c (show n) = is_none (known c n)
 names_unknown c (box_of n) = is_none (known c n)
 names_unknown c (explain h f) = uses_unknown (known c) f
+names_unknown c dump = false
+names_unknown c (disjoint n m) = is_none (known c n) || is_none (known c m)
+names_unknown c (verify n m es) = is_none (known c n) || is_none (known c m)
 
 -- a relation or a view is given a name that is defined
 abbrev pub takes_name : Catalogue → CommandForm → Bool
@@ -68,6 +72,8 @@ names_other_kind c (delete n k) = is_view_with (known c n)
 names_other_kind c (show n) = is_view_with (known c n)
 names_other_kind c (box_of n) = is_view_with (known c n)
 names_other_kind c (keep n) = is_relation_with (known c n)
+names_other_kind c (disjoint n m) = is_view_with (known c n) || is_view_with (known c m)
+names_other_kind c (verify n m es) = is_view_with (known c n) || is_view_with (known c m)
 names_other_kind c _ = false
 
 -- the formula of a command; that of an insert is all its comparisons
@@ -91,8 +97,21 @@ abbrev pub passes_with : Option Form → (Form → Bool) → Bool
 passes_with None test = false
 passes_with (Some f) test = test f
 
--- an atom has another number of arguments than its relation or view has columns
+-- two headings are of different lengths
+abbrev pub lengths_differ : List Column → List Column → Bool
+lengths_differ h k = not (length h == length k)
+
+-- two headings have different sorts at one place
+abbrev pub headings_differ : List Column → List Column → Bool
+headings_differ [] k = false
+headings_differ (x ∷ h) [] = false
+headings_differ (x ∷ h) (y ∷ k) = not (same_sort x.sort y.sort) || headings_differ h k
+
+-- an atom has another number of arguments than its relation or view has columns; or two relations that are set side by side
+-- have different numbers of columns
 abbrev pub has_wrong_arity : Catalogue → CommandForm → Bool
+has_wrong_arity c (disjoint n m) = lengths_differ (columns_in c n) (columns_in c m)
+has_wrong_arity c (verify n m es) = lengths_differ (columns_in c n) (columns_in c m)
 has_wrong_arity c command = passes_with (formula_in command) (has_other_arity (known c))
 
 -- a variable is in no quantifier round it, not in the heading, and in an insert isn't a column
@@ -108,8 +127,11 @@ abbrev pub has_inequality : Catalogue → CommandForm → Bool
 has_inequality c (insert n fs) = some_below is_rational_inequality (scope_of (columns_in c n)) (every_of fs)
 has_inequality c _ = false
 
--- a text stands where a number has to, or a number where a text has to; or `!=` between numbers in an insert
+-- a text stands where a number has to, or a number where a text has to; or `!=` between numbers in an insert; or two relations
+-- that are set side by side have different sorts at one place
 abbrev pub has_wrong_sort : Catalogue → CommandForm → Bool
+has_wrong_sort c (disjoint n m) = headings_differ (columns_in c n) (columns_in c m)
+has_wrong_sort c (verify n m es) = headings_differ (columns_in c n) (columns_in c m)
 has_wrong_sort c command = passes_with (formula_in command) (has_missorted (known c) (heading_in c command)) || has_inequality c command
 
 -- the name to be dropped is in the formula of a view

@@ -7,20 +7,15 @@ ghost use Rattle.ded_model.specs.Known as model;
 ghost use Rattle.ded_model.specs.Logic.{quantifiers, quantifiers_of};
 
 use ded_model::formula::Formula;
+use ded_model::limits;
 use ded_model::name::{Column, Name};
-
-/// How many columns a heading may have.
-pub(crate) const MOST_COLUMNS: usize = 16;
-
-/// How many columns and quantifiers there may be together.
-const MOST_PLACES: usize = 64;
 
 /// Whether the heading has more than 16 columns, or its columns and the quantifiers of the formula are together more
 /// than 64.
 pub(crate) fn is_many(columns: &[Column], formula: &Formula) -> bool
     ensures { result ≡ model.is_many columns.now (form formula.now) }
 {
-    columns.len() > MOST_COLUMNS || room_after(formula, MOST_PLACES - columns.len()).is_none()
+    columns.len() > limits::COLUMNS || room_after(formula, limits::PLACES - columns.len()).is_none()
 }
 
 /// Whether two of the columns have one name.

@@ -5,7 +5,7 @@ ghost use Rattle.ded_model.specs.declared.slot.Sort.TheVariants.{Text};
 ghost use Rattle.ded_model.specs.Known as model;
 ghost use Rattle.ded_model.specs.Known.{is_unbound_operand, is_unbound_atom, is_missorted_atom};
 ghost use Rattle.ded_model.specs.Point.{same_sort};
-ghost use Rattle.ded_sorts.specs.Causes.{is_rational_inequality};
+ghost use Rattle.ded_sorts.specs.Causes.{is_rational_inequality, headings_differ};
 ghost use Rattle.ded_model.specs.Entries.{known};
 ghost use Rattle.ded_sorts.specs.Scopes.{scope_form};
 
@@ -209,6 +209,23 @@ fn do_arguments_differ(scope: &Scope<'_>, columns: &[Column], operands: &[Operan
             None => return false,
             Some(operand) => {
                 if !is_same(column.sort, sort_of(scope, operand)) {
+                    return true;
+                }
+            }
+        }
+    }
+    false
+}
+
+/// Whether two headings have different sorts at one place.
+pub(crate) fn do_columns_differ(first: &[Column], second: &[Column]) -> bool
+    ensures { result ≡ headings_differ first.now second.now }
+{
+    for (i, column) in first.iter().enumerate() {
+        match second.get(i) {
+            None => return false,
+            Some(other) => {
+                if !is_same(column.sort, other.sort) {
                     return true;
                 }
             }

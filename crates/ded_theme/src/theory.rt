@@ -36,6 +36,8 @@ impl Theory for Theme {
 
     ghost owned = { owns_sort };
 
+    ghost decides = { Unit {0} };
+
     fn owns(sort: Sort) -> bool {
         match sort {
             Sort::Rat => false,

@@ -25,7 +25,7 @@ use Rattle.ded_theory.specs.declared.answers.Span.{Span}
 use Rattle.ded_theory.specs.declared.answers.Span.TheVariants.{Nothing, Exact, Around}
 use Rattle.ded_theory.specs.Conjunctions.{conj_mentions, conj_lines, IsWide}
 use Rattle.ded_theory.specs.Eliminations.{SomeExtension, IsElimination}
-use Rattle.ded_theory.specs.Verdicts.{HoldsNowhere, IsVerdict, IsSpan, joined_verdict, joined_span}
+use Rattle.ded_theory.specs.Verdicts.{HoldsNowhere, IsVerdict, IsSpan, IsAround, joined_verdict, joined_span}
 use Rattle.ded_theory.specs.Both.{by_kind, IsByKind, firsts, seconds}
 use Rattle.ded_theory.proofs.Conjunctions.{conj_holds-same, conj_holds-extended, conj_slots, conj_line_slots}
 use Rattle.ded_theory.proofs.TwoKinds.{parts_hold, parts_mention, parts_normal, firsts_normal, seconds_normal, parts_lines, first_lines, second_lines}
@@ -182,7 +182,7 @@ module _ {A B : Type 0} (hA : A → Point → Bool) (mA : A → Slot → Bool) (
     nowhere_first : HoldsNowhere (conj_holds hA (firsts xs)) → HoldsNowhere (conj_holds (by_kind hA hB) xs)
     nowhere_first h p i = parts_hold hA hB xs p ∙ not_both (conj_holds hA (firsts xs) p) (conj_holds hB (seconds xs) p) (inl (h p i))
 
-    nowhere_second : HoldsNowhere (conj_holds hB (seconds xs)) → HoldsNowhere (conj_holds (by_kind hA hB) xs)
+    pub nowhere_second : HoldsNowhere (conj_holds hB (seconds xs)) → HoldsNowhere (conj_holds (by_kind hA hB) xs)
     nowhere_second h p i = parts_hold hA hB xs p ∙ not_both (conj_holds hA (firsts xs) p) (conj_holds hB (seconds xs) p) (inr (h p i))
 
     wide_first : IsWide mA lA (firsts xs) → IsWide (by_kind mA mB) (by_kind lA lB) xs
@@ -226,3 +226,17 @@ module _ {A B : Type 0} (hA : A → Point → Bool) (mA : A → Slot → Bool) (
     )
     spans_joined s r (Around l u) Unknown e f =
         (wide_first e.0, bound_within s (conj_holds hA (firsts xs)) (conj_holds (by_kind hA hB) xs) within_first lower l e.1, bound_within s (conj_holds hA (firsts xs)) (conj_holds (by_kind hA hB) xs) within_first upper u e.2)
+
+-- ---- theories that decide
+
+-- of two verdicts that are known
+pub verdict_decided : (v w : Verdict) → (v ≡ Unknown → ⊥) → (w ≡ Unknown → ⊥) → joined_verdict v w ≡ Unknown → ⊥
+verdict_decided Empty w f g e = f e
+verdict_decided Inhabited w f g e = g e
+verdict_decided Unknown w f g e = f refl
+
+-- of bounds that are exact, and a verdict that is known
+pub span_exact : (s : Span) (w : Verdict) → (IsAround s → ⊥) → (w ≡ Unknown → ⊥) → IsAround (joined_span s w) → ⊥
+span_exact s Empty f g a = a
+span_exact s Inhabited f g a = f a
+span_exact s Unknown f g a = g refl

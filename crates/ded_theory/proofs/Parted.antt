@@ -87,12 +87,13 @@ module _ (s : Slot) (wide narrow : Point → Bool) (h : SharesValues s wide narr
   pub exact_shared : (e : End) (b : Bound) → IsExactBound wide s e b → IsExactBound narrow s e b
   exact_shared e Infinite x = λ f i. some_outside e f (x f i)
   exact_shared e (Excluded f) x = record {
+    positive = x.positive;
     lowest = x.lowest;
     free = λ w. x.free (some_at_wide f w);
     none = none_outside e f x.none;
     near = λ g i o. some_outside e g (x.near g i o);
   }
-  exact_shared e (Included f) x = record { lowest = x.lowest; attained = some_at f x.attained; none = none_outside e f x.none }
+  exact_shared e (Included f) x = record { positive = x.positive; lowest = x.lowest; attained = some_at f x.attained; none = none_outside e f x.none }
 
 module _ (s : Slot) (wide narrow : Point → Bool) (within : (p : Point) → IsTrue (narrow p) → IsTrue (wide p)) where
   -- a bound of the wider test is one of the narrower

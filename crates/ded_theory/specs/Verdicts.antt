@@ -37,6 +37,12 @@ IsSpan holds mentions lines atoms s Nothing = HoldsNowhere (conj_holds holds ato
 IsSpan holds mentions lines atoms s (Exact l u) = IsExactBound (conj_holds holds atoms) s lower l × IsExactBound (conj_holds holds atoms) s upper u
 IsSpan holds mentions lines atoms s (Around l u) = IsWide mentions lines atoms × IsBound (conj_holds holds atoms) s lower l × IsBound (conj_holds holds atoms) s upper u
 
+-- the bounds are only sure
+abbrev pub IsAround : Span → Type 0
+IsAround Nothing = ⊥
+IsAround (Exact l u) = ⊥
+IsAround (Around l u) = Unit {0}
+
 -- ---- of two parts
 
 -- the verdict on a conjunction of two parts

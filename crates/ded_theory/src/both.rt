@@ -19,7 +19,8 @@ use std::alloc::Global;
 use std::marker::PhantomData;
 
 /// The theory whose atoms are those of two theories: a conjunction is split, each part is handed to its theory, and the
-/// answers are put together.
+/// answers are put together. The texts come first, as they are cheap to refute: where nothing satisfies them, the numbers are
+/// not looked at. It decides every conjunction where both theories do.
 pub struct Both<A: OfNumbers, B: OfTexts> {
     pub parts: PhantomData<(A, B)>,
 }
@@ -38,6 +39,8 @@ impl<A: OfNumbers, B: OfTexts> Theory for Both<A, B> {
     ghost normal = { IsByKind A.normal B.normal };
 
     ghost owned = { λ s. A.owned s || B.owned s };
+
+    ghost decides = { A.decides × B.decides };
 
     fn owns(sort: Sort) -> bool {
         A::owns(sort) || B::owns(sort)
@@ -91,8 +94,11 @@ impl<A: OfNumbers, B: OfTexts> Theory for Both<A, B> {
     }
 
     fn refute(alloc: Global, atoms: &[BothAtom<A::Atom, B::Atom>]) -> Result<Verdict, NoMemory> {
-        let first = A::refute(alloc, &first_part::<A, B>(alloc, atoms)?)?;
         let second = B::refute(alloc, &second_part::<A, B>(alloc, atoms)?)?;
+        if let Verdict::Empty = second {
+            return Ok(Verdict::Empty);
+        }
+        let first = A::refute(alloc, &first_part::<A, B>(alloc, atoms)?)?;
         Ok(joined_verdict(first, second))
     }
 
@@ -101,8 +107,11 @@ impl<A: OfNumbers, B: OfTexts> Theory for Both<A, B> {
         atoms: &[BothAtom<A::Atom, B::Atom>],
         slot: Slot,
     ) -> Result<Span, NoMemory> {
-        let span = A::bounds(alloc, &first_part::<A, B>(alloc, atoms)?, slot)?;
         let verdict = B::refute(alloc, &second_part::<A, B>(alloc, atoms)?)?;
+        if let Verdict::Empty = verdict {
+            return Ok(Span::Nothing);
+        }
+        let span = A::bounds(alloc, &first_part::<A, B>(alloc, atoms)?, slot)?;
         Ok(joined_span(span, verdict))
     }
 
@@ -125,6 +134,7 @@ fn eliminate_first<A: OfNumbers, B: OfTexts>(
     requires sort { slot.sort ≡ Rat }
     ensures is { IfOk result (λ e. IsElimination (by_kind A.holds B.holds) (by_kind A.mentions B.mentions) (by_kind A.lines B.lines) (IsByKind A.normal B.normal) atoms.now slot e) }
     ensures wide { IsErrOf result Wide → clash_at slot (conj_lines (by_kind A.lines B.lines) atoms.now) ≡ true }
+    ensures never_wide { A.decides → IsErrOf result Wide → ⊥ }
 {
     let first = first_part::<A, B>(alloc, atoms)?;
     match A::eliminate(alloc, &first, slot)? {
@@ -146,6 +156,7 @@ fn eliminate_second<A: OfNumbers, B: OfTexts>(
     requires sort { slot.sort ≡ Text }
     ensures is { IfOk result (λ e. IsElimination (by_kind A.holds B.holds) (by_kind A.mentions B.mentions) (by_kind A.lines B.lines) (IsByKind A.normal B.normal) atoms.now slot e) }
     ensures wide { IsErrOf result Wide → clash_at slot (conj_lines (by_kind A.lines B.lines) atoms.now) ≡ true }
+    ensures never_wide { B.decides → IsErrOf result Wide → ⊥ }
 {
     let second = second_part::<A, B>(alloc, atoms)?;
     match B::eliminate(alloc, &second, slot)? {

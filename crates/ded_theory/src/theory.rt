@@ -13,7 +13,8 @@ ghost use Rattle.ded_model.specs.Negation.{EachPiece, some_piece_holds, both_pie
 ghost use Rattle.ded_model.specs.Renaming.{renamed, IsOneToOne, KeepsSorts, IsRenamedPoint, mapped_lines};
 ghost use Rattle.ded_theory.specs.Conjunctions.{conj_mentions, conj_lines};
 ghost use Rattle.ded_theory.specs.Eliminations.{eliminated_atoms, eliminated_holds, SomeExtension};
-ghost use Rattle.ded_theory.specs.Verdicts.{IsVerdict, IsSpan};
+ghost use Rattle.ded_theory.specs.declared.answers.Verdict.TheVariants.{Unknown};
+ghost use Rattle.ded_theory.specs.Verdicts.{IsVerdict, IsSpan, IsAround};
 
 use crate::answers::{Eliminated, Span, Verdict};
 use ded_model::memory::{NoMemory, Refused};
@@ -45,6 +46,10 @@ pub trait Theory {
 
     /// Whether the atoms may mention slots of a sort.
     ghost owned: { Sort → Bool };
+
+    /// Whether the theory decides every conjunction, whatever its numbers: no elimination is `Wide`, no verdict `Unknown`, and
+    /// no bounds are `Around`.
+    ghost decides: { Type 0 };
 
     /// Whether the atoms may mention slots of the sort. It does not allocate.
     fn owns(sort: Sort) -> bool
@@ -91,8 +96,8 @@ pub trait Theory {
     /// elimination makes of the atoms' lines. So its numbers have at most 2b + 1 digits where the atoms' have at most b.
     ///
     /// # Errors
-    /// `Wide` only where two lines of the atoms clash at the slot, so only where a number has more than 63 digits,
-    /// otherwise out of memory.
+    /// `Wide` only where two lines of the atoms clash at the slot, so only where a number has more than 63 digits, and never
+    /// of a theory that decides; otherwise out of memory.
     fn eliminate(
         alloc: Global,
         atoms: &[Self::Atom],
@@ -103,16 +108,19 @@ pub trait Theory {
         ensures normal { IfOk result (λ e. AllByRecursion normal (eliminated_atoms e)) }
         ensures slots { IfOk result (λ e. (s : Slot) → conj_mentions mentions (eliminated_atoms e) s ≡ true → (same_slot s slot ≡ false) × (conj_mentions mentions atoms.now s ≡ true)) }
         ensures lines { IfOk result (λ e. IsSubset (conj_lines lines (eliminated_atoms e)) (elim_at slot (conj_lines lines atoms.now))) }
-        ensures wide { IsErrOf result Wide → clash_at slot (conj_lines lines atoms.now) ≡ true };
+        ensures wide { IsErrOf result Wide → clash_at slot (conj_lines lines atoms.now) ≡ true }
+        ensures never_wide { decides → IsErrOf result Wide → ⊥ };
 
     /// Whether some point satisfies all the atoms. `Unknown` only where the atoms are wide: with b the greatest length of their
-    /// numbers and k the count of rational slots that they mention, only where (b + 1) * 2^k is above 128.
+    /// numbers and k the count of rational slots that they mention, only where (b + 1) * 2^k is above 128. A theory that decides
+    /// never gives it.
     ///
     /// # Errors
     /// Out of memory.
     fn refute(alloc: Global, atoms: &[Self::Atom]) -> Result<Verdict, NoMemory>
         requires normal { AllByRecursion normal atoms.now }
-        ensures { IfOk result (λ v. IsVerdict holds mentions lines atoms.now v) };
+        ensures verdict { IfOk result (λ v. IsVerdict holds mentions lines atoms.now v) }
+        ensures decided { decides → IfOk result (λ v. v ≡ Unknown → ⊥) };
 
     /// The exact bounds of a rational slot over all points that satisfy the atoms, `Nothing` where none does. `Around` only
     /// where the atoms are wide, as `Unknown` of [`Theory::refute`].
@@ -122,7 +130,8 @@ pub trait Theory {
     fn bounds(alloc: Global, atoms: &[Self::Atom], slot: Slot) -> Result<Span, NoMemory>
         requires normal { AllByRecursion normal atoms.now }
         requires rational { slot.sort ≡ Rat }
-        ensures { IfOk result (λ s. IsSpan holds mentions lines atoms.now slot s) };
+        ensures span { IfOk result (λ s. IsSpan holds mentions lines atoms.now slot s) }
+        ensures exact { decides → IfOk result (λ s. IsAround s → ⊥) };
 
     /// An atom holds alike at two points that have the same values at the slots that it mentions.
     ghost respects: { (a : Self.Atom) (p q : Point) → 0 < p.den → 0 < q.den

@@ -1,10 +1,35 @@
 -- What follows of the atoms of a formula from a test of them.
-use Rattle.std.proofs.Common.{◌≡◌, ℕ, ◌≤◌, max, Bool, true, false, ◌||◌, inl, inr, [], ◌∷◌, refl, sym, ◌∙◌, true≢false, le_trans}
+use Rattle.std.proofs.Common.{◌≡◌, ℕ, ◌≤◌, max, Bool, true, false, ◌||◌, inl, inr, List, [], ◌∷◌, refl, sym, ◌∙◌, true≢false, le_trans}
 use Rattle.std.proofs.Math.Nat.{le-max_left, le-max_right}
 use Rattle.ded_model.specs.Logic.{Logic, atom, always, never, negation, every_of, some_of, implies, minus, exists, forall, Logics, none, also, AllAtoms, AllAtomsOf, Scope, some_atom, some_atom_of, some_below, some_below_of, greatest, greatest_of}
+use Rattle.ded_model.proofs.Rows.{or_left, or_right}
 use Rattle.ded_model.proofs.Members.{or_split}
 use Rattle.ded_sorts.proofs.Meanings.{or_fails_left, or_fails_right}
 use Rattle.ded_sorts.proofs.Unscoped.{some_below-unscoped}
+
+-- what follows of each atom from a property of it, and from facts of the names that it uses, holds of all
+module _ {L : Type 0} (uses : List ℕ → L → Bool) (Q R : L → Type 0) (P : List ℕ → Type 0) (step : (a : L) → Q a → ((n : List ℕ) → uses n a ≡ true → P n) → R a) where
+  mutual
+    pub all_with : (f : Logic L) → AllAtoms Q f → ((n : List ℕ) → some_atom (uses n) f ≡ true → P n) → AllAtoms R f
+    all_with (atom a) q u = step a q u
+    all_with always q u = tt
+    all_with never q u = tt
+    all_with (negation f) q u = all_with f q u
+    all_with (every_of fs) q u = all_with_of fs q u
+    all_with (some_of fs) q u = all_with_of fs q u
+    all_with (implies f g) q u = (all_with f q.0 (λ n e. u n (or_left _ _ e)), all_with g q.1 (λ n e. u n (or_right (some_atom (uses n) f) _ e)))
+    all_with (minus f g) q u = (all_with f q.0 (λ n e. u n (or_left _ _ e)), all_with g q.1 (λ n e. u n (or_right (some_atom (uses n) f) _ e)))
+    all_with (exists s k f) q u = all_with f q u
+    all_with (forall s k f) q u = all_with f q u
+
+    -- of a list
+    all_with_of : (fs : Logics L) → AllAtomsOf Q fs → ((n : List ℕ) → some_atom_of (uses n) fs ≡ true → P n) → AllAtomsOf R fs
+    all_with_of none q u = tt
+    all_with_of (also f fs) q u = (all_with f q.0 (λ n e. u n (or_left _ _ e)), all_with_of fs q.1 (λ n e. u n (or_right (some_atom (uses n) f) _ e)))
+
+-- a property of all atoms that follows from another one
+pub all_weaker : {L : Type 0} (Q R : L → Type 0) → ((a : L) → Q a → R a) → (f : Logic L) → AllAtoms Q f → AllAtoms R f
+all_weaker Q R step f q = all_with (λ n a. false) Q R (λ n. Unit {0}) (λ a h u. step a h) f q (λ n e. tt)
 
 -- what follows of each atom that doesn't pass a test holds of all, where none of the formula passes
 module _ {L : Type 0} (test : L → Bool) (P : L → Type 0) (step : (a : L) → test a ≡ false → P a) where

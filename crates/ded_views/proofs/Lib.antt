@@ -1,5 +1,6 @@
 pub mod PointsAlike
 pub mod PlansAlike
+pub mod MadeNames
 pub mod Clashing
 pub mod Folds
 pub mod Placing

@@ -3,13 +3,13 @@ ghost use Rattle.std.specs.Prelude.{◌≡◌, ◌↔◌, ◌⊎◌, ◌<◌, �
 ghost use Rattle.std.specs.Str.{bytes_eq};
 ghost use Rattle.std.specs.List.{AllByRecursion, list_any};
 ghost use Rattle.ded_model.specs.declared.name.Column.{Column};
-ghost use Rattle.ded_model.specs.Catalogue.{Entry, relation, view, Catalogue, tuples_of, at_slots, at_names, meaning, Holds, PlanHolds};
+ghost use Rattle.ded_model.specs.Catalogue.{Entry, relation, view, Catalogue, tuples_of, at_slots, at_names, stored, meaning, Holds, PlanHolds, GivenHolds};
 ghost use Rattle.ded_model.specs.Entries.{known, entry_of, entry_uses, columns_in};
 ghost use Rattle.ded_model.specs.Form.{Form, uses, speaks_of};
 ghost use Rattle.ded_model.specs.Goal.{GoalForm};
 ghost use Rattle.ded_model.specs.Grown.{HaveMoreLines};
 ghost use Rattle.ded_model.specs.Known.{IsAccepted, IsTupleOver, IsWellFormed, entry_known, level_of, level_with};
-ghost use Rattle.ded_model.specs.Logic.{some_atom};
+ghost use Rattle.ded_model.specs.Logic.{some_atom, AllAtoms};
 ghost use Rattle.ded_model.specs.Made.{base, is_made};
 ghost use Rattle.ded_model.specs.Measure.{Measures, stored_measures, measures, entry_measure, goal_clashes, plan_clashes};
 ghost use Rattle.ded_model.specs.PlanForm.{PlanForm};
@@ -20,7 +20,7 @@ ghost use Rattle.ded_model.specs.Uses.{MeansAlike, goal_uses, plan_uses};
 ghost use Rattle.ded_model.specs.Value.{Argument};
 ghost use Rattle.ded_sorts.specs.Changes.{AddsEntry, ChangesEntry, DropsEntry, Inserts, Deletes};
 ghost use Rattle.ded_views.specs.Reaching.{atom_reaches, reaches};
-ghost use Rattle.ded_views.specs.Same.{MeansSame};
+ghost use Rattle.ded_views.specs.Same.{MeansSame, IsSameOf, ScansSame};
 ghost use Rattle.ded_views.specs.Unaffected.{AreUnaffected};
 
 /// What a name of a well formed catalogue means: a relation holds where one of its tuples does, its columns at the slots from 0 on; a
@@ -53,9 +53,24 @@ pub fn well_formed()
         → (k : List ℕ) → speaks_of k f ≡ true → level_with (known c k) < level_with (known c n) }
 {}
 
-/// A plan holds alike over two catalogues in which the names that it scans mean the same of all byte strings.
+/// A plan holds alike over two catalogues in which the names that it scans mean the same of all byte strings. It holds over given
+/// relations as over others, or as over a catalogue, where each name that it scans is the same of as many byte strings as the scan has
+/// slots.
 pub fn plans_alike()
-    ensures { (c d : Catalogue) (f : PlanForm) (p : Point) → IsPoint p → ((n : List ℕ) → plan_uses n f ≡ true → MeansSame c d n) → PlanHolds c f p ↔ PlanHolds d f p }
+    ensures means { (c d : Catalogue) (f : PlanForm) (p : Point) → IsPoint p → ((n : List ℕ) → plan_uses n f ≡ true → MeansSame c d n) → PlanHolds c f p ↔ PlanHolds d f p }
+    ensures given { (c d : Catalogue) (f : PlanForm) (p : Point) → IsPoint p → AllAtoms (ScansSame (stored c) (stored d)) f → GivenHolds c f p ↔ GivenHolds d f p }
+    ensures read { (c d : Catalogue) (f : PlanForm) (p : Point) → IsPoint p → AllAtoms (ScansSame (stored c) (meaning d)) f → GivenHolds c f p ↔ PlanHolds d f p }
+    ensures scans { (c d : Catalogue) (f : PlanForm) (p : Point) → IsPoint p → AllAtoms (ScansSame (meaning c) (meaning d)) f → PlanHolds c f p ↔ PlanHolds d f p }
+{}
+
+/// A name that is made of another one means the same of byte strings where that one does, of any number of them or of a certain number.
+pub fn made_names()
+    ensures means { (c d : Catalogue) (n : List ℕ) → is_made (base n) ≡ false → MeansSame c d (base n) → MeansSame c d n }
+    ensures counted { (c d : Catalogue) (n : List ℕ) (k : ℕ) → is_made (base n) ≡ false
+        → IsSameOf k (meaning c (base n)) (meaning d (base n)) → IsSameOf k (meaning c n) (meaning d n) }
+    ensures given { (c d : Catalogue) (n : List ℕ) (k : ℕ) → is_made (base n) ≡ false
+        → IsSameOf k (stored c (base n)) (meaning d (base n)) → IsSameOf k (meaning c n) (meaning d n) }
+    ensures stored { (c d : Catalogue) (n : List ℕ) (k : ℕ) → IsSameOf k (stored c (base n)) (stored d (base n)) → IsSameOf k (meaning c n) (meaning d n) }
 {}
 
 /// A goal and a plan clash where a name that they use does.

@@ -2,7 +2,7 @@
 --
 -- A relation has the lines of normal tuples. A closure or interior has those of its name with a greater rank, and clashes
 -- where that is not narrow. A view has what its goal has over the entries before it, and its formula is accepted over these.
-use Rattle.std.proofs.Common.{◌≡◌, ℕ, ◌+◌, ◌*◌, ◌^◌, ◌≤◌, nat_lt, Bool, true, false, ◌||◌, cond, List, [], ◌∷◌, bytes_eq, None, arith, refl}
+use Rattle.std.proofs.Common.{◌≡◌, ℕ, ◌+◌, ◌≤◌, nat_lt, Bool, true, false, ◌||◌, cond, List, [], ◌∷◌, bytes_eq, None, arith, refl}
 use Rattle.std.proofs.lemmas.Bool.Decides.{nat_tests}
 use Rattle.ded_model.specs.declared.name.Column.{Column}
 use Rattle.ded_model.specs.Row.{Atom}
@@ -10,7 +10,7 @@ use Rattle.ded_model.specs.Catalogue.{Entry, relation, view, Catalogue, entry_na
 use Rattle.ded_model.specs.Known.{KnownNames, AreStored, IsEntryOver, AreEntriesOver, IsWellFormed, with_known}
 use Rattle.ded_model.specs.Slotted.{goal_of}
 use Rattle.ded_model.specs.Lines.{tuples_lines}
-use Rattle.ded_model.specs.Width.{tuples_length, IsNarrowWith}
+use Rattle.ded_model.specs.Width.{tuples_length}
 use Rattle.ded_model.specs.Made.{Reading, itself, closure_of, interior_of, reading}
 use Rattle.ded_model.specs.Measure.{Measure, Measures, is_wide_with, near_measure, measure_as, read_measure, entry_measure, with_measure, measures_from, stored_measures, measures}
 use Rattle.ded_width.specs.Reach.{AreInReach}

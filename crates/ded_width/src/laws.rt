@@ -35,8 +35,8 @@ pub fn accepted_goals()
     ensures ascending { (K : KnownNames) (h : List Column) (f : Form) → has_missorted K h f ≡ false → IsAscendingGoal (goal_of h f) }
 {}
 
-/// The lines of a name of a well formed catalogue, be it a relation or a view, have less than (b + 1) * 2 ^ q digits, b
-/// the greatest length of the name and q its rank. Where these are narrow, the name has no clash.
+/// The lines of a name of a well formed catalogue, be it a relation, a view, or the closure or the interior of one, have less than
+/// (b + 1) * 2 ^ q digits, b the greatest length of the name and q its rank. Where these are narrow, the name has no clash.
 pub fn names()
     ensures reach { (c : Catalogue) → IsWellFormed c → AreInReach (measures c) }
 {}

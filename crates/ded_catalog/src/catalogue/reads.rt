@@ -1,5 +1,5 @@
 //! What a catalogue is asked. Only the copy allocates.
-ghost use Rattle.std.specs.Prelude.{◌≡◌, true, IfOk, slice_get};
+ghost use Rattle.std.specs.Prelude.{◌≡◌, true, false, IfOk, IfSome, slice_get};
 ghost use Rattle.std.specs.Option.{option_map};
 
 use super::Catalogue;
@@ -17,6 +17,9 @@ impl Catalogue {
     ghost use Rattle.ded_model.specs.Form.{form};
     ghost use Rattle.ded_model.specs.Goal.{goal_form};
     ghost use Rattle.ded_model.specs.Known.{IsWellFormed};
+    ghost use Rattle.ded_model.specs.Logic.{some_atom};
+    ghost use Rattle.ded_model.specs.LongRows.{is_long_atom};
+    ghost use Rattle.ded_model.specs.Plain.{IsPlain};
     ghost use Rattle.ded_model.specs.Slotted.{goal_of};
     ghost use Rattle.ded_sorts.specs.Causes.{insert_refusal, is_relation_with};
     ghost use Rattle.ded_model.specs.Entries.{known, entry_of, relation_in, view_in};
@@ -57,9 +60,12 @@ impl Catalogue {
         }
     }
 
-    /// The formula of a view as written. None exactly where the name is no view.
+    /// The formula of a view as written. None exactly where the name is no view. Each sum of it has each name once, the two
+    /// sides of each comparison are over one denominator, and no row of it has a number above 2^63 - 1 in magnitude.
     pub fn formula(&self, name: &Name) -> Option<&Formula>
-        ensures { option_map (λ f. form f.now) result ≡ option_map (λ v. v.1) (view_in (entry_of (catalogue_of self.now).entries name.now)) }
+        ensures value { option_map (λ f. form f.now) result ≡ option_map (λ v. v.1) (view_in (entry_of (catalogue_of self.now).entries name.now)) }
+        ensures plain { IfSome result (λ f. IsPlain (form f.now)) }
+        ensures short { IfSome result (λ f. some_atom is_long_atom (form f.now) ≡ false) }
     {
         match view_of(&self.names, name) {
             Some(view) => Some(&view.formula),

@@ -11,4 +11,4 @@ pub returns-in-Empty : goal.returns-in-Empty
 returns-in-Empty g c = λ e ss r s.
     let both = c.deref-3.ensures.value ∙ c.in_ok-shared.ensures ∙ ap₂ (λ xs ys. xs ++ ys) c.deref.ensures.value c.deref-2.ensures.value in
     refuted_apart g.T.Theory.holds g.T.Theory.mentions g.T.Theory.lines g.T.Theory.cell c.args.one.now.conj.items c.args.other.now.conj.items c.deref-3.result.now both
-    (subst (IsVerdict g.T.Theory.holds g.T.Theory.mentions g.T.Theory.lines c.deref-3.result.now) c.in-Empty.is c.in_ok-refute.ensures)
+    (subst (IsVerdict g.T.Theory.holds g.T.Theory.mentions g.T.Theory.lines c.deref-3.result.now) c.in-Empty.is c.in_ok-refute.ensures.verdict)

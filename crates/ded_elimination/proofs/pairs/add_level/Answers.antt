@@ -12,7 +12,7 @@ use Rattle.ded_elimination.proofs.Remains.{level_remains}
 use Rattle.ded_elimination.proofs.pairs.add_level.Goals as goal
 
 pub returns-in_ok-copy : goal.returns-in_ok-copy
-returns-in_ok-copy c =
+returns-in_ok-copy g c =
     let s = c.args.slot in
     let r = c.args.row.now in
     let x = c.in_ok-copy.field-0 in
@@ -20,6 +20,6 @@ returns-in_ok-copy c =
     let zero : coef_at r.coefs s ≡ pos 0 =
     is_zero c.at.result (coef_at r.coefs s) c.at.ensures.short (c.at.ensures.value ∙ ap (λ (y : LinearConstraint). coef_at y.coefs s) c.row.view_is) c.if-at-eq0.true in
     IfOk-weaker _ (λ more. Keeps x c.args.out.now.items more c.keep.new.out.items) _
-    (λ more k. λ rows linear inside. adds_kept s rows (LevelHolds s r) x c.args.out.now.items more c.keep.new.out.items k
-    (subst (IsRemaining s rows) (sym same) (level_remains s rows linear r inside zero)) (λ p d h z. ap (λ (y : LinearConstraint). row_holds y p) (sym same) ∙ h))
+    (λ more k. λ rows linear inside. adds_kept g.M.Mixing.rows s rows (LevelHolds s r) x c.args.out.now.items more c.keep.new.out.items k
+    (subst (IsRemaining g.M.Mixing.rows s rows) (sym same) (level_remains g.M.Mixing.rows s rows linear r c.requires.rows inside zero)) (λ p d h z. ap (λ (y : LinearConstraint). row_holds y p) (sym same) ∙ h))
     c.keep.ensures.keeps

@@ -6,20 +6,20 @@ use Rattle.ded_elimination.proofs.Conjunctions.{In-at}
 use Rattle.ded_elimination.proofs.pairs.keep_level.Goals as goal
 
 pub returns-then-not-branch : goal.returns-then-not-branch
-returns-then-not-branch c =
+returns-then-not-branch g c =
     let s = c.args.slot in
     let rows = c.args.rows.now in
     let x = c.row-item.result in
-    let step = subst (λ b. Adds s rows (LevelHolds s x) c.loop-row.out.items b c.add_level.new.out.items) c.if-not-branch.true
-    (c.in_ok-add_level.ensures rows c.requires (In-at rows c.loop-row.row-index x (omega arith) c.row-item.is)) in
-    adds_stop s rows (OfFirst (LevelHolds s) rows c.loop-row.row-index) (LevelHolds s x) (OfFirst (LevelHolds s) rows (length rows)) c.args.out.now.items c.loop-row.out.items c.add_level.new.out.items
+    let step = subst (λ b. Adds g.M.Mixing.rows s rows (LevelHolds s x) c.loop-row.out.items b c.add_level.new.out.items) c.if-not-branch.true
+    (c.in_ok-add_level.ensures rows c.requires.normal (In-at rows c.loop-row.row-index x (omega arith) c.row-item.is)) in
+    adds_stop g.M.Mixing.rows s rows (OfFirst (LevelHolds s) rows c.loop-row.row-index) (LevelHolds s x) (OfFirst (LevelHolds s) rows (length rows)) c.args.out.now.items c.loop-row.out.items c.add_level.new.out.items
     c.loop-row.invariant step
 
 pub loop-row-preserved : goal.loop-row-preserved
-loop-row-preserved c =
+loop-row-preserved g c =
     let s = c.args.slot in
     let rows = c.args.rows.now in
     let x = c.row-item.result in
-    let step = subst (λ b. Adds s rows (LevelHolds s x) c.loop-row.out.items b c.add_level.new.out.items) c.if-not-branch.false
-    (c.in_ok-add_level.ensures rows c.requires (In-at rows c.loop-row.row-index x (omega arith) c.row-item.is)) in
-    adds_more s rows (LevelHolds s) rows c.loop-row.row-index x c.args.out.now.items c.loop-row.out.items true c.add_level.new.out.items (omega arith) c.row-item.is c.loop-row.invariant step
+    let step = subst (λ b. Adds g.M.Mixing.rows s rows (LevelHolds s x) c.loop-row.out.items b c.add_level.new.out.items) c.if-not-branch.false
+    (c.in_ok-add_level.ensures rows c.requires.normal (In-at rows c.loop-row.row-index x (omega arith) c.row-item.is)) in
+    adds_more g.M.Mixing.rows s rows (LevelHolds s) rows c.loop-row.row-index x c.args.out.now.items c.loop-row.out.items true c.add_level.new.out.items (omega arith) c.row-item.is c.loop-row.invariant step

@@ -6,12 +6,12 @@ use Rattle.ded_elimination.proofs.Conjunctions.{In-at}
 use Rattle.ded_elimination.proofs.pairs.mix_uppers.Goals as goal
 
 pub add_upper-requires-clause-inside : goal.add_upper-requires-clause-inside
-add_upper-requires-clause-inside c = In-at c.args.rows.now c.loop-upper.upper-index c.upper-item.result (omega arith) c.upper-item.is
+add_upper-requires-clause-inside g c = In-at c.args.rows.now c.loop-upper.upper-index c.upper-item.result (omega arith) c.upper-item.is
 
 pub loop-upper-preserved : goal.loop-upper-preserved
-loop-upper-preserved c =
+loop-upper-preserved g c =
     let s = c.args.slot in
     let rows = c.args.rows.now in
     let x = c.upper-item.result in
-    let step = subst (λ b. Adds s rows (UpperHolds s rows x) c.loop-upper.out.items b c.add_upper.new.out.items) c.if-not-branch.false c.in_ok-add_upper.ensures.adds in
-    adds_more s rows (UpperHolds s rows) rows c.loop-upper.upper-index x c.args.out.now.items c.loop-upper.out.items true c.add_upper.new.out.items (omega arith) c.upper-item.is c.loop-upper.invariant step
+    let step = subst (λ b. Adds g.M.Mixing.rows s rows (UpperHolds s rows x) c.loop-upper.out.items b c.add_upper.new.out.items) c.if-not-branch.false c.in_ok-add_upper.ensures.adds in
+    adds_more g.M.Mixing.rows s rows (UpperHolds s rows) rows c.loop-upper.upper-index x c.args.out.now.items c.loop-upper.out.items true c.add_upper.new.out.items (omega arith) c.upper-item.is c.loop-upper.invariant step

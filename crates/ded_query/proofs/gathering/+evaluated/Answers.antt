@@ -4,7 +4,8 @@ use Rattle.std.specs.Str.{bytes_eq}
 use Rattle.std.proofs.lemmas.List.{take_all}
 use Rattle.std.proofs.lemmas.Result.{IfOk-weaker, err_from_is_err_and}
 use Rattle.ded_model.specs.declared.memory.Refused.TheVariants.{Wide}
-use Rattle.ded_model.specs.Entries.{known}
+use Rattle.ded_model.specs.Entries.{known, entry_of, view_in}
+use Rattle.ded_model.specs.Made.{base}
 use Rattle.ded_model.specs.Goal.{goal_form}
 use Rattle.ded_model.specs.Known.{level_with}
 use Rattle.ded_model.specs.NormalGoal.{IsNormalGoal}
@@ -13,7 +14,7 @@ use Rattle.ded_model.specs.Uses.{plan_uses}
 use Rattle.ded_catalog.specs.Snapshots.{snapshot_of}
 use Rattle.ded_complement.proofs.Cutting.{all-at}
 use Rattle.ded_eval.specs.Given.{has_name}
-use Rattle.ded_query.proofs.Entries.{view_goal, view_posed, view_level, view_clash, relation_there}
+use Rattle.ded_query.proofs.Entries.{view_goal, view_posed, view_low, view_level, view_clash, no_view}
 use Rattle.ded_query.proofs.Evaluable.{evaluable}
 use Rattle.ded_query.proofs.Evaluations.{evaluated_of, evaluated_part, clash_of_goal}
 use Rattle.ded_query.proofs.Gathered.{gathered_none, gathered_more, front_none, front_more, named_more, posed_scans, posed_known, posed_levels, posed_clash}
@@ -70,7 +71,8 @@ evaluated-returns-clause-is t c =
     let rs = c.give_all.new.given in
     let uses : (n : List ℕ) → plan_uses n plan ≡ true → has_name n rs ≡ true =
     λ n u. of_named (λ m. has_name m rs ≡ true) ns n c.in_ok-give_all.ensures.all (sym (c.in_ok-names.ensures.all n ∙ ap (list_any (bytes_eq n)) (sym c.deref.ensures.value)) ∙ u) in
-    IfOk-weaker c.evaluate.result _ _ (λ ts e. evaluated_of cat (goal_form c.args.goal.now) plan rs c.in_ok-give_all.ensures.gathered.of c.in_ok-plan.ensures ts uses e) c.evaluate.ensures.is
+    IfOk-weaker c.evaluate.result _ _
+    (λ ts e. evaluated_of cat (goal_form c.args.goal.now) plan rs c.in_ok-give_all.ensures.gathered.of c.in_ok-plan.ensures c.requires.posed.formula (posed_scans cat (goal_form c.args.goal.now) plan c.args.level c.requires.posed c.in_ok-plan.ensures) ts uses e) c.evaluate.ensures.is
 
 pub evaluated-returns-clause-wide : goal.evaluated-returns-clause-wide
 evaluated-returns-clause-wide t c = λ i.
@@ -80,10 +82,12 @@ evaluated-returns-clause-wide t c = λ i.
 
 pub give-give_view-requires : goal.give-give_view-requires
 give-give_view-requires t c =
-    (search rules, (view_goal (snapshot_of c.args.snapshot.now) c.args.name.now (goal_form c.in-Some.goal.now) c.in-Some.ensures, (c.requires.level, c.requires.given)))
+    let cat = snapshot_of c.args.snapshot.now in
+    let view = view_goal cat c.args.name.now (goal_form c.in-Some.goal.now) c.in-Some.ensures in
+    (search rules, (view, (view_low cat c.args.name.now (goal_form c.in-Some.goal.now) c.args.level c.formed.ensures view c.requires.level, c.requires.given)))
 
-pub give-relation-requires : goal.give-relation-requires
-give-relation-requires t c = relation_there (snapshot_of c.args.snapshot.now) c.args.name.now c.requires.defined c.in-None.ensures
+pub give-give_relation-requires-clause-goal : goal.give-give_relation-requires-clause-goal
+give-give_relation-requires-clause-goal t c = no_view (view_in (entry_of (snapshot_of c.args.snapshot.now).entries c.args.name.now)) c.in-None.ensures
 
 -- ---- give_all
 
@@ -95,9 +99,9 @@ give_all-give-requires t c =
     let k = known (snapshot_of c.args.snapshot.now) in (
       search rules,
       (
-        all-at (λ n. is_some (k n) ≡ true) c.args.names.now c.loop-name.name-index c.name-item.result c.loop-name-test.true c.name-item.is c.requires.defined,
+        all-at (λ n. is_some (k (base n)) ≡ true) c.args.names.now c.loop-name.name-index c.name-item.result c.loop-name-test.true c.name-item.is c.requires.defined,
         (
-          all-at (λ n. level_with (k n) ≤ c.args.level) c.args.names.now c.loop-name.name-index c.name-item.result c.loop-name-test.true c.name-item.is c.requires.levels,
+          all-at (λ n. level_with (k (base n)) ≤ c.args.level) c.args.names.now c.loop-name.name-index c.name-item.result c.loop-name-test.true c.name-item.is c.requires.levels,
           c.loop-name.invariant.0.of,
         ),
       ),

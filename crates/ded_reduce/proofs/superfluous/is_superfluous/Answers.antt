@@ -7,9 +7,9 @@ use Rattle.ded_reduce.proofs.superfluous.is_superfluous.Goals as goal
 pub returns-clause-implied : goal.returns-clause-implied
 returns-clause-implied g c =
     let o = c.in_ok-others.ensures ∙ ap (λ xs. take c.args.index c.args.conj.now ++ xs) (after_taken c.args.conj.now c.args.index) in
-    IfOk-weaker c.imply.result _ _ (λ b k e. implied_at g.T.Theory.holds g.T.Theory.mentions g.T.Theory.lines c.args.conj.now c.in_ok-others.others.items c.args.index c.index-conj-index.result c.requires.within c.index-conj-index.is o (k e)) c.imply.ensures.implied
+    IfOk-weaker c.imply.result _ _ (λ b k e. implied_at g.T.Theory.decides g.T.Theory.holds g.T.Theory.mentions g.T.Theory.lines c.args.conj.now c.in_ok-others.others.items c.args.index c.index-conj-index.result c.requires.within c.index-conj-index.is o (k e)) c.imply.ensures.implied
 
 pub returns-clause-needed : goal.returns-clause-needed
 returns-clause-needed g c =
     let o = c.in_ok-others.ensures ∙ ap (λ xs. take c.args.index c.args.conj.now ++ xs) (after_taken c.args.conj.now c.args.index) in
-    IfOk-weaker c.imply.result _ _ (λ b k e. needed_at g.T.Theory.holds g.T.Theory.mentions g.T.Theory.lines c.args.conj.now c.in_ok-others.others.items c.args.index c.index-conj-index.result c.requires.within c.index-conj-index.is o (k e)) c.imply.ensures.needed
+    IfOk-weaker c.imply.result _ _ (λ b k e. needed_at g.T.Theory.decides g.T.Theory.holds g.T.Theory.mentions g.T.Theory.lines c.args.conj.now c.in_ok-others.others.items c.args.index c.index-conj-index.result c.requires.within c.index-conj-index.is o (k e)) c.imply.ensures.needed

@@ -18,6 +18,9 @@ carry_out-requires c = record {
   resolved = subst (λ (k : Catalogue). IsResolved k (command_form c.args.command) c.in-Ok.checked) c.catalogue.ensures c.in-Ok.ensures.resolved;
   accepted = subst (λ (k : Catalogue). HasNoCause k (command_form c.args.command)) c.catalogue.ensures c.in-Ok.ensures.accepted;
   storable = subst (λ (k : Catalogue). IsStorable k c.in-Ok.checked) c.catalogue.ensures c.in-Ok.ensures.stored;
+  plain = c.requires.plain;
+  short = c.requires.short;
+  named = c.requires.named;
 }
 
 pub returns-in-Ok-clause-answers : goal.returns-in-Ok-clause-answers

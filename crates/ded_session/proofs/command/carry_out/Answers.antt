@@ -35,7 +35,7 @@ drop_name-requires c =
 pub define_view-requires : goal.define_view-requires
 define_view-requires c =
     let r = ready_view (catalogue_at c.args.database.now) c.args.command c.requires c.in-View.name c.in-View.heading c.in-View.formula c.in-View.goal c.in-View.is in
-    record { new = r.0; accepted = r.1; level = r.2; goal = r.3 }
+    record { new = r.0; accepted = r.1; level = r.2; goal = r.3; plain = r.4; short = r.5 }
 
 pub show-requires : goal.show-requires
 show-requires c =

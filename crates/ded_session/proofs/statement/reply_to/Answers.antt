@@ -3,7 +3,7 @@ use Rattle.std.proofs.Common.{refl}
 use Rattle.ded_model.specs.Command.{command_form}
 use Rattle.ded_database.specs.State.{catalogue_at}
 use Rattle.ded_session.specs.Answered.{reply_form}
-use Rattle.ded_session.proofs.StepLemmas.{read_short, read_plain, step_read, may_refuse}
+use Rattle.ded_session.proofs.StepLemmas.{read_short, read_plain, read_named, step_read, may_refuse}
 use Rattle.ded_session.proofs.Upheld.{upholds_read, upholds_unread}
 use Rattle.ded_session.proofs.statement.reply_to.Goals as goal
 
@@ -14,6 +14,7 @@ answer-requires c =
     record {
       plain = read_plain c.args.language c.args.bytes.now x read;
       short = read_short c.args.language c.args.bytes.now x read;
+      named = read_named c.args.language c.args.bytes.now x read;
     }
 
 pub returns-in-Ok-clause-step : goal.returns-in-Ok-clause-step

@@ -31,6 +31,12 @@ second_laws g = record {
 pub eliminate-requires : goal.eliminate-requires
 eliminate-requires g c = record { normal = subst (AllByRecursion g.A.Theory.normal) (sym (c.deref.ensures.value ∙ c.in_ok-first.ensures)) (firsts_normal g.A.Theory.normal g.B.Theory.normal c.args.atoms.now c.requires.normal) }
 
+pub returns-in_err-eliminate-clause-never_wide : goal.returns-in_err-eliminate-clause-never_wide
+returns-in_err-eliminate-clause-never_wide g c = λ d e.
+    let p = err_from_is_err_and c.from_residual-in_err-eliminate.result c.from_residual-in_err-eliminate.ensures.1 in
+    let is : c.in_err-eliminate.field-0.0 ≡ Wide = cc (p.1, p.2, e) in
+    c.in_err-eliminate.ensures.never_wide d (ap Err is)
+
 pub returns-in_err-eliminate-clause-wide : goal.returns-in_err-eliminate-clause-wide
 returns-in_err-eliminate-clause-wide g c = λ e.
     let p = err_from_is_err_and c.from_residual-in_err-eliminate.result c.from_residual-in_err-eliminate.ensures.1 in

@@ -1,6 +1,6 @@
 use Rattle.std.proofs.Common.{◌≡◌, ◌≤◌, ◌+◌, None, sym, ap, ◌∙◌, subst, arith}
 use Rattle.ded_model.specs.Form.{form}
-use Rattle.ded_model.specs.Known.{IsAccepted, level_of}
+use Rattle.ded_model.specs.Known.{IsAccepted, IsNewName, level_of}
 use Rattle.ded_model.specs.Entries.{known}
 use Rattle.ded_catalog.specs.Kept.{IsKept}
 use Rattle.ded_catalog.specs.State.{catalogue_of}
@@ -12,18 +12,18 @@ pub overflow_add-level : goal.overflow_add-level
 overflow_add-level c =
     let level = level_there c.self.inside.limit c.self.inside.names.entries c.self.invariant (form c.args.f) in
     let low = subst (λ t. level_of (known (catalogue_of t)) (form c.args.f) ≤ 16) (sym c.self.view_is) c.requires.level in
-    omega (arith, level, low, c.level_in-level.ensures)
+    omega (arith, level, low, c.in_ok-level.ensures)
 
 pub add-requires : goal.add-requires
-add-requires c = new_name c.self.inside.limit c.self.inside.names.entries c.args.name c.self.invariant (subst (λ t. known (catalogue_of t) c.args.name ≡ None) (sym c.self.view_is) c.requires.new)
+add-requires c = new_name c.self.inside.limit c.self.inside.names.entries c.args.name c.self.invariant (subst (λ t. known (catalogue_of t) c.args.name ≡ None) (sym c.self.view_is) c.requires.new.0)
 
 pub invariant_of-self : goal.invariant_of-self
 invariant_of-self c =
     after c.add.result (IsKept c.self.inside.limit) c.add.new.table.entries _ _ c.add.ensures.ok c.add.ensures.err
     (kept-viewed c.self.inside.limit c.self.inside.names.entries c.args.name c.self.invariant _
-    (subst (λ t. known (catalogue_of t) c.args.name ≡ None) (sym c.self.view_is) c.requires.new)
+    (subst (λ t. IsNewName (known (catalogue_of t)) c.args.name) (sym c.self.view_is) c.requires.new)
     (subst (λ t. IsAccepted (known (catalogue_of t)) c.args.heading (form c.args.f)) (sym c.self.view_is) c.requires.accepted)
     (subst (λ t. level_of (known (catalogue_of t)) (form c.args.f) ≤ 16) (sym c.self.view_is) c.requires.level)
-    (ap (λ l. l + 1) c.level_in-level.ensures ∙ level_there c.self.inside.limit c.self.inside.names.entries c.self.invariant (form c.args.f))
-    c.requires.goal)
+    (ap (λ l. l + 1) c.in_ok-level.ensures ∙ level_there c.self.inside.limit c.self.inside.names.entries c.self.invariant (form c.args.f))
+    c.requires.goal c.requires.plain c.requires.short)
     c.self.invariant

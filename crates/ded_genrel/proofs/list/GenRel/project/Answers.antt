@@ -15,6 +15,12 @@ eliminate-requires g c = record {
   normal = subst (AllByRecursion g.T.Theory.normal) (sym c.deref.ensures.value) (normal-at g.T.Theory.normal c.list-conj-items.result.now c.loop-conj.conj-index c.conj-item.result c.loop-conj-test.true c.conj-item.is c.list-conj-items.ensures.normal);
 }
 
+pub returns-in_err-atoms-clause-never_wide : goal.returns-in_err-atoms-clause-never_wide
+returns-in_err-atoms-clause-never_wide g c = λ d e.
+    let p = err_from_is_err_and c.from_residual.result c.from_residual.ensures.1 in
+    let is : c.in_err-atoms.field-0.0 ≡ Wide = cc (p.1, p.2, e) in
+    c.in_err-atoms.ensures.never_wide d (ap Err is)
+
 pub returns-in_err-atoms-clause-wide : goal.returns-in_err-atoms-clause-wide
 returns-in_err-atoms-clause-wide g c = λ e.
     let p = err_from_is_err_and c.from_residual.result c.from_residual.ensures.1 in

@@ -1,10 +1,11 @@
 use Rattle.std.proofs.Common.{◌∙◌, sym, subst}
 use Rattle.std.specs.List.{AllByRecursion}
 use Rattle.ded_model.specs.declared.slot.Sort.TheVariants.{Rat, Text}
+use Rattle.ded_theory.specs.declared.answers.Verdict.TheVariants.{Empty}
 use Rattle.ded_theory.specs.Verdicts.{IsVerdict}
 use Rattle.ded_theory.specs.Both.{by_kind}
 use Rattle.ded_theory.proofs.TwoKinds.{firsts_normal, seconds_normal}
-use Rattle.ded_theory.proofs.PartLaws.{IsOfSort, only_rational, only_texts, verdicts_joined}
+use Rattle.ded_theory.proofs.PartLaws.{IsOfSort, only_rational, only_texts, nowhere_second, verdicts_joined, verdict_decided}
 use Rattle.ded_theory.proofs.both.BothTheory.refute.Goals as goal
 use Rattle.ded_theory.proofs.both.BothTheory.refute.Given.{Over}
 
@@ -23,14 +24,23 @@ second_laws g = record {
 }
 
 pub refute-requires : goal.refute-requires
-refute-requires g c = record { normal = subst (AllByRecursion g.A.Theory.normal) (sym (c.deref.ensures.value ∙ c.in_ok-first_part.ensures)) (firsts_normal g.A.Theory.normal g.B.Theory.normal c.args.atoms.now c.requires.normal) }
+refute-requires g c = record { normal = subst (AllByRecursion g.B.Theory.normal) (sym (c.deref.ensures.value ∙ c.in_ok-second_part.ensures)) (seconds_normal g.A.Theory.normal g.B.Theory.normal c.args.atoms.now c.requires.normal) }
+
+pub returns-in-Empty-clause-verdict : goal.returns-in-Empty-clause-verdict
+returns-in-Empty-clause-verdict g c =
+    nowhere_second g.A.Theory.holds g.A.Theory.mentions g.A.Theory.lines g.A.Theory.normal (first_laws g) g.B.Theory.holds g.B.Theory.mentions g.B.Theory.lines g.B.Theory.normal (second_laws g) c.args.atoms.now c.requires.normal
+    (subst (λ xs. IsVerdict g.B.Theory.holds g.B.Theory.mentions g.B.Theory.lines xs Empty) (c.deref.ensures.value ∙ c.in_ok-second_part.ensures)
+    (subst (IsVerdict g.B.Theory.holds g.B.Theory.mentions g.B.Theory.lines c.deref.result.now) c.in-Empty.is c.in_ok-second.ensures.verdict))
 
 pub refute-requires-2 : goal.refute-requires-2
-refute-requires-2 g c = record { normal = subst (AllByRecursion g.B.Theory.normal) (sym (c.deref-2.ensures.value ∙ c.in_ok-second_part.ensures)) (seconds_normal g.A.Theory.normal g.B.Theory.normal c.args.atoms.now c.requires.normal) }
+refute-requires-2 g c = record { normal = subst (AllByRecursion g.A.Theory.normal) (sym (c.deref-2.ensures.value ∙ c.in_ok-first_part.ensures)) (firsts_normal g.A.Theory.normal g.B.Theory.normal c.args.atoms.now c.requires.normal) }
 
-pub returns : goal.returns
-returns g c =
+pub returns-clause-verdict : goal.returns-clause-verdict
+returns-clause-verdict g c =
     subst (IsVerdict (by_kind g.A.Theory.holds g.B.Theory.holds) (by_kind g.A.Theory.mentions g.B.Theory.mentions) (by_kind g.A.Theory.lines g.B.Theory.lines) c.args.atoms.now) (sym c.joined_verdict.ensures)
     (verdicts_joined g.A.Theory.holds g.A.Theory.mentions g.A.Theory.lines g.A.Theory.normal (first_laws g) g.B.Theory.holds g.B.Theory.mentions g.B.Theory.lines g.B.Theory.normal (second_laws g) c.args.atoms.now c.requires.normal c.in_ok-first.first c.in_ok-second.second
-    (subst (λ xs. IsVerdict g.A.Theory.holds g.A.Theory.mentions g.A.Theory.lines xs c.in_ok-first.first) (c.deref.ensures.value ∙ c.in_ok-first_part.ensures) c.in_ok-first.ensures)
-    (subst (λ xs. IsVerdict g.B.Theory.holds g.B.Theory.mentions g.B.Theory.lines xs c.in_ok-second.second) (c.deref-2.ensures.value ∙ c.in_ok-second_part.ensures) c.in_ok-second.ensures))
+    (subst (λ xs. IsVerdict g.A.Theory.holds g.A.Theory.mentions g.A.Theory.lines xs c.in_ok-first.first) (c.deref-2.ensures.value ∙ c.in_ok-first_part.ensures) c.in_ok-first.ensures.verdict)
+    (subst (λ xs. IsVerdict g.B.Theory.holds g.B.Theory.mentions g.B.Theory.lines xs c.in_ok-second.second) (c.deref.ensures.value ∙ c.in_ok-second_part.ensures) c.in_ok-second.ensures.verdict))
+
+pub returns-clause-decided : goal.returns-clause-decided
+returns-clause-decided g c = λ d u. verdict_decided c.in_ok-first.first c.in_ok-second.second (c.in_ok-first.ensures.decided d.0) (c.in_ok-second.ensures.decided d.1) (sym c.joined_verdict.ensures ∙ u)

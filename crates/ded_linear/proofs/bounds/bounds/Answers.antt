@@ -1,5 +1,0 @@
-use Rattle.ded_linear.proofs.SlotLists.{others}
-use Rattle.ded_linear.proofs.bounds.bounds.Goals as goal
-
-pub bounds_past-requires-clause-others : goal.bounds_past-requires-clause-others
-bounds_past-requires-clause-others c = others c.args.slot c.in_ok-others.others.items c.args.rows.now c.in_ok-others.ensures
