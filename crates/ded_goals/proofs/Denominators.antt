@@ -164,6 +164,27 @@ sides_share scope (Quoted t) (Single y) m e h = refl
 sides_share scope (Quoted t) (Sum u) m e h = e
 sides_share scope (Quoted t) (Quoted u) m e h = refl
 
+-- the row of the sides as they are has the normal row of the sides over the denominator, as they stand there
+pub plain_rows : (scope : SlotScope) (l r : Operand) (m : ℤ) → pos 0 <ℤ m → m ≡ denominator_of l r → ShareDenominator l r → is_text_operand scope l ≡ false → is_text_operand scope r ≡ false
+    → (op : RowOp) → normal_row (plain_row (sum_over m scope l) (sum_over m scope r) op) ≡ normal_row (difference_row (slot_sum scope l) (slot_sum scope r) op)
+plain_rows scope l r m h e share n k op = difference_plain (sum_over m scope l) (sum_over m scope r) op (sides_share scope l r m e share) ∙ same_rows scope l r m h e n k op
+
+-- so have the rows with the sides turned
+share_turned : (l r : Operand) → ShareDenominator l r → ShareDenominator r l
+share_turned (Sum t) (Sum u) h = sym h
+share_turned (Sum t) (Single y) h = tt
+share_turned (Sum t) (Quoted u) h = tt
+share_turned (Single x) (Single y) h = tt
+share_turned (Single x) (Sum u) h = tt
+share_turned (Single x) (Quoted u) h = tt
+share_turned (Quoted t) (Single y) h = tt
+share_turned (Quoted t) (Sum u) h = tt
+share_turned (Quoted t) (Quoted u) h = tt
+
+pub plain_rows_turned : (scope : SlotScope) (l r : Operand) (m : ℤ) → pos 0 <ℤ m → m ≡ denominator_of l r → ShareDenominator l r → is_text_operand scope l ≡ false → is_text_operand scope r ≡ false
+    → (op : RowOp) → normal_row (plain_row (sum_over m scope r) (sum_over m scope l) op) ≡ normal_row (difference_row (slot_sum scope r) (slot_sum scope l) op)
+plain_rows_turned scope l r m h e share n k op = plain_rows scope r l m h (e ∙ either_denominator l r share) (share_turned l r share) k n op
+
 -- ---- goals
 
 same_goals : (l r l' r' : SlotSum) (o : CompareOp) → HaveSameRows l r l' r' → HaveSameRows r l r' l' → sums_goal l o r ≡ sums_goal l' o r'

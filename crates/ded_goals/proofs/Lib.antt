@@ -1,6 +1,6 @@
 pub mod Accepted
 pub mod Ascending
-mod Denominators
+pub mod Denominators
 mod Differences
 mod Fitting
 mod NormalGoals

@@ -1,3 +1,4 @@
+pub mod Positives
 pub mod Readiness
 pub mod ShortRows
 pub mod ShortTuples

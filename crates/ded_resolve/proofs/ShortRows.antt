@@ -4,7 +4,7 @@
 -- each number by slots is (`SlotNumbers`). Thus g divides the greatest common divisor of the numbers by slots, which is then
 -- at least g, and each of them divided by it is below 2^63.
 use Rattle.std.proofs.Common.{◌≡◌, ◌≢◌, ℕ, ◌+◌, ◌*◌, ◌/◌, ◌^◌, ◌<◌, ◌≤◌, nat_le, Bool, true, false, not, ◌||◌, ◌&&◌, List, [], ◌∷◌, map, ◌⊎◌, inl, inr, arith, refl, sym, ap, ◌∙◌, subst, true≢false}
-use Rattle.std.specs.Prelude.{ℤ, pos, ◌*ℤ◌, int_div, unsigned_abs}
+use Rattle.std.specs.Prelude.{ℤ, pos, ◌*ℤ◌, ◌<ℤ◌, int_div, unsigned_abs}
 use Rattle.std.specs.List.{list_any}
 use Rattle.std.specs.Ordering.{int_eq}
 use lib.IntN.{neg_ℤ}
@@ -23,14 +23,16 @@ use Rattle.ded_model.specs.declared.formula.CompareOp.{CompareOp}
 use Rattle.ded_model.specs.declared.formula.CompareOp.TheVariants.{Less, LessEq, Equal, NotEqual, GreaterEq, Greater}
 use Rattle.ded_model.specs.declared.formula.Operand.{Operand}
 use Rattle.ded_model.specs.Coefs.{mixed}
-use Rattle.ded_model.specs.Sum.{SlotSum, denominator}
 use Rattle.ded_model.specs.Normal.{numbers, coefs_over, DivideWhole, divisor_of, normal_row}
-use Rattle.ded_model.specs.LongRows.{row_coefs, row_constant, is_nonzero, is_long_over, is_long_row}
-use Rattle.ded_model.specs.Slotted.{SlotScope, slot_sum, difference_row, comparison_row}
+use Rattle.ded_model.specs.LongRows.{denominator_of, row_coefs, row_constant, is_nonzero, is_long_over, is_long_row}
+use Rattle.ded_model.specs.Plain.{ShareDenominator}
+use Rattle.ded_model.specs.Slotted.{SlotScope, slot_sum, difference_row, comparison_row, is_text_operand}
 use Rattle.ded_model.proofs.Divisors.{abs_divisor, positive_divisor, divisor-whole, divisor-whole_constant}
 use Rattle.ded_model.proofs.LineCoefs.{AllNonzero, nonzero-nonzero}
+use Rattle.ded_goals.specs.Scope.{sum_over}
+use Rattle.ded_goals.proofs.Denominators.{plain_rows, plain_rows_turned}
 use Rattle.ded_goals.proofs.Summing.{fails_left, fails_right}
-use Rattle.ded_resolve.proofs.SlotNumbers.{AreNumbers, AllHave, row_has, turned_row_has, constant_has, turned_constant_has}
+use Rattle.ded_resolve.proofs.SlotNumbers.{AreNumbers, AllHave, side_row, row_has, turned_row_has, constant_has, turned_constant_has}
 
 -- ---- common divisors
 
@@ -165,22 +167,34 @@ module _ (coefs : List ℤ) (constant : ℤ) (op : RowOp) (m : ℤ) (short : is_
 
 -- ---- rows of comparisons
 
--- no coefficient of a row is 0
-row_nonzero : (l r : SlotSum) (op : RowOp) → AllNonzero (difference_row l r op).coefs
-row_nonzero l r op = nonzero-nonzero (mixed (pos (denominator r.over)) l.coefs (neg_ℤ (pos (denominator l.over))) r.coefs)
+-- both sides of a comparison are numbers, over its denominator
+pub record IsNumeric (scope : SlotScope) (l r : Operand) : Type 0 where
+  pub numbers : AreNumbers (denominator_of l r) scope l r
+  pub positive : pos 0 <ℤ denominator_of l r
+  pub shared : ShareDenominator l r
+  pub left : is_text_operand scope l ≡ false
+  pub right : is_text_operand scope r ≡ false
 
-module _ (scope : SlotScope) (l r : Operand) (h : AreNumbers scope l r) (short : is_long_row (row_coefs l r) (row_constant l r) ≡ false) where
+-- no coefficient of a row is 0
+row_nonzero : (m : ℤ) (scope : SlotScope) (l r : Operand) (op : RowOp) → AllNonzero (side_row m scope l r op).coefs
+row_nonzero m scope l r op = nonzero-nonzero (mixed (pos 1) (sum_over m scope l).coefs (neg_ℤ (pos 1)) (sum_over m scope r).coefs)
+
+module _ (scope : SlotScope) (l r : Operand) (h : IsNumeric scope l r) (short : is_long_row (row_coefs l r) (row_constant l r) ≡ false) where
   straight : (op : RowOp) → AllShort (numbers (normal_row (difference_row (slot_sum scope l) (slot_sum scope r) op)))
   straight op =
-      let q = difference_row (slot_sum scope l) (slot_sum scope r) op in
-      row_short (row_coefs l r) (row_constant l r) op q.constant short q.coefs (row_nonzero (slot_sum scope l) (slot_sum scope r) op) (λ all. row_has IsZero refl zero_turned scope l r op h all)
-      (λ g above fit. (constant_has (IsFit g) (fit_zero g above) (fit_turned g) scope l r op h fit.0, row_has (IsFit g) (fit_zero g above) (fit_turned g) scope l r op h fit.1))
+      let m = denominator_of l r in
+      let q = side_row m scope l r op in
+      subst (λ k. AllShort (numbers k)) (plain_rows scope l r m h.positive refl h.shared h.left h.right op)
+      (row_short (row_coefs l r) (row_constant l r) op q.constant short q.coefs (row_nonzero m scope l r op) (λ all. row_has m IsZero refl zero_turned scope l r op h.numbers all)
+      (λ g above fit. (constant_has m (IsFit g) (fit_zero g above) (fit_turned g) scope l r op h.numbers fit.0, row_has m (IsFit g) (fit_zero g above) (fit_turned g) scope l r op h.numbers fit.1)))
 
   turned : (op : RowOp) → AllShort (numbers (normal_row (difference_row (slot_sum scope r) (slot_sum scope l) op)))
   turned op =
-      let q = difference_row (slot_sum scope r) (slot_sum scope l) op in
-      row_short (row_coefs l r) (row_constant l r) op q.constant short q.coefs (row_nonzero (slot_sum scope r) (slot_sum scope l) op) (λ all. turned_row_has IsZero refl zero_turned scope l r op h all)
-      (λ g above fit. (turned_constant_has (IsFit g) (fit_zero g above) (fit_turned g) scope l r op h fit.0, turned_row_has (IsFit g) (fit_zero g above) (fit_turned g) scope l r op h fit.1))
+      let m = denominator_of l r in
+      let q = side_row m scope r l op in
+      subst (λ k. AllShort (numbers k)) (plain_rows_turned scope l r m h.positive refl h.shared h.left h.right op)
+      (row_short (row_coefs l r) (row_constant l r) op q.constant short q.coefs (row_nonzero m scope r l op) (λ all. turned_row_has m IsZero refl zero_turned scope l r op h.numbers all)
+      (λ g above fit. (turned_constant_has m (IsFit g) (fit_zero g above) (fit_turned g) scope l r op h.numbers fit.0, turned_row_has m (IsFit g) (fit_zero g above) (fit_turned g) scope l r op h.numbers fit.1)))
 
   -- the row of a comparison
   pub comparison_short : (op : CompareOp) → AllShort (numbers (normal_row (comparison_row (slot_sum scope l) op (slot_sum scope r))))

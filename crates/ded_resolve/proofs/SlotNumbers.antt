@@ -13,59 +13,53 @@ use Rattle.ded_model.specs.declared.slot.Sort.TheVariants.{Text}
 use Rattle.ded_model.specs.declared.row.RowOp.{RowOp}
 use Rattle.ded_model.specs.declared.formula.Operand.{Operand}
 use Rattle.ded_model.specs.declared.formula.Operand.TheVariants.{Single, Sum, Quoted}
+use Rattle.ded_model.specs.Constraint.{LinearConstraint}
 use Rattle.ded_model.specs.Point.{same_slot, same_sort}
-use Rattle.ded_model.specs.Sum.{denominator}
 use Rattle.ded_model.specs.Coefs.{AllAbove, coef_at, mixed, nonzero}
 use Rattle.ded_model.specs.Known.{is_unbound_name, is_unbound_operand, is_text_sum, sort_in}
-use Rattle.ded_model.specs.LongRows.{parts_of, constant_of, coefficient, difference, differences, row_coefs, row_constant}
+use Rattle.ded_model.specs.LongRows.{parts_over, constant_of, coefficient, difference_over, differences_over, row_coefs_over, row_constant}
 use Rattle.ded_model.specs.Plain.{IsPlainOperand}
-use Rattle.ded_model.specs.Slotted.{SlotScope, slot_of, add_parts, slot_sum, difference_row, is_text_operand}
+use Rattle.ded_model.specs.Slotted.{SlotScope, slot_of, add_parts, is_text_operand}
 use Rattle.ded_model.proofs.Points.{same_slot_is, same_slot_refl}
 use Rattle.ded_model.proofs.CoefLemmas.{coef_at-above, coef_at-here, coef_at-past}
 use Rattle.ded_model.proofs.LineCoefs.{coef_at-mixed, coef_at-nonzero}
-use Rattle.ded_goals.specs.Scope.{sorts_of, AreApart, AreSummable}
+use Rattle.ded_goals.specs.Scope.{sorts_of, AreApart, AreSummable, sum_over}
+use Rattle.ded_goals.proofs.Denominators.{plain_row}
 use Rattle.ded_goals.proofs.Ascending.{Ascend, AllRational, ascend-mixed, ascend-nonzero}
 use Rattle.ded_goals.proofs.Summing.{fails_left, slots_apart, sort_in-slot, rest_summable, ascend-parts, one_part}
 
 -- ---- operands that are numbers
 
--- both sides of a comparison are sums over 1 of bound names with rational slots of their own, each once
-pub record AreNumbers (scope : SlotScope) (l r : Operand) : Type 0 where
-  pub left : AreSummable scope (parts_of l)
-  pub right : AreSummable scope (parts_of r)
-  pub over_left : (slot_sum scope l).over ≡ pos 1
-  pub over_right : (slot_sum scope r).over ≡ pos 1
+-- both sides of a comparison, over m, are sums of bound names with rational slots of their own, each once
+pub record AreNumbers (m : ℤ) (scope : SlotScope) (l r : Operand) : Type 0 where
+  pub left : AreSummable scope (parts_over m l)
+  pub right : AreSummable scope (parts_over m r)
 
 neither : (a b : Bool) → a ≡ false → b ≡ false → (a || b) ≡ false
 neither a b e f = ap₂ (λ x y. x || y) e f
 
 -- an operand that is no text
-pub summable_parts : (scope : SlotScope) (t : Operand) → AreApart scope → IsPlainOperand t → is_unbound_operand (sorts_of scope) t ≡ false → is_text_sum (sorts_of scope) t ≡ false → is_text_operand scope t ≡ false
-    → AreSummable scope (parts_of t)
-summable_parts scope (Single x) h p b s e = record {
+pub summable_parts : (m : ℤ) (scope : SlotScope) (t : Operand) → AreApart scope → IsPlainOperand t → is_unbound_operand (sorts_of scope) t ≡ false → is_text_sum (sorts_of scope) t ≡ false → is_text_operand scope t ≡ false
+    → AreSummable scope (parts_over m t)
+summable_parts m scope (Single x) h p b s e = record {
   apart = h;
   once = (refl, tt);
   bound = neither (is_unbound_name (sorts_of scope) x) false b refl;
   rational = neither (same_sort (sort_in (sorts_of scope) x) Text) false (ap (λ s. same_sort s Text) (sort_in-slot scope x) ∙ e) refl;
 }
-summable_parts scope (Sum t) h p b s e = record { apart = h; once = p.1; bound = b; rational = s }
-summable_parts scope (Quoted t) h p b s e = absurd (true≢false e)
-
-pub over_one : (scope : SlotScope) (t : Operand) → IsPlainOperand t → (slot_sum scope t).over ≡ pos 1
-over_one scope (Single x) p = refl
-over_one scope (Sum t) p = p.0
-over_one scope (Quoted t) p = refl
+summable_parts m scope (Sum t) h p b s e = record { apart = h; once = p; bound = b; rational = s }
+summable_parts m scope (Quoted t) h p b s e = absurd (true≢false e)
 
 -- the coefficients of a sum by slots are those of its parts
-coefs_are : (scope : SlotScope) (t : Operand) → (slot_sum scope t).coefs ≡ nonzero (add_parts scope (parts_of t))
-coefs_are scope (Single x) = refl
-coefs_are scope (Sum t) = refl
-coefs_are scope (Quoted t) = refl
+coefs_are : (m : ℤ) (scope : SlotScope) (t : Operand) (s : Slot) → coef_at (sum_over m scope t).coefs s ≡ coef_at (add_parts scope (parts_over m t)) s
+coefs_are m scope (Single x) s = refl
+coefs_are m scope (Sum t) s = coef_at-nonzero (add_parts scope t.parts) s
+coefs_are m scope (Quoted t) s = refl
 
-constant_is : (scope : SlotScope) (t : Operand) → (slot_sum scope t).constant ≡ constant_of t
-constant_is scope (Single x) = refl
-constant_is scope (Sum t) = refl
-constant_is scope (Quoted t) = refl
+constant_is : (m : ℤ) (scope : SlotScope) (t : Operand) → (sum_over m scope t).constant ≡ constant_of t
+constant_is m scope (Single x) = refl
+constant_is m scope (Sum t) = refl
+constant_is m scope (Quoted t) = refl
 
 -- ---- the coefficient at the slot of a name
 
@@ -83,13 +77,13 @@ coef_of_name scope (c ∷ cs) x h b =
     go false e ih =
         ap (λ b. cond b c.1 (coef_at (add_parts scope cs) (slot_of scope x))) (slots_apart scope c.0 x h.apart (fails_left _ _ h.bound) b e) ∙ ih
 
--- the coefficient of `l - r` at a slot
-at_slot : SlotScope → Operand → Operand → Slot → ℤ
-at_slot scope l r s = coef_at (add_parts scope (parts_of l)) s -ℤ coef_at (add_parts scope (parts_of r)) s
+-- the coefficient of `l - r` over m at a slot
+at_slot : ℤ → SlotScope → Operand → Operand → Slot → ℤ
+at_slot m scope l r s = coef_at (add_parts scope (parts_over m l)) s -ℤ coef_at (add_parts scope (parts_over m r)) s
 
-at_name : (scope : SlotScope) (l r : Operand) (x : List ℕ) → AreNumbers scope l r → is_unbound_name (sorts_of scope) x ≡ false → at_slot scope l r (slot_of scope x) ≡ difference l r x
+at_name : (m : ℤ) (scope : SlotScope) (l r : Operand) (x : List ℕ) → AreNumbers m scope l r → is_unbound_name (sorts_of scope) x ≡ false → at_slot m scope l r (slot_of scope x) ≡ difference_over m l r x
 unfolding at_slot
-at_name scope l r x h b = ap₂ (λ y z. y -ℤ z) (coef_of_name scope (parts_of l) x h.left b) (coef_of_name scope (parts_of r) x h.right b)
+at_name m scope l r x h b = ap₂ (λ y z. y -ℤ z) (coef_of_name scope (parts_over m l) x h.left b) (coef_of_name scope (parts_over m r) x h.right b)
 
 -- ---- the row
 
@@ -104,44 +98,39 @@ one_off (negsuc n) = omega (arith, ints)
 minus_is : (x y : ℤ) → x +ℤ neg_ℤ y ≡ x -ℤ y
 minus_is x y = omega (arith, ints)
 
-one_is : (m : ℤ) → m ≡ pos 1 → denominator m ≡ 1
-unfolding denominator
-one_is m e = ap denominator e
+-- the row of `l - r` over m
+abbrev pub side_row : ℤ → SlotScope → Operand → Operand → RowOp → LinearConstraint
+side_row m scope l r op = plain_row (sum_over m scope l) (sum_over m scope r) op
 
--- at a slot the row of `l - r` has their difference
-coef_at-row : (scope : SlotScope) (l r : Operand) (op : RowOp) (s : Slot) → AreNumbers scope l r → coef_at (difference_row (slot_sum scope l) (slot_sum scope r) op).coefs s ≡ at_slot scope l r s
+-- at a slot it has their difference
+coef_at-row : (m : ℤ) (scope : SlotScope) (l r : Operand) (op : RowOp) (s : Slot) → coef_at (side_row m scope l r op).coefs s ≡ at_slot m scope l r s
 unfolding at_slot
-coef_at-row scope l r op s h =
-    let xs = (slot_sum scope l).coefs in
-    let ys = (slot_sum scope r).coefs in
-    ap₂ (λ m n. coef_at (nonzero (mixed (pos m) xs (neg_ℤ (pos n)) ys)) s) (one_is (slot_sum scope r).over h.over_right) (one_is (slot_sum scope l).over h.over_left)
-    ∙ coef_at-nonzero (mixed (pos 1) xs (neg_ℤ (pos 1)) ys) s ∙ coef_at-mixed (pos 1) xs (neg_ℤ (pos 1)) ys s
+coef_at-row m scope l r op s =
+    let xs = (sum_over m scope l).coefs in
+    let ys = (sum_over m scope r).coefs in
+    coef_at-nonzero (mixed (pos 1) xs (neg_ℤ (pos 1)) ys) s ∙ coef_at-mixed (pos 1) xs (neg_ℤ (pos 1)) ys s
     ∙ ap₂ (λ y z. y +ℤ z) (one_times (coef_at xs s)) (one_off (coef_at ys s)) ∙ minus_is (coef_at xs s) (coef_at ys s)
-    ∙ ap₂ (λ y z. y -ℤ z) (ap (λ cs. coef_at cs s) (coefs_are scope l) ∙ coef_at-nonzero (add_parts scope (parts_of l)) s) (ap (λ cs. coef_at cs s) (coefs_are scope r) ∙ coef_at-nonzero (add_parts scope (parts_of r)) s)
+    ∙ ap₂ (λ y z. y -ℤ z) (coefs_are m scope l s) (coefs_are m scope r s)
 
 -- its constant is the difference of theirs
-constant-row : (scope : SlotScope) (l r : Operand) (op : RowOp) → AreNumbers scope l r → (difference_row (slot_sum scope l) (slot_sum scope r) op).constant ≡ row_constant l r
-constant-row scope l r op h =
-    let x = (slot_sum scope l).constant in
-    let y = (slot_sum scope r).constant in
-    ap₂ (λ m n. pos m *ℤ x -ℤ pos n *ℤ y) (one_is (slot_sum scope r).over h.over_right) (one_is (slot_sum scope l).over h.over_left)
-    ∙ ap₂ (λ a b. a -ℤ b) (one_times x ∙ constant_is scope l) (one_times y ∙ constant_is scope r)
+constant-row : (m : ℤ) (scope : SlotScope) (l r : Operand) (op : RowOp) → (side_row m scope l r op).constant ≡ row_constant l r
+constant-row m scope l r op = ap₂ (λ a b. a -ℤ b) (constant_is m scope l) (constant_is m scope r)
 
 -- its slots ascend
 rational_of : (cs : List (Slot × ℤ)) → Ascend cs → AllRational cs
 rational_of [] h = tt
 rational_of (c ∷ cs) h = (h.0, rational_of cs h.2)
 
-rational_sum : (scope : SlotScope) (t : Operand) → AreSummable scope (parts_of t) → AllRational (slot_sum scope t).coefs
-rational_sum scope t h = subst AllRational (sym (coefs_are scope t)) (rational_of (nonzero (add_parts scope (parts_of t))) (ascend-nonzero (add_parts scope (parts_of t)) (ascend-parts scope (parts_of t) h)))
+rational_sum : (m : ℤ) (scope : SlotScope) (t : Operand) → AreSummable scope (parts_over m t) → AllRational (sum_over m scope t).coefs
+rational_sum m scope (Single x) h = rational_of (add_parts scope (parts_over m (Single x))) (ascend-parts scope (parts_over m (Single x)) h)
+rational_sum m scope (Sum t) h = rational_of (nonzero (add_parts scope t.parts)) (ascend-nonzero (add_parts scope t.parts) (ascend-parts scope t.parts h))
+rational_sum m scope (Quoted t) h = tt
 
-pub ascend-row : (scope : SlotScope) (l r : Operand) (op : RowOp) → AreNumbers scope l r → Ascend (difference_row (slot_sum scope l) (slot_sum scope r) op).coefs
-ascend-row scope l r op h =
-    let L = slot_sum scope l in
-    let R = slot_sum scope r in
-    let a = pos (denominator R.over) in
-    let b = neg_ℤ (pos (denominator L.over)) in
-    ascend-nonzero (mixed a L.coefs b R.coefs) (ascend-mixed a L.coefs b R.coefs (rational_sum scope l h.left) (rational_sum scope r h.right))
+pub ascend-row : (m : ℤ) (scope : SlotScope) (l r : Operand) (op : RowOp) → AreNumbers m scope l r → Ascend (side_row m scope l r op).coefs
+ascend-row m scope l r op h =
+    let L = sum_over m scope l in
+    let R = sum_over m scope r in
+    ascend-nonzero (mixed (pos 1) L.coefs (neg_ℤ (pos 1)) R.coefs) (ascend-mixed (pos 1) L.coefs (neg_ℤ (pos 1)) R.coefs (rational_sum m scope l h.left) (rational_sum m scope r h.right))
 
 -- ---- what 0, negatives and the differences at names have
 
@@ -163,33 +152,33 @@ nothing_law x y e f = omega (arith, ints)
 turned_law : (x y : ℤ) → y -ℤ x ≡ neg_ℤ (x -ℤ y)
 turned_law x y = omega (arith, ints)
 
-module _ (P : ℤ → Type 0) (zero_has : P (pos 0)) (turned_has : (z : ℤ) → P z → P (neg_ℤ z)) where
+module _ (m : ℤ) (P : ℤ → Type 0) (zero_has : P (pos 0)) (turned_has : (z : ℤ) → P z → P (neg_ℤ z)) where
   -- a slot is that of a name of the parts, or none of the parts has it
-  slot_has : (scope : SlotScope) (l r : Operand) (ps : List (List ℕ × ℤ)) (s : Slot) → AreNumbers scope l r → AreSummable scope ps → AllHave P (differences l r ps)
-      → P (at_slot scope l r s) ⊎ (coef_at (add_parts scope ps) s ≡ pos 0)
+  slot_has : (scope : SlotScope) (l r : Operand) (ps : List (List ℕ × ℤ)) (s : Slot) → AreNumbers m scope l r → AreSummable scope ps → AllHave P (differences_over m l r ps)
+      → P (at_slot m scope l r s) ⊎ (coef_at (add_parts scope ps) s ≡ pos 0)
   slot_has scope l r [] s h k all = inr refl
   slot_has scope l r (p ∷ ps) s h k all = go (same_slot (slot_of scope p.0) s) refl (slot_has scope l r ps s h (rest_summable scope p ps k) all.1)
     where
-      go : (b : Bool) → same_slot (slot_of scope p.0) s ≡ b → P (at_slot scope l r s) ⊎ (coef_at (add_parts scope ps) s ≡ pos 0) → P (at_slot scope l r s) ⊎ (coef_at (add_parts scope (p ∷ ps)) s ≡ pos 0)
-      go true e rest = inl (subst P (sym (at_name scope l r p.0 h (fails_left _ _ k.bound)) ∙ ap (at_slot scope l r) (same_slot_is (slot_of scope p.0) s e)) all.0)
+      go : (b : Bool) → same_slot (slot_of scope p.0) s ≡ b → P (at_slot m scope l r s) ⊎ (coef_at (add_parts scope ps) s ≡ pos 0) → P (at_slot m scope l r s) ⊎ (coef_at (add_parts scope (p ∷ ps)) s ≡ pos 0)
+      go true e rest = inl (subst P (sym (at_name m scope l r p.0 h (fails_left _ _ k.bound)) ∙ ap (at_slot m scope l r) (same_slot_is (slot_of scope p.0) s e)) all.0)
       go false e (inl f) = inl f
       go false e (inr f) = inr (one_part scope p ps k s ∙ ap (λ b. cond b p.1 (coef_at (add_parts scope ps) s)) e ∙ f)
 
   -- so each slot has it
-  each_has : (scope : SlotScope) (l r : Operand) (s : Slot) → AreNumbers scope l r → AllHave P (row_coefs l r) → P (at_slot scope l r s)
+  each_has : (scope : SlotScope) (l r : Operand) (s : Slot) → AreNumbers m scope l r → AllHave P (row_coefs_over m l r) → P (at_slot m scope l r s)
   unfolding at_slot
   each_has scope l r s h all =
-      go (slot_has scope l r (parts_of l) s h h.left (have_left P (differences l r (parts_of l)) (differences l r (parts_of r)) all))
-      (slot_has scope l r (parts_of r) s h h.right (have_right P (differences l r (parts_of l)) (differences l r (parts_of r)) all))
+      go (slot_has scope l r (parts_over m l) s h h.left (have_left P (differences_over m l r (parts_over m l)) (differences_over m l r (parts_over m r)) all))
+      (slot_has scope l r (parts_over m r) s h h.right (have_right P (differences_over m l r (parts_over m l)) (differences_over m l r (parts_over m r)) all))
     where
-      go : P (at_slot scope l r s) ⊎ (coef_at (add_parts scope (parts_of l)) s ≡ pos 0) → P (at_slot scope l r s) ⊎ (coef_at (add_parts scope (parts_of r)) s ≡ pos 0) → P (at_slot scope l r s)
+      go : P (at_slot m scope l r s) ⊎ (coef_at (add_parts scope (parts_over m l)) s ≡ pos 0) → P (at_slot m scope l r s) ⊎ (coef_at (add_parts scope (parts_over m r)) s ≡ pos 0) → P (at_slot m scope l r s)
       go (inl e) f = e
       go (inr e) (inl f) = f
       go (inr e) (inr f) = subst P (sym (nothing_law _ _ e f)) zero_has
 
-  at_turned : (scope : SlotScope) (l r : Operand) (s : Slot) → at_slot scope r l s ≡ neg_ℤ (at_slot scope l r s)
+  at_turned : (scope : SlotScope) (l r : Operand) (s : Slot) → at_slot m scope r l s ≡ neg_ℤ (at_slot m scope l r s)
   unfolding at_slot
-  at_turned scope l r s = turned_law (coef_at (add_parts scope (parts_of l)) s) (coef_at (add_parts scope (parts_of r)) s)
+  at_turned scope l r s = turned_law (coef_at (add_parts scope (parts_over m l)) s) (coef_at (add_parts scope (parts_over m r)) s)
 
   -- what all coefficients of an ascending list have, by its slots
   list_has : (cs : List (Slot × ℤ)) → Ascend cs → ((s : Slot) → P (coef_at cs s)) → AllHave P (map (λ c. c.1) cs)
@@ -201,22 +190,22 @@ module _ (P : ℤ → Type 0) (zero_has : P (pos 0)) (turned_has : (z : ℤ) →
       go s false e = subst P (coef_at-past s c cs e) (k s)
 
   -- the coefficients of the row of `l - r`
-  pub row_has : (scope : SlotScope) (l r : Operand) (op : RowOp) → AreNumbers scope l r → AllHave P (row_coefs l r) → AllHave P (map (λ c. c.1) (difference_row (slot_sum scope l) (slot_sum scope r) op).coefs)
-  row_has scope l r op h all = list_has (difference_row (slot_sum scope l) (slot_sum scope r) op).coefs (ascend-row scope l r op h) (λ s. subst P (sym (coef_at-row scope l r op s h)) (each_has scope l r s h all))
+  pub row_has : (scope : SlotScope) (l r : Operand) (op : RowOp) → AreNumbers m scope l r → AllHave P (row_coefs_over m l r) → AllHave P (map (λ c. c.1) (side_row m scope l r op).coefs)
+  row_has scope l r op h all = list_has (side_row m scope l r op).coefs (ascend-row m scope l r op h) (λ s. subst P (sym (coef_at-row m scope l r op s)) (each_has scope l r s h all))
 
   -- those of the row of `r - l`
-  pub turned_row_has : (scope : SlotScope) (l r : Operand) (op : RowOp) → AreNumbers scope l r → AllHave P (row_coefs l r) → AllHave P (map (λ c. c.1) (difference_row (slot_sum scope r) (slot_sum scope l) op).coefs)
+  pub turned_row_has : (scope : SlotScope) (l r : Operand) (op : RowOp) → AreNumbers m scope l r → AllHave P (row_coefs_over m l r) → AllHave P (map (λ c. c.1) (side_row m scope r l op).coefs)
   turned_row_has scope l r op h all =
-      list_has (difference_row (slot_sum scope r) (slot_sum scope l) op).coefs (ascend-row scope r l op (swapped h))
-      (λ s. subst P (sym (coef_at-row scope r l op s (swapped h) ∙ at_turned scope l r s)) (turned_has (at_slot scope l r s) (each_has scope l r s h all)))
+      list_has (side_row m scope r l op).coefs (ascend-row m scope r l op (swapped h))
+      (λ s. subst P (sym (coef_at-row m scope r l op s ∙ at_turned scope l r s)) (turned_has (at_slot m scope l r s) (each_has scope l r s h all)))
     where
-      swapped : AreNumbers scope l r → AreNumbers scope r l
-      swapped h = record { left = h.right; right = h.left; over_left = h.over_right; over_right = h.over_left }
+      swapped : AreNumbers m scope l r → AreNumbers m scope r l
+      swapped h = record { left = h.right; right = h.left }
 
   -- the constants
-  pub constant_has : (scope : SlotScope) (l r : Operand) (op : RowOp) → AreNumbers scope l r → P (row_constant l r) → P (difference_row (slot_sum scope l) (slot_sum scope r) op).constant
-  constant_has scope l r op h k = subst P (sym (constant-row scope l r op h)) k
+  pub constant_has : (scope : SlotScope) (l r : Operand) (op : RowOp) → AreNumbers m scope l r → P (row_constant l r) → P (side_row m scope l r op).constant
+  constant_has scope l r op h k = subst P (sym (constant-row m scope l r op)) k
 
-  pub turned_constant_has : (scope : SlotScope) (l r : Operand) (op : RowOp) → AreNumbers scope l r → P (row_constant l r) → P (difference_row (slot_sum scope r) (slot_sum scope l) op).constant
+  pub turned_constant_has : (scope : SlotScope) (l r : Operand) (op : RowOp) → AreNumbers m scope l r → P (row_constant l r) → P (side_row m scope r l op).constant
   turned_constant_has scope l r op h k =
-      subst P (sym (constant-row scope r l op (record { left = h.right; right = h.left; over_left = h.over_right; over_right = h.over_left }) ∙ turned_law (constant_of l) (constant_of r))) (turned_has (row_constant l r) k)
+      subst P (sym (constant-row m scope r l op ∙ turned_law (constant_of l) (constant_of r))) (turned_has (row_constant l r) k)

@@ -1,3 +1,4 @@
+pub mod Denominators
 pub mod Ready
 pub mod Resolved
 pub mod Storing

@@ -1,5 +1,6 @@
 //! Commands by slots.
 
+use ded_model::certificate::Entry;
 use ded_model::formula::Formula;
 use ded_model::goal::Goal;
 use ded_model::name::{Heading, Name};
@@ -8,6 +9,7 @@ use ded_model::tuple::Tuple;
 /// A command whose names are known and whose formula is by slots.
 #[derive(Drop)]
 pub enum Checked {
+    Header,
     Relation(Name, Heading),
     /// The tuple is the normal one of the comparisons.
     Insert(Name, Tuple),
@@ -21,4 +23,7 @@ pub enum Checked {
     Show(Name),
     BoxOf(Name),
     Explain(Heading, Goal),
+    Dump,
+    Disjoint(Name, Name),
+    Verify(Name, Name, Vec<Entry>),
 }

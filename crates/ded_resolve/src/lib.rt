@@ -9,6 +9,7 @@
 #![tactic(auto)]
 
 mod checked;
+mod denominators;
 mod resolving;
 
 pub use checked::Checked;

@@ -16,6 +16,7 @@ ghost use Rattle.ded_resolve.specs.Ready.{IsReady, AreReady};
 ghost use Rattle.ded_resolve.specs.Storing.{IsStorable};
 
 use crate::checked::Checked;
+use crate::denominators::positive_comparisons;
 use ded_goals::{goal, tuple};
 use ded_model::command::{Command, Refusal};
 use ded_model::formula::Formula;
@@ -26,8 +27,8 @@ use ded_model::tuple::Tuple;
 use ded_sorts::{Known, Names, check};
 use std::alloc::Global;
 
-/// The command by slots, over the names. Each sum of the command is over 1 and has each name once, and no row of its
-/// formula has a number above 2^63 - 1 in magnitude.
+/// The command by slots, over the names. Each sum of the command has each name once, the sums of a comparison are over one
+/// denominator, and no row of its formula has a number above 2^63 - 1 in magnitude.
 ///
 /// # Errors
 /// The least of the refusals that the command and the names decide; or else `Memory`, where an allocation failed.
@@ -55,6 +56,7 @@ fn by_slots<N: Names>(alloc: Global, command: Command, names: &N) -> Result<Chec
     ensures stored { IfOk result (λ k. IsStorable (N.catalogue names.now) k) }
 {
     match command {
+        Command::Header => Ok(Checked::Header),
         Command::Relation(name, heading) => Ok(Checked::Relation(name, heading)),
         Command::Insert(name, comparisons) => insertion(alloc, name, comparisons, names),
         Command::Delete(name, number) => Ok(Checked::Delete(name, number)),
@@ -66,6 +68,9 @@ fn by_slots<N: Names>(alloc: Global, command: Command, names: &N) -> Result<Chec
         Command::Show(name) => Ok(Checked::Show(name)),
         Command::BoxOf(name) => Ok(Checked::BoxOf(name)),
         Command::Explain(heading, formula) => explanation(alloc, heading, formula),
+        Command::Dump => Ok(Checked::Dump),
+        Command::Disjoint(first, second) => Ok(Checked::Disjoint(first, second)),
+        Command::Verify(first, second, entries) => Ok(Checked::Verify(first, second, entries)),
     }
 }
 
@@ -106,6 +111,7 @@ fn short_tuple(alloc: Global, heading: &Heading, comparisons: &[Formula]) -> Res
     ensures over { IfOk result (λ t. IsTupleOver heading.now t) }
     ensures short { IfOk result (λ t. tuple_length t ≤ 63) }
 {
+    positive_comparisons(comparisons);
     tuple(alloc, heading, comparisons)
 }
 

@@ -1,15 +1,17 @@
--- The sums of a command that is spelled are over 1 and have each name once.
+-- The sums of a command that is spelled have each name once, and those of a comparison are over one denominator.
 --
 -- A sum is made by adding up the products one by one: a product with a name adds to the coefficient of that name where it
 -- has one, and else stands at the end. So no name comes twice.
-use Rattle.std.proofs.Common.{◌≡◌, ℕ, Bool, true, false, cond, List, [], ◌∷◌, map, refl, ap₂, subst, sym, true≢false, inl, inr, bytes_eq}
-use Rattle.std.specs.Prelude.{ℤ, ◌+ℤ◌, ◌||◌, Option, Some, None}
+use Rattle.std.proofs.Common.{◌≡◌, ℕ, Bool, true, false, cond, List, [], ◌∷◌, map, refl, ap₂, ◌∙◌, subst, sym, true≢false, inl, inr, bytes_eq}
+use Rattle.std.specs.Prelude.{ℤ, pos, ◌+ℤ◌, ◌||◌, Option, Some, None}
 use Rattle.std.specs.List.{list_any}
 use Rattle.ded_model.specs.declared.command.Language.{Language}
+use Rattle.ded_model.specs.declared.formula.Operand.{Operand}
+use Rattle.ded_model.specs.declared.formula.Operand.TheVariants.{Single, Sum, Quoted}
 use Rattle.ded_model.specs.Command.{CommandForm}
 use Rattle.ded_model.specs.Form.{Form}
 use Rattle.ded_model.specs.Logic.{AllAtomsOf, logics}
-use Rattle.ded_model.specs.Plain.{AreOnce, IsPlainOperand, ArePlainOperands, IsPlainAtom, IsPlain, IsPlainCommand}
+use Rattle.ded_model.specs.Plain.{AreOnce, IsPlainOperand, ArePlainOperands, ShareDenominator, IsPlainAtom, IsPlain, IsPlainCommand}
 use Rattle.ded_grammar.specs.Trees.{PieceForm, nay, conjunct, disjunct, arrow, opening, closing, binder, leaf}
 use Rattle.ded_grammar.proofs.Carried.{PieceHas, PiecesHave, spelled_has}
 use Rattle.ded_syntax.specs.Symbols.{Symbol, number_of}
@@ -60,7 +62,7 @@ once_all value a (p ∷ ps) h = once_all value (add_factor a p.0 (factor value p
 
 plain_with : (o : Option (List ℕ)) (a : Sums) → AreOnce a.0 → IsPlainOperand (as_operand o a)
 plain_with (Some n) a h = tt
-plain_with None a h = (refl, h)
+plain_with None a h = h
 
 plain_operand : (value : Reader) (s : Side) → IsPlainOperand (operand_of value s)
 plain_operand value (text s) = tt
@@ -72,8 +74,29 @@ plain_operands : (value : Reader) (ss : List Side) → ArePlainOperands (map (op
 plain_operands value [] = tt
 plain_operands value (s ∷ ss) = (plain_operand value s, plain_operands value ss)
 
+-- each sum is over 1
+abbrev IsOverOne : Operand → Type 0
+IsOverOne (Single n) = Unit {0}
+IsOverOne (Sum t) = t.over ≡ pos 1
+IsOverOne (Quoted t) = Unit {0}
+
+over_one_with : (o : Option (List ℕ)) (a : Sums) → IsOverOne (as_operand o a)
+over_one_with (Some n) a = tt
+over_one_with None a = refl
+
+operand_over_one : (value : Reader) (s : Side) → IsOverOne (operand_of value s)
+operand_over_one value (text s) = tt
+operand_over_one value (sum minus p ps) = over_one_with (single (sum minus p ps)) (add_all value (add_factor no_sums minus (factor value p)) ps)
+
+share_one : (l r : Operand) → IsOverOne l → IsOverOne r → ShareDenominator l r
+share_one (Sum t) (Sum u) h k = h ∙ sym k
+share_one (Sum t) (Single n) h k = tt
+share_one (Sum t) (Quoted u) h k = tt
+share_one (Single n) r h k = tt
+share_one (Quoted t) r h k = tt
+
 plain_comparison : (value : Reader) (c : Comparison) → IsPlain (comparison_form value c)
-plain_comparison value c = (plain_operand value c.left, plain_operand value c.right)
+plain_comparison value c = (plain_operand value c.left, plain_operand value c.right, share_one (operand_of value c.left) (operand_of value c.right) (operand_over_one value c.left) (operand_over_one value c.right))
 
 plain_comparisons : (value : Reader) (cs : List Comparison) → AllAtomsOf IsPlainAtom (logics (map (comparison_form value) cs))
 plain_comparisons value [] = tt

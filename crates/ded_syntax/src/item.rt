@@ -7,6 +7,7 @@ ghost use Rattle.ded_syntax.specs.Items.{capped_of, seen, symbols, is_long_name,
 
 use ded_lex::{Token, TokenKind};
 use ded_model::formula::CompareOp;
+use ded_model::limits;
 use ded_model::memory::NoMemory;
 use std::alloc::Global;
 
@@ -80,7 +81,7 @@ pub fn text(bytes: &[u8], token: Token) -> &[u8]
 }
 
 /// The least number that is too great for a command.
-const TOO_GREAT: u64 = 1 << 63;
+const TOO_GREAT: u64 = limits::GREATEST_NUMBER + 1;
 
 /// The number for which digits stand, or 2^63, the least that is too great for a command, where it is above that.
 pub fn value_of(digits: &[u8]) -> u64
@@ -277,7 +278,7 @@ fn is_long_name(bytes: &[u8], item: Item) -> bool
     ensures { result ≡ is_long_name (seen bytes.now item) }
 {
     match item {
-        Item::Name(token) => text(bytes, token).len() > 64,
+        Item::Name(token) => text(bytes, token).len() > limits::NAME_BYTES,
         _ => false,
     }
 }

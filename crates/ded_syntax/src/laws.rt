@@ -24,7 +24,7 @@ pub fn some_command()
         (command : CommandForm) × IsRead language bytes command }
 {}
 
-/// In a command that is spelled each sum is over 1 and has each name once.
+/// In a command that is spelled each sum has each name once, and the sums of a comparison are over one denominator.
 pub fn spelled_sums()
     ensures { (language : Language) (bytes : List ℕ) (command : CommandForm) (depth : ℕ) →
         Spells language bytes command depth → IsPlainCommand command }

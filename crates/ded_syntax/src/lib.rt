@@ -9,6 +9,7 @@
 //! for tokens, on `ded_num` for divisors and on `ded_model` for commands.
 #![tactic(auto)]
 
+mod arguments;
 mod atom;
 mod command;
 mod draft;

@@ -1,4 +1,4 @@
-//! Comparisons and arguments whose normal rows have a number above 2^63 - 1 in magnitude.
+//! Comparisons and commands whose normal rows have a number above 2^63 - 1 in magnitude.
 ghost use Rattle.std.specs.Prelude.{◌≡◌, ◌-ℤ◌, ◌∷◌, unsigned_abs};
 ghost use Rattle.std.specs.List.{list_any};
 ghost use Rattle.ded_grammar.specs.Forms.{piece_form, piece_forms};
@@ -8,19 +8,21 @@ ghost use Rattle.ded_model.specs.Form.{form, forms};
 ghost use Rattle.ded_model.specs.Logic.{some_atom, some_atom_of};
 ghost use Rattle.ded_num.specs.Gcd.{gcd_from, gcd_all};
 ghost use Rattle.ded_num.specs.Length.{IsWithin, IsShort};
-ghost use Rattle.ded_model.specs.LongRows.{coefficient, parts_of, constant_of, difference, differences, row_coefs, row_constant, is_nonzero, is_long, is_long_over, is_long_row, is_quoted, is_long_comparison, is_long_argument, is_long_atom, has_long_row};
+ghost use Rattle.ded_model.specs.LongRows.{denominator_of, coefficient, parts_over, constant_of, difference_over, differences_over, row_coefs_over, row_coefs, row_constant, is_nonzero, is_long_over, is_long_row, is_quoted, is_long_comparison, is_long_atom, has_long_row};
 ghost use Rattle.ded_syntax.specs.Drafts.{long_draft};
 ghost use Rattle.ded_syntax.specs.DraftViews.{seen_draft};
 
+use crate::arguments::some_long_argument;
 use crate::draft::Draft;
 use ded_grammar::Piece;
 use ded_model::command::Command;
 use ded_model::formula::{Formula, Operand, Parts};
+use ded_model::limits;
 use ded_model::name::Name;
 use ded_num::gcd;
 
 /// The least number that is too great for a row.
-const TOO_GREAT: u128 = 1 << 63;
+const TOO_GREAT: u128 = limits::GREATEST_NUMBER as u128 + 1;
 
 // ---- rows by names
 
@@ -36,13 +38,27 @@ fn coefficient(parts: &Parts, name: &Name) -> i128
     0
 }
 
-/// The coefficient of the name in the operand, which is 0 where the operand doesn't have the name.
-fn coefficient_of(operand: &Operand, name: &Name) -> i128
-    ensures value { result ≡ coefficient (parts_of operand.now) name.now }
+/// The denominator of a comparison: that of its sums, and 1 where it has none.
+fn denominator(left: &Operand, right: &Operand) -> i128
+    ensures value { result ≡ denominator_of left.now right.now }
+    ensures within { IsWithin 112 result }
+{
+    match (left, right) {
+        (Operand::Sum(term), _) => term.over,
+        (_, Operand::Sum(term)) => term.over,
+        _ => 1,
+    }
+}
+
+/// The coefficient of the name in the operand times the denominator, which is 0 where the operand doesn't have the name. A
+/// sum is over the denominator already.
+fn coefficient_of(over: i128, operand: &Operand, name: &Name) -> i128
+    requires within { IsWithin 112 over }
+    ensures value { result ≡ coefficient (parts_over over operand.now) name.now }
     ensures short { IsWithin 112 result }
 {
     match operand {
-        Operand::Single(other) => { if other.is_same(name) { 1 } else { 0 } }
+        Operand::Single(other) => { if other.is_same(name) { over } else { 0 } }
         Operand::Sum(term) => coefficient(&term.parts, name),
         Operand::Quoted(_) => 0,
     }
@@ -69,40 +85,52 @@ fn minus(a: i128, b: i128) -> i128
     a - b
 }
 
-/// The coefficient of the name in the difference of the two sides.
-fn difference(left: &Operand, right: &Operand, name: &Name) -> i128
-    ensures value { result ≡ difference left.now right.now name.now }
+/// The coefficient of the name in the difference of the two sides times the denominator.
+fn difference(over: i128, left: &Operand, right: &Operand, name: &Name) -> i128
+    requires within { IsWithin 112 over }
+    ensures value { result ≡ difference_over over left.now right.now name.now }
     ensures short { IsShort result }
 {
-    minus(coefficient_of(left, name), coefficient_of(right, name))
+    minus(
+        coefficient_of(over, left, name),
+        coefficient_of(over, right, name),
+    )
 }
 
 // ---- the greatest common divisor
 
 /// The greatest common divisor, up to its sign, of a number and of the coefficients that the parts' names have in the
 /// difference of the two sides.
-fn divisor_of_parts(first: i128, parts: &[(Name, i128)], left: &Operand, right: &Operand) -> i128
+fn divisor_of_parts(
+    first: i128,
+    parts: &[(Name, i128)],
+    over: i128,
+    left: &Operand,
+    right: &Operand,
+) -> i128
+    requires within { IsWithin 112 over }
     requires short { IsShort first }
-    ensures value { unsigned_abs result ≡ gcd_from (unsigned_abs first) (differences left.now right.now parts.now) }
+    ensures value { unsigned_abs result ≡ gcd_from (unsigned_abs first) (differences_over over left.now right.now parts.now) }
     ensures short { IsShort result }
 {
     let mut by = first;
     for part in parts {
-        by = gcd(by, difference(left, right, &part.0));
+        by = gcd(by, difference(over, left, right, &part.0));
     }
     by
 }
 
 /// The greatest common divisor, up to its sign, of a number and of the coefficients that the operand's names have in
 /// the difference of the two sides.
-fn divisor(first: i128, operand: &Operand, left: &Operand, right: &Operand) -> i128
+fn divisor(first: i128, operand: &Operand, over: i128, left: &Operand, right: &Operand) -> i128
+    requires within { IsWithin 112 over }
     requires short { IsShort first }
-    ensures value { unsigned_abs result ≡ gcd_from (unsigned_abs first) (differences left.now right.now (parts_of operand.now)) }
+    ensures value { unsigned_abs result ≡ gcd_from (unsigned_abs first) (differences_over over left.now right.now (parts_over over operand.now)) }
     ensures short { IsShort result }
 {
     match operand {
-        Operand::Single(name) => gcd(first, difference(left, right, name)),
-        Operand::Sum(term) => divisor_of_parts(first, &term.parts.list, left, right),
+        Operand::Single(name) => gcd(first, difference(over, left, right, name)),
+        Operand::Sum(term) => divisor_of_parts(first, &term.parts.list, over, left, right),
         Operand::Quoted(_) => first,
     }
 }
@@ -110,11 +138,12 @@ fn divisor(first: i128, operand: &Operand, left: &Operand, right: &Operand) -> i
 // ---- tests
 
 /// Whether a name of the parts has a coefficient other than 0 in the difference of the two sides.
-fn some_part(parts: &[(Name, i128)], left: &Operand, right: &Operand) -> bool
-    ensures { result ≡ list_any is_nonzero (differences left.now right.now parts.now) }
+fn some_part(parts: &[(Name, i128)], over: i128, left: &Operand, right: &Operand) -> bool
+    requires within { IsWithin 112 over }
+    ensures { result ≡ list_any is_nonzero (differences_over over left.now right.now parts.now) }
 {
     for part in parts {
-        if difference(left, right, &part.0) != 0 {
+        if difference(over, left, right, &part.0) != 0 {
             return true;
         }
     }
@@ -122,18 +151,19 @@ fn some_part(parts: &[(Name, i128)], left: &Operand, right: &Operand) -> bool
 }
 
 /// Whether a name of the operand has a coefficient other than 0 in the difference of the two sides.
-fn some_coefficient(operand: &Operand, left: &Operand, right: &Operand) -> bool
-    ensures { result ≡ list_any is_nonzero (differences left.now right.now (parts_of operand.now)) }
+fn some_coefficient(operand: &Operand, over: i128, left: &Operand, right: &Operand) -> bool
+    requires within { IsWithin 112 over }
+    ensures { result ≡ list_any is_nonzero (differences_over over left.now right.now (parts_over over operand.now)) }
 {
     match operand {
-        Operand::Single(name) => difference(left, right, name) != 0,
-        Operand::Sum(term) => some_part(&term.parts.list, left, right),
+        Operand::Single(name) => difference(over, left, right, name) != 0,
+        Operand::Sum(term) => some_part(&term.parts.list, over, left, right),
         Operand::Quoted(_) => false,
     }
 }
 
 /// Whether the number is above 2^63 - 1 in magnitude when it is divided by a divisor that isn't 0.
-fn is_long_over(by: u128, number: i128) -> bool
+pub fn is_long_over(by: u128, number: i128) -> bool
     ensures { result ≡ is_long_over by number }
 {
     by != 0 && number.unsigned_abs() / by >= TOO_GREAT
@@ -141,11 +171,12 @@ fn is_long_over(by: u128, number: i128) -> bool
 
 /// Whether a name of the parts has a coefficient, in the difference of the two sides, that is above 2^63 - 1 in
 /// magnitude when it is divided by the divisor.
-fn long_part(by: u128, parts: &[(Name, i128)], left: &Operand, right: &Operand) -> bool
-    ensures { result ≡ list_any (is_long_over by) (differences left.now right.now parts.now) }
+fn long_part(by: u128, parts: &[(Name, i128)], over: i128, left: &Operand, right: &Operand) -> bool
+    requires within { IsWithin 112 over }
+    ensures { result ≡ list_any (is_long_over by) (differences_over over left.now right.now parts.now) }
 {
     for part in parts {
-        if is_long_over(by, difference(left, right, &part.0)) {
+        if is_long_over(by, difference(over, left, right, &part.0)) {
             return true;
         }
     }
@@ -154,12 +185,19 @@ fn long_part(by: u128, parts: &[(Name, i128)], left: &Operand, right: &Operand) 
 
 /// Whether a name of the operand has a coefficient, in the difference of the two sides, that is above 2^63 - 1 in
 /// magnitude when it is divided by the divisor.
-fn long_coefficient(by: u128, operand: &Operand, left: &Operand, right: &Operand) -> bool
-    ensures { result ≡ list_any (is_long_over by) (differences left.now right.now (parts_of operand.now)) }
+fn long_coefficient(
+    by: u128,
+    operand: &Operand,
+    over: i128,
+    left: &Operand,
+    right: &Operand,
+) -> bool
+    requires within { IsWithin 112 over }
+    ensures { result ≡ list_any (is_long_over by) (differences_over over left.now right.now (parts_over over operand.now)) }
 {
     match operand {
-        Operand::Single(name) => is_long_over(by, difference(left, right, name)),
-        Operand::Sum(term) => long_part(by, &term.parts.list, left, right),
+        Operand::Single(name) => is_long_over(by, difference(over, left, right, name)),
+        Operand::Sum(term) => long_part(by, &term.parts.list, over, left, right),
         Operand::Quoted(_) => false,
     }
 }
@@ -168,29 +206,32 @@ fn long_coefficient(by: u128, operand: &Operand, left: &Operand, right: &Operand
 
 /// Whether some name has a coefficient other than 0 in the difference of the two sides.
 #[tactic(auto, using(crate::proofs::LongLists::any_split))]
-fn has_coefficient(left: &Operand, right: &Operand) -> bool
-    ensures { result ≡ list_any is_nonzero (row_coefs left.now right.now) }
+fn has_coefficient(over: i128, left: &Operand, right: &Operand) -> bool
+    requires within { IsWithin 112 over }
+    ensures { result ≡ list_any is_nonzero (row_coefs_over over left.now right.now) }
 {
-    some_coefficient(left, left, right) || some_coefficient(right, left, right)
+    some_coefficient(left, over, left, right) || some_coefficient(right, over, left, right)
 }
 
 /// The greatest common divisor of the constant and of all coefficients in the difference of the two sides.
 #[tactic(auto, using(crate::proofs::LongLists::gcd_split))]
-fn row_divisor(constant: i128, left: &Operand, right: &Operand) -> u128
+fn row_divisor(constant: i128, over: i128, left: &Operand, right: &Operand) -> u128
+    requires within { IsWithin 112 over }
     requires short { IsShort constant }
-    ensures { result ≡ gcd_all (constant ∷ row_coefs left.now right.now) }
+    ensures { result ≡ gcd_all (constant ∷ row_coefs_over over left.now right.now) }
 {
-    let by = divisor(gcd(0, constant), left, left, right);
-    divisor(by, right, left, right).unsigned_abs()
+    let by = divisor(gcd(0, constant), left, over, left, right);
+    divisor(by, right, over, left, right).unsigned_abs()
 }
 
 /// Whether some coefficient in the difference of the two sides is above 2^63 - 1 in magnitude when it is divided by the
 /// divisor.
 #[tactic(auto, using(crate::proofs::LongLists::any_split))]
-fn has_long_coefficient(by: u128, left: &Operand, right: &Operand) -> bool
-    ensures { result ≡ list_any (is_long_over by) (row_coefs left.now right.now) }
+fn has_long_coefficient(by: u128, over: i128, left: &Operand, right: &Operand) -> bool
+    requires within { IsWithin 112 over }
+    ensures { result ≡ list_any (is_long_over by) (row_coefs_over over left.now right.now) }
 {
-    long_coefficient(by, left, left, right) || long_coefficient(by, right, left, right)
+    long_coefficient(by, left, over, left, right) || long_coefficient(by, right, over, left, right)
 }
 
 /// Whether the normal row of the difference of the two sides has a number above 2^63 - 1 in magnitude. A row without
@@ -198,12 +239,13 @@ fn has_long_coefficient(by: u128, left: &Operand, right: &Operand) -> bool
 fn is_long_row(left: &Operand, right: &Operand) -> bool
     ensures { result ≡ is_long_row (row_coefs left.now right.now) (row_constant left.now right.now) }
 {
-    if !has_coefficient(left, right) {
+    let over = denominator(left, right);
+    if !has_coefficient(over, left, right) {
         return false;
     }
     let constant = minus(constant_of(left), constant_of(right));
-    let by = row_divisor(constant, left, right);
-    is_long_over(by, constant) || has_long_coefficient(by, left, right)
+    let by = row_divisor(constant, over, left, right);
+    is_long_over(by, constant) || has_long_coefficient(by, over, left, right)
 }
 
 /// Whether the operand is a quoted text.
@@ -221,47 +263,6 @@ fn is_long_comparison(left: &Operand, right: &Operand) -> bool
     ensures { result ≡ is_long_comparison left.now right.now }
 {
     !is_quoted(left) && !is_quoted(right) && is_long_row(left, right)
-}
-
-/// Whether the number is above 2^63 - 1 in magnitude.
-fn is_long(number: i128) -> bool
-    ensures { result ≡ is_long number }
-{
-    number.unsigned_abs() >= TOO_GREAT
-}
-
-/// Whether a coefficient among the parts is above 2^63 - 1 in magnitude.
-fn some_long_part(parts: &[(Name, i128)]) -> bool
-    ensures { result ≡ list_any (λ p. is_long p.1) parts.now }
-{
-    for part in parts {
-        if is_long(part.1) {
-            return true;
-        }
-    }
-    false
-}
-
-/// Whether the operand is a sum with a number above 2^63 - 1 in magnitude.
-fn is_long_argument(operand: &Operand) -> bool
-    ensures { result ≡ is_long_argument operand.now }
-{
-    match operand {
-        Operand::Sum(term) => some_long_part(&term.parts.list) || is_long(term.constant),
-        Operand::Single(_) | Operand::Quoted(_) => false,
-    }
-}
-
-/// Whether one of the operands is a sum with a number above 2^63 - 1 in magnitude.
-fn some_long_argument(operands: &[Operand]) -> bool
-    ensures { result ≡ list_any is_long_argument operands.now }
-{
-    for operand in operands {
-        if is_long_argument(operand) {
-            return true;
-        }
-    }
-    false
 }
 
 // ---- formulas
