@@ -1,6 +1,6 @@
 //! Sums of slots, and the rows of their differences.
-ghost use Rattle.std.specs.Prelude.{◌≡◌, ◌≢◌, ◌<ℤ◌, neg_ℤ, pos, [], ◌∷◌, IfOk};
-ghost use Rattle.ded_num.specs.Length.{IsWithin, IsShort};
+ghost use Rattle.std.specs.Prelude.{◌≡◌, ◌<ℤ◌, neg_ℤ, pos, [], ◌∷◌, IfOk};
+ghost use Rattle.ded_num.specs.Length.{IsWithin};
 ghost use Rattle.ded_model.specs.declared.slot.Sort.TheVariants.{Rat};
 ghost use Rattle.ded_model.specs.declared.formula.Operand.TheVariants.{Sum};
 ghost use Rattle.ded_model.specs.Sum.{ArePartsWithin};
