@@ -4,14 +4,13 @@ use Rattle.std.specs.Prelude.{None, Some, is_some, is_none, ◌==◌, ◌||◌, 
 use Rattle.std.specs.List.{list_any}
 use Rattle.std.specs.declared.option.Option.{Option}
 use Rattle.std.specs.Option.{unwrap_or}
-use Rattle.ded_model.specs.declared.certificate.Entry.{Entry}
 use Rattle.std.proofs.lemmas.Bool.Decides.{nat_tests}
 use Rattle.ded_model.specs.declared.command.Refusal.TheVariants.{Many, Twice, Unknown, Taken, Kind, Arity, Unbound, WrongSort, Used, NoTuple, Level, Memory}
 use Rattle.ded_model.specs.declared.formula.Formula.{Formula}
 use Rattle.ded_model.specs.declared.goal.Goal.{Goal}
 use Rattle.ded_model.specs.declared.name.Column.{Column}
 use Rattle.ded_model.specs.Catalogue.{Catalogue}
-use Rattle.ded_model.specs.Command.{CommandForm, header, relation, insert, delete, drop, view, keep, show, box_of, dump, disjoint, verify}
+use Rattle.ded_model.specs.Command.{CommandForm, relation, insert, delete, drop, view, keep, show, box_of}
 use Rattle.ded_model.specs.Form.{Form, FormAtom, form}
 use Rattle.ded_model.specs.Goal.{goal_form}
 use Rattle.ded_model.specs.Known.{Known, IsNewName, IsAccepted, IsTupleOver, level_of, is_many, has_twice, uses_unknown, has_other_arity, has_unbound, has_missorted}
@@ -62,6 +61,10 @@ at_most : (n : ℕ) → nat_lt 16 n ≡ false → n ≤ 16
 at_most n e = grind (arith, nat_tests)
 
 -- ---- commands
+
+abbrev pub is_insert : Checked → Bool
+is_insert (checked.Insert n t) = true
+is_insert _ = false
 
 module _ (c : Catalogue) where
   new_relation : (n : List ℕ) (h : List Column) → HasNoCause c (relation n h) → NamesPlainly (relation n h) → IsNewName (known c) n × (length h ≤ 16)
@@ -236,21 +239,10 @@ module _ (c : Catalogue) where
 
   -- ---- commands that aren't answered yet
 
-  left_header : (x : CommandForm) → IsResolved c x checked.Header → refusal_left c x ≡ None
-  left_header header r = refl
-  left_header _ r = absurd r
-
-  left_dump : (x : CommandForm) → IsResolved c x checked.Dump → refusal_left c x ≡ None
-  left_dump dump r = refl
-  left_dump _ r = absurd r
-
-  left_disjoint : (x : CommandForm) (n m : List ℕ) → IsResolved c x (checked.Disjoint n m) → refusal_left c x ≡ None
-  left_disjoint (disjoint k l) n m r = refl
-  left_disjoint _ n m r = absurd r
-
-  left_verify : (x : CommandForm) (n m : List ℕ) (es : Vec Entry) → IsResolved c x (checked.Verify n m es) → refusal_left c x ≡ None
-  left_verify (verify k l fs) n m es r = refl
-  left_verify _ n m es r = absurd r
+  pub left : (x : CommandForm) (k : Checked) → IsResolved c x k → is_insert k ≡ false → refusal_left c x ≡ None
+  left (insert n fs) (checked.Insert m t) r e = absurd (true≢false e)
+  left (insert n fs) _ r e = absurd r
+  left _ k r e = refl
 
   -- what is refused for nothing may be refused as out of memory
   pub wanting : (x : CommandForm) → refusal_left c x ≡ None → Carries x c (refused Memory) c

@@ -14,7 +14,7 @@ use Rattle.ded_model.specs.Command.{CommandForm, relation, insert, delete, drop,
 use Rattle.ded_model.specs.Entries.{entry_of, entry_uses}
 use Rattle.ded_model.specs.Row.{Atom}
 use Rattle.ded_model.specs.Known.{IsWellFormed}
-use Rattle.ded_model.specs.Measure.{Measure, measures, IsTight}
+use Rattle.ded_model.specs.Measure.{Measure, measures, IsTight, stored_measures}
 use Rattle.ded_syntax.specs.Spelling.{Spells}
 use Rattle.ded_model.proofs.Members.{or_split}
 use Rattle.ded_sorts.specs.Causes.{has_cause}
@@ -26,7 +26,7 @@ use Rattle.ded_views.specs.Reaching.{reaches}
 use Rattle.ded_views.specs.Unaffected.{AreUnaffected}
 use Rattle.ded_views.proofs.Changing.{added, dropped, changed}
 use Rattle.ded_views.proofs.Unaffected.{unaffected}
-use Rattle.ded_views.proofs.Views.{name_measure}
+use Rattle.ded_views.proofs.Views.{stored_measure}
 use Rattle.ded_database.specs.declared.mark.Mark.{Mark}
 use Rattle.ded_database.specs.Marks.{IsMark}
 use Rattle.ded_database.specs.Held.{held_under, is_marked}
@@ -54,10 +54,10 @@ marked_entry c (m ∷ ms) v k e =
     ]
 
 -- a view that is the same is tight where it was
-same_tight : (c d : Catalogue) → IsWellFormed c → IsWellFormed d → (v : List ℕ) → entry_of d.entries v ≡ entry_of c.entries v → measures d v ≡ measures c v → IsTightView d v → IsTightView c v
-unfolding IsTight
+same_tight : (c d : Catalogue) → IsWellFormed c → IsWellFormed d → (v : List ℕ) → entry_of d.entries v ≡ entry_of c.entries v → stored_measures d v ≡ stored_measures c v → IsTightView d v → IsTightView c v
+unfolding IsTight measures
 same_tight c d w x v e m t own h f i =
-    ap (λ (y : Measure). y.clash) (sym (name_measure c w v (entry.view own h f) i) ∙ sym m ∙ name_measure d x v (entry.view own h f) (e ∙ i)) ∙ t own h f (e ∙ i)
+    ap (λ (y : Measure). y.clash) (sym (stored_measure c w v (entry.view own h f) i) ∙ sym m ∙ stored_measure d x v (entry.view own h f) (e ∙ i)) ∙ t own h f (e ∙ i)
 
 module _ (s t : State) (v : List ℕ) (a : IsSound s) (b : IsSound t) where
   -- ---- lists that a statement has made

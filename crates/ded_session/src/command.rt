@@ -10,6 +10,7 @@ ghost use Rattle.ded_session.specs.Answered.{reply_form};
 ghost use Rattle.ded_session.specs.Carrying.{Answers, Carries, IsReady};
 ghost use Rattle.ded_session.specs.Keeping.{Upholds};
 ghost use Rattle.ded_session.specs.PlainNames.{NamesPlainly};
+ghost use Rattle.ded_session.specs.Replies.{refused};
 
 use crate::boxes::bounds;
 use crate::changes::{define, define_view, delete, drop_name, insert, keep};
@@ -57,9 +58,17 @@ fn carry_out(alloc: Global, command: Checked, database: &mut Database) -> Reply
         Checked::Show(name) => show(alloc, database.catalogue(), &name),
         Checked::BoxOf(name) => reply_of(bounds(alloc, database.catalogue(), &name)),
         Checked::Explain(_, goal) => reply_of(steps(alloc, &goal)),
+        Checked::Header => unanswered(),
+        Checked::Dump => unanswered(),
+        Checked::Disjoint(_, _) => unanswered(),
+        Checked::Verify(_, _, _) => unanswered(),
         Checked::Keep(name) => keep(database, &name),
-        Checked::Header | Checked::Dump | Checked::Disjoint(_, _) | Checked::Verify(_, _, _) => {
-            Reply::Refused(Refusal::Memory)
-        }
     }
+}
+
+/// The reply to a command that no statement spells yet: it counts as out of memory.
+fn unanswered() -> Reply
+    ensures { reply_form result ≡ refused Refusal.Memory }
+{
+    Reply::Refused(Refusal::Memory)
 }
