@@ -6,9 +6,9 @@
 //! Where much is taken away, each conjunction and each piece has a box around it, and most pieces are passed over as their boxes
 //! share no value; and a long piece drops the atoms that its last one implies.
 //!
-//! It stands on `ded_theory` for atoms, on `ded_genrel` for lists of conjunctions, and on `ded_genrel` and `ded_box` for the boxes. Each result holds exactly where the
-//! operation on sets says. The pieces of a complement are disjoint, and where the operands' atoms aren't wide they are no more than
-//! the cells that those atoms realise.
+//! It stands on `ded_theory` for atoms, on `ded_genrel` for lists of conjunctions, and on `ded_genrel` and `ded_box` for the boxes.
+//! Each result holds exactly where the operation on sets says. The pieces of a complement are disjoint, and where the operands'
+//! atoms aren't wide they are no more than the cells that those atoms realise.
 #![tactic(auto)]
 
 mod boxed;

@@ -18,7 +18,7 @@ pub fn marks_reach()
     ensures { (c : Catalogue) (m : Mark) (n : List ℕ) → IsWellFormed c → IsMark c m → bytes_eq m.name n ≡ false → mark_reaches m n ≡ reaches c m.name n }
 {}
 
-/// Where a mark reaches no name beside that one, no other name in the view's formula reaches it.
+/// Where a mark reaches no name beside that one, no other name in the view's formula is made of one that reaches it.
 pub fn nothing_beside()
     ensures { (c : Catalogue) (m : Mark) (n : List ℕ) → (k : IsMark c m) → reaches_beside m n ≡ false
         → (other : List ℕ) → uses other k.formula ≡ true → bytes_eq other n ≡ false → reaches c (base other) n ≡ false }

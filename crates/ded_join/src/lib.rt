@@ -5,7 +5,7 @@
 //! pairs each conjunction of the first list with those only whose boxes share values with its own. [`join_inhabited`] keeps of
 //! these pairs only what some point may satisfy.
 //!
-//! It stands on `ded_genrel` for lists of conjunctions over any theory, on `ded_genrel` for the boxes, and on `ded_index` for the
+//! It stands on `ded_genrel` for lists of conjunctions over any theory and the boxes around them, and on `ded_index` for the
 //! look-ups.
 #![tactic(auto)]
 

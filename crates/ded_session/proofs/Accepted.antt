@@ -190,8 +190,7 @@ module _ (c : Catalogue) where
     ready_view n h f g e =
         let r = subst (IsReady c) e ready in
         let v = view_is r.written n h f g r.resolved in
-        let a = subst (HasNoCause c) v.0 r.accepted in
-        (
+        let a = subst (HasNoCause c) v.0 r.accepted in (
           (none_of (known c n) (a Taken refl), unmade n (subst NamesPlainly v.0 r.named).0),
           accepted h (form f) (a Many refl) (a Twice refl) (a Unknown refl) (a Arity refl) (a Unbound refl) (a WrongSort refl),
           at_most (level_of (known c) (form f)) (a Level refl),

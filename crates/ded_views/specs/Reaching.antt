@@ -1,4 +1,4 @@
--- Which names a name reaches: itself, and where it is a view, what the names in its formula reach.
+-- Which names a name reaches: itself, and where it is a view, what the names that its formula speaks of reach.
 use Rattle.std.specs.Prelude.{ℕ, Bool, false, ◌||◌, List, [], ◌∷◌, if◌then◌else◌}
 use Rattle.std.specs.Str.{bytes_eq}
 use Rattle.ded_model.specs.Logic.{some_atom}
@@ -11,7 +11,7 @@ abbrev pub atom_reaches : (List ℕ → List ℕ → Bool) → List ℕ → Form
 atom_reaches R m (compare l op r) = false
 atom_reaches R m (member k ts) = R (base k) m
 
--- a relation reaches itself; a view itself, and what a name in its formula reaches
+-- a relation reaches itself; a view itself, and what a name that its formula speaks of reaches
 abbrev pub entry_reaches : (List ℕ → List ℕ → Bool) → Entry → List ℕ → Bool
 entry_reaches R (relation n h i ts) m = bytes_eq n m
 entry_reaches R (view n h f) m = bytes_eq n m || some_atom (atom_reaches R m) f

@@ -84,8 +84,8 @@ pub fn goal_names()
     ensures { (h : List Column) (f : Form) (n : List ℕ) → goal_uses n (goal_of h f) ≡ uses n f }
 {}
 
-/// What a name of a well formed catalogue reaches: a relation itself, and a view itself and what a name in its formula reaches. A name that
-/// isn't defined reaches none.
+/// What a name of a well formed catalogue reaches: a relation itself, and a view itself and what a name that its formula speaks
+/// of reaches. A name that isn't defined reaches none.
 pub fn reached()
     ensures relation { (c : Catalogue) → IsWellFormed c → (n m : List ℕ) (h : List Column) (i : ℕ) (ts : List (ℕ × List Atom)) → entry_of c.entries n ≡ Some (relation m h i ts)
         → (r : List ℕ) → reaches c n r ≡ bytes_eq n r }
