@@ -1,6 +1,6 @@
 -- What is kept of a list of tuples.
-use Rattle.std.specs.Prelude.{◌≡◌, ◌⊎◌, Option, None, Some, List, [], ◌∷◌, ◌++◌}
-use Rattle.std.specs.List.{AllByRecursion, Contains}
+use Rattle.std.specs.Prelude.{◌≡◌, ◌⊎◌, Option, None, Some, List, [], ◌∷◌}
+use Rattle.std.specs.List.{AllByRecursion}
 use Rattle.ded_model.specs.Cell.{IsReduced}
 use Rattle.ded_model.specs.Point.{Point, IsPoint}
 use Rattle.ded_model.specs.Row.{Atom, atom_holds, tuple_holds, tuples_hold}
@@ -8,10 +8,6 @@ use Rattle.ded_model.specs.Normal.{IsNormalTuple}
 use Rattle.ded_model.specs.Width.{IsNarrowList}
 use Rattle.ded_theory.specs.Verdicts.{HoldsNowhere}
 use Rattle.ded_reduce.specs.Kept.{IsSublist}
-
--- the tuple stands at the end of the new list, or it was known and nothing was added
-abbrev pub IsAdded : List Atom → List (List Atom) → List (List Atom) → Type 0
-IsAdded t old new = (new ≡ old ++ t ∷ []) ⊎ (new ≡ old) × Contains old t
 
 -- the first tuples are parts of some of the second ones, in the same order
 abbrev pub ArePartsOf : List (List Atom) → List (List Atom) → Type 0

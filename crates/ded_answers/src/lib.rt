@@ -5,14 +5,13 @@
 //!
 //! It stands on `ded_reduce` over the atoms of `ded_atoms`. What is left holds at the same points, is in normal form, and has no
 //! new slots or lines; each tuple that is narrow holds somewhere, and without any one of its atoms it would hold at further points.
-//! That no two tuples are equal is a matter of speed and of short answers, and is promised nowhere.
+//! No tuple stands twice.
 #![tactic(auto)]
 
 mod closed;
 mod own_slots;
 mod reduction;
 mod repeated;
-mod sameness;
 
 pub use closed::holds_everywhere;
 pub use reduction::reduced;

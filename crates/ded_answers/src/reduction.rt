@@ -1,6 +1,6 @@
 //! Tuples without superfluous atoms.
-ghost use Rattle.std.specs.Prelude.{◌≡◌, true, IfOk};
-ghost use Rattle.std.specs.List.{AllByRecursion};
+ghost use Rattle.std.specs.Prelude.{◌≡◌, ◌≢◌, true, IfOk};
+ghost use Rattle.std.specs.List.{AllByRecursion, AllPairs};
 ghost use Rattle.ded_model.specs.declared.slot.Slot.{Slot};
 ghost use Rattle.ded_model.specs.Point.{Point, IsPoint};
 ghost use Rattle.ded_model.specs.Row.{atom_holds, tuples_hold, tuples_mention};
@@ -19,7 +19,7 @@ use ded_reduce::{Reduced, reduce};
 use std::alloc::Global;
 
 /// Tuples that hold at the same points, with nothing superfluous, in the same order: each is one of the tuples without the atoms
-/// that its others imply. Tuples that are found to hold nowhere are dropped, and of equal tuples the first one is kept. Each
+/// that its others imply. Tuples that are found to hold nowhere are dropped, and of equal tuples the first one is kept, so that none stands twice. Each
 /// tuple that is narrow holds somewhere, and each of its atoms is needed: without it the others hold at a point at which it
 /// doesn't.
 ///
@@ -28,6 +28,7 @@ use std::alloc::Global;
 pub fn reduced(alloc: Global, tuples: Tuples) -> Result<Tuples, NoMemory>
     ensures holds { IfOk result (λ ts. (p : Point) → IsPoint p → tuples_hold ts p ≡ tuples_hold tuples p) }
     ensures kept { IfOk result (λ ts. ArePartsOf ts tuples) }
+    ensures once { IfOk result (λ ts. AllPairs (λ t u. t ≢ u) ts) }
     ensures slots { IfOk result (λ ts. (s : Slot) → tuples_mention ts s ≡ true → tuples_mention tuples s ≡ true) }
     ensures lines { IfOk result (λ ts. IsSubset (tuples_lines ts) (tuples_lines tuples)) }
     ensures normal { IfOk result (λ ts. AllByRecursion IsNormalTuple ts) }

@@ -1,7 +1,7 @@
 -- What a question is answered.
-use Rattle.std.proofs.Common.{◌≡◌, ℕ, ◌≤◌, arith, Bool, true, false, List, [], ◌∷◌, sym, ap, ◌∙◌, subst, true≢false}
+use Rattle.std.proofs.Common.{◌≡◌, ◌≢◌, ℕ, ◌≤◌, arith, Bool, true, false, List, [], ◌∷◌, sym, ap, ◌∙◌, subst, true≢false}
 use Rattle.std.specs.Prelude.{◌↔◌, IsTrue}
-use Rattle.std.specs.List.{AllByRecursion}
+use Rattle.std.specs.List.{AllByRecursion, AllPairs}
 use Rattle.std.proofs.lemmas.Bool.{false_from_ne_true}
 use Rattle.ded_model.specs.declared.slot.Slot.{Slot}
 use Rattle.ded_model.specs.declared.name.Column.{Column}
@@ -57,10 +57,11 @@ closed_truth c g f ts b q e all =
 -- ---- answers
 
 pub answer_is : (c : Catalogue) (h : List Column) (g : GoalForm) (f : Form) (ts : List (List Atom)) → IsQuestion c h g f → IsEvaluated c g ts → AllByRecursion IsNormalTuple ts
-    → AllByRecursion (λ t. IsNarrowList t → IsReduced atom_holds t) ts → IsAnswer c h f ts
-answer_is c h g f ts q e k r = record {
+    → AllByRecursion (λ t. IsNarrowList t → IsReduced atom_holds t) ts → AllPairs (λ t u. t ≢ u) ts → IsAnswer c h f ts
+answer_is c h g f ts q e k r once = record {
   over = evaluated_over c h g f ts q e k;
   holds = λ d xs i a. evaluated_holds c h g f ts q e d xs i (byte_arguments h xs a);
   reduced = r;
+  once = once;
   lines = λ l i. subst (λ x. In l (goal_lines (measures c) x)) q.goal (e.lines l i);
 }

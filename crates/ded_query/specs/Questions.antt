@@ -1,6 +1,6 @@
 -- Questions over a catalogue, and their answers.
-use Rattle.std.specs.Prelude.{◌≡◌, ◌↔◌, ◌<◌, ℕ, IsTrue, List}
-use Rattle.std.specs.List.{AllByRecursion}
+use Rattle.std.specs.Prelude.{◌≡◌, ◌≢◌, ◌↔◌, ◌<◌, ℕ, IsTrue, List}
+use Rattle.std.specs.List.{AllByRecursion, AllPairs}
 use Rattle.ded_model.specs.declared.name.Column.{Column}
 use Rattle.ded_model.specs.Catalogue.{Catalogue, at_slots, at_names, Holds}
 use Rattle.ded_model.specs.Cell.{IsReduced}
@@ -22,10 +22,11 @@ pub record IsQuestion (c : Catalogue) (h : List Column) (g : GoalForm) (f : Form
   pub accepted : IsAccepted (known c) h f
 
 -- normal tuples over the heading that hold exactly where the formula does, column i at slot i standing for its name;
--- each narrow one has nothing superfluous; and their lines are among those of the formula
+-- each narrow one has nothing superfluous, and none stands twice; and their lines are among those of the formula
 pub record IsAnswer (c : Catalogue) (h : List Column) (f : Form) (ts : List (List Atom)) : Type 0 where
   pub over : AllByRecursion (IsTupleOver h) ts
   pub holds : (d : ℕ) (xs : List Argument) → 0 < d → AreArguments h xs
       → IsTrue (tuples_hold ts (record { den = d; coords = at_slots 0 h xs })) ↔ Holds c f (record { den = d; coords = at_names h xs })
   pub reduced : AllByRecursion (λ t. IsNarrowList t → IsReduced atom_holds t) ts
+  pub once : AllPairs (λ t u. t ≢ u) ts
   pub lines : IsSubset (tuples_lines ts) (goal_lines (measures c) (goal_of h f))

@@ -52,7 +52,7 @@ pub fn is_true(
 }
 
 /// Normal tuples over the heading that hold exactly where a formula does, given as its goal. Each narrow one has nothing
-/// superfluous. What is held of views is read in their place, and is the same after it.
+/// superfluous, and none stands twice. What is held of views is read in their place, and is the same after it.
 ///
 /// # Errors
 /// `Wide` only where the formula isn't tight, otherwise out of memory.

@@ -1,22 +1,27 @@
-use Rattle.std.proofs.Common.{◌∙◌, sym, subst}
+use Rattle.std.proofs.Common.{◌≡◌, ◌≢◌, ◌∙◌, sym, subst}
+use Rattle.std.specs.List.{AllPairs}
+use Rattle.std.proofs.lemmas.Iterator.{items_from_drains}
 use Rattle.std.proofs.lemmas.Iterator.Adapters.{YieldsList-from_vec}
-use Rattle.std.proofs.lemmas.Iterator.Consumers.{YieldsList-end}
 use Rattle.std.proofs.lemmas.List.{map-id}
-use Rattle.ded_reduce.proofs.Sublists.{sublist_refl}
+use Rattle.std.proofs.lemmas.Map.Made.{AllPairs-from_IsDistinct}
+use Rattle.indexmap.proofs.CallerLemmas.{Drains-YieldsInOrder}
 use Rattle.ded_answers.proofs.Parts.{sublist_parts, parts_slots, parts_lines}
-use Rattle.ded_answers.proofs.Reducing.{IsDistinctPart, distinct_more}
+use Rattle.ded_answers.proofs.Reducing.{IsDistinctPart, distinct_listed}
 use Rattle.ded_answers.proofs.repeated.distinct.Goals as goal
-
-pub returns-then-len-lt2-clause-kept : goal.returns-then-len-lt2-clause-kept
-returns-then-len-lt2-clause-kept c = sublist_refl c.args.tuples
-
-pub loop-tuple-preserved : goal.loop-tuple-preserved
-loop-tuple-preserved c = distinct_more c.loop-tuple.yielded c.loop-tuple.seen.tuples.items c.add.new.self.tuples.items c.in-Some.tuple c.in_ok-add.ensures c.loop-tuple.invariant
 
 pub returns : goal.returns
 returns c =
-    let gives = c.into_iter-tuple-iterator.ensures.into_iter_gives in
-    let all = YieldsList-end (YieldsList-from_vec c.tuples.inside.list.items gives.0 (gives.1 ∙ c.tuples.inside.list.ok.0)) c.loop-tuple.yielded c.loop-tuple.tuple-iterator c.loop-tuple.yielded_by c.next.result c.next.new.self c.in-None.is c.next.ensures.steps in
-    let part : IsDistinctPart c.loop-tuple.seen.tuples.items c.args.tuples = subst (IsDistinctPart c.loop-tuple.seen.tuples.items) (sym (map-id c.loop-tuple.yielded) ∙ all.0 ∙ c.tuples.view_is) c.loop-tuple.invariant in
-    let parts = sublist_parts c.loop-tuple.seen.tuples.items c.args.tuples part.kept in
-    record { holds = part.holds; kept = part.kept; slots = parts_slots c.loop-tuple.seen.tuples.items c.args.tuples parts; lines = parts_lines c.loop-tuple.seen.tuples.items c.args.tuples parts }
+    let ran = c.in_ok-once.ensures.ran in
+    let all : ran.1 ≡ c.args.tuples = sym (map-id ran.1) ∙ items_from_drains ran.1 ran.3 (YieldsList-from_vec c.tuples.inside.list.items ran.2.0 (ran.2.1 ∙ c.tuples.inside.list.ok.0)) ∙ c.tuples.view_is in
+    let gone = c.in_ok-list.ensures.ran in
+    let listed = Drains-YieldsInOrder _ _ gone.0 gone.1 gone.2.2 ((gone.3.2 tt).0, (gone.3.0, gone.3.1, (gone.3.2 tt).1)) ∙ gone.2.0 in
+    let same : c.in_ok-list.list.items ≡ c.in_ok-once.once.keys = gone.4.0 ∙ listed in
+    let part : IsDistinctPart c.in_ok-list.list.items c.args.tuples = distinct_listed _ (λ t u. (c.equality.ensures t u).0) c.args.tuples ran.1 c.in_ok-once.once.keys c.in_ok-list.list.items all ran.4.0 same in
+    let parts = sublist_parts c.in_ok-list.list.items c.args.tuples part.kept in
+    record {
+      holds = part.holds;
+      kept = part.kept;
+      once = subst (AllPairs (λ t u. t ≢ u)) (sym same) (AllPairs-from_IsDistinct c.equality.ensures c.in_ok-once.once.keys ran.4.1.1);
+      slots = parts_slots c.in_ok-list.list.items c.args.tuples parts;
+      lines = parts_lines c.in_ok-list.list.items c.args.tuples parts;
+    }
