@@ -7,4 +7,5 @@ pub mod GoalReaches
 pub mod AscendingGoals
 pub mod NameReaches
 pub mod FormulaReaches
+pub mod AnswerReaches
 mod WorkedWidths

@@ -33,7 +33,7 @@ coef_within (x ∷ cs) s k a h = go (same_slot x.0 s) refl (coef_within cs s k a
     go false e ih = subst (IsWithin k) (sym (coef_at-past s x cs e)) ih
 
 -- a slot of ascending coefficients is rational
-slot_rational : (cs : List (Slot × ℤ)) (t : Slot) → AreAscending cs → has_slot cs t ≡ true → t.sort ≡ Rat
+pub slot_rational : (cs : List (Slot × ℤ)) (t : Slot) → AreAscending cs → has_slot cs t ≡ true → t.sort ≡ Rat
 slot_rational [] t a h = absurd (true≢false (sym h))
 slot_rational (c ∷ cs) t a h = elim (or_split (same_slot c.0 t) _ h) [
   | inl x ↦ subst (λ (u : Slot). u.sort ≡ Rat) (same_slot_is c.0 t x) a.0
@@ -56,7 +56,7 @@ atoms_in_reach (First r ∷ t) h = both _ _ _ _ _ _ _ _ (row_in_reach r h.0) (at
 atoms_in_reach (Second a ∷ t) h = atoms_in_reach t h
 
 -- what coefficients keep says that they ascend
-coefs_ascending : (cs : List (Slot × ℤ)) → AreCoefs cs → AreAscending cs
+pub coefs_ascending : (cs : List (Slot × ℤ)) → AreCoefs cs → AreAscending cs
 coefs_ascending [] h = tt
 coefs_ascending (c ∷ cs) h = (h.0, h.3, coefs_ascending cs h.4)
 

@@ -30,7 +30,7 @@ power_step q = let e : suc q ≡ q + 1 = omega arith in ap (λ n. 2 ^ n) e ∙ d
     double : (q : ℕ) → 2 ^ (q + 1) ≡ 2 ^ q + 2 ^ q
     double q = rw (pow-add 2 q 1) (omega arith)
 
-some_power : (b q : ℕ) → 0 < (b + 1) * 2 ^ q
+pub some_power : (b q : ℕ) → 0 < (b + 1) * 2 ^ q
 some_power b q = let h = pow_pos q in grind arith
 
 -- one more rational quantifier doubles it

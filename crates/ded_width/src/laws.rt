@@ -1,15 +1,18 @@
 //! What is narrow is tight.
-ghost use Rattle.std.specs.Prelude.{◌≡◌, ◌≤◌, false, List};
+ghost use Rattle.std.specs.Prelude.{◌≡◌, ◌+◌, ◌≤◌, false, List};
+ghost use Rattle.std.specs.List.{AllByRecursion};
 ghost use Rattle.ded_model.specs.declared.name.Column.{Column};
 ghost use Rattle.ded_model.specs.Form.{Form};
 ghost use Rattle.ded_model.specs.Goal.{GoalForm};
 ghost use Rattle.ded_model.specs.PlanForm.{PlanForm};
+ghost use Rattle.ded_model.specs.Row.{Atom};
 ghost use Rattle.ded_model.specs.Catalogue.{Catalogue};
 ghost use Rattle.ded_model.specs.Entries.{known};
-ghost use Rattle.ded_model.specs.Known.{KnownNames, IsAccepted, IsWellFormed, has_missorted};
+ghost use Rattle.ded_model.specs.Known.{KnownNames, IsAccepted, IsTupleOver, IsWellFormed, has_missorted};
+ghost use Rattle.ded_model.specs.Lines.{IsSubset, tuples_lines};
 ghost use Rattle.ded_model.specs.Slotted.{goal_of};
 ghost use Rattle.ded_model.specs.Measure.{Measures, goal_b, goal_rank, goal_lines, goal_clashes, plan_b, plan_rank, plan_lines, plan_clashes, measures, IsNarrow, IsTight};
-ghost use Rattle.ded_model.specs.Width.{IsNarrowWith};
+ghost use Rattle.ded_model.specs.Width.{IsNarrowWith, IsNarrowList, rational_columns};
 ghost use Rattle.ded_width.specs.Reach.{AreInReach, AreWithinReach, IsAscendingGoal, IsAscendingPlan};
 
 /// The lines of a plan have less than (b + 1) * 2 ^ q digits, b its greatest length and q its rank. Where that is narrow, no
@@ -51,4 +54,14 @@ pub fn formulas()
     ensures plans { (c : Catalogue) → IsWellFormed c → (h : List Column) (f : Form) → IsNarrow c h f → (plan : PlanForm) → IsAscendingPlan plan
         → plan_b (measures c) plan ≤ goal_b (measures c) (goal_of h f) → plan_rank (measures c) plan ≤ goal_rank (measures c) (goal_of h f)
         → plan_clashes (measures c) plan ≡ false }
+{}
+
+/// The tuples of an answer to a formula that is accepted over a well formed catalogue are narrow where (b + 1) * 2 ^ (q + k) is at most
+/// 128, for the greatest length b and the rank q of the formula and the k rational columns of its heading. So none of them has anything
+/// superfluous.
+pub fn answers()
+    ensures { (c : Catalogue) → IsWellFormed c → (h : List Column) (f : Form) → IsAccepted (known c) h f
+        → IsNarrowWith (goal_b (measures c) (goal_of h f)) (goal_rank (measures c) (goal_of h f) + rational_columns h)
+        → (ts : List (List Atom)) → AllByRecursion (IsTupleOver h) ts → IsSubset (tuples_lines ts) (goal_lines (measures c) (goal_of h f))
+        → AllByRecursion IsNarrowList ts }
 {}
