@@ -13,7 +13,7 @@ use Rattle.ded_model.specs.declared.command.Language.{Language}
 use Rattle.ded_model.specs.declared.command.Refusal.TheVariants.{Many, Twice}
 use Rattle.ded_model.specs.declared.name.Column.{Column}
 use Rattle.ded_model.specs.Catalogue.{Catalogue}
-use Rattle.ded_model.specs.Command.{CommandForm, relation, insert, delete, drop, view, keep, ask, query, show, box_of, explain}
+use Rattle.ded_model.specs.Command.{CommandForm, query}
 use Rattle.ded_model.specs.Form.{Form}
 use Rattle.ded_model.specs.Known.{IsTupleOver, is_many, has_twice}
 use Rattle.ded_model.specs.Row.{Atom}
@@ -62,16 +62,7 @@ module _ (l : Language) (c d : Catalogue) (piece : List ℕ) where
     where
       by : (x : CommandForm) → a.command ≡ x → Does x c (tuples k ts) d → IsAnswered k ts
       by (query h f) e so = query_answered h k f ts a e
-      by (relation n h) e so = absurd so
-      by (insert n fs) e so = absurd so
-      by (delete n i) e so = absurd so
-      by (drop n) e so = absurd so
-      by (view n h f) e so = absurd so
-      by (keep n) e so = absurd so
-      by (ask f) e so = absurd so
-      by (show n) e so = absurd so
-      by (box_of n) e so = absurd so
-      by (explain h f) e so = absurd so
+      by _ e so = absurd so
 
 answer_of : (l : Language) (c d : Catalogue) (s : Statement) (k : List Column) (ts : List (List Atom)) → Step l c s (tuples k ts) d → IsAnswered k ts
 answer_of l c d (Whole piece) k ts a = answered l c d piece k ts a
