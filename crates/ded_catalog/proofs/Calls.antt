@@ -31,6 +31,7 @@ use Rattle.ded_catalog.specs.declared.stored.Stored.{Stored}
 use Rattle.ded_catalog.specs.declared.stored.Stored.TheVariants as stored
 use Rattle.ded_catalog.specs.Changed.{ChangesRelation}
 use Rattle.ded_catalog.specs.Kept.{IsRight, AreKept, IsKept}
+use Rattle.ded_catalog.specs.Mentions.{AreMentions}
 use Rattle.ded_catalog.specs.State.{Table, entry_form, entry_forms, catalogue_of, stored_known, known_with, relation_at, level_at, atom_level_in}
 use Rattle.ded_catalog.specs.Tuples.{AreUpTo, refusal_of, IsSame, Pushes, Removes}
 use Rattle.ded_catalog.proofs.Agreeing.{left_false}
@@ -155,8 +156,8 @@ module _ (limit : ℕ) (es : List (List ℕ × Stored)) (n : List ℕ) (kept : I
 
   pub kept-viewed : (v : View) → IsNewName (known (catalogue_of t)) n → IsAccepted (known (catalogue_of t)) v.heading (form v.formula)
       → level_of (known (catalogue_of t)) (form v.formula) ≤ 16 → v.level ≡ level_of (known (catalogue_of t)) (form v.formula) → goal_form v.goal ≡ goal_of v.heading (form v.formula)
-      → IsPlain (form v.formula) → some_atom is_long_atom (form v.formula) ≡ false → IsKept limit (es ++ (n, stored.View v) ∷ [])
-  kept-viewed v h accepted low level goal plain short = kept-add limit es n (stored.View v) kept h (accepted, low) (level, goal, plain, short)
+      → IsPlain (form v.formula) → some_atom is_long_atom (form v.formula) ≡ false → AreMentions v.mentions.items (form v.formula) → IsKept limit (es ++ (n, stored.View v) ∷ [])
+  kept-viewed v h accepted low level goal plain short names = kept-add limit es n (stored.View v) kept h (accepted, low) (level, goal, plain, short, names)
 
   -- ---- a relation
 

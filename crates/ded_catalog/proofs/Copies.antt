@@ -4,6 +4,7 @@ use Rattle.std.specs.List.{AllZip}
 use Rattle.ded_model.specs.declared.name.Column.{Column}
 use Rattle.ded_model.specs.Catalogue.{Entry}
 use Rattle.ded_model.specs.Catalogue as entry
+use Rattle.ded_model.specs.Form.{Form}
 use Rattle.ded_model.specs.Known.{KnownNames, IsEntryOver, with_known, level_of}
 use Rattle.ded_model.specs.Logic.{some_atom}
 use Rattle.ded_model.specs.LongRows.{is_long_atom}
@@ -14,6 +15,7 @@ use Rattle.ded_catalog.specs.declared.stored.Stored.{Stored}
 use Rattle.ded_catalog.specs.declared.stored.Stored.TheVariants.{Relation, View}
 use Rattle.ded_catalog.specs.Copies.{IsCopy}
 use Rattle.ded_catalog.specs.Kept.{IsRight, AreKept, IsKept}
+use Rattle.ded_catalog.specs.Mentions.{AreMentions}
 use Rattle.ded_catalog.specs.State.{entry_form, entry_forms}
 
 abbrev pub AreCopies : List (List ℕ × Stored) → List (List ℕ × Stored) → Type 0
@@ -26,11 +28,14 @@ entry_copy n m (Relation r) (View w) e c = absurd c
 entry_copy n m (View v) (Relation s) e c = absurd c
 entry_copy n m (View v) (View w) e c = λ i. entry.view (e i) (c.0 i) (c.1 i)
 
+mentions_copy : (f g : Form) (ns ms : List (List ℕ)) → g ≡ f → ms ≡ ns → AreMentions ns f → AreMentions ms g
+mentions_copy f g ns ms e d h = subst (AreMentions ms) (sym e) (subst (λ l. AreMentions l f) (sym d) h)
+
 right_copy : (K : KnownNames) (s w : Stored) → IsCopy s w → IsRight K s → IsRight K w
 right_copy K (Relation r) (Relation s) c h = subst (λ (k : List Column). length k ≤ 16) (sym c.0) h
 right_copy K (Relation r) (View w) c h = absurd c
 right_copy K (View v) (Relation s) c h = absurd c
-right_copy K (View v) (View w) c h = (c.3 ∙ h.0 ∙ ap (level_of K) (sym c.1), c.2 ∙ h.1 ∙ (λ i. goal_of (sym c.0 i) (sym c.1 i)), subst IsPlain (sym c.1) h.2, ap (some_atom is_long_atom) c.1 ∙ h.3)
+right_copy K (View v) (View w) c h = (c.3 ∙ h.0 ∙ ap (level_of K) (sym c.1), c.2 ∙ h.1 ∙ (λ i. goal_of (sym c.0 i) (sym c.1 i)), subst IsPlain (sym c.1) h.2, ap (some_atom is_long_atom) c.1 ∙ h.3, mentions_copy _ _ _ _ c.1 c.4 h.4)
 
 pub forms_copy : (es fs : List (List ℕ × Stored)) → AreCopies es fs → entry_forms fs ≡ entry_forms es
 forms_copy [] [] c = refl

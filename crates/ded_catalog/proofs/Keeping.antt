@@ -99,7 +99,7 @@ over-without limit n K J k (View v) g u o =
 
 right-without : (n : List ℕ) (K J : KnownNames) (k : List ℕ) (s : Stored) → Agrees n K J → entry_uses n (entry_form k s) ≡ false → IsRight K s → IsRight J s
 right-without n K J k (Relation r) g u h = h
-right-without n K J k (View v) g u h = (h.0 ∙ level-agree n K J g (form v.formula) u, h.1, h.2, h.3)
+right-without n K J k (View v) g u h = (h.0 ∙ level-agree n K J g (form v.formula) u, h.1, h.2, h.3, h.4)
 
 -- a name that something is known of isn't one that nothing is known of
 other : (n k : List ℕ) (K : KnownNames) (b : Bool) → bytes_eq n k ≡ b → is_some (K n) ≡ true → K k ≡ None → bytes_eq n k ≡ false

@@ -1,6 +1,7 @@
 pub mod Agreeing
 pub mod Calls
 pub mod Copies
+pub mod Gathering
 pub mod Keeping
 pub mod Levels
 pub mod Lookups

@@ -1,5 +1,5 @@
 -- What a catalogue answers, over the table that it has.
-use Rattle.std.proofs.Common.{◌≡◌, ℕ, false, ◌||◌, List, [], ◌∷◌, map, Option, None, Some, refl, sym, ap, ◌∙◌, subst, bytes_eq}
+use Rattle.std.proofs.Common.{◌≡◌, ℕ, false, ◌||◌, List, [], ◌∷◌, map, Option, None, Some, refl, sym, ap, ◌∙◌, subst, bytes_eq, is_none, IfSome}
 use Rattle.std.specs.List.{list_any}
 use Rattle.std.specs.Map.{lookup}
 use Rattle.std.specs.Option.{option_map}
@@ -16,6 +16,7 @@ use Rattle.ded_catalog.specs.declared.stored.Stored.{Stored}
 use Rattle.ded_catalog.specs.declared.stored.View.{View}
 use Rattle.ded_catalog.specs.declared.stored.Stored.TheVariants as stored
 use Rattle.ded_catalog.specs.Kept.{IsKept, AreKept}
+use Rattle.ded_catalog.specs.Mentions.{AreMentions}
 use Rattle.ded_catalog.specs.State.{Table, entry_form, entry_forms, catalogue_of, known_with, relation_at, view_at, heading_at, stored_uses}
 use Rattle.ded_catalog.proofs.Calls.{is_known, at-kept}
 use Rattle.ded_catalog.proofs.Lookups.{split, entry_of-lookup}
@@ -34,6 +35,11 @@ formula_at : (n : List ℕ) (o : Option Stored) → option_map (λ v. form v.for
 formula_at n None = refl
 formula_at n (Some (stored.Relation r)) = refl
 formula_at n (Some (stored.View v)) = refl
+
+no_view_at : (n : List ℕ) (o : Option Stored) → is_none (view_at o) ≡ is_none (view_in (option_map (entry_form n) o))
+no_view_at n None = refl
+no_view_at n (Some (stored.Relation r)) = refl
+no_view_at n (Some (stored.View v)) = refl
 
 -- a relation that is found stands there
 pub relation_found : (o : Option Stored) (r : Relation) → Some r ≡ relation_at o → o ≡ Some (stored.Relation r)
@@ -78,6 +84,22 @@ module _ (limit : ℕ) (es : List (List ℕ × Stored)) (n : List ℕ) (kept : I
   -- the formula of a view is plain and short
   pub short_there : (v : View) → view_at (lookup (bytes_eq n) es) ≡ Some v → IsPlain (form v.formula) × (some_atom is_long_atom (form v.formula) ≡ false)
   short_there = short_at (lookup (bytes_eq n) es) refl
+
+  mentions_at : (o : Option Stored) → lookup (bytes_eq n) es ≡ o → (v : View) → view_at o ≡ Some v → IfSome (view_in (option_map (entry_form n) o)) (λ w. AreMentions v.mentions.items w.1)
+  mentions_at None e v h = absurd (none-some v h)
+  mentions_at (Some (stored.Relation r)) e v h = absurd (none-some v h)
+  mentions_at (Some (stored.View w)) e v h =
+      let s = split n (stored.View w) es e in
+      let at = at-kept limit n (stored.View w) s.before s.after (λ m. None) (subst (AreKept limit (λ m. None)) s.was kept.entries) in
+      subst (λ (x : View). AreMentions x.mentions.items (form w.formula)) (same_Some w v h) at.2.4
+
+  -- the names that the formula of a view speaks of
+  pub mentions_there : (v : View) → view_at (lookup (bytes_eq n) es) ≡ Some v → IfSome (view_in (entry_of (catalogue_of t).entries n)) (λ w. AreMentions v.mentions.items w.1)
+  mentions_there v h = subst (λ e. IfSome (view_in e) (λ w. AreMentions v.mentions.items w.1)) (sym (entry_of-lookup n es)) (mentions_at (lookup (bytes_eq n) es) refl v h)
+
+  -- whether it is no view
+  pub no_view_there : is_none (view_at (lookup (bytes_eq n) es)) ≡ is_none (view_in (entry_of (catalogue_of t).entries n))
+  no_view_there = no_view_at n (lookup (bytes_eq n) es) ∙ ap (λ e. is_none (view_in e)) (sym (entry_of-lookup n es))
 
   goal_at : (o : Option Stored) → lookup (bytes_eq n) es ≡ o → option_map (λ v. goal_form v.goal) (view_at o) ≡ option_map (λ v. goal_of v.0 v.1) (view_in (option_map (entry_form n) o))
   goal_at None e = refl

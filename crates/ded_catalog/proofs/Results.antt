@@ -28,6 +28,11 @@ pub not_err : {A E : Type 0} (r : Result A E) (G : Type 0) → is_err r ≡ fals
 not_err (Ok x) G h g = g
 not_err (Err e) G h g = absurd (true≢false h)
 
+-- what follows from a fact of an answer
+pub on_ok : {A E : Type 0} (r : Result A E) (G H : Type 0) → (G → H) → OnOk r G → OnOk r H
+on_ok (Ok x) G H f g = f g
+on_ok (Err e) G H f g = tt
+
 -- a fact that holds after either
 pub after : {A E X : Type 0} (r : Result A E) (P : X → Type 0) (new a b : X) → OnOk r (new ≡ a) → OnErr r (new ≡ b) → P a → P b → P new
 after (Ok x) P new a b ok err p q = subst P (sym ok) p

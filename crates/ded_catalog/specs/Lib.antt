@@ -3,6 +3,7 @@ pub mod Changing
 pub mod Copies
 pub mod Forms
 pub mod Kept
+pub mod Mentions
 pub mod Snapshots
 pub mod State
 pub mod Tuples

@@ -6,6 +6,7 @@ mod names;
 mod reads;
 
 use crate::hashing::NameHashing;
+use crate::mentions::mentioned;
 use crate::stored::{Relation, Stored, View};
 use crate::table::{Table, add, delete_from, insert_into, level_in, take_out};
 use ded_model::command::Refusal;
@@ -168,11 +169,13 @@ impl Catalogue {
         ensures err { OnErr result (catalogue_of self.new ≡ catalogue_of self.old) }
     {
         let level = level_in(&self.names, &f)? + 1;
+        let mentions = mentioned(*self.names.allocator(), *self.names.hasher(), &f)?;
         let view = Stored::View(View {
             heading,
             formula: f,
             goal: g,
             level,
+            mentions,
         });
         add(&mut self.names, name, view)
     }

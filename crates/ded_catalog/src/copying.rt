@@ -27,6 +27,7 @@ impl Clone for Stored {
                 formula: view.formula.copy()?,
                 goal: view.goal.copy()?,
                 level: view.level,
+                mentions: view.mentions.clone()?,
             })),
         }
     }

@@ -1,9 +1,10 @@
 //! The catalogue: the relations and views that the statements so far have defined.
 //!
 //! Names are found by their hash, and stand in order of definition. A relation has its tuples in ascending order of their
-//! numbers, a view its formula as written and the goal of it. Contracts see a [`Catalogue`] as the catalogue of
-//! `ded_model` that it stands for. It is well formed: names are new, tuples are normal and over their columns, views are
-//! accepted over the entries before them. Each change is one of `ded_sorts`, and a refused one changes nothing.
+//! numbers, a view its formula as written, the goal of it and the names that it speaks of. Contracts see a [`Catalogue`] as
+//! the catalogue of `ded_model` that it stands for. It is well formed: names are new, tuples are normal and over their
+//! columns, views are accepted over the entries before them. Each change is one of `ded_sorts`, and a refused one changes
+//! nothing.
 //!
 //! A [`Snapshot`] reads a catalogue as it is, or as it will be when a tuple is inserted into a relation or deleted from one. So
 //! what depends on the relations can be made anew before the change is. It borrows the catalogue and copies nothing. Contracts
@@ -16,6 +17,7 @@ mod catalogue;
 mod change;
 mod copying;
 mod hashing;
+mod mentions;
 mod relation;
 mod snapshot;
 mod stored;

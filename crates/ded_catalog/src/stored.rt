@@ -19,13 +19,15 @@ pub(crate) struct Relation {
     pub(crate) tuples: BTreeMap<u32, Tuple>,
 }
 
-/// A view: its heading, its formula as written, the goal of that, and its level.
+/// A view: its heading, its formula as written, the goal of that, its level, and the names that the formula speaks of, each
+/// once.
 #[derive(Drop)]
 pub(crate) struct View {
     pub(crate) heading: Heading,
     pub(crate) formula: Formula,
     pub(crate) goal: Goal,
     pub(crate) level: u32,
+    pub(crate) mentions: Vec<Name>,
 }
 
 /// What stands under a name.

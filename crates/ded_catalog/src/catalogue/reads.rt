@@ -1,5 +1,5 @@
 //! What a catalogue is asked. Only the copy allocates.
-ghost use Rattle.std.specs.Prelude.{◌≡◌, true, false, IfOk, IfSome, slice_get};
+ghost use Rattle.std.specs.Prelude.{◌≡◌, true, false, IfOk, IfSome, is_none, slice_get};
 ghost use Rattle.std.specs.Option.{option_map};
 
 use super::Catalogue;
@@ -23,6 +23,7 @@ impl Catalogue {
     ghost use Rattle.ded_model.specs.Slotted.{goal_of};
     ghost use Rattle.ded_sorts.specs.Causes.{insert_refusal, is_relation_with};
     ghost use Rattle.ded_model.specs.Entries.{known, entry_of, relation_in, view_in};
+    ghost use Rattle.ded_catalog.specs.Mentions.{AreMentions};
     ghost use Rattle.ded_catalog.specs.State.{catalogue_of};
 
     /// Every catalogue is well formed: each entry has a new name, the tuples of a relation are normal, over its columns
@@ -69,6 +70,18 @@ impl Catalogue {
     {
         match view_of(&self.names, name) {
             Some(view) => Some(&view.formula),
+            None => None,
+        }
+    }
+
+    /// The names that a view's formula speaks of, each once; a closure or an interior counts by the name that it is made of.
+    /// None exactly where the name is no view. It does not allocate.
+    pub fn mentions(&self, name: &Name) -> Option<&[Name]>
+        ensures none { is_none result ≡ is_none (view_in (entry_of (catalogue_of self.now).entries name.now)) }
+        ensures mentions { IfSome result (λ ns. IfSome (view_in (entry_of (catalogue_of self.now).entries name.now)) (λ v. AreMentions ns.now v.1)) }
+    {
+        match view_of(&self.names, name) {
+            Some(view) => Some(view.mentions.as_slice()),
             None => None,
         }
     }

@@ -25,5 +25,5 @@ invariant_of-self c =
     (subst (λ t. IsAccepted (known (catalogue_of t)) c.args.heading (form c.args.f)) (sym c.self.view_is) c.requires.accepted)
     (subst (λ t. level_of (known (catalogue_of t)) (form c.args.f) ≤ 16) (sym c.self.view_is) c.requires.level)
     (ap (λ l. l + 1) c.in_ok-level.ensures ∙ level_there c.self.inside.limit c.self.inside.names.entries c.self.invariant (form c.args.f))
-    c.requires.goal c.requires.plain c.requires.short)
+    c.requires.goal c.requires.plain c.requires.short c.in_ok-mentions.ensures)
     c.self.invariant
