@@ -1,5 +1,5 @@
 //! Relations that have given nearly all their numbers.
-ghost use Rattle.std.specs.Prelude.{◌≡◌, []};
+ghost use Rattle.std.specs.Prelude.{◌≡◌, [], ◌∷◌, IfOk};
 
 use ded_catalog::Catalogue;
 use ded_model::command::Refusal;
@@ -28,6 +28,15 @@ fn whole_space(alloc: Global) -> Tuple
     }
 }
 
+/// The name of the relation.
+fn relation_name(alloc: Global) -> Result<Name, NoMemory>
+    ensures { IfOk result (λ n. n ≡ 84 ∷ []) }
+{
+    Ok(Name {
+        bytes: b"T".to_vec(alloc)?,
+    })
+}
+
 /// Inserts the tuple that holds everywhere, where the name is a relation.
 fn insert(alloc: Global, catalogue: &mut Catalogue, name: &Name) -> Result<u32, Refusal> {
     match catalogue.known(name) {
@@ -42,9 +51,7 @@ type Answers = (Result<u32, Refusal>, Result<u32, Refusal>);
 /// What they are answered, where a relation holds at most so many tuples.
 fn answers(alloc: Global, limit: u32, given: u32) -> Result<Answers, NoMemory> {
     let mut catalogue = Catalogue::new(alloc, limit.clamp(1, 100))?;
-    let name = Name {
-        bytes: b"T".to_vec(alloc)?,
-    };
+    let name = relation_name(alloc)?;
     if catalogue.known(&name)?.is_none() {
         catalogue.define_at(name.copy()?, no_columns(alloc), given)?;
     }
