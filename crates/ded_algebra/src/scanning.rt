@@ -4,7 +4,6 @@ ghost use Rattle.ded_model.specs.declared.slot.Sort.TheVariants.{Text};
 ghost use Rattle.ded_model.specs.declared.goal.Place.{Place};
 ghost use Rattle.ded_model.specs.Normal.{IsNormalAtom};
 ghost use Rattle.ded_model.specs.PlanForm.{plan_form};
-ghost use Rattle.ded_model.specs.Point.{stands_in};
 ghost use Rattle.ded_model.specs.Scanned.{above_place, same_atom};
 ghost use Rattle.ded_algebra.specs.Compile.{row_plan};
 ghost use Rattle.ded_algebra.specs.Compiled.{IsByteText};
@@ -14,7 +13,7 @@ use crate::arguments::{argument_row, quoted, same_row};
 use ded_model::goal::Place;
 use ded_model::memory::NoMemory;
 use ded_model::plan::Plan;
-use ded_model::slot::{Slot, Sort};
+use ded_model::slot::{Slot, Sort, stands_in};
 use ded_model::tuple::{Atom, BothAtom, ThemeAtom, Tuple};
 use std::alloc::{AllocError, Global};
 
@@ -116,11 +115,4 @@ pub fn rows_of(alloc: Global, atom: Atom) -> Result<Plan, NoMemory>
     let mut atoms = Vec::new(alloc);
     atoms.push(atom)?;
     Ok(Plan::Rows(Tuple { atoms }))
-}
-
-/// Whether the slot is one of the list.
-fn stands_in(slots: &[Slot], slot: Slot) -> bool
-    ensures { result ≡ stands_in slots.now slot }
-{
-    slots.iter().any(|other| other.is_same(slot))
 }

@@ -46,7 +46,8 @@ use Rattle.ded_keep.proofs.Appended.{extended, kept_after}
 use Rattle.ded_database.specs.declared.mark.Mark.{Mark}
 use Rattle.ded_database.specs.Marks.{reaches_beside, mark_adds}
 use Rattle.ded_query.specs.Gathering.{IsGivenOf, IsFront, IsViewOf}
-use Rattle.ded_query.proofs.Entries.{named_columns, plain_base, relation_heading}
+use Rattle.ded_model.proofs.Made.{plain_base}
+use Rattle.ded_query.proofs.Entries.{named_columns, relation_heading}
 use Rattle.ded_query.proofs.Evaluable.{all_with, any_atoms, scannable, scans_same}
 use Rattle.ded_query.proofs.GivenNames.{lines_from, clash_from}
 use Rattle.ded_query.proofs.Names.{scanned_used, used_known, of_named, all_named, some_named}

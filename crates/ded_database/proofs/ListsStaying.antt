@@ -22,7 +22,7 @@ use Rattle.ded_views.proofs.GoalNames.{goal_names, speaks_used}
 use Rattle.ded_views.proofs.Unaffected.{IsSameName, unaffected, unaffected_meaning, unaffected_measure}
 use Rattle.ded_views.proofs.Views.{name_measure, plain_there}
 use Rattle.ded_query.specs.Gathering.{IsGivenOf, IsViewOf}
-use Rattle.ded_query.proofs.Entries.{plain_base}
+use Rattle.ded_model.proofs.Made.{plain_base}
 use Rattle.ded_database.specs.Changes.{IsChange}
 use Rattle.ded_database.specs.Held.{IsHeld}
 use Rattle.ded_database.proofs.Under.{all_both}

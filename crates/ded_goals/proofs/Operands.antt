@@ -13,13 +13,13 @@ use Rattle.ded_goals.proofs.Summing.{rational, fails_left, fails_right}
 pub summable : (scope : SlotScope) (t : Operand) → AreApart scope → IsPlainOperand t → is_unbound_operand (sorts_of scope) t ≡ false → is_text_sum (sorts_of scope) t ≡ false → is_text_operand scope t ≡ false
     → IsSummable scope t
 summable scope (Single x) h p b s e = rational (slot_of scope x).sort e
-summable scope (Sum t) h p b s e = record { apart = h; once = p; bound = b; rational = s }
+summable scope (Sum t) h p b s e = record { apart = h; once = p.1; bound = b; rational = s }
 summable scope (Quoted t) h p b s e = tt
 
 -- an argument
 pub placeable : (scope : SlotScope) (t : Operand) → AreApart scope → IsPlainOperand t → is_unbound_operand (sorts_of scope) t ≡ false → is_text_sum (sorts_of scope) t ≡ false → IsPlaceable scope t
 placeable scope (Single x) h p b s = tt
-placeable scope (Sum t) h p b s = record { apart = h; once = p; bound = b; rational = s }
+placeable scope (Sum t) h p b s = record { apart = h; once = p.1; bound = b; rational = s }
 placeable scope (Quoted t) h p b s = tt
 
 pub all_placeable : (scope : SlotScope) (ts : List Operand) → AreApart scope → ArePlainOperands ts → list_any (is_unbound_operand (sorts_of scope)) ts ≡ false → list_any (is_text_sum (sorts_of scope)) ts ≡ false

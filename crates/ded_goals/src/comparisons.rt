@@ -15,7 +15,7 @@ ghost use Rattle.ded_goals.specs.Tuples.{is_missorted_comparison, IsNormalCompar
 use crate::scope::Scope;
 use crate::sums::{difference, slot_sum, sum_over};
 use crate::texts::{text_side, texts};
-use ded_model::formula::{CompareOp, Operand, Operands};
+use ded_model::formula::{CompareOp, Operand, Operands, denominator};
 use ded_model::goal::{Goal, Place, Places, SlotTerm};
 use ded_model::memory::NoMemory;
 use ded_model::row::{Row, RowOp};
@@ -47,19 +47,6 @@ pub fn comparison(
     let left = sum_over(alloc, scope, left, over)?;
     let right = sum_over(alloc, scope, right, over)?;
     sums(alloc, left, op, right)
-}
-
-/// The denominator of a comparison: that of its sums, and 1 where it has none.
-fn denominator(left: &Operand, right: &Operand) -> i128
-    ensures value { result ≡ denominator_of left.now right.now }
-    ensures within { IsWithin 112 result }
-    ensures positive { pos 0 <ℤ result }
-{
-    match (left, right) {
-        (Operand::Sum(term), _) => term.over,
-        (_, Operand::Sum(term)) => term.over,
-        _ => 1,
-    }
 }
 
 /// Whether the operand is a text variable or a quoted text.

@@ -82,7 +82,7 @@ fn row_fits(rows: &[Row], slot: Slot, row: &Row) -> bool
     ensures { result ≡ row_fits rows.now slot row.now }
 {
     match row.coefs.list() {
-        [] => meets_zero(row),
+        [] => row.op.meets_zero(row.constant),
         [(other, _), ..] => other.is_same(slot) || has_value(rows, *other),
     }
 }
@@ -95,17 +95,6 @@ fn has_value(rows: &[Row], slot: Slot) -> bool
         &bound_of(Side::Lower, rows, slot),
         &bound_of(Side::Upper, rows, slot),
     )
-}
-
-/// Whether the constant compares with zero as the row says.
-fn meets_zero(row: &Row) -> bool
-    ensures { result ≡ sign_meets row.now.op row.now.constant }
-{
-    match row.op {
-        RowOp::Zero => row.constant == 0,
-        RowOp::AtMost => row.constant <= 0,
-        RowOp::Below => row.constant < 0,
-    }
 }
 
 /// The bound that all the rows together give the slot on the side.

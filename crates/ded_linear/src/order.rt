@@ -1,13 +1,12 @@
 //! Which slots are still to be eliminated, and which one of them first.
 ghost use Rattle.std.specs.Prelude.{◌≡◌, ◌<◌, [], IfOk, OnOk, length};
-ghost use Rattle.ded_model.specs.Point.{stands_in};
 ghost use Rattle.ded_model.specs.Row.{row_mentions};
 ghost use Rattle.ded_theory.specs.Conjunctions.{conj_mentions};
 ghost use Rattle.ded_linear.specs.SlotLists.{with_slots, with_all_slots, IsTaken};
 
 use ded_model::memory::NoMemory;
 use ded_model::row::{Row, RowOp};
-use ded_model::slot::Slot;
+use ded_model::slot::{Slot, stands_in};
 use std::alloc::Global;
 
 /// The slots that the rows mention, but for the one, each once.
@@ -36,26 +35,11 @@ fn add_slots(others: &mut Vec<Slot>, slot: Slot, row: &Row) -> Result<(), NoMemo
     Ok(())
 }
 
-/// Whether the slot is one of the list.
-fn stands_in(slots: &[Slot], slot: Slot) -> bool
-    ensures { result ≡ stands_in slots.now slot }
-{
-    slots.iter().any(|other| other.is_same(slot))
-}
-
 /// Whether some row mentions the slot.
 pub fn mention(rows: &[Row], slot: Slot) -> bool
     ensures { result ≡ conj_mentions row_mentions rows.now slot }
 {
-    rows.iter().any(|row| mentions(row, slot))
-}
-
-/// Whether the row mentions the slot.
-#[tactic(auto, unfolding(ded_model::specs::Row::row_mentions))]
-fn mentions(row: &Row, slot: Slot) -> bool
-    ensures { result ≡ row_mentions row.now slot }
-{
-    row.coefs.list().iter().any(|entry| entry.0.is_same(slot))
+    rows.iter().any(|row| row.mentions(slot))
 }
 
 /// Takes from the list the slot whose elimination pairs the fewest rows.

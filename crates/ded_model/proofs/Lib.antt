@@ -1,6 +1,7 @@
 pub mod Alike
 pub mod AtomSlots
 pub mod Atoms
+pub mod Bools
 pub mod Classical
 pub mod Closures
 pub mod CoefDivision

@@ -3,7 +3,7 @@ use Rattle.std.proofs.Common.{◌≡◌, ◌≢◌, ℕ, ◌==◌, inl, inr, Boo
 use Rattle.std.specs.Prelude.{codes, option_map}
 use Rattle.std.specs.List.{list_any}
 use Rattle.std.proofs.lemmas.Bool.Decides.{nat_tests}
-use Rattle.ded_model.specs.Made.{closure_name, interior_name, behind, before_last, before_last_of, between, closure_of, interior_of, reading_by, reading, base_by, base, is_made, is_made_by}
+use Rattle.ded_model.specs.Made.{closure_name, interior_name, behind, before_last, before_last_of, between, Reading, itself, closure_of, interior_of, reading_by, reading, base_by, base, is_made, is_made_by}
 use Rattle.ded_model.proofs.Rows.{or_left, or_right}
 use Rattle.ded_model.proofs.Members.{or_split}
 
@@ -132,6 +132,15 @@ not_behind fs n h e = by (behind fs n) refl
     by : (o : Option (List ℕ)) → behind fs n ≡ o → behind fs n ≡ None
     by None k = k
     by (Some m) k = absurd (true≢false (sym (front_opens fs n m k h) ∙ e))
+
+-- a name that isn't made is that which it is made of
+base_when : (n : List ℕ) (r : Reading) → is_made_by r ≡ false → base_by n r ≡ n
+base_when n itself e = refl
+base_when n (closure_of m) e = absurd (true≢false e)
+base_when n (interior_of m) e = absurd (true≢false e)
+
+pub plain_base : (n : List ℕ) → is_made n ≡ false → base n ≡ n
+plain_base n e = base_when n (reading n) e
 
 -- a name without `(` is not made
 pub plain_name : (n : List ℕ) → list_any (λ b. b == 40) n ≡ false → is_made n ≡ false

@@ -8,7 +8,7 @@ use Rattle.ded_model.specs.Form.{Form, speaks_of}
 use Rattle.ded_model.specs.Known.{KnownNames, known_of, columns_with}
 use Rattle.ded_model.specs.Row.{Atom}
 
--- the entry of a name; in a catalogue names are distinct
+-- the first entry of a name; the names of a well formed catalogue are distinct
 abbrev pub entry_of : List Entry → List ℕ → Option Entry
 entry_of [] n = None
 entry_of (e ∷ es) n = if bytes_eq n (entry_name e) then Some e else entry_of es n

@@ -40,7 +40,8 @@ abbrev pub atom_level : KnownNames → FormAtom → ℕ
 atom_level K (compare l op r) = 0
 atom_level K (member n ts) = level_with (K (base n))
 
--- the level of a view: one more than the greatest level of the names in its formula, 1 where it has no atom
+-- the level of a view: one more than the greatest level of the relations and views that its formula speaks of, 1 where it has no
+-- atom of one
 abbrev pub level_of : KnownNames → Form → ℕ
 level_of K f = suc (greatest (atom_level K) f)
 

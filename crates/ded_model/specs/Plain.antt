@@ -1,5 +1,6 @@
--- Sums that have each name once, and comparisons whose two sides are over one denominator, as formulas that are read have.
-use Rattle.std.specs.Prelude.{◌≡◌, ℕ, ℤ, false, List, [], ◌∷◌}
+-- Sums that have each name once and a denominator above 0, and comparisons whose two sides are over one denominator, as formulas
+-- that are read have.
+use Rattle.std.specs.Prelude.{◌≡◌, ◌<ℤ◌, ℕ, ℤ, pos, false, List, [], ◌∷◌}
 use Rattle.std.specs.Str.{bytes_eq}
 use Rattle.std.specs.List.{list_any}
 use Rattle.ded_model.specs.declared.formula.Operand.{Operand}
@@ -13,10 +14,10 @@ abbrev pub AreOnce : List (List ℕ × ℤ) → Type 0
 AreOnce [] = Unit {0}
 AreOnce (c ∷ cs) = (list_any (λ d. bytes_eq c.0 d.0) cs ≡ false) × AreOnce cs
 
--- a sum that has each name once, or what is no sum
+-- a sum that has each name once, over a denominator above 0, or what is no sum
 abbrev pub IsPlainOperand : Operand → Type 0
 IsPlainOperand (Single x) = Unit {0}
-IsPlainOperand (Sum t) = AreOnce t.parts
+IsPlainOperand (Sum t) = (pos 0 <ℤ t.over) × AreOnce t.parts
 IsPlainOperand (Quoted t) = Unit {0}
 
 abbrev pub ArePlainOperands : List Operand → Type 0
@@ -35,7 +36,7 @@ abbrev pub IsPlainAtom : FormAtom → Type 0
 IsPlainAtom (compare l op r) = IsPlainOperand l × IsPlainOperand r × ShareDenominator l r
 IsPlainAtom (member n ts) = ArePlainOperands ts
 
--- each sum of the formula has each name once, and the two sides of each comparison are over one denominator
+-- each sum of the formula has each name once and a denominator above 0, and the two sides of each comparison are over one denominator
 abbrev pub IsPlain : Form → Type 0
 IsPlain f = AllAtoms IsPlainAtom f
 

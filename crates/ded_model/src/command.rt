@@ -7,8 +7,8 @@ use crate::formula::{Formula, copy_formulas};
 use crate::memory::NoMemory;
 use crate::name::{Heading, Name};
 
-/// The language of a statement. `One` is the plain one, `Two` has fractions and decimals. The first statement of a
-/// script is read in `Opening`, which is `One` with the header besides.
+/// The language in which a statement is read. `One` is the plain one, `Two` is to have fractions and decimals. The first statement
+/// of a script is read in `Opening`, which is `One` with the header besides.
 #[derive(Clone, Copy, PartialEq, Eq, Debug)]
 pub enum Language {
     Opening,

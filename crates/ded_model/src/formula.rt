@@ -1,7 +1,9 @@
 //! Formulas as the user writes them: variables by their names.
-ghost use Rattle.std.specs.Prelude.{◌≡◌, IfOk};
+ghost use Rattle.std.specs.Prelude.{◌≡◌, ◌<ℤ◌, pos, IfOk};
+ghost use Rattle.ded_num.specs.Length.{IsWithin};
 ghost use Rattle.ded_model.specs.Form.{form, forms, uses, atom_uses, speaks_of, atom_speaks_of};
 ghost use Rattle.ded_model.specs.Logic.{some_atom_of};
+ghost use Rattle.ded_model.specs.LongRows.{denominator_of};
 
 use crate::memory::NoMemory;
 use crate::name::{Column, Name};
@@ -59,6 +61,18 @@ pub enum Operand {
     Single(Name),
     Sum(Term),
     Quoted(Name),
+}
+
+/// The denominator of a comparison of two operands: that of its sums, which are over one, and 1 where neither is a sum.
+pub fn denominator(left: &Operand, right: &Operand) -> i128
+    ensures value { result ≡ denominator_of left.now right.now }
+    ensures within { IsWithin 112 result }
+    ensures positive { pos 0 <ℤ result }
+{
+    match (left, right) {
+        (Operand::Sum(term), _) | (_, Operand::Sum(term)) => term.over,
+        _ => 1,
+    }
 }
 
 /// The operands of an atom, in order. Contracts see the list.

@@ -5,6 +5,7 @@ ghost use Rattle.ded_model.specs.declared.slot.Slot.{Slot};
 ghost use Rattle.ded_model.specs.declared.slot.Sort.TheVariants.{Rat};
 ghost use Rattle.ded_model.specs.Coefs.{AllBelow, AreCoefs, coef_at, with_coef, place_of, is_taken};
 ghost use Rattle.ded_model.specs.Normal.{coefs_over, DivideWhole};
+ghost use Rattle.ded_model.specs.Row.{row_mentions, sign_meets};
 
 use crate::memory::NoMemory;
 use crate::slot::Slot;
@@ -19,6 +20,19 @@ pub enum RowOp {
     Zero,
     AtMost,
     Below,
+}
+
+impl RowOp {
+    /// Whether the number is 0, at most 0, or below 0, as the sign says.
+    pub fn meets_zero(self, sum: i128) -> bool
+        ensures { result ≡ sign_meets self sum }
+    {
+        match self {
+            RowOp::Zero => sum == 0,
+            RowOp::AtMost => sum <= 0,
+            RowOp::Below => sum < 0,
+        }
+    }
 }
 
 /// The coefficients of a row: rational slots with ascending numbers, each with a number that is not 0 and has at most
@@ -170,6 +184,17 @@ impl Coefs {
 }
 
 impl Row {
+    /// Whether the row mentions the slot.
+    #[tactic(auto, unfolding(crate::specs::Row::row_mentions))]
+    pub fn mentions(&self, slot: Slot) -> bool
+        ensures { result ≡ row_mentions self.now slot }
+    {
+        self.coefs
+            .list()
+            .iter()
+            .any(|entry| entry.0.is_same(slot))
+    }
+
     /// An equal row.
     ///
     /// # Errors

@@ -1,6 +1,6 @@
 //! Slots: the columns and variables that rows, text atoms and plans speak of.
 ghost use Rattle.std.specs.Prelude.{◌≡◌, IfOk};
-ghost use Rattle.ded_model.specs.Point.{same_slot};
+ghost use Rattle.ded_model.specs.Point.{same_slot, stands_in};
 ghost use Rattle.ded_model.specs.Renaming.{renamed};
 
 use crate::memory::NoMemory;
@@ -28,6 +28,13 @@ impl Slot {
     {
         self == other
     }
+}
+
+/// Whether the slot is one of the list.
+pub fn stands_in(slots: &[Slot], slot: Slot) -> bool
+    ensures { result ≡ stands_in slots.now slot }
+{
+    slots.iter().any(|other| other.is_same(slot))
 }
 
 /// The slot that the pairs put in the place of a slot; one that no pair names stays.

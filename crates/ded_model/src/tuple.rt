@@ -1,5 +1,6 @@
 //! Text atoms, generalized tuples and lists of them.
 ghost use Rattle.std.specs.Prelude.{◌≡◌, IfOk};
+ghost use Rattle.ded_model.specs.Row.{row_mentions, theme_mentions, atom_mentions, tuple_mentions};
 
 use crate::memory::NoMemory;
 use crate::name::Name;
@@ -70,7 +71,28 @@ pub enum Negated<A> {
     Two(A, A),
 }
 
+/// Whether some atom mentions the slot.
+#[tactic(auto, unfolding(crate::specs::Row::tuple_mentions))]
+pub fn mention(atoms: &[Atom], slot: Slot) -> bool
+    ensures { result ≡ tuple_mentions atoms.now slot }
+{
+    atoms.iter().any(|atom| atom.mentions(slot))
+}
+
 impl ThemeAtom {
+    /// Whether the text atom mentions the slot.
+    #[tactic(auto, unfolding(crate::specs::Row::theme_mentions))]
+    pub fn mentions(&self, slot: Slot) -> bool
+        ensures { result ≡ theme_mentions self.now slot }
+    {
+        match self {
+            ThemeAtom::EqText(first, _) | ThemeAtom::NeText(first, _) => first.is_same(slot),
+            ThemeAtom::EqSlot(first, second) | ThemeAtom::NeSlot(first, second) => {
+                first.is_same(slot) || second.is_same(slot)
+            }
+        }
+    }
+
     /// An equal text atom.
     ///
     /// # Errors
@@ -88,6 +110,17 @@ impl ThemeAtom {
 }
 
 impl BothAtom<Row, ThemeAtom> {
+    /// Whether the atom mentions the slot.
+    #[tactic(auto, unfolding(crate::specs::Row::atom_mentions))]
+    pub fn mentions(&self, slot: Slot) -> bool
+        ensures { result ≡ atom_mentions self.now slot }
+    {
+        match self {
+            BothAtom::First(row) => row.mentions(slot),
+            BothAtom::Second(atom) => atom.mentions(slot),
+        }
+    }
+
     /// An equal atom.
     ///
     /// # Errors

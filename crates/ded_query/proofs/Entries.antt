@@ -29,15 +29,6 @@ use Rattle.ded_query.specs.Gathering.{IsGivenOf, IsGivenAs, IsPosed, IsEvaluated
 use Rattle.ded_query.specs.Questions.{IsQuestion}
 use Rattle.ded_query.proofs.Arguments.{slots_point}
 
--- a name that isn't made is that which it is made of
-base_when : (n : List ℕ) (r : Reading) → is_made_by r ≡ false → base_by n r ≡ n
-base_when n itself e = refl
-base_when n (closure_of m) e = absurd (true≢false e)
-base_when n (interior_of m) e = absurd (true≢false e)
-
-pub plain_base : (n : List ℕ) → is_made n ≡ false → base n ≡ n
-plain_base n e = base_when n (reading n) e
-
 -- ---- headings
 
 -- the columns of what is known

@@ -1,4 +1,3 @@
-pub mod Positives
 pub mod Readiness
 pub mod ShortRows
 pub mod ShortTuples

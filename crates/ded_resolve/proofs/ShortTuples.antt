@@ -24,14 +24,13 @@ use Rattle.ded_model.specs.Form.{Form, compare, member}
 use Rattle.ded_model.specs.Goal.{GoalForm, linear, theme}
 use Rattle.ded_model.specs.Known.{is_unbound_operand, is_unbound_atom, is_text_sum}
 use Rattle.ded_model.specs.LongRows.{denominator_of, row_coefs, row_constant, is_long_row, is_quoted, is_long_atom}
-use Rattle.ded_model.specs.Plain.{IsPlain, IsPlainAtom}
+use Rattle.ded_model.specs.Plain.{IsPlain, IsPlainOperand, IsPlainAtom}
 use Rattle.ded_model.specs.Slotted.{SlotScope, heading_scope, slot_sum, comparison_row, sums_goal, TextSide, at, word, text_side, same_text_goal, other_text_goal, texts_goal, is_text_operand, goal_below, goal_atoms, comparison_atoms, tuple_of}
 use Rattle.ded_goals.specs.Scope.{sorts_of, AreApart}
 use Rattle.ded_goals.specs.Tuples.{is_missorted_comparison}
 use Rattle.ded_goals.proofs.Reading.{numbered_heading, sorts_heading}
 use Rattle.ded_goals.proofs.Summing.{fails_left, fails_right}
 use Rattle.ded_resolve.specs.Ready.{AreReady}
-use Rattle.ded_resolve.specs.Denominators.{IsPositive, HasPositive, HavePositive}
 use Rattle.ded_resolve.proofs.SlotNumbers.{summable_parts}
 use Rattle.ded_resolve.proofs.ShortRows.{AllShort, constant_short, IsNumeric, comparison_short}
 
@@ -127,12 +126,12 @@ unquoted scope (Sum t) e = refl
 unquoted scope (Quoted t) e = e
 
 -- the denominator of two operands
-positive_denominator : (l r : Operand) → IsPositive l → IsPositive r → pos 0 <ℤ denominator_of l r
-positive_denominator (Sum t) r h k = h
-positive_denominator (Single x) (Sum u) h k = k
+positive_denominator : (l r : Operand) → IsPlainOperand l → IsPlainOperand r → pos 0 <ℤ denominator_of l r
+positive_denominator (Sum t) r h k = h.0
+positive_denominator (Single x) (Sum u) h k = k.0
 positive_denominator (Single x) (Single y) h k = omega (arith, ints)
 positive_denominator (Single x) (Quoted u) h k = omega (arith, ints)
-positive_denominator (Quoted t) (Sum u) h k = k
+positive_denominator (Quoted t) (Sum u) h k = k.0
 positive_denominator (Quoted t) (Single y) h k = omega (arith, ints)
 positive_denominator (Quoted t) (Quoted u) h k = omega (arith, ints)
 
@@ -146,7 +145,6 @@ pub record IsShortForm (scope : SlotScope) (f : Form) : Type 0 where
   pub bound : some_below is_unbound_atom (sorts_of scope) f ≡ false
   pub sorted : some_below is_missorted_comparison (sorts_of scope) f ≡ false
   pub short : some_atom is_long_atom f ≡ false
-  pub positive : HasPositive f
 
 sums_short : (scope : SlotScope) (l r : Operand) (o : CompareOp) → IsNumeric scope l r → is_long_row (row_coefs l r) (row_constant l r) ≡ false → IsShortGoal (sums_goal (slot_sum scope l) o (slot_sum scope r))
 sums_short scope l r o h s = go o (λ o. comparison_short scope l r h s o)
@@ -174,7 +172,7 @@ compare_short scope l r o apart h = go (is_text_operand scope l) refl (is_text_o
             left = summable_parts m scope l apart h.plain.0 (fails_left _ _ h.bound) (fails_left _ _ sums) e;
             right = summable_parts m scope r apart h.plain.1 (fails_right (is_unbound_operand (sorts_of scope) l) _ h.bound) (fails_right (is_text_sum (sorts_of scope) l) _ sums) f;
           };
-          positive = positive_denominator l r h.positive.0 h.positive.1;
+          positive = positive_denominator l r h.plain.0 h.plain.1;
           shared = h.plain.2;
           left = e;
           right = f;
@@ -197,23 +195,23 @@ goal_short scope (forall s k f) a h = tt
 -- ---- tuples
 
 atoms_short : (scope : SlotScope) (fs : List Form) → AreApart scope → AllAtomsOf IsPlainAtom (logics fs) → some_below_of is_unbound_atom (sorts_of scope) (logics fs) ≡ false
-    → some_below_of is_missorted_comparison (sorts_of scope) (logics fs) ≡ false → some_atom_of is_long_atom (logics fs) ≡ false → HavePositive (logics fs) → AreShort (comparison_atoms scope fs)
-atoms_short scope [] a p b s h i = tt
-atoms_short scope (f ∷ fs) a p b s h i =
+    → some_below_of is_missorted_comparison (sorts_of scope) (logics fs) ≡ false → some_atom_of is_long_atom (logics fs) ≡ false → AreShort (comparison_atoms scope fs)
+atoms_short scope [] a p b s h = tt
+atoms_short scope (f ∷ fs) a p b s h =
     short-append (goal_atoms (goal_below scope 0 f)) (comparison_atoms scope fs)
-    (goal_short scope f a (record { plain = p.0; bound = fails_left _ _ b; sorted = fails_left _ _ s; short = fails_left _ _ h; positive = i.0 }))
-    (atoms_short scope fs a p.1 (fails_right (some_below is_unbound_atom (sorts_of scope) f) _ b) (fails_right (some_below is_missorted_comparison (sorts_of scope) f) _ s) (fails_right (some_atom is_long_atom f) _ h) i.1)
+    (goal_short scope f a (record { plain = p.0; bound = fails_left _ _ b; sorted = fails_left _ _ s; short = fails_left _ _ h }))
+    (atoms_short scope fs a p.1 (fails_right (some_below is_unbound_atom (sorts_of scope) f) _ b) (fails_right (some_below is_missorted_comparison (sorts_of scope) f) _ s) (fails_right (some_atom is_long_atom f) _ h))
 
 -- the tuple of comparisons over a heading
-pub tuple_short : (h : List Column) (fs : List Form) → AreReady h (logics fs) → HavePositive (logics fs) → tuple_length (tuple_of h fs) ≤ 63
+pub tuple_short : (h : List Column) (fs : List Form) → AreReady h (logics fs) → tuple_length (tuple_of h fs) ≤ 63
 unfolding tuple_of
-tuple_short h fs k i =
+tuple_short h fs k =
     let scope = heading_scope 0 h in
     length_of_tuple (ordered_atoms (comparison_atoms scope fs)) (short-ordered (comparison_atoms scope fs)
     (atoms_short scope fs (numbered_heading h).apart k.plain (ap (λ s. some_below_of is_unbound_atom s (logics fs)) (sorts_heading 0 h) ∙ k.bound)
-    (ap (λ s. some_below_of is_missorted_comparison s (logics fs)) (sorts_heading 0 h) ∙ k.sorted) k.short i))
+    (ap (λ s. some_below_of is_missorted_comparison s (logics fs)) (sorts_heading 0 h) ∙ k.sorted) k.short))
 
 -- so it is of what is such a tuple
-pub short_result : {E : Type 0} (r : Result (List Atom) E) (h : List Column) (fs : List Form) → IfOk r (λ t. t ≡ tuple_of h fs) → AreReady h (logics fs) → HavePositive (logics fs) → IfOk r (λ t. tuple_length t ≤ 63)
-short_result (Ok t) h fs e k i = subst (λ t. tuple_length t ≤ 63) (sym e) (tuple_short h fs k i)
-short_result (Err e) h fs i k j = tt
+pub short_result : {E : Type 0} (r : Result (List Atom) E) (h : List Column) (fs : List Form) → IfOk r (λ t. t ≡ tuple_of h fs) → AreReady h (logics fs) → IfOk r (λ t. tuple_length t ≤ 63)
+short_result (Ok t) h fs e k = subst (λ t. tuple_length t ≤ 63) (sym e) (tuple_short h fs k)
+short_result (Err e) h fs i k = tt

@@ -47,7 +47,7 @@ summable_parts m scope (Single x) h p b s e = record {
   bound = neither (is_unbound_name (sorts_of scope) x) false b refl;
   rational = neither (same_sort (sort_in (sorts_of scope) x) Text) false (ap (λ s. same_sort s Text) (sort_in-slot scope x) ∙ e) refl;
 }
-summable_parts m scope (Sum t) h p b s e = record { apart = h; once = p; bound = b; rational = s }
+summable_parts m scope (Sum t) h p b s e = record { apart = h; once = p.1; bound = b; rational = s }
 summable_parts m scope (Quoted t) h p b s e = absurd (true≢false e)
 
 -- the coefficients of a sum by slots are those of its parts

@@ -1,4 +1,3 @@
-pub mod Denominators
 pub mod Ready
 pub mod Resolved
 pub mod Storing

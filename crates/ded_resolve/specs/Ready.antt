@@ -9,7 +9,7 @@ use Rattle.ded_model.specs.Plain.{IsPlain}
 use Rattle.ded_goals.specs.TextSums.{has_text_sum}
 use Rattle.ded_goals.specs.Tuples.{is_missorted_comparison}
 
--- each variable is bound, each sum has each name once and no text variable, the sums of a comparison are over one denominator,
+-- each variable is bound, each sum has each name once, a denominator above 0 and no text variable, the sums of a comparison are over one denominator,
 -- and there are few slots
 pub record IsReady (h : List Column) (f : Form) : Type 0 where
   pub plain : IsPlain f

@@ -9,7 +9,6 @@
 #![tactic(auto)]
 
 mod checked;
-mod denominators;
 mod resolving;
 
 pub use checked::Checked;

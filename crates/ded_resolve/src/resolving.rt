@@ -16,7 +16,6 @@ ghost use Rattle.ded_resolve.specs.Ready.{IsReady, AreReady};
 ghost use Rattle.ded_resolve.specs.Storing.{IsStorable};
 
 use crate::checked::Checked;
-use crate::denominators::positive_comparisons;
 use ded_goals::{goal, tuple};
 use ded_model::command::{Command, Refusal};
 use ded_model::formula::Formula;
@@ -27,7 +26,7 @@ use ded_model::tuple::Tuple;
 use ded_sorts::{Known, Names, check};
 use std::alloc::Global;
 
-/// The command by slots, over the names. Each sum of the command has each name once, the sums of a comparison are over one
+/// The command by slots, over the names. Each sum of the command has each name once and a denominator above 0, the sums of a comparison are over one
 /// denominator, and no row of its formula has a number above 2^63 - 1 in magnitude.
 ///
 /// # Errors
@@ -111,7 +110,6 @@ fn short_tuple(alloc: Global, heading: &Heading, comparisons: &[Formula]) -> Res
     ensures over { IfOk result (λ t. IsTupleOver heading.now t) }
     ensures short { IfOk result (λ t. tuple_length t ≤ 63) }
 {
-    positive_comparisons(comparisons);
     tuple(alloc, heading, comparisons)
 }
 

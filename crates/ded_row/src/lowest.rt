@@ -22,7 +22,7 @@ pub fn normal(row: Row) -> Row
         op,
     } = row;
     if coefs.list().is_empty() {
-        return truth_row(coefs, meets_zero(op, constant));
+        return truth_row(coefs, op.meets_zero(constant));
     }
     let by = divisor(op, constant, coefs.list());
     coefs.divide(by);
@@ -42,17 +42,6 @@ pub fn truth_row(coefs: Coefs, holds: bool) -> Row
         coefs,
         constant: 0,
         op: if holds { RowOp::Zero } else { RowOp::Below },
-    }
-}
-
-/// Whether the number is 0, at most 0, or below 0.
-pub fn meets_zero(op: RowOp, sum: i128) -> bool
-    ensures { result ≡ sign_meets op sum }
-{
-    match op {
-        RowOp::Zero => sum == 0,
-        RowOp::AtMost => sum <= 0,
-        RowOp::Below => sum < 0,
     }
 }
 

@@ -11,7 +11,7 @@ ghost use Rattle.ded_row.specs.Multiples.{turned, with_op};
 ghost use Rattle.ded_model.specs.Negation.{EachPiece, some_piece_holds, both_pieces_hold};
 ghost use Rattle.ded_row.specs.Negation.{negated_row};
 
-use crate::lowest::{meets_zero, truth_row};
+use crate::lowest::truth_row;
 use ded_model::memory::NoMemory;
 use ded_model::row::{Coefs, Row, RowOp};
 use ded_model::tuple::Negated;
@@ -40,7 +40,7 @@ fn negation_of(row: &Row) -> Result<Negated<Row>, NoMemory>
 {
     if row.coefs.list().is_empty() {
         let none = Coefs::new(row.coefs.allocator());
-        return Ok(Negated::One(truth_row(none, !meets_zero(row.op, row.constant))));
+        return Ok(Negated::One(truth_row(none, !row.op.meets_zero(row.constant))));
     }
     match row.op {
         RowOp::Zero => Ok(Negated::Two(below(row)?, turned(row, RowOp::Below)?)),

@@ -62,7 +62,7 @@ once_all value a (p ∷ ps) h = once_all value (add_factor a p.0 (factor value p
 
 plain_with : (o : Option (List ℕ)) (a : Sums) → AreOnce a.0 → IsPlainOperand (as_operand o a)
 plain_with (Some n) a h = tt
-plain_with None a h = h
+plain_with None a h = (omega (arith, ints), h)
 
 plain_operand : (value : Reader) (s : Side) → IsPlainOperand (operand_of value s)
 plain_operand value (text s) = tt

@@ -16,7 +16,7 @@ use crate::arguments::some_long_argument;
 use crate::draft::Draft;
 use ded_grammar::Piece;
 use ded_model::command::Command;
-use ded_model::formula::{Formula, Operand, Parts};
+use ded_model::formula::{Formula, Operand, Parts, denominator};
 use ded_model::limits;
 use ded_model::name::Name;
 use ded_num::gcd;
@@ -36,18 +36,6 @@ fn coefficient(parts: &Parts, name: &Name) -> i128
         }
     }
     0
-}
-
-/// The denominator of a comparison: that of its sums, and 1 where it has none.
-fn denominator(left: &Operand, right: &Operand) -> i128
-    ensures value { result ≡ denominator_of left.now right.now }
-    ensures within { IsWithin 112 result }
-{
-    match (left, right) {
-        (Operand::Sum(term), _) => term.over,
-        (_, Operand::Sum(term)) => term.over,
-        _ => 1,
-    }
 }
 
 /// The coefficient of the name in the operand times the denominator, which is 0 where the operand doesn't have the name. A

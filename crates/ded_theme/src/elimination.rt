@@ -106,17 +106,9 @@ fn without(alloc: Global, atoms: &[ThemeAtom], slot: Slot) -> Result<Vec<ThemeAt
 {
     let mut remaining = Vec::new(alloc);
     for atom in atoms {
-        if !mentions(atom, slot) {
+        if !atom.mentions(slot) {
             remaining.push(atom.copy()?)?;
         }
     }
     Ok(remaining)
-}
-
-/// Whether the atom mentions the slot.
-pub(crate) fn mentions(atom: &ThemeAtom, slot: Slot) -> bool
-    ensures { result ≡ theme_mentions atom.now slot }
-{
-    let comparison = comparison_of(atom);
-    comparison.left.is_slot(slot) || comparison.right.is_slot(slot)
 }

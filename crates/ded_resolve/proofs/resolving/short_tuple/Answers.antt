@@ -5,4 +5,4 @@ use Rattle.ded_resolve.proofs.ShortTuples.{short_result}
 use Rattle.ded_resolve.proofs.resolving.short_tuple.Goals as goal
 
 pub returns-clause-short : goal.returns-clause-short
-returns-clause-short c = short_result c.tuple.result c.args.heading.now (map form c.args.comparisons.now) c.tuple.ensures.value c.requires.ready c.positive_comparisons.ensures
+returns-clause-short c = short_result c.tuple.result c.args.heading.now (map form c.args.comparisons.now) c.tuple.ensures.value c.requires.ready
