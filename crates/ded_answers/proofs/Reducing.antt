@@ -14,14 +14,14 @@ use Rattle.ded_model.proofs.Members.{or_split}
 use Rattle.ded_model.proofs.Rows.{or_left, or_right}
 use Rattle.ded_theory.specs.Verdicts.{HoldsNowhere}
 use Rattle.ded_theme.proofs.Lists.{all-append}
-use Rattle.ded_genrel.proofs.Laws.{or_false}
 use Rattle.ded_reduce.specs.Kept.{IsSublist}
 use Rattle.ded_answers.specs.Kept.{ArePartsOf, IsReducedTuple, IsReducedPart, AreReducedParts}
 use Rattle.ded_answers.proofs.Parts.{sublist_push, sublist_skip, parts_push, parts_skip, parts_after, parts_before}
+use Rattle.std.proofs.Math.Bool.{or-false}
 
 pub tuples_hold-push : (ts : List (List Atom)) (t : List Atom) (p : Point) → tuples_hold (ts ++ t ∷ []) p ≡ (tuples_hold ts p || tuple_holds t p)
 unfolding tuples_hold
-tuples_hold-push ts t p = list_any-append (λ u. tuple_holds u p) ts (t ∷ []) ∙ ap (λ b. tuples_hold ts p || b) (or_false (tuple_holds t p))
+tuples_hold-push ts t p = list_any-append (λ u. tuple_holds u p) ts (t ∷ []) ∙ ap (λ b. tuples_hold ts p || b) (or-false (tuple_holds t p))
 
 -- ---- tuples that are known
 
@@ -91,7 +91,7 @@ reduced_none = record { holds = λ p i. refl; parts = refl; normal = tt; reduced
 
 pub reduced_gone : (us ts : List (List Atom)) (u : List Atom) → HoldsNowhere (tuple_holds u) → AreReducedParts ts us → AreReducedParts ts (us ++ u ∷ [])
 reduced_gone us ts u z r = record {
-  holds = λ p i. sym (or_false (tuples_hold ts p)) ∙ ap₂ (λ a b. a || b) (r.holds p i) (sym (z p i)) ∙ sym (tuples_hold-push us u p);
+  holds = λ p i. sym (or-false (tuples_hold ts p)) ∙ ap₂ (λ a b. a || b) (r.holds p i) (sym (z p i)) ∙ sym (tuples_hold-push us u p);
   parts = parts_skip ts us u r.parts;
   normal = r.normal;
   reduced = r.reduced;

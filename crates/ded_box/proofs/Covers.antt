@@ -1,8 +1,8 @@
 -- The least box that contains two boxes.
 --
 -- A box with an empty interval holds nothing, and then the other box is the cover. Else the cover has at each place the least
--- interval that contains both: between the wider of the two lower bounds and the wider of the two upper ones. Any interval
--- that contains both contains this: a value within the wider lower bound is within that of one of the two; either it lies in
+-- interval that contains and_from: between the wider of the two lower bounds and the wider of the two upper ones. Any interval
+-- that contains and_from contains this: a value within the wider lower bound is within that of one of the two; either it lies in
 -- that interval, or it lies beyond a value of it, and so within whatever lower bound lets this value through.
 use Rattle.std.proofs.Common.{◌≡◌, suc, true, false, List, [], ◌∷◌, length, arith, refl, sym, subst, ap, ◌∙◌, true≢false}
 use Rattle.std.specs.Prelude.{pos}
@@ -16,7 +16,8 @@ use Rattle.ded_box.specs.Intervals.{IsPositive, HasPositive, IsInterval, is_with
 use Rattle.ded_box.specs.Boxes.{AreValues, AreIntervals, in_box, Contains, IsCover, hull, hulls, has_values}
 use Rattle.ded_box.proofs.Gaps.{gap_at, other, gap_turned, gap_other}
 use Rattle.ded_box.proofs.Insides.{Inside, wider-one, wider-is, may_meet_decides, between, further}
-use Rattle.ded_box.proofs.Shares.{Interval, Box, both, Within, within_to, within_from, meet_at}
+use Rattle.ded_box.proofs.Shares.{Interval, Box, Within, within_to, within_from, meet_at}
+use Rattle.std.proofs.lemmas.Bool.{and_from}
 
 -- ---- an end of the least interval
 
@@ -70,7 +71,7 @@ some_values [] p h = record { values = []; positive = tt; inside = refl }
 some_values (i ∷ is) p h =
     let v = between i.0 i.1 p.0.0 p.0.1 ((may_meet_decides i.0 i.1).0 (and_left (has_value i) (has_values is) h)) in
     let s = some_values is p.1 (and_right (has_value i) (has_values is) h) in
-    record { values = v.value ∷ s.values; positive = (v.positive, s.positive); inside = both (is_within i v.value) (in_box is s.values) (within_from i v.value (v.low, v.high)) s.inside }
+    record { values = v.value ∷ s.values; positive = (v.positive, s.positive); inside = and_from (is_within i v.value) (in_box is s.values) (within_from i v.value (v.low, v.high)) s.inside }
 
 -- nothing lies in a box with an empty interval
 none_inside : (a : Box) (vs : List Fraction) → AreIntervals a → AreValues vs → in_box a vs ≡ true → has_values a ≡ true
@@ -78,7 +79,7 @@ none_inside [] vs p q h = refl
 none_inside (i ∷ is) [] p q h = absurd (true≢false (sym h))
 none_inside (i ∷ is) (v ∷ vs) p q h =
     let w = within_to i v (and_left (is_within i v) (in_box is vs) h) in
-    both (has_value i) (has_values is) (meet_at i.0 i.1 v p.0.0 p.0.1 q.0 w.0 w.1) (none_inside is vs p.1 q.1 (and_right (is_within i v) (in_box is vs) h))
+    and_from (has_value i) (has_values is) (meet_at i.0 i.1 v p.0.0 p.0.1 q.0 w.0 w.1) (none_inside is vs p.1 q.1 (and_right (is_within i v) (in_box is vs) h))
 
 -- a box that contains another without an empty interval does so at the first place, and at the others
 record Splits (k i : Interval) (ks is : Box) : Type 0 where
@@ -89,14 +90,14 @@ splits : (k i : Interval) (ks is : Box) → AreIntervals (i ∷ is) → has_valu
 splits k i ks is p h c =
     let v = between i.0 i.1 p.0.0 p.0.1 ((may_meet_decides i.0 i.1).0 (and_left (has_value i) (has_values is) h)) in
     let s = some_values is p.1 (and_right (has_value i) (has_values is) h) in record {
-      head = λ w pw h. within_to k w (and_left (is_within k w) (in_box ks s.values) (c (w ∷ s.values) (pw, s.positive) (both (is_within i w) (in_box is s.values) (within_from i w h) s.inside)));
-      tail = λ ws pw h. and_right (is_within k v.value) (in_box ks ws) (c (v.value ∷ ws) (v.positive, pw) (both (is_within i v.value) (in_box is ws) (within_from i v.value (v.low, v.high)) h));
+      head = λ w pw h. within_to k w (and_left (is_within k w) (in_box ks s.values) (c (w ∷ s.values) (pw, s.positive) (and_from (is_within i w) (in_box is s.values) (within_from i w h) s.inside)));
+      tail = λ ws pw h. and_right (is_within k v.value) (in_box ks ws) (c (v.value ∷ ws) (v.positive, pw) (and_from (is_within i v.value) (in_box is ws) (within_from i v.value (v.low, v.high)) h));
     }
 
 -- at each place, where each interval contains the other
 contains_both : (k i : Interval) (ks is : Box) → ContainsInterval k i → Contains ks is → Contains (k ∷ ks) (i ∷ is)
 contains_both k i ks is c d [] p h = absurd (true≢false (sym h))
-contains_both k i ks is c d (v ∷ vs) p h = both (is_within k v) (in_box ks vs)
+contains_both k i ks is c d (v ∷ vs) p h = and_from (is_within k v) (in_box ks vs)
     (within_from k v (c v p.0 (within_to i v (and_left (is_within i v) (in_box is vs) h))))
     (d vs p.1 (and_right (is_within i v) (in_box is vs) h))
 

@@ -10,12 +10,13 @@ use Rattle.ded_model.specs.declared.slot.Slot.{Slot}
 use Rattle.ded_model.specs.Bound.{Fraction, End, lower, upper, is_outside, value_at, IsLowest, IsUnbounded, IsIncluded, IsExcluded, SomeOutside, SomeAt}
 use Rattle.ded_model.specs.Interval.{IsExactBound}
 use Rattle.ded_model.specs.Point.{Point, IsPoint, slot, number_at}
-use Rattle.ded_model.proofs.Core.{Meets}
+use Rattle.ded_model.proofs.Core.{Meets, below_at_most}
 use Rattle.ded_model.proofs.Rows.{or_left, or_right}
 use Rattle.ded_model.proofs.Members.{or_split}
 use Rattle.ded_box.specs.Intervals.{IsPositive, OnFraction, HasPositive, wider}
 use Rattle.ded_box.proofs.Gaps.{gap_at, gap_self, gap_turned, outside_decides, not_outside_decides, chain_at, middle, middle-positive, middle-after, middle-before, beyond, beyond-positive, beyond-outside}
 use Rattle.ded_box.proofs.Insides.{Inside, wider-one, wider-is}
+use Rattle.std.proofs.lemmas.Bool.{not-true}
 
 -- some value is at g, or outside of it
 pub record AtOrOutside (test : Point → Bool) (s : Slot) (e : End) (g : Fraction) : Type 0 where
@@ -29,9 +30,6 @@ pub record IsTight (test : Point → Bool) (s : Slot) (e : End) (b : Bound) : Ty
   pub lowest : OnFraction IsLowest b
   pub all : (p : Point) → IsPoint p → test p ≡ true → Inside e b (value_at s p)
   pub near : (g : Fraction) → IsPositive g → Inside e b g → AtOrOutside test s e g
-
-below_at_most : (z : ℤ) → Meets Below z → Meets AtMost z
-below_at_most z h = omega (arith, ints)
 
 -- ---- values
 
@@ -58,10 +56,6 @@ no_difference upper f v h = zero_difference (v.num *ℤ f.den) (f.num *ℤ v.den
 
 not_true : (b : Bool) → b ≡ false → not b ≡ true
 not_true b h = ap not h
-
-not_false : (b : Bool) → not b ≡ true → b ≡ false
-not_false true h = absurd (true≢false (sym h))
-not_false false h = refl
 
 strictly : (z : ℤ) → Meets AtMost z → (z ≡ pos 0 → ⊥) → Meets Below z
 strictly z h n = by_lt_z z (pos 0) (λ lt. omega (arith, ints)) (λ le. absurd (n (omega (arith, ints))))
@@ -116,7 +110,7 @@ module _ (test : Point → Bool) (s : Slot) (e : End) where
   )
 
   none_past : (f v : Fraction) → Meets AtMost (gap_at e f v) → is_outside e v f ≡ false
-  none_past f v h = not_false _ ((not_outside_decides e v f).1 h)
+  none_past f v h = not-true _ ((not_outside_decides e v f).1 h)
 
   pub exact : (b : Bound) → IsTight test s e b → IsExactBound test s e b
   exact Infinite x = λ g pg. past (beyond e g) g (beyond-positive e g pg) pg (beyond-outside e g pg) (x.near (beyond e g) (beyond-positive e g pg) tt)

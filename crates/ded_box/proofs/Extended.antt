@@ -18,6 +18,7 @@ use Rattle.ded_box.specs.Boxes.{hulls}
 use Rattle.ded_box.specs.Extents.{BoundsAt, AreBounds, IsBox, covering}
 use Rattle.ded_box.proofs.Covers.{hull-interval}
 use Rattle.ded_box.proofs.Exact.{tight, exact, tight-same, tight-either}
+use Rattle.std.proofs.Math.Bool.{or-false}
 
 -- ---- tests that pass alike
 
@@ -73,17 +74,13 @@ module _ (f g : Point → Bool) where
   somewhere-first : HoldsSomewhere f → HoldsSomewhere (either f g)
   somewhere-first x = (x.0, x.1, or_left (f x.0) (g x.0) x.2)
 
-or_none : (b : Bool) → (b || false) ≡ b
-or_none true = refl
-or_none false = refl
-
 module _ (f g : Point → Bool) where
   -- where the one passes nowhere the other is what passes
   only-second : ((p : Point) → IsPoint p → f p ≡ false) → (p : Point) → IsPoint p → g p ≡ either f g p
   only-second n p i = ap (λ b. b || g p) (sym (n p i))
 
   only-first : ((p : Point) → IsPoint p → g p ≡ false) → (p : Point) → IsPoint p → f p ≡ either f g p
-  only-first n p i = sym (or_none (f p)) ∙ ap (λ b. f p || b) (sym (n p i))
+  only-first n p i = sym (or-false (f p)) ∙ ap (λ b. f p || b) (sym (n p i))
 
   mixed : (n : ℕ) → 0 < n → n ≡ 0 → ⊥
   mixed n h e = omega (arith, h, e)

@@ -13,7 +13,7 @@ use Rattle.ded_model.specs.declared.row.RowOp.{RowOp}
 use Rattle.ded_model.specs.declared.row.RowOp.TheVariants.{Zero, AtMost, Below}
 use Rattle.ded_model.specs.Bound.{Fraction, End, lower, upper, is_outside}
 use Rattle.ded_box.specs.Intervals.{IsPositive}
-use Rattle.ded_model.proofs.Core.{Meets, join, meets_scale, meets_unscale, meets_add}
+use Rattle.ded_model.proofs.Core.{Meets, join, meets_scale, meets_unscale, meets_add, pos_mul}
 
 -- f less g, times both denominators
 abbrev pub gap : Fraction → Fraction → ℤ
@@ -44,7 +44,7 @@ not_outside_decides lower v f = not_lt_decides (f.num *ℤ v.den) (v.num *ℤ f.
 not_outside_decides upper v f = not_lt_decides (v.num *ℤ f.den) (f.num *ℤ v.den)
 
 -- ---- sums of differences
-chain_law : (a b c d m n : ℤ) → d *ℤ (a *ℤ n -ℤ m *ℤ b) ≡ n *ℤ (a *ℤ d -ℤ c *ℤ b) +ℤ b *ℤ (c *ℤ n -ℤ m *ℤ d)
+pub chain_law : (a b c d m n : ℤ) → d *ℤ (a *ℤ n -ℤ m *ℤ b) ≡ n *ℤ (a *ℤ d -ℤ c *ℤ b) +ℤ b *ℤ (c *ℤ n -ℤ m *ℤ d)
 chain_law a b c d m n = rw (parts a, parts b, parts c, parts d, parts m, parts n) (simp ring_pos (diff_same _ _ _ _ (omega arith)))
 
 pub gap_chain : (o1 o2 : RowOp) (f g h : Fraction) → IsPositive f → IsPositive g → IsPositive h → Meets o1 (gap f g) → Meets o2 (gap g h) → Meets (join o1 o2) (gap f h)
@@ -92,17 +92,8 @@ gap_other upper f g = refl
 abbrev pub middle : Fraction → Fraction → Fraction
 middle f g = record { num = f.num *ℤ g.den +ℤ g.num *ℤ f.den; den = pos 2 *ℤ (f.den *ℤ g.den) }
 
-positive_product : (a b : ℤ) → pos 0 <ℤ a → pos 0 <ℤ b → pos 0 <ℤ (a *ℤ b)
-positive_product a b p q =
-    let h = meets_scale Below a (neg_ℤ b) p (omega (arith, ints)) in
-    let e = times_neg a b in
-    omega (arith, ints)
-  where
-    times_neg : (k z : ℤ) → k *ℤ neg_ℤ z ≡ neg_ℤ (k *ℤ z)
-    times_neg k z = rw (parts k, parts z) (simp ring_pos (diff_same _ _ _ _ (omega arith)))
-
 pub middle-positive : (f g : Fraction) → IsPositive f → IsPositive g → IsPositive (middle f g)
-middle-positive f g pf pg = positive_product (pos 2) (f.den *ℤ g.den) (omega (arith, ints)) (positive_product f.den g.den pf pg)
+middle-positive f g pf pg = pos_mul (pos 2) (f.den *ℤ g.den) (omega (arith, ints)) (pos_mul f.den g.den pf pg)
 
 from_left : (a b c d : ℤ) → a *ℤ (pos 2 *ℤ (b *ℤ d)) -ℤ (a *ℤ d +ℤ c *ℤ b) *ℤ b ≡ b *ℤ (a *ℤ d -ℤ c *ℤ b)
 from_left a b c d = rw (parts a, parts b, parts c, parts d) (simp ring_pos (diff_same _ _ _ _ (omega arith)))

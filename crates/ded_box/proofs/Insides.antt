@@ -8,7 +8,7 @@ use Rattle.ded_model.specs.declared.row.RowOp.TheVariants.{AtMost, Below}
 use Rattle.ded_model.specs.declared.bound.Bound.{Bound}
 use Rattle.ded_model.specs.declared.bound.Bound.TheVariants.{Infinite, Excluded, Included}
 use Rattle.ded_model.specs.Bound.{Fraction, End, lower, upper, is_outside}
-use Rattle.ded_model.proofs.Core.{Meets}
+use Rattle.ded_model.proofs.Core.{Meets, below_at_most}
 use Rattle.ded_box.specs.Intervals.{IsPositive, OnFraction, HasPositive, is_inside, narrower, wider, may_meet}
 use Rattle.ded_box.proofs.Gaps.{gap_at, gap_self, outside_decides, not_outside_decides, chain_at, middle, middle-positive, middle-after, middle-before, beyond, beyond-positive, beyond-outside}
 
@@ -45,9 +45,6 @@ not_outside e f g h = (not_outside_decides e f g).0 (ap not h)
 
 abbrev Both : End → Bound → Bound → Fraction → Type 0
 Both e a b v = Inside e a v × Inside e b v
-
-below_at_most : (z : ℤ) → Meets Below z → Meets AtMost z
-below_at_most z h = omega (arith, ints)
 
 -- a test chooses between two bounds of which the chosen one implies the other
 chosen : (e : End) (t : Bool) (a b : Bound) (v : Fraction) → (t ≡ true → Inside e b v → Inside e a v) → (t ≡ false → Inside e a v → Inside e b v)

@@ -11,13 +11,10 @@ use Rattle.ded_model.proofs.Points.{and_left, and_right}
 use Rattle.ded_box.specs.Intervals.{IsPositive, HasPositive, IsInterval, is_inside, is_within, has_value, intervals_meet, narrower, may_meet}
 use Rattle.ded_box.specs.Boxes.{AreValues, AreIntervals, in_box, Shared, boxes_meet}
 use Rattle.ded_box.proofs.Insides.{Inside, inside_decides, narrower-one, narrower-is, MayMeet, may_meet_decides, inside_meet, between}
+use Rattle.std.proofs.lemmas.Bool.{and_from}
 
 abbrev pub Interval : Type 0
 Interval = Bound × Bound
-
-pub both : (a b : Bool) → a ≡ true → b ≡ true → (a && b) ≡ true
-both true b h k = k
-both false b h k = absurd (true≢false (sym h))
 
 -- ---- intervals
 
@@ -32,7 +29,7 @@ within_to i v h = (
 )
 
 pub within_from : (i : Interval) (v : Fraction) → Within i v → is_within i v ≡ true
-within_from i v h = both (is_inside lower i.0 v) (is_inside upper i.1 v) ((inside_decides lower i.0 v).1 h.0) ((inside_decides upper i.1 v).1 h.1)
+within_from i v h = and_from (is_inside lower i.0 v) (is_inside upper i.1 v) ((inside_decides lower i.0 v).1 h.0) ((inside_decides upper i.1 v).1 h.1)
 
 -- what lies between a lower and an upper bound lets them meet
 pub meet_at : (a b : Bound) (v : Fraction) → HasPositive a → HasPositive b → IsPositive v → Inside lower a v → Inside upper b v → may_meet a b ≡ true
@@ -56,10 +53,10 @@ parts_of i j h =
     }
 
 pub from_parts : (i j : Interval) → Apart i j → intervals_meet i j ≡ true
-from_parts i j p = both (has_value i) (has_value j && (may_meet i.0 j.1 && may_meet j.0 i.1)) p.first
-    (both (has_value j) (may_meet i.0 j.1 && may_meet j.0 i.1) p.second (both (may_meet i.0 j.1) (may_meet j.0 i.1) p.forth p.back))
+from_parts i j p = and_from (has_value i) (has_value j && (may_meet i.0 j.1 && may_meet j.0 i.1)) p.first
+    (and_from (has_value j) (may_meet i.0 j.1 && may_meet j.0 i.1) p.second (and_from (may_meet i.0 j.1) (may_meet j.0 i.1) p.forth p.back))
 
--- a value that lies in both
+-- a value that lies in and_from
 pub intervals_meet-from : (i j : Interval) (v : Fraction) → IsInterval i → IsInterval j → IsPositive v → Within i v → Within j v → intervals_meet i j ≡ true
 intervals_meet-from i j v pi pj pv h k = from_parts i j (record {
   first = meet_at i.0 i.1 v pi.0 pi.1 pv h.0 h.1;
@@ -100,7 +97,7 @@ boxes_meet-from [] (j ∷ js) (v ∷ vs) pa pb pv h k = absurd (true≢false (sy
 boxes_meet-from (i ∷ is) [] [] pa pb pv h k = absurd (true≢false (sym h))
 boxes_meet-from (i ∷ is) [] (v ∷ vs) pa pb pv h k = absurd (true≢false (sym k))
 boxes_meet-from (i ∷ is) (j ∷ js) [] pa pb pv h k = absurd (true≢false (sym h))
-boxes_meet-from (i ∷ is) (j ∷ js) (v ∷ vs) pa pb pv h k = both (intervals_meet i j) (boxes_meet is js)
+boxes_meet-from (i ∷ is) (j ∷ js) (v ∷ vs) pa pb pv h k = and_from (intervals_meet i j) (boxes_meet is js)
     (intervals_meet-from i j v pa.0 pb.0 pv.0 (within_to i v (and_left (is_within i v) (in_box is vs) h)) (within_to j v (and_left (is_within j v) (in_box js vs) k)))
     (boxes_meet-from is js vs pa.1 pb.1 pv.1 (and_right (is_within i v) (in_box is vs) h) (and_right (is_within j v) (in_box js vs) k))
 
@@ -113,8 +110,8 @@ boxes_meet-to (i ∷ is) (j ∷ js) pa pb h =
     let s = boxes_meet-to is js pa.1 pb.1 (and_right (intervals_meet i j) (boxes_meet is js) h) in record {
       values = v.value ∷ s.values;
       positive = (v.positive, s.positive);
-      first = both (is_within i v.value) (in_box is s.values) (within_from i v.value v.first) s.first;
-      second = both (is_within j v.value) (in_box js s.values) (within_from j v.value v.second) s.second;
+      first = and_from (is_within i v.value) (in_box is s.values) (within_from i v.value v.first) s.first;
+      second = and_from (is_within j v.value) (in_box js s.values) (within_from j v.value v.second) s.second;
     }
 
 -- the test is exact

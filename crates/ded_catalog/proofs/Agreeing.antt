@@ -6,15 +6,7 @@ use Rattle.ded_model.specs.Made.{base}
 use Rattle.ded_model.specs.Known.{KnownNames, IsAccepted, is_unknown_atom, other_arity, is_arity_atom, is_missorted_atom, scope_of, is_text_sum, arguments_differ, columns_with, atom_level, level_with, level_of}
 use Rattle.ded_model.specs.Logic.{Logic, atom, always, never, negation, every_of, some_of, implies, minus, exists, forall, Logics, none, also, Scope, some_atom, some_atom_of, some_below, some_below_of, greatest, greatest_of}
 use Rattle.std.specs.List.{list_any}
-
--- of two tests that both fail
-pub left_false : (a b : Bool) → (a || b) ≡ false → a ≡ false
-left_false true b h = absurd (true≢false h)
-left_false false b h = refl
-
-pub right_false : (a b : Bool) → (a || b) ≡ false → b ≡ false
-right_false true b h = absurd (true≢false h)
-right_false false b h = h
+use Rattle.ded_model.proofs.Bools.{or_false_left, or_false_right}
 
 -- tests that agree on each atom of which u fails agree on each formula of whose atoms u fails
 module _ {L : Type 0} (u : L → Bool) (t t' : L → Bool) (agree : (a : L) → u a ≡ false → t a ≡ t' a) where
@@ -26,14 +18,14 @@ module _ {L : Type 0} (u : L → Bool) (t t' : L → Bool) (agree : (a : L) → 
     some_atom-agree (negation f) h = some_atom-agree f h
     some_atom-agree (every_of fs) h = some_atom_of-agree fs h
     some_atom-agree (some_of fs) h = some_atom_of-agree fs h
-    some_atom-agree (implies f g) h = λ i. some_atom-agree f (left_false _ _ h) i || some_atom-agree g (right_false _ _ h) i
-    some_atom-agree (minus f g) h = λ i. some_atom-agree f (left_false _ _ h) i || some_atom-agree g (right_false _ _ h) i
+    some_atom-agree (implies f g) h = λ i. some_atom-agree f (or_false_left _ _ h) i || some_atom-agree g (or_false_right _ _ h) i
+    some_atom-agree (minus f g) h = λ i. some_atom-agree f (or_false_left _ _ h) i || some_atom-agree g (or_false_right _ _ h) i
     some_atom-agree (exists s k f) h = some_atom-agree f h
     some_atom-agree (forall s k f) h = some_atom-agree f h
 
     pub some_atom_of-agree : (fs : Logics L) → some_atom_of u fs ≡ false → some_atom_of t fs ≡ some_atom_of t' fs
     some_atom_of-agree none h = refl
-    some_atom_of-agree (also f fs) h = λ i. some_atom-agree f (left_false _ _ h) i || some_atom_of-agree fs (right_false _ _ h) i
+    some_atom_of-agree (also f fs) h = λ i. some_atom-agree f (or_false_left _ _ h) i || some_atom_of-agree fs (or_false_right _ _ h) i
 
 -- the same below a scope
 module _ {L : Type 0} (u : L → Bool) (t t' : Scope → L → Bool) (agree : (scope : Scope) (a : L) → u a ≡ false → t scope a ≡ t' scope a) where
@@ -45,14 +37,14 @@ module _ {L : Type 0} (u : L → Bool) (t t' : Scope → L → Bool) (agree : (s
     some_below-agree scope (negation f) h = some_below-agree scope f h
     some_below-agree scope (every_of fs) h = some_below_of-agree scope fs h
     some_below-agree scope (some_of fs) h = some_below_of-agree scope fs h
-    some_below-agree scope (implies f g) h = λ i. some_below-agree scope f (left_false _ _ h) i || some_below-agree scope g (right_false _ _ h) i
-    some_below-agree scope (minus f g) h = λ i. some_below-agree scope f (left_false _ _ h) i || some_below-agree scope g (right_false _ _ h) i
+    some_below-agree scope (implies f g) h = λ i. some_below-agree scope f (or_false_left _ _ h) i || some_below-agree scope g (or_false_right _ _ h) i
+    some_below-agree scope (minus f g) h = λ i. some_below-agree scope f (or_false_left _ _ h) i || some_below-agree scope g (or_false_right _ _ h) i
     some_below-agree scope (exists s k f) h = some_below-agree ((k, s) ∷ scope) f h
     some_below-agree scope (forall s k f) h = some_below-agree ((k, s) ∷ scope) f h
 
     pub some_below_of-agree : (scope : Scope) (fs : Logics L) → some_atom_of u fs ≡ false → some_below_of t scope fs ≡ some_below_of t' scope fs
     some_below_of-agree scope none h = refl
-    some_below_of-agree scope (also f fs) h = λ i. some_below-agree scope f (left_false _ _ h) i || some_below_of-agree scope fs (right_false _ _ h) i
+    some_below_of-agree scope (also f fs) h = λ i. some_below-agree scope f (or_false_left _ _ h) i || some_below_of-agree scope fs (or_false_right _ _ h) i
 
 -- the same of measures
 module _ {L : Type 0} (u : L → Bool) (t t' : L → ℕ) (agree : (a : L) → u a ≡ false → t a ≡ t' a) where
@@ -64,14 +56,14 @@ module _ {L : Type 0} (u : L → Bool) (t t' : L → ℕ) (agree : (a : L) → u
     greatest-agree (negation f) h = greatest-agree f h
     greatest-agree (every_of fs) h = greatest_of-agree fs h
     greatest-agree (some_of fs) h = greatest_of-agree fs h
-    greatest-agree (implies f g) h = λ i. max (greatest-agree f (left_false _ _ h) i) (greatest-agree g (right_false _ _ h) i)
-    greatest-agree (minus f g) h = λ i. max (greatest-agree f (left_false _ _ h) i) (greatest-agree g (right_false _ _ h) i)
+    greatest-agree (implies f g) h = λ i. max (greatest-agree f (or_false_left _ _ h) i) (greatest-agree g (or_false_right _ _ h) i)
+    greatest-agree (minus f g) h = λ i. max (greatest-agree f (or_false_left _ _ h) i) (greatest-agree g (or_false_right _ _ h) i)
     greatest-agree (exists s k f) h = greatest-agree f h
     greatest-agree (forall s k f) h = greatest-agree f h
 
     pub greatest_of-agree : (fs : Logics L) → some_atom_of u fs ≡ false → greatest_of t fs ≡ greatest_of t' fs
     greatest_of-agree none h = refl
-    greatest_of-agree (also f fs) h = λ i. max (greatest-agree f (left_false _ _ h) i) (greatest_of-agree fs (right_false _ _ h) i)
+    greatest_of-agree (also f fs) h = λ i. max (greatest-agree f (or_false_left _ _ h) i) (greatest_of-agree fs (or_false_right _ _ h) i)
 
 -- the same is known of all names but n
 pub record Agrees (n : List ℕ) (K J : KnownNames) : Type 0 where

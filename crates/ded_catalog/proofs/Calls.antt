@@ -34,10 +34,10 @@ use Rattle.ded_catalog.specs.Kept.{IsRight, AreKept, IsKept}
 use Rattle.ded_catalog.specs.Mentions.{AreMentions}
 use Rattle.ded_catalog.specs.State.{Table, entry_form, entry_forms, catalogue_of, stored_known, known_with, relation_at, level_at, atom_level_in}
 use Rattle.ded_catalog.specs.Tuples.{AreUpTo, refusal_of, IsSame, Pushes, Removes}
-use Rattle.ded_catalog.proofs.Agreeing.{left_false}
 use Rattle.ded_catalog.proofs.Keeping.{kept-add, kept-change, changes, kept-drop, drops}
 use Rattle.ded_catalog.proofs.Lookups.{Split, split, forms-append, entry_of-lookup, known_of-lookup, absent_unknown, present_known}
 use Rattle.ded_catalog.proofs.Numbers.{stored-push, stored-remove, stored-upto, length-remove}
+use Rattle.ded_model.proofs.Bools.{or_false_left}
 
 -- ---- names
 
@@ -75,7 +75,7 @@ pub same_entry : (n : List ℕ) (r : Relation) (h : List Column) (m : ℕ) (ts :
 same_entry n r h m ts p q s = λ i. entry.relation n (p i) (q i) (s i)
 
 -- a relation that takes a tuple has room
-has_room : (limit len : ℕ) (rest : Option Refusal) → (if nat_le limit len then Some Full else rest) ≡ None → len + 1 ≤ limit
+pub has_room : (limit len : ℕ) (rest : Option Refusal) → (if nat_le limit len then Some Full else rest) ≡ None → len + 1 ≤ limit
 has_room limit len rest h = by (nat_le limit len) refl
   where
     by : (b : Bool) → nat_le limit len ≡ b → len + 1 ≤ limit
@@ -111,7 +111,7 @@ at-kept limit n s (e ∷ before) after K h = at-kept limit n s before after (wit
 
 -- a heading that isn't too long for a formula
 at_most : (h : List Column) (b : Bool) → (nat_lt 16 (length h) || b) ≡ false → length h ≤ 16
-at_most h b e = within (length h) (left_false (nat_lt 16 (length h)) b e)
+at_most h b e = within (length h) (or_false_left (nat_lt 16 (length h)) b e)
   where
     within : (m : ℕ) → nat_lt 16 m ≡ false → m ≤ 16
     within m e = grind (arith, nat_tests)

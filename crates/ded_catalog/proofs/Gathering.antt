@@ -10,24 +10,12 @@ use Rattle.ded_model.specs.declared.formula.Formula.{Formula}
 use Rattle.ded_model.specs.Form.{Form, form, forms, speaks_of, atom_speaks_of}
 use Rattle.ded_model.specs.Logic.{implies, some_atom_of}
 use Rattle.ded_catalog.specs.Mentions.{AreOnce, AreMentions, Gathers}
-
-or_false : (a : Bool) → (a || false) ≡ a
-or_false true = refl
-or_false false = refl
-
-or_three : (a b c : Bool) → ((a || b) || c) ≡ (a || (b || c))
-or_three true b c = refl
-or_three false b c = refl
-
--- of a test that is passed wherever the other one is
-or_more : (a b : Bool) → (b ≡ true → a ≡ true) → a ≡ (a || b)
-or_more true b h = refl
-or_more false true h = h refl
-or_more false false h = refl
+use Rattle.std.proofs.Math.Bool.{or-false}
+use Rattle.ded_model.proofs.Bools.{or_assoc, or_known}
 
 -- nothing more is gathered
 pub gathers_none : (ks : List (List ℕ)) → Gathers (λ n. false) ks ks
-gathers_none ks = record { all = λ n. sym (or_false (list_any (bytes_eq n) ks)); once = λ h. h }
+gathers_none ks = record { all = λ n. sym (or-false (list_any (bytes_eq n) ks)); once = λ h. h }
 
 -- those of two formulas are gathered one after the other
 pub gathers_both : (f g h : Form) (ks ls ms : List (List ℕ)) → h ≡ implies f g → Gathers (λ n. speaks_of n f) ks ls → Gathers (λ n. speaks_of n g) ls ms → Gathers (λ n. speaks_of n h) ks ms
@@ -35,7 +23,7 @@ gathers_both f g h ks ls ms e a b = record {
   all = λ n.
       b.all n
       ∙ ap (λ x. x || speaks_of n g) (a.all n)
-      ∙ or_three (list_any (bytes_eq n) ks) (speaks_of n f) (speaks_of n g)
+      ∙ or_assoc (list_any (bytes_eq n) ks) (speaks_of n f) (speaks_of n g)
       ∙ ap (λ x. list_any (bytes_eq n) ks || speaks_of n x) (sym e);
   once = λ o. b.once (a.once o);
 }
@@ -73,11 +61,11 @@ gathers_name ks ls k e = by (list_any (bytes_eq k) ks) refl
     by true h =
         let same = e ∙ ap (λ c. if c then ks else ks ++ k ∷ []) h in
         subst (Gathers (λ n. bytes_eq n k) ks) (sym same)
-        (record { all = λ n. or_more (list_any (bytes_eq n) ks) (bytes_eq n k) (there h n); once = λ o. o })
+        (record { all = λ n. or_known (list_any (bytes_eq n) ks) (bytes_eq n k) (there h n); once = λ o. o })
     by false h =
         let same = e ∙ ap (λ c. if c then ks else ks ++ k ∷ []) h in
         subst (Gathers (λ n. bytes_eq n k) ks) (sym same)
-        (record { all = λ n. list_any-append (bytes_eq n) ks (k ∷ []) ∙ ap (λ b. list_any (bytes_eq n) ks || b) (or_false (bytes_eq n k)); once = λ o. once-push ks k h o })
+        (record { all = λ n. list_any-append (bytes_eq n) ks (k ∷ []) ∙ ap (λ b. list_any (bytes_eq n) ks || b) (or-false (bytes_eq n k)); once = λ o. once-push ks k h o })
 
 -- ---- formula by formula
 
@@ -92,7 +80,7 @@ pub way-more : (fs : List Formula) (i : ℕ) (f : Formula) (start now next : Lis
 way-more fs i f start now next lt is g w = record {
   all = λ n.
       ap (λ b. b || some_atom_of (atom_speaks_of n) (forms (drop (i + 1) fs))) (g.all n)
-      ∙ or_three (list_any (bytes_eq n) now) (speaks_of n (form f)) (some_atom_of (atom_speaks_of n) (forms (drop (i + 1) fs)))
+      ∙ or_assoc (list_any (bytes_eq n) now) (speaks_of n (form f)) (some_atom_of (atom_speaks_of n) (forms (drop (i + 1) fs)))
       ∙ ap (λ x. list_any (bytes_eq n) now || (speaks_of n (form x) || some_atom_of (atom_speaks_of n) (forms (drop (i + 1) fs)))) is
       ∙ ap (λ b. list_any (bytes_eq n) now || b) (sym (at_drop_more (λ gs. some_atom_of (atom_speaks_of n) (forms gs)) fs i f lt))
       ∙ w.all n;
@@ -103,7 +91,7 @@ way-more fs i f start now next lt is g w = record {
 pub way-all : (fs left : List Formula) (start now : List (List ℕ)) → left ≡ [] → IsUnderWay fs left start now → Gathers (λ n. some_atom_of (atom_speaks_of n) (forms fs)) start now
 way-all fs left start now e w = record {
   all = λ n.
-      sym (or_false (list_any (bytes_eq n) now))
+      sym (or-false (list_any (bytes_eq n) now))
       ∙ ap (λ gs. list_any (bytes_eq n) now || some_atom_of (atom_speaks_of n) (forms gs)) (sym e)
       ∙ w.all n;
   once = w.once;

@@ -10,8 +10,9 @@ use Rattle.ded_catalog.specs.declared.stored.Stored.{Stored}
 use Rattle.ded_catalog.specs.declared.stored.Stored.TheVariants.{Relation, View}
 use Rattle.ded_catalog.specs.State.{Table, entry_form, entry_forms, catalogue_of}
 use Rattle.ded_catalog.specs.Kept.{IsRight, AreKept, IsKept}
-use Rattle.ded_catalog.proofs.Agreeing.{Agrees, left_false, right_false, level-agree, accepted-agree}
-use Rattle.ded_catalog.proofs.Lookups.{own, same_names, named, forms-append, with_known-form, with_known-own, with_known-other}
+use Rattle.ded_catalog.proofs.Agreeing.{Agrees, level-agree, accepted-agree}
+use Rattle.ded_catalog.proofs.Lookups.{same_names, named, forms-append, with_known-form, with_known-own, with_known-other}
+use Rattle.ded_model.proofs.Bools.{or_false_left, or_false_right, bytes_eq-refl}
 
 -- ---- kept entries are well formed
 
@@ -121,17 +122,17 @@ with-without n K J k s w o u = record {
 kept-without : (limit : ℕ) (n : List ℕ) (K J : KnownNames) (es : List (List ℕ × Stored)) → Without n K J → AreKept limit K es → list_any (entry_uses n) (entry_forms es) ≡ false → AreKept limit J es
 kept-without limit n K J [] w h u = tt
 kept-without limit n K J (e ∷ es) w h u =
-    let here = left_false _ _ u in
+    let here = or_false_left _ _ u in
     let o = other n e.0 K (bytes_eq n e.0) refl w.some h.0.0 in (
       (sym (w.agrees.same e.0 o) ∙ h.0.0, h.0.1),
       over-without limit n K J e.0 e.1 w.agrees here h.1,
       right-without n K J e.0 e.1 w.agrees here h.2,
-      kept-without limit n (with_known K (entry_form e.0 e.1)) (with_known J (entry_form e.0 e.1)) es (with-without n K J e.0 e.1 w o here) h.3 (right_false _ _ u),
+      kept-without limit n (with_known K (entry_form e.0 e.1)) (with_known J (entry_form e.0 e.1)) es (with-without n K J e.0 e.1 w o here) h.3 (or_false_right _ _ u),
     )
 
 -- names compare alike from both sides
 turned : (m n : List ℕ) (b : Bool) → bytes_eq m n ≡ b → bytes_eq n m ≡ false → bytes_eq m n ≡ false
-turned m n true e o = absurd (true≢false (sym (own m) ∙ ap (λ x. bytes_eq x m) (same_names m n e) ∙ o))
+turned m n true e o = absurd (true≢false (sym (bytes_eq-refl m) ∙ ap (λ x. bytes_eq x m) (same_names m n e) ∙ o))
 turned m n false e o = e
 
 kept-dropped : (limit : ℕ) (n : List ℕ) (s : Stored) (K : KnownNames) (before after : List (List ℕ × Stored)) → AreKept limit K (before ++ (n, s) ∷ after)
@@ -139,12 +140,12 @@ kept-dropped : (limit : ℕ) (n : List ℕ) (s : Stored) (K : KnownNames) (befor
 kept-dropped limit n s K [] after h u = kept-without limit n (with_known K (entry_form n s)) K after
     (record {
       agrees = record { same = λ m e. with_known-other K n s m (turned m n (bytes_eq m n) refl e) };
-      some = ap is_some (with_known-own K n s n (own n));
+      some = ap is_some (with_known-own K n s n (bytes_eq-refl n));
       none = h.0.0;
     })
-    h.3 (right_false _ _ u)
+    h.3 (or_false_right _ _ u)
 kept-dropped limit n s K (e ∷ before) after h u =
-    (h.0, h.1, h.2, kept-dropped limit n s (with_known K (entry_form e.0 e.1)) before after h.3 (right_false _ _ u))
+    (h.0, h.1, h.2, kept-dropped limit n s (with_known K (entry_form e.0 e.1)) before after h.3 (or_false_right _ _ u))
 
 -- without an entry whose name no view uses
 pub kept-drop : (limit : ℕ) (n : List ℕ) (s : Stored) (before after : List (List ℕ × Stored)) → IsKept limit (before ++ (n, s) ∷ after)

@@ -18,12 +18,9 @@ use Rattle.ded_catalog.specs.declared.stored.Relation.{Relation}
 use Rattle.ded_catalog.specs.Changed.{AreRelations, ChangesRelation}
 use Rattle.ded_catalog.specs.State.{entry_form, entry_forms, stored_known, known_with}
 use Rattle.ded_catalog.specs.Kept.{IsRight, AreKept, IsKept}
+use Rattle.ded_model.proofs.Bools.{bytes_eq-refl}
 
 -- ---- names
-
--- a name is the same as itself
-pub own : (n : List ℕ) → bytes_eq n n ≡ true
-own n = (bytes_eq-Decides n n).1 refl
 
 -- names that compare as the same are so
 pub same_names : (m n : List ℕ) → bytes_eq m n ≡ true → m ≡ n
@@ -110,7 +107,7 @@ entry_known-stored K n (View v) h = λ i. record { is_view = true; columns = v.h
 pub with_known-form : (K : KnownNames) (k : List ℕ) (s : Stored) (m : List ℕ) → with_known K (entry_form k s) m ≡ cond (bytes_eq m k) (Some (entry_known K (entry_form k s))) (K m)
 with_known-form K k s m = ap (λ x. cond (bytes_eq m x) (Some (entry_known K (entry_form k s))) (K m)) (named k s)
 
--- of its own name
+-- of its bytes_eq-refl name
 pub with_known-own : (K : KnownNames) (k : List ℕ) (s : Stored) (m : List ℕ) → bytes_eq m k ≡ true → with_known K (entry_form k s) m ≡ Some (entry_known K (entry_form k s))
 with_known-own K k s m b = with_known-form K k s m ∙ ap (λ c. cond c (Some (entry_known K (entry_form k s))) (K m)) b
 

@@ -19,6 +19,7 @@ use Rattle.ded_sorts.proofs.KnownEntries.{relation_there, columns_there}
 use Rattle.ded_catalog.proofs.Numbers.{stored-push, stored-remove, length-remove}
 use Rattle.ded_catalog.specs.Changing.{Change, none, insertion, deletion, changed_under, entry_with, entry_without, without_number, with_tuple, without_tuple, changed, MayInsert, MayChange, inserted_in, deleted_in, with_last}
 use Rattle.ded_catalog.proofs.SnapshotEntries.{split, over_at, known_from-changed, own_entry, other_entry, over-changed}
+use Rattle.ded_catalog.proofs.Calls.{has_room}
 
 -- ---- entries
 
@@ -98,13 +99,6 @@ has_relation : (o : Option Entry) (k : ℕ) → list_any (λ t. t.0 == k) (store
 has_relation None k h = h
 has_relation (Some (relation m h i ts)) k e = refl
 has_relation (Some (view m h f)) k e = e
-
-has_room : (limit len : ℕ) (rest : Option Refusal) → (if nat_le limit len then Some Full else rest) ≡ None → len + 1 ≤ limit
-has_room limit len rest h = by (nat_le limit len) refl
-  where
-    by : (b : Bool) → nat_le limit len ≡ b → len + 1 ≤ limit
-    by true b = absurd (none-some Full (sym h ∙ ap (λ c. if c then Some Full else rest) b))
-    by false b = grind (arith, nat_tests)
 
 -- the relation of its own name
 own_name : (own n : List ℕ) (columns : List Column) (inserts : ℕ) (ts : List (ℕ × List Atom)) → own ≡ n → relation own columns inserts ts ≡ relation n columns inserts ts
@@ -239,7 +233,7 @@ view-changed c (deletion n k) m = by (bytes_eq n m) refl
 
 -- ---- tuples
 
-tuples-push : (ts : List (ℕ × List Atom)) (t : ℕ × List Atom) → tuples_of (ts ++ t ∷ []) ≡ tuples_of ts ++ t.1 ∷ []
+pub tuples-push : (ts : List (ℕ × List Atom)) (t : ℕ × List Atom) → tuples_of (ts ++ t ∷ []) ≡ tuples_of ts ++ t.1 ∷ []
 tuples-push [] t = refl
 tuples-push (u ∷ ts) t = ap (λ l. u.1 ∷ l) (tuples-push ts t)
 

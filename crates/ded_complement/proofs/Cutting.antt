@@ -25,6 +25,8 @@ use Rattle.ded_genrel.proofs.Laws.{conjs_hold-append, conj_lines-append}
 use Rattle.ded_complement.specs.Pieces.{all_atoms, AreDisjoint, IsListForEach, IsAmong, AreAmong, IsMadeOf, IsAlike, ArePieces, IsMore}
 use Rattle.ded_complement.proofs.Cells.{has_cells}
 use Rattle.ded_complement.proofs.PieceLaws.{among_left, among_right, among_self, all_left, all_right, all_atoms-mention, all_atoms-lines, made_none, made_append, made_piece, made_among, made_alike, made_wide, conj_push, conjs_push, pieces_none, pieces_same, pieces_append, pieces_front, pieces_last, more_none, more_one, more_same, more_trans}
+use Rattle.std.proofs.Math.Bool.{and-true, and-false}
+use Rattle.std.proofs.lemmas.Bool.{or_parts}
 
 -- ---- tests
 
@@ -41,14 +43,6 @@ cut_sum false t a = refl
 and_assoc : (a b c : Bool) → ((a && b) && c) ≡ (a && (b && c))
 and_assoc true b c = refl
 and_assoc false b c = refl
-
-and_true : (a : Bool) → (a && true) ≡ a
-and_true true = refl
-and_true false = refl
-
-and_false : (a : Bool) → (a && false) ≡ false
-and_false true = refl
-and_false false = refl
 
 -- what doesn't go with the negation goes with it
 implied : (x a : Bool) → (x && not a) ≡ false → x ≡ (x && a)
@@ -79,7 +73,7 @@ less_sum false x c = refl
 
 less_apart : (t x c : Bool) → (t && x) ≡ false → ((t && not c) && (x && not c)) ≡ false
 less_apart true true c e = absurd (true≢false e)
-less_apart true false c e = and_false (not c)
+less_apart true false c e = and-false (not c)
 less_apart false x c e = refl
 
 not_or : (z x y : Bool) → ((z && not x) && not y) ≡ (z && not (x || y))
@@ -95,10 +89,6 @@ passed true true c e = refl
 passed true false true e = sym e
 passed true false false e = refl
 passed false d c e = refl
-
-neither : (a b : Bool) → (a || b) ≡ false → (a ≡ false) × (b ≡ false)
-neither true b e = absurd (true≢false e)
-neither false b e = (refl, e)
 
 -- what holds of all elements holds of the one at the index
 pub all-at : {A : Type 0} (P : A → Type 0) (xs : List A) (i : ℕ) (x : A) → i < length xs → x ≡ get_or xs i x → AllByRecursion P xs → P x
@@ -175,7 +165,7 @@ module _ {A : Type 0} (h : A → Point → Bool) (m : A → Slot → Bool) (l : 
       → (v ≡ false → HoldsNowhere (λ p. conj_holds h rest p && h c p)) → w ≡ false → HoldsNowhere (λ p. conj_holds h rest p && not (h a p))
   two_nowhere rest copy a b c n u v w e f k r x y z =
       let i = subst (IsNegation a) e k in
-      let t = neither u v (sym r ∙ z) in
+      let t = or_parts u v (sym r ∙ z) in
       λ p j. both_sum (conj_holds h rest p) (h b p) (h c p) (not (h a p)) (i.holds p j.positive) ∙ ap₂ (λ d g. d || g) (ap (λ xs. conj_holds h xs p && h b p) (sym f) ∙ x t.0 p j) (y t.1 p j)
 
   -- ---- the atoms of a conjunction, one after another
@@ -189,8 +179,8 @@ module _ {A : Type 0} (h : A → Point → Bool) (m : A → Slot → Bool) (l : 
 
   pub cutting_none : (normal : A → Type 0) (piece rest : List A) (old out : List (List A)) → out ≡ old → rest ≡ piece → AllByRecursion normal piece → Cutting normal piece [] old out rest
   cutting_none normal piece rest old out e f n = record {
-    more = more_none h m l cell _ (λ p. conj_holds h piece p && false) old out e (λ p i. and_false (conj_holds h piece p));
-    holds = λ p i. ap (λ xs. conj_holds h xs p) f ∙ sym (and_true (conj_holds h piece p));
+    more = more_none h m l cell _ (λ p. conj_holds h piece p && false) old out e (λ p i. and-false (conj_holds h piece p));
+    holds = λ p i. ap (λ xs. conj_holds h xs p) f ∙ sym (and-true (conj_holds h piece p));
     made = λ atoms g k. subst (IsMadeOf h m l cell atoms) (sym f) g;
     all_normal = subst (AllByRecursion normal) (sym f) n;
   }
@@ -293,7 +283,7 @@ module _ {A : Type 0} (h : A → Point → Bool) (m : A → Slot → Bool) (l : 
   outside_none piece old new e x = record {
     are = λ atoms g i.
         subst (ArePieces h m l cell atoms (λ p. conj_holds h piece p && true)) (sym (x.list ∙ ap (λ xs. xs ++ x.pieces) e))
-        (pieces_same h m l cell atoms (conj_holds h piece) (λ p. conj_holds h piece p && true) x.pieces (x.are atoms g) (λ p j. and_true (conj_holds h piece p)));
+        (pieces_same h m l cell atoms (conj_holds h piece) (λ p. conj_holds h piece p && true) x.pieces (x.are atoms g) (λ p j. and-true (conj_holds h piece p)));
   }
 
   pub outside_more : (piece : List A) (done next pieces new : List (List A)) (c conj : List A) → next ≡ done ++ c ∷ [] → conj ≡ c → Outside piece done pieces

@@ -13,8 +13,9 @@ use Rattle.ded_theory.proofs.Conjunctions.{conj_holds-append, conj_mentions-appe
 use Rattle.ded_theory.proofs.Parted.{wide_more}
 use Rattle.ded_genrel.specs.Lists.{conjs_hold, conjs_mention, conjs_lines}
 use Rattle.ded_genrel.proofs.Items.{all-append, all_weaker}
-use Rattle.ded_genrel.proofs.Laws.{or_false, and_true, conjs_hold-append, conj_lines-append}
+use Rattle.ded_genrel.proofs.Laws.{conjs_hold-append, conj_lines-append}
 use Rattle.ded_complement.specs.Pieces.{all_atoms, AreDisjoint, IsAmong, AreAmong, IsMadeOf, IsAlike, ArePieces, IsMore}
+use Rattle.std.proofs.Math.Bool.{or-false, and-true}
 
 -- ---- tests
 
@@ -127,7 +128,7 @@ module _ {A : Type 0} (h : A → Point → Bool) (m : A → Slot → Bool) (l : 
   pub made_piece : (atoms : List A) (a n : A) → IsAmong atoms a → ((p q : Point) → cell a p ≡ cell a q → h n p ≡ h n q) → ((s : Slot) → m n s ≡ true → m a s ≡ true) → l n ≡ l a → IsMadeOf h m l cell atoms (n ∷ [])
   made_piece atoms a n i tell slots same = record {
     cells = λ p q _ _ e. ap (λ b. b && true) (tell p q (among_cell cell atoms a p q i e));
-    slots = λ s j. among_slots m atoms a s i (slots s (sym (or_false (m n s)) ∙ j));
+    slots = λ s j. among_slots m atoms a s i (slots s (sym (or-false (m n s)) ∙ j));
     lines = λ x j. among_lines l atoms a i x (subst (In x) (append-nil (l n) ∙ same) j);
   }
 
@@ -146,10 +147,10 @@ module _ {A : Type 0} (h : A → Point → Bool) (m : A → Slot → Bool) (l : 
   -- ---- lists of pieces
 
   pub conj_push : (xs : List A) (a : A) (p : Point) → conj_holds h (xs ++ a ∷ []) p ≡ (conj_holds h xs p && h a p)
-  conj_push xs a p = conj_holds-append h xs (a ∷ []) p ∙ ap (λ b. conj_holds h xs p && b) (and_true (h a p))
+  conj_push xs a p = conj_holds-append h xs (a ∷ []) p ∙ ap (λ b. conj_holds h xs p && b) (and-true (h a p))
 
   pub conjs_push : (xs : List (List A)) (c : List A) (p : Point) → conjs_hold h (xs ++ c ∷ []) p ≡ (conjs_hold h xs p || conj_holds h c p)
-  conjs_push xs c p = conjs_hold-append h xs (c ∷ []) p ∙ ap (λ b. conjs_hold h xs p || b) (or_false (conj_holds h c p))
+  conjs_push xs c p = conjs_hold-append h xs (c ∷ []) p ∙ ap (λ b. conjs_hold h xs p || b) (or-false (conj_holds h c p))
 
   disjoint_append : (xs ys : List (List A)) → AreDisjoint h xs → AreDisjoint h ys → ((p : Point) → IsPoint p → (conjs_hold h xs p && conjs_hold h ys p) ≡ false) → AreDisjoint h (xs ++ ys)
   disjoint_append [] ys d e o = e
@@ -173,7 +174,7 @@ module _ {A : Type 0} (h : A → Point → Bool) (m : A → Slot → Bool) (l : 
 
   pub pieces_one : (atoms c : List A) → IsMadeOf h m l cell atoms c → ((IsWide m l atoms → ⊥) → HoldsSomewhere (conj_holds h c)) → ArePieces h m l cell atoms (conj_holds h c) (c ∷ [])
   pieces_one atoms c a w = record {
-    holds = λ p i. or_false (conj_holds h c p);
+    holds = λ p i. or-false (conj_holds h c p);
     disjoint = (λ p i. and_false (conj_holds h c p), tt);
     made = (a, tt);
     inhabited = λ n. (w n, tt);

@@ -34,7 +34,7 @@ use Rattle.ded_eval.specs.declared.given.GivenRelation.{GivenRelation}
 use Rattle.ded_eval.specs.Given.{given_entry, given_catalogue, has_name, without_name}
 use Rattle.ded_eval.proofs.Taken.{all_left}
 use Rattle.ded_views.specs.Reaching.{reaches}
-use Rattle.ded_views.proofs.Named.{own_name}
+use Rattle.ded_views.proofs.Named.{of_named, all_named, some_named}
 use Rattle.ded_views.proofs.Changing.{entry_there, same_entry, inserted, inserted_lines}
 use Rattle.ded_views.proofs.Clashing.{plan_clashing}
 use Rattle.ded_views.proofs.Placing.{none_measured}
@@ -50,11 +50,12 @@ use Rattle.ded_model.proofs.Made.{plain_base}
 use Rattle.ded_query.proofs.Entries.{named_columns, relation_heading}
 use Rattle.ded_query.proofs.Evaluable.{all_with, any_atoms, scannable, scans_same}
 use Rattle.ded_query.proofs.GivenNames.{lines_from, clash_from}
-use Rattle.ded_query.proofs.Names.{scanned_used, used_known, of_named, all_named, some_named}
+use Rattle.ded_query.proofs.Names.{scanned_used, used_known}
 use Rattle.ded_database.specs.Changes.{IsInsert}
 use Rattle.ded_database.specs.Held.{IsHeld}
 use Rattle.ded_database.proofs.ListsStaying.{HasOthers, same_meaning_after}
 use Rattle.ded_database.proofs.Under.{same_name, all_left_over, other_left, unnamed, nameless, named_each, gone_name}
+use Rattle.ded_model.proofs.Bools.{bytes_eq-refl}
 
 -- ---- lists without the relation
 
@@ -162,7 +163,7 @@ module _ (c d : Catalogue) (n : List ℕ) (t : List Atom) (x : IsInsert c d n t)
       by : (b : Bool) → has_name n rs ≡ b → has_name n rs ≡ false
       by true h = absurd
           (let found = named_each (λ v. bytes_eq v n ≡ false) rs n (all_names rs k) h in
-          true≢false (sym (own_name n) ∙ found))
+          true≢false (sym (bytes_eq-refl n) ∙ found))
         where
           all_names : (ss : List GivenRelation) → AllByRecursion (IsHeld d) ss → AllByRecursion (λ (r : GivenRelation). bytes_eq r.name n ≡ false) ss
           all_names [] k = tt
@@ -231,7 +232,7 @@ module _ (c d : Catalogue) (n : List ℕ) (t : List Atom) (x : IsInsert c d n t)
                 ((subst (λ k. IsTupleOver k t) columns_are tuple_over, any_atoms t), tt),
               )
               by false i = subst (λ b. IsScannedFrom IsAnyAtom (cond b (Some (relation n h 0 ((0, t) ∷ []))) (entry_of (map given_entry rs) o)) ss) (sym i)
-                  (scannable d f rs y.of (scan o ss) q (λ m j. subst (λ k. has_name k rs ≡ true) (same_name m o j) (u o (own_name o) i)))
+                  (scannable d f rs y.of (scan o ss) q (λ m j. subst (λ k. has_name k rs ≡ true) (same_name m o j) (u o (bytes_eq-refl o) i)))
 
       -- what is given is right before the insert and after it, but for the relation
       pub addition : IsAddition (given_catalogue rs) c d n h t plan
@@ -245,7 +246,7 @@ module _ (c d : Catalogue) (n : List ℕ) (t : List Atom) (x : IsInsert c d n t)
           step (rows a) q u = tt
           step (scan o ss) q u = λ i. (
             λ den xs k b l. same_meaning_after c d n others o (beside o q.0 i) den xs,
-            scans_same d f rs y.of (scan o ss) q (λ m j. subst (λ k. has_name k rs ≡ true) (same_name m o j) (u o (own_name o) i)),
+            scans_same d f rs y.of (scan o ss) q (λ m j. subst (λ k. has_name k rs ≡ true) (same_name m o j) (u o (bytes_eq-refl o) i)),
           )
 
           columns_before : columns_in c n ≡ h

@@ -19,11 +19,11 @@ use Rattle.ded_model.proofs.Members.{or_split}
 use Rattle.ded_model.proofs.Rows.{or_left, or_right}
 use Rattle.ded_views.specs.Reaching.{reaches}
 use Rattle.ded_views.proofs.GoalNames.{goal_names, speaks_used}
-use Rattle.ded_views.proofs.Named.{own_name}
 use Rattle.ded_views.proofs.Placing.{unknown}
 use Rattle.ded_views.proofs.ViewGoals.{IsGoalOfView, reached_by_used}
 use Rattle.ded_views.proofs.Views.{relation_reaches, view_reaches, used_reaches}
 use Rattle.ded_database.specs.Closed.{has, IsClosed, IsReachedAfter, AreReachedAfter}
+use Rattle.ded_model.proofs.Bools.{bytes_eq-refl}
 
 -- one name more
 has_more : (ns : List (List ℕ)) (n m : List ℕ) → has (ns ++ n ∷ []) m ≡ (has ns m || bytes_eq m n)
@@ -49,7 +49,7 @@ module _ (c : Catalogue) where
     first m h = has_more mid n m ∙ or_left (has mid m) (bytes_eq m n) h
 
     last : (m : List ℕ) → bytes_eq n m ≡ true → has (mid ++ n ∷ []) m ≡ true
-    last m h = has_more mid n m ∙ or_right (has mid m) (bytes_eq m n) (ap (bytes_eq m) ((bytes_eq-Decides n m).0 h) ∙ own_name m)
+    last m h = has_more mid n m ∙ or_right (has mid m) (bytes_eq m n) (ap (bytes_eq m) ((bytes_eq-Decides n m).0 h) ∙ bytes_eq-refl m)
 
     reached : (m : List ℕ) → reaches c n m ≡ true → has (mid ++ n ∷ []) m ≡ true
     reached m r = elim (more m r) [ inl e ↦ last m e | inr e ↦ first m e ]
@@ -82,7 +82,7 @@ module _ (c : Catalogue) where
         | inl e ↦ inl e
         | inr u ↦ inr (used_reaches c w n v.own v.columns v.formula v.entry (base u.name) m (speaks_used v.formula u.name (sym (used_by_goal c n g v u.name) ∙ u.used)) u.reaches)
       ])
-      (is n ∙ or_left (bytes_eq n n) _ (own_name n))
+      (is n ∙ or_left (bytes_eq n n) _ (bytes_eq-refl n))
 
   -- a name that is defined and has no goal of a view reaches itself alone
   pub reached_relation : IsWellFormed c → (n : List ℕ) (old : List (List ℕ)) → IsClosed c old → is_some (known c n) ≡ true → None ≡ option_map (λ v. goal_of v.0 v.1) (view_in (entry_of c.entries n))
@@ -94,4 +94,4 @@ module _ (c : Catalogue) where
       by (Some (view m h x)) f e = absurd (none-some (goal_of h x) e)
       by (Some (relation m h i ts)) f e =
           let is = relation_reaches c w n m h i ts f in
-          reached_last n old old k (λ m h. h) (λ m r. inl (sym (is m) ∙ r)) (λ m h. inl h) (is n ∙ own_name n)
+          reached_last n old old k (λ m h. h) (λ m r. inl (sym (is m) ∙ r)) (λ m h. inl h) (is n ∙ bytes_eq-refl n)

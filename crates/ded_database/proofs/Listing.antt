@@ -20,7 +20,6 @@ use Rattle.ded_eval.specs.Given.{unnumbered, given_entry, given_catalogue, given
 use Rattle.ded_query.proofs.Arguments.{byte_arguments, arguments_long}
 use Rattle.ded_model.proofs.Made.{plain_base}
 use Rattle.ded_eval.proofs.Taken.{none_under}
-use Rattle.ded_views.proofs.Named.{own_name}
 use Rattle.ded_views.proofs.Views.{view_means, plain_there}
 use Rattle.ded_database.specs.declared.mark.Mark.{Mark}
 use Rattle.ded_database.specs.Held.{IsHeld, IsListOf, held_under, is_marked}
@@ -28,6 +27,7 @@ use Rattle.ded_database.specs.Upkeep.{IsTightView}
 use Rattle.ded_database.proofs.Renewal.{tight_clash}
 use Rattle.ded_database.proofs.Under.{same_name, named_each, under_named, other_more, own_more, nameless, unnamed}
 use Rattle.ded_database.specs.Keeping.{IsMarkedWith, IsListedWith}
+use Rattle.ded_model.proofs.Bools.{bytes_eq-refl}
 
 -- what is held of a view holds exactly where the view's formula does
 pub list_of : (c : Catalogue) → IsWellFormed c → (r : GivenRelation) → IsHeld c r → IsListOf c r.name r.tuples
@@ -91,7 +91,7 @@ module _ (c : Catalogue) (n : List ℕ) (held : List GivenRelation) where
 
   pub listed_more : (r : GivenRelation) (new : List GivenRelation) → has_name n held ≡ false → r.name ≡ n → new ≡ held ++ r ∷ [] → IsListedWith c n held new
   listed_more r new h named e = record {
-    tight = λ i. ap (λ rs. is_some (held_under rs n)) e ∙ ap (λ o. is_some (option_map (λ (x : GivenRelation). x.tuples) o)) (own_more n held r (ap (bytes_eq n) named ∙ own_name n) (none_under n held h));
+    tight = λ i. ap (λ rs. is_some (held_under rs n)) e ∙ ap (λ o. is_some (option_map (λ (x : GivenRelation). x.tuples) o)) (own_more n held r (ap (bytes_eq n) named ∙ bytes_eq-refl n) (none_under n held h));
     present = λ i. absurd (true≢false (sym i ∙ ap is_some (unnamed n held h)));
     others = λ m f. ap (λ rs. held_under rs m) e ∙ ap (option_map (λ (x : GivenRelation). x.tuples)) (other_more m held r (ap (bytes_eq m) named ∙ f));
   }
@@ -120,7 +120,7 @@ module _ (c : Catalogue) (n : List ℕ) (held : List GivenRelation) where
 pub marked_after : (n : List ℕ) (old new : List Mark) (rs : List GivenRelation) → IsMarkedWith n old new → AllByRecursion (λ (r : GivenRelation). is_marked old r.name ≡ true) rs → (v : List ℕ)
     → (has_name v rs ≡ true) ⊎ (v ≡ n) → is_marked new v ≡ true
 marked_after n old new rs k h v (inl e) = k v ∙ or_right (bytes_eq v n) (is_marked old v) (named_each (λ m. is_marked old m ≡ true) rs v h e)
-marked_after n old new rs k h v (inr e) = k v ∙ or_left (bytes_eq v n) (is_marked old v) (ap (bytes_eq v) (sym e) ∙ own_name v)
+marked_after n old new rs k h v (inr e) = k v ∙ or_left (bytes_eq v n) (is_marked old v) (ap (bytes_eq v) (sym e) ∙ bytes_eq-refl v)
 
 pub of_mapped : {A B : Type 0} (f : A → B) (o : Option A) (P : B → Type 0) → IfSome (option_map f o) P → IfSome o (λ x. P (f x))
 of_mapped f None P h = tt

@@ -25,9 +25,8 @@ use Rattle.ded_keep.proofs.Counting.{conjunctive_plans}
 use Rattle.ded_plan.specs.Planned.{IsPlanned}
 use Rattle.ded_views.specs.Reaching.{reaches}
 use Rattle.ded_views.specs.Unaffected.{AreUnaffected}
-use Rattle.ded_views.proofs.Changing.{fails, entry_there, same_entry, reach_alike}
+use Rattle.ded_views.proofs.Changing.{entry_there, same_entry, reach_alike}
 use Rattle.ded_views.proofs.GoalNames.{speaks_used}
-use Rattle.ded_views.proofs.Named.{own_name}
 use Rattle.ded_views.proofs.Unaffected.{unaffected}
 use Rattle.ded_views.proofs.ViewGoals.{IsGoalOfView, reached_by_used}
 use Rattle.ded_views.proofs.Views.{view_reaches, used_reaches}
@@ -37,6 +36,8 @@ use Rattle.ded_database.specs.Closed.{has}
 use Rattle.ded_database.proofs.Closing.{used_by_goal}
 use Rattle.ded_database.proofs.UsedNames.{IsReach}
 use Rattle.ded_database.specs.Marks.{mark_reaches, reaches_beside, mark_adds, IsMark, IsOnceIn}
+use Rattle.std.proofs.lemmas.Bool.{false_from_ne_true}
+use Rattle.ded_model.proofs.Bools.{bytes_eq-refl}
 
 -- ---- lists of names with what they reach
 
@@ -45,7 +46,7 @@ some_reach : (P : Reach → Type 0) (test : Reach → Bool) (us : List Reach) (X
     → ((u : Reach) → list_any (λ (v : Reach). bytes_eq u.name v.name) us ≡ true → P u → test u ≡ true → X) → list_any test us ≡ true → X
 some_reach P test [] X k step h = absurd (true≢false (sym h))
 some_reach P test (u ∷ us) X k step h = elim (or_split (test u) (list_any test us) h) [
-  | inl e ↦ step u (or_left (bytes_eq u.name u.name) (list_any (λ (v : Reach). bytes_eq u.name v.name) us) (own_name u.name)) k.0 e
+  | inl e ↦ step u (or_left (bytes_eq u.name u.name) (list_any (λ (v : Reach). bytes_eq u.name v.name) us) (bytes_eq-refl u.name)) k.0 e
   | inr e ↦ some_reach P test us X k.1 (λ v i p t. step v (or_right (bytes_eq v.name u.name) (list_any (λ (w : Reach). bytes_eq v.name w.name) us) i) p t) e
 ]
 
@@ -62,7 +63,7 @@ named_reach P test (u ∷ us) n k h step = elim (or_split (bytes_eq n u.name) (l
 each_reach : (P Q : Reach → Type 0) (us : List Reach) → AllByRecursion P us → ((u : Reach) → list_any (λ (v : Reach). bytes_eq u.name v.name) us ≡ true → P u → Q u) → AllByRecursion Q us
 each_reach P Q [] k step = tt
 each_reach P Q (u ∷ us) k step = (
-  step u (or_left (bytes_eq u.name u.name) (list_any (λ (v : Reach). bytes_eq u.name v.name) us) (own_name u.name)) k.0,
+  step u (or_left (bytes_eq u.name u.name) (list_any (λ (v : Reach). bytes_eq u.name v.name) us) (bytes_eq-refl u.name)) k.0,
   each_reach P Q us k.1 (λ v i p. step v (or_right (bytes_eq v.name u.name) (list_any (λ (w : Reach). bytes_eq v.name w.name) us) i) p),
 )
 
@@ -96,7 +97,7 @@ marks_reach c m n w k o =
     ])
 
 pub nothing_beside : (c : Catalogue) (m : Mark) (n : List ℕ) → (k : IsMark c m) → reaches_beside m n ≡ false → (other : List ℕ) → uses other k.formula ≡ true → bytes_eq other n ≡ false → reaches c (base other) n ≡ false
-nothing_beside c m n k h other u o = fails (reaches c (base other) n) (λ r. true≢false (sym (named_reach (IsReach c) (λ v. not (bytes_eq v.name n) && has v.reached.items n) m.used.items other k.reached (sym (k.used other) ∙ u) (step r)) ∙ h))
+nothing_beside c m n k h other u o = false_from_ne_true (reaches c (base other) n) (λ r. true≢false (sym (named_reach (IsReach c) (λ v. not (bytes_eq v.name n) && has v.reached.items n) m.used.items other k.reached (sym (k.used other) ∙ u) (step r)) ∙ h))
   where
     both : (a b : Bool) → a ≡ false → b ≡ true → (not a && b) ≡ true
     both false b e f = f
@@ -109,7 +110,7 @@ nothing_beside c m n k h other u o = fails (reaches c (base other) n) (λ r. tru
 
 -- the name is reached by no other name in the formula
 beside_none : (c : Catalogue) (m : Mark) (n : List ℕ) (k : IsMark c m) → ((other : List ℕ) → uses other k.formula ≡ true → bytes_eq other n ≡ false → reaches c (base other) n ≡ false) → reaches_beside m n ≡ false
-beside_none c m n k none = fails (reaches_beside m n) (λ h. some_reach (IsReach c) (λ v. not (bytes_eq v.name n) && has v.reached.items n) m.used.items ⊥ k.reached step h)
+beside_none c m n k none = false_from_ne_true (reaches_beside m n) (λ h. some_reach (IsReach c) (λ v. not (bytes_eq v.name n) && has v.reached.items n) m.used.items ⊥ k.reached step h)
   where
     parts : (a b : Bool) → (not a && b) ≡ true → (a ≡ false) × (b ≡ true)
     parts false b e = (refl, e)
@@ -155,7 +156,7 @@ pub lasting_marks : (c d : Catalogue) (n : List ℕ) (h : List Column) (i j : �
     → ChangesEntry c d n (relation n h i ts) (relation n h j us) → IsMark c m → IsMark d m
 lasting_marks c d n h i j ts us m w x k =
     kept_mark c d m k
-    (same_entry c d n h i j ts us x m.name (fails (bytes_eq m.name n) (λ e. views_differ (sym (there e) ∙ k.entry))))
+    (same_entry c d n h i j ts us x m.name (false_from_ne_true (bytes_eq m.name n) (λ e. views_differ (sym (there e) ∙ k.entry))))
     (λ u r used. reach_alike c d n h i j ts us x (base u) r)
   where
     -- the name would be a relation

@@ -9,8 +9,8 @@ use Rattle.ded_model.proofs.Rows.{or_left, or_right}
 use Rattle.ded_eval.proofs.Names.{other_way}
 use Rattle.ded_database.specs.declared.mark.Mark.{Mark}
 use Rattle.ded_views.specs.Reaching.{reaches}
-use Rattle.ded_views.proofs.Named.{own_name}
 use Rattle.ded_database.specs.Held.{is_marked, AreMarkedApart}
+use Rattle.ded_model.proofs.Bools.{bytes_eq-refl}
 
 -- with one more
 pub marked_more : (ms : List Mark) (m : Mark) (v : List ℕ) → is_marked (ms ++ m ∷ []) v ≡ (is_marked ms v || bytes_eq v m.name)
@@ -46,5 +46,5 @@ apart_at (x ∷ ms) (suc i) m k l e =
 -- the one there is marked
 pub marked_at : (ms : List Mark) (i : ℕ) (m : Mark) → i < length ms → m ≡ get_or ms i m → is_marked ms m.name ≡ true
 marked_at [] i m l e = absurd (omega (arith, l))
-marked_at (x ∷ ms) zero m l e = or_left (bytes_eq m.name x.name) (is_marked ms m.name) (subst (λ (y : Mark). bytes_eq m.name y.name ≡ true) e (own_name m.name))
+marked_at (x ∷ ms) zero m l e = or_left (bytes_eq m.name x.name) (is_marked ms m.name) (subst (λ (y : Mark). bytes_eq m.name y.name ≡ true) e (bytes_eq-refl m.name))
 marked_at (x ∷ ms) (suc i) m l e = or_right (bytes_eq m.name x.name) (is_marked ms m.name) (marked_at ms i m (omega (arith, l)) e)

@@ -13,12 +13,13 @@ use Rattle.ded_model.proofs.Members.{or_split}
 use Rattle.ded_model.proofs.Rows.{or_left, or_right}
 use Rattle.ded_views.specs.Reaching.{reaches}
 use Rattle.ded_views.proofs.GoalNames.{speaks_used}
-use Rattle.ded_views.proofs.Named.{own_name, some_named, named_passes}
+use Rattle.ded_views.proofs.Named.{some_named, named_passes}
 use Rattle.ded_views.proofs.ViewGoals.{IsGoalOfView}
 use Rattle.ded_views.proofs.ViewNames.{used_known}
 use Rattle.ded_views.proofs.Views.{view_accepted, name_level, lesser_level}
 use Rattle.ded_database.specs.Closed.{has, IsClosed, IsReachedAfter, ReachesFrom, AreReachedAfter, AreUsedBelow}
 use Rattle.ded_database.proofs.Closing.{used_by_goal}
+use Rattle.ded_model.proofs.Bools.{bytes_eq-refl}
 
 -- ---- levels
 
@@ -58,7 +59,7 @@ reached_more c names i n old mid new l e f a = record {
 
 -- a name of the list stands there
 pub named_there : (names : List (List ℕ)) (i : ℕ) (n : List ℕ) → i < length names → n ≡ get_or names i n → list_any (bytes_eq n) names ≡ true
-named_there names i n l e = list_any_at (bytes_eq n) names i n l (sym (ap (bytes_eq n) e) ∙ own_name n)
+named_there names i n l e = list_any_at (bytes_eq n) names i n l (sym (ap (bytes_eq n) e) ∙ bytes_eq-refl n)
 
 -- of all names of a goal
 pub reached_all : (c : Catalogue) (g : GoalForm) (names old new : List (List ℕ)) → ((n : List ℕ) → goal_uses n g ≡ list_any (bytes_eq n) names) → AreReachedFrom c names old new → AreReachedAfter c g old new

@@ -19,15 +19,12 @@ use Rattle.ded_database.specs.Renewed.{AreLeft, AreTaken, AreRenewed}
 use Rattle.ded_database.specs.Upkeep.{LeavesOthers, IsLonger, IsReady}
 use Rattle.ded_database.proofs.ListsStaying.{HasOthers, others_stay, all_stay}
 use Rattle.ded_database.proofs.Under.{nameless, unnamed, named, each_named, named_each}
+use Rattle.ded_query.proofs.Gathered.{front_kept}
 
 -- what is so anyway is so where there is an error
 pub on_err_always : {A E : Type 0} (P : Type 0) (r : Result A E) → P → OnErr r P
 on_err_always P (Ok a) p = tt
 on_err_always P (Err e) p = p
-
--- the first ones are those that stood in front
-pub first_ones : (old new : List GivenRelation) → IsFront old new → take (length old) new ≡ old
-first_ones old new f = ap (take (length old)) f.is ∙ take-append_seam old f.more
 
 -- a name that is held alike is there alike
 there_alike : (v : List ℕ) (rs ss : List GivenRelation) → held_under rs v ≡ held_under ss v → has_name v rs ≡ true → has_name v ss ≡ true
@@ -66,7 +63,7 @@ module _ (c : Catalogue) (n : List ℕ) (ms : List Mark) (old : List GivenRelati
     }
       where
         same : take count new ≡ held
-        same = ap (λ i. take i new) is ∙ first_ones held new r.front
+        same = ap (λ i. take i new) is ∙ front_kept held new r.front
 
         marked : (v : List ℕ) → has_name v new ≡ true → is_marked ms v ≡ true
         marked v h = by (is_marked ms v) refl

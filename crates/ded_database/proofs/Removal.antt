@@ -9,11 +9,11 @@ use Rattle.ded_eval.specs.declared.given.GivenRelation.{GivenRelation}
 use Rattle.ded_eval.specs.Given.{given_under, without_name}
 use Rattle.ded_database.specs.declared.mark.Mark.{Mark}
 use Rattle.ded_views.specs.Reaching.{reaches}
-use Rattle.ded_views.proofs.Named.{own_name}
 use Rattle.ded_database.specs.Held.{IsHeld, held_under, is_marked}
 use Rattle.ded_database.specs.Renewed.{AreLeft, AreTaken, with_taken}
 use Rattle.ded_database.proofs.NamesOfMarks.{marked_more, marked_before, marked_other}
 use Rattle.ded_database.proofs.Under.{same_name, other_left, own_left, all_left_over, has_left, other_more, own_more, unheld, under_named}
+use Rattle.ded_model.proofs.Bools.{bytes_eq-refl}
 
 -- a name that reaches the relation isn't one that doesn't
 pub other_reach : (c : Catalogue) (n v m : List ℕ) → reaches c v n ≡ false → reaches c m n ≡ true → bytes_eq v m ≡ false
@@ -70,7 +70,7 @@ stale_own : (c : Catalogue) (m : List ℕ) (held stale : List GivenRelation) (o 
     → held_under (with_taken stale o) m ≡ option_map (λ (r : GivenRelation). r.tuples) o
 stale_own c m held stale None e k l = l
 stale_own c m held stale (Some r) e k l =
-    ap (option_map (λ (x : GivenRelation). x.tuples)) (own_more m stale r (ap (bytes_eq m) (under_named (IsHeld c) m held r e k).0 ∙ own_name m) (unheld _ l))
+    ap (option_map (λ (x : GivenRelation). x.tuples)) (own_more m stale r (ap (bytes_eq m) (under_named (IsHeld c) m held r e k).0 ∙ bytes_eq-refl m) (unheld _ l))
 
 stale_other : (c : Catalogue) (m v : List ℕ) (held stale : List GivenRelation) (o : Option GivenRelation) → given_under m held ≡ o → AllByRecursion (IsHeld c) held → bytes_eq v m ≡ false
     → held_under (with_taken stale o) v ≡ held_under stale v

@@ -18,7 +18,6 @@ use Rattle.ded_eval.proofs.Taken.{none_under}
 use Rattle.ded_database.specs.declared.mark.Mark.{Mark}
 use Rattle.ded_database.specs.Marks.{IsOnceIn}
 use Rattle.ded_views.specs.Reaching.{reaches}
-use Rattle.ded_views.proofs.Named.{own_name}
 use Rattle.ded_views.proofs.Views.{name_measure}
 use Rattle.ded_query.specs.Gathering.{IsFront, IsGivenAs, IsViewOf}
 use Rattle.ded_database.specs.Held.{IsHeld, held_under, is_marked}
@@ -27,14 +26,10 @@ use Rattle.ded_database.specs.Upkeep.{IsTightView, IsLonger}
 use Rattle.ded_database.proofs.NamesOfMarks.{marked_more, marked_before, marked_other}
 use Rattle.ded_database.proofs.Removal.{other_reach}
 use Rattle.ded_database.proofs.Under.{same_name, other_left, all_left_over, other_more, own_more, unnamed}
+use Rattle.ded_query.proofs.Gathered.{front_none, front_more}
+use Rattle.ded_model.proofs.Bools.{bytes_eq-refl}
 
 -- ---- the front
-
-front_none : (rs : List GivenRelation) → IsFront rs rs
-front_none rs = record { more = []; is = sym (append-nil rs) }
-
-front_more : (old mid new : List GivenRelation) → IsFront old mid → IsFront mid new → IsFront old new
-front_more old mid new f g = record { more = f.more ++ g.more; is = g.is ∙ ap (λ l. l ++ g.more) f.is ∙ append_assoc old f.more g.more }
 
 -- ---- of one view
 
@@ -52,7 +47,7 @@ module _ (c d : Catalogue) (n v : List ℕ) (t : Option (List Atom)) (list : Opt
   }
     where
       under : held_under now v ≡ Some r.tuples
-      under = ap (λ l. held_under l v) e ∙ ap (option_map (λ (x : GivenRelation). x.tuples)) (own_more v held r (ap (bytes_eq v) g.0.name ∙ own_name v) (none_under v held new))
+      under = ap (λ l. held_under l v) e ∙ ap (option_map (λ (x : GivenRelation). x.tuples)) (own_more v held r (ap (bytes_eq v) g.0.name ∙ bytes_eq-refl v) (none_under v held new))
 
   -- its list is too wide
   pub renewed_wide : (now : List GivenRelation) → now ≡ held → (IsTightView d v → ⊥) → IsRenewed c d n v t list held now

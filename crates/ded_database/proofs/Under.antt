@@ -11,8 +11,8 @@ use Rattle.ded_model.proofs.Members.{or_split}
 use Rattle.ded_eval.specs.declared.given.GivenRelation.{GivenRelation}
 use Rattle.ded_eval.specs.Given.{has_name, given_under, without_name}
 use Rattle.ded_eval.proofs.Taken.{none_under}
-use Rattle.ded_views.proofs.Named.{own_name}
 use Rattle.ded_database.specs.Held.{held_under}
+use Rattle.ded_model.proofs.Bools.{bytes_eq-refl}
 
 pub same_name : (n m : List ℕ) → bytes_eq n m ≡ true → m ≡ n
 same_name n m e = sym ((bytes_eq-Decides n m).0 e)
@@ -116,7 +116,7 @@ under_name n (x ∷ rs) r e = by (bytes_eq n x.name) refl e (under_name n rs r)
 -- what holds of each name that is there holds of the names of all
 pub each_named : (P : List ℕ → Type 0) (rs : List GivenRelation) → ((v : List ℕ) → has_name v rs ≡ true → P v) → AllByRecursion (λ (r : GivenRelation). P r.name) rs
 each_named P [] h = tt
-each_named P (r ∷ rs) h = (h r.name (or_left (bytes_eq r.name r.name) (has_name r.name rs) (own_name r.name)), each_named P rs (λ v e. h v (or_right (bytes_eq v r.name) (has_name v rs) e)))
+each_named P (r ∷ rs) h = (h r.name (or_left (bytes_eq r.name r.name) (has_name r.name rs) (bytes_eq-refl r.name)), each_named P rs (λ v e. h v (or_right (bytes_eq v r.name) (has_name v rs) e)))
 
 -- and the other way round
 pub named_each : (P : List ℕ → Type 0) (rs : List GivenRelation) (v : List ℕ) → AllByRecursion (λ (r : GivenRelation). P r.name) rs → has_name v rs ≡ true → P v

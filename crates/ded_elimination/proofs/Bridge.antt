@@ -14,8 +14,8 @@ use Rattle.ded_model.specs.Point.{slot, same_slot, Point, number_at}
 use Rattle.ded_model.specs.Coefs.{coef_at, cut}
 use Rattle.ded_model.specs.Row.{sum_at, row_at, sign_meets, row_holds}
 use Rattle.ded_model.proofs.Atoms.{row_keys}
-use Rattle.ded_model.proofs.Core.{Meets, join, mixed, meets_scale, size, against}
-use Rattle.ded_model.proofs.Eliminating.{meets-decides, coef_of, rest_of, row_cut, EqualHolds}
+use Rattle.ded_model.proofs.Core.{Meets, join, mixed, meets_scale, size, against, no_slot}
+use Rattle.ded_model.proofs.Eliminating.{meets-decides, coef_of, rest_of, row_cut, EqualHolds, join_zero}
 use Rattle.ded_model.proofs.Numbers.{coef, drop_key}
 use Rattle.ded_model.proofs.Terms.{keys_at}
 use Rattle.ded_row.specs.Mixing.{factor, join_op, mixed_row, mix_of}
@@ -23,6 +23,7 @@ use Rattle.ded_row.proofs.Mixes.{factors, cancels, sum_at-cut, row_at-mixed}
 use Rattle.ded_row.proofs.Normals.{normal_row-holds}
 use Rattle.ded_elimination.specs.Equalities.{settled_row}
 use Rattle.ded_elimination.proofs.Remains.{passes, passed, under_0}
+use Rattle.std.proofs.Math.IntN.{neg_ℤ-neg_ℤ}
 
 -- ---- the parts of a row
 
@@ -57,14 +58,11 @@ parted s r p =
     parted_law (sum_at (cut s r.coefs) p) (coef_at r.coefs s) (number_at p (slot s)) (sum_at r.coefs p) (r.constant *ℤ pos p.den) (sum_at-cut s r.coefs p)
     ∙ ap (λ z. coef_at r.coefs s *ℤ number_at p (slot s) +ℤ (z +ℤ r.constant *ℤ pos p.den)) (sym (drop-is r.coefs s p))
 
-none_law : (a n x : ℤ) → a ≡ pos 0 → a *ℤ n +ℤ x ≡ x
-none_law a n x e = rw e (rw (parts n, parts x) (simp ring_pos (diff_same _ _ _ _ (omega arith))))
-
 -- so a row without the slot is its rest
 pub level_meets : (s : Slot) (r : LinearConstraint) (p : Point) → coef_at r.coefs s ≡ pos 0 → row_holds r p ≡ true → Meets r.op (rest_of s p r)
 unfolding row_holds
 level_meets s r p z h =
-    subst (Meets r.op) (parted s r p ∙ none_law (coef_at r.coefs s) (number_at p (slot s)) (rest_of s p r) z) ((meets-decides r.op (row_at r p)).0 h)
+    subst (Meets r.op) (parted s r p ∙ no_slot (coef_at r.coefs s) (number_at p (slot s)) (rest_of s p r) z) ((meets-decides r.op (row_at r p)).0 h)
 
 -- ---- combinations
 
@@ -76,7 +74,7 @@ join_same AtMost Below = refl
 join_same Below u = refl
 
 rests_law : (k a x m b y n : ℤ) → k *ℤ a +ℤ m *ℤ b ≡ pos 0 → k *ℤ (a *ℤ n +ℤ x) +ℤ m *ℤ (b *ℤ n +ℤ y) ≡ k *ℤ x +ℤ m *ℤ y
-rests_law k a x m b y n e = law k a x m b y n ∙ none_law (k *ℤ a +ℤ m *ℤ b) n (k *ℤ x +ℤ m *ℤ y) e
+rests_law k a x m b y n e = law k a x m b y n ∙ no_slot (k *ℤ a +ℤ m *ℤ b) n (k *ℤ x +ℤ m *ℤ y) e
   where
     law : (k a x m b y n : ℤ) → k *ℤ (a *ℤ n +ℤ x) +ℤ m *ℤ (b *ℤ n +ℤ y) ≡ (k *ℤ a +ℤ m *ℤ b) *ℤ n +ℤ (k *ℤ x +ℤ m *ℤ y)
     law k a x m b y n = rw (parts k, parts a, parts x, parts m, parts b, parts y, parts n) (simp ring_pos (diff_same _ _ _ _ (omega arith)))
@@ -127,9 +125,6 @@ turned_up a h = omega (arith, ints)
 turned_down : (a : ℤ) → pos 0 <ℤ a → neg_ℤ a <ℤ pos 0
 turned_down a h = omega (arith, ints)
 
-twice : (a : ℤ) → neg_ℤ (neg_ℤ a) ≡ a
-twice a = omega (arith, ints)
-
 above_some : (a : ℤ) → pos 0 <ℤ a → a ≢ pos 0
 above_some a h e = absurd (omega (arith, ints))
 
@@ -161,7 +156,7 @@ against_up a b n h =
 
 against_down : (a b : ℤ) → a ≢ pos 0 → b <ℤ pos 0 → factor a b ≡ against a b
 against_down a b n h =
-    by_lt_z a (pos 0) (λ l. factor_below a b l ∙ ap neg_ℤ (abs_below b h) ∙ twice b ∙ sym (against_below a b l))
+    by_lt_z a (pos 0) (λ l. factor_below a b l ∙ ap neg_ℤ (abs_below b h) ∙ neg_ℤ-neg_ℤ b ∙ sym (against_below a b l))
     (λ g. by_lt_z (pos 0) a (λ l. factor_above a b l ∙ abs_below b h ∙ sym (against_above a b l)) (λ k. absurd (n (omega (arith, ints)))))
 
 -- ---- pairs
@@ -179,11 +174,6 @@ pair_meets s u l p h up lo i =
 
 swapped : (x y : ℤ) → x +ℤ y ≡ y +ℤ x
 swapped x y = omega (arith, ints)
-
-join_zero : (o : RowOp) → join o Zero ≡ o
-join_zero Zero = refl
-join_zero AtMost = refl
-join_zero Below = refl
 
 gone_law : (k x m w : ℤ) → m ≡ pos 0 → k *ℤ x ≡ k *ℤ x +ℤ m *ℤ w
 gone_law k x m w e = rw e (rw (parts k, parts x, parts w) (simp ring_pos (diff_same _ _ _ _ (omega arith))))

@@ -13,13 +13,10 @@ use Rattle.ded_model.proofs.Members.{In-left, In-right, In-split, or_split}
 use Rattle.ded_model.proofs.Points.{and_left, and_right}
 use Rattle.ded_model.proofs.Rows.{or_left, or_right}
 use Rattle.ded_theory.specs.Conjunctions.{conj_mentions, conj_lines}
+use Rattle.std.proofs.lemmas.Bool.{and_from}
 
 abbrev pub Rows : Type 0
 Rows = List LinearConstraint
-
--- both tests pass
-pub both : (a b : Bool) → a ≡ true → b ≡ true → (a && b) ≡ true
-both a b h k = rw h k
 
 -- ---- members
 
@@ -66,11 +63,11 @@ conj-In (x ∷ rows) p r h (inr i) = conj-In rows p r (and_right (row_holds x p)
 -- and all hold where each does
 pub In-conj : (rows : Rows) (p : Point) → ((r : LinearConstraint) → In r rows → row_holds r p ≡ true) → conj_holds row_holds rows p ≡ true
 In-conj [] p f = refl
-In-conj (x ∷ rows) p f = both (row_holds x p) (conj_holds row_holds rows p) (f x (inl refl)) (In-conj rows p (λ r i. f r (inr i)))
+In-conj (x ∷ rows) p f = and_from (row_holds x p) (conj_holds row_holds rows p) (f x (inl refl)) (In-conj rows p (λ r i. f r (inr i)))
 
 pub conj-every : (rows : Rows) (p : Point) → Every (λ r. IsTrue (row_holds r p)) rows → conj_holds row_holds rows p ≡ true
 conj-every [] p h = refl
-conj-every (x ∷ rows) p h = both (row_holds x p) (conj_holds row_holds rows p) h.0 (conj-every rows p h.1)
+conj-every (x ∷ rows) p h = and_from (row_holds x p) (conj_holds row_holds rows p) h.0 (conj-every rows p h.1)
 
 -- ---- slots and lines
 

@@ -13,7 +13,8 @@ use Rattle.ded_model.proofs.Members.{In-split}
 use Rattle.ded_model.proofs.Points.{and_left, and_right}
 use Rattle.ded_row.proofs.Normals.{constant_row-holds}
 use Rattle.ded_elimination.specs.Keeping.{ImpliesFrom, ImpliesAt, Keeps}
-use Rattle.ded_elimination.proofs.Conjunctions.{Rows, both, In-at, conj-In}
+use Rattle.ded_elimination.proofs.Conjunctions.{Rows, In-at, conj-In}
+use Rattle.std.proofs.lemmas.Bool.{and_from}
 
 -- ---- a row without coefficients
 
@@ -65,10 +66,10 @@ set_holds : (r : LinearConstraint) (old : Rows) (i : ℕ) (p : Point) → 0 < p.
 set_holds r [] i p h lt w c = absurd (omega arith)
 set_holds r (x ∷ old) zero p h lt w c =
     let here = and_left (row_holds r p) (conj_holds row_holds old p) c in
-    (both (row_holds x p) (conj_holds row_holds old p) (w x p h here) (and_right (row_holds r p) (conj_holds row_holds old p) c), here)
+    (and_from (row_holds x p) (conj_holds row_holds old p) (w x p h here) (and_right (row_holds r p) (conj_holds row_holds old p) c), here)
 set_holds r (x ∷ old) (suc i) p h lt w c =
     let rest = set_holds r old i p h (omega arith) w (and_right (row_holds x p) (conj_holds row_holds (set old i r) p) c) in
-    (both (row_holds x p) (conj_holds row_holds old p) (and_left (row_holds x p) (conj_holds row_holds (set old i r) p) c) rest.0, rest.1)
+    (and_from (row_holds x p) (conj_holds row_holds old p) (and_left (row_holds x p) (conj_holds row_holds (set old i r) p) c) rest.0, rest.1)
 
 set_rows : (r : LinearConstraint) (old : Rows) (i : ℕ) (y : LinearConstraint) → In y (set old i r) → In y old ⊎ (y ≡ r)
 set_rows r [] i y h = absurd h

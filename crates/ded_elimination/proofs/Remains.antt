@@ -28,7 +28,8 @@ use Rattle.ded_theory.specs.Conjunctions.{conj_lines}
 use Rattle.ded_elimination.specs.LinearAtoms.{IsLinearAtom}
 use Rattle.ded_elimination.specs.Adding.{AreLinear, IsRemaining}
 use Rattle.ded_elimination.specs.Equalities.{settled_row, settled_clash}
-use Rattle.ded_elimination.proofs.Conjunctions.{Rows, both, all-In, conj-In, In-mentions, In-lines}
+use Rattle.ded_elimination.proofs.Conjunctions.{Rows, all-In, conj-In, In-mentions, In-lines}
+use Rattle.std.proofs.lemmas.Bool.{and_from}
 
 -- ---- mentioned slots
 
@@ -158,13 +159,13 @@ module _ (Kind : LinearConstraint → Type 0) (s : Slot) (rows : Rows) (linear :
         let m = line_at s r some_r in
         let is = mix-line s q r some_q some_r ∙ lines_combination s q r l.line m.line (begins q.coefs linear_q.coefs) (begins r.coefs linear_r.coefs) l.inside m.inside in
         let apart : not (lines_clash s l.line m.line) ≡ true = ap not (sym (clash_alike l m) ∙ short k i) in
-        let mention = both (row_mentions l.line s) (row_mentions m.line s) l.mentions m.mentions in
+        let mention = and_from (row_mentions l.line s) (row_mentions m.line s) l.mentions m.mentions in
         In-elim-pair s (conj_lines row_lines rows) k (record {
           first = l.line;
           second = m.line;
           in_first = In-lines rows q l.line iq l.inside;
           in_second = In-lines rows r m.line ir m.inside;
-          combined = taken l.line m.line k (both_mention s l.line m.line && not (lines_clash s l.line m.line)) (both (both_mention s l.line m.line) (not (lines_clash s l.line m.line)) mention apart) (subst (In k) is i);
+          combined = taken l.line m.line k (both_mention s l.line m.line && not (lines_clash s l.line m.line)) (and_from (both_mention s l.line m.line) (not (lines_clash s l.line m.line)) mention apart) (subst (In k) is i);
         })
 
     pub mixed_remains : ((k : Line) → In k (row_lines (mix_of s q r)) → lines_clash s q r ≡ false) → IsLinearAtom (mix_of s q r) → Kind (mix_of s q r) → IsRemaining Kind s rows (mix_of s q r)
@@ -184,9 +185,9 @@ module _ (Kind : LinearConstraint → Type 0) (s : Slot) (rows : Rows) (linear :
     mixed_clash long =
         let l = line_at s q some_q in
         let m = line_at s r some_r in
-        let mention = both (row_mentions l.line s) (row_mentions m.line s) l.mentions m.mentions in
+        let mention = and_from (row_mentions l.line s) (row_mentions m.line s) l.mentions m.mentions in
         In-clash_of s l.line m.line (conj_lines row_lines rows) (conj_lines row_lines rows) (In-lines rows q l.line iq l.inside) (In-lines rows r m.line ir m.inside)
-        (both (both_mention s l.line m.line) (lines_clash s l.line m.line) mention (sym (clash_alike l m) ∙ long))
+        (and_from (both_mention s l.line m.line) (lines_clash s l.line m.line) mention (sym (clash_alike l m) ∙ long))
 
   -- ---- a row from which an equality has taken the slot
   module _ (e r : LinearConstraint) (ie : In e rows) (ir : In r rows) (op : e.op ≡ Zero) (some : coef_at e.coefs s ≢ pos 0) where

@@ -8,7 +8,7 @@ use Rattle.ded_model.specs.declared.row.RowOp.{RowOp}
 use Rattle.ded_model.specs.declared.row.RowOp.TheVariants.{Zero, AtMost, Below}
 use Rattle.ded_model.specs.Constraint.{LinearConstraint}
 use Rattle.ded_model.specs.Row.{sum_at, row_at, row_holds}
-use Rattle.ded_model.proofs.Core.{Meets, join, meets_scale, meets_add}
+use Rattle.ded_model.proofs.Core.{Meets, join, meets_scale, meets_add, below_at_most}
 use Rattle.ded_model.proofs.Eliminating.{meets-decides}
 use Rattle.ded_elimination.specs.Keeping.{at_least_with, at_least, Implies}
 
@@ -42,9 +42,6 @@ at_most a b e = grind (arith, ints)
 
 below : (a b : ℤ) → int_lt b a ≡ true → Meets Below (b -ℤ a)
 below a b e = grind (arith, ints)
-
-below_at_most : (z : ℤ) → Meets Below z → Meets AtMost z
-below_at_most z h = omega (arith, ints)
 
 -- the tests on constants and ops suffice
 stronger_by : (o u : RowOp) (q r : LinearConstraint) → q.op ≡ o → r.op ≡ u → q.coefs ≡ r.coefs → at_least_with o q.constant u r.constant ≡ true → Implies q r

@@ -11,9 +11,10 @@ use Rattle.ded_model.specs.PlanForm.{PlanForm}
 use Rattle.ded_model.proofs.Rows.{or_left, or_right}
 use Rattle.ded_model.proofs.Members.{In-left, subset_trans, subset_append, or_split}
 use Rattle.ded_genrel.specs.Lists.{conjs_of, conjs_hold, conjs_mention, conjs_lines}
-use Rattle.ded_genrel.proofs.Laws.{or_false, conjs_hold-append, conjs_mention-append, conjs_lines-append}
+use Rattle.ded_genrel.proofs.Laws.{conjs_hold-append, conjs_mention-append, conjs_lines-append}
 use Rattle.ded_eval.specs.Kept.{IsAdded}
 use Rattle.ded_eval.proofs.Evaluated.{IsListFor}
+use Rattle.std.proofs.Math.Bool.{or-false}
 
 -- a conjunction of the list holds only where the list does
 or_known : (a b : Bool) → (b ≡ true → a ≡ true) → a ≡ (a || b)
@@ -49,7 +50,7 @@ module _ {A : Type 0} (h : A → Point → Bool) (m : A → Slot → Bool) (l : 
   distinct_known : (conjs kept : List (List A)) (c : List A) → Contains kept c → IsDistinctPart conjs kept → IsDistinctPart (conjs ++ c ∷ []) kept
   distinct_known conjs kept c k d = record {
     holds = λ p. or_known (conjs_hold h kept p) (conj_holds h c p) (known_holds kept c p k)
-        ∙ ap (λ b. b || conj_holds h c p) (d.holds p) ∙ ap (λ b. conjs_hold h conjs p || b) (sym (or_false (conj_holds h c p))) ∙ sym (conjs_hold-append h conjs (c ∷ []) p);
+        ∙ ap (λ b. b || conj_holds h c p) (d.holds p) ∙ ap (λ b. conjs_hold h conjs p || b) (sym (or-false (conj_holds h c p))) ∙ sym (conjs_hold-append h conjs (c ∷ []) p);
     slots = λ s u. conjs_mention-append m conjs (c ∷ []) s ∙ or_left (conjs_mention m conjs s) (conjs_mention m (c ∷ []) s) (d.slots s u);
     lines = λ x i. subst (In x) (sym (conjs_lines-append l conjs (c ∷ []))) (In-left x (conjs_lines l conjs) (conjs_lines l (c ∷ [])) (d.lines x i));
   }

@@ -1,7 +1,7 @@
 -- Evaluations put together: what is done with the lists of the parts of a plan gives the list of the plan.
 use Rattle.std.proofs.Common.{◌≡◌, ℕ, suc, Vec, Global, Bool, true, false, not, ◌&&◌, ◌||◌, List, [], ◌∷◌, ◌++◌, ◌⊎◌, ⊎_elim, inl, inr, length, arith, refl, sym, ap, ◌∙◌, subst, true≢false, append_assoc, append-nil}
 use Rattle.std.specs.Prelude.{◌↔◌, ◌==◌}
-use Rattle.std.proofs.Math.Bool.{or_assoc}
+use Rattle.std.proofs.Math.Bool.{or_assoc, or-false}
 use Rattle.std.proofs.lemmas.Bool.{and_from, and_parts, not-true, not_from_false, false_from_ne_true}
 use Rattle.std.proofs.lemmas.Bool.Decides.{nat_tests}
 use Rattle.ded_model.specs.declared.slot.Slot.{Slot}
@@ -18,7 +18,7 @@ use Rattle.ded_theory.specs.Conjunctions.{conj_lines}
 use Rattle.ded_algebra.specs.Evaluation.{IsEvaluation}
 use Rattle.ded_genrel.specs.Lists.{conjs_of, conjs_hold, conjs_mention, conjs_lines}
 use Rattle.ded_genrel.specs.Operations.{IsOperation, IsMeet, IsInhabitedPart}
-use Rattle.ded_genrel.proofs.Laws.{or_false, conjs_hold-append, conjs_mention-append, conjs_lines-append}
+use Rattle.ded_genrel.proofs.Laws.{conjs_hold-append, conjs_mention-append, conjs_lines-append}
 use Rattle.ded_eval.specs.Reading.{IsConjunctionOf}
 
 -- ---- one part more
@@ -46,7 +46,7 @@ module _ {L : Type 0} (H : L → Point → Type 0) where
   every-left (f ∷ fs) gs p h = (h.0, every-left fs gs p h.1)
 
 mentions-push : {L : Type 0} (test : L → Key → Bool) (fs : List (Logic L)) (f : Logic L) (k : Key) → any_mentions test (logics (fs ++ f ∷ [])) k ≡ (any_mentions test (logics fs) k || mentions test f k)
-mentions-push test [] f k = or_false (mentions test f k)
+mentions-push test [] f k = or-false (mentions test f k)
 mentions-push test (g ∷ fs) f k = ap (λ b. mentions test g k || b) (mentions-push test fs f k) ∙ sym (or_assoc (mentions test g k) _ _)
 
 lines-push : {L : Type 0} (of : L → List Line) (fs : List (Logic L)) (f : Logic L) → all_lines of (logics (fs ++ f ∷ [])) ≡ all_lines of (logics fs) ++ lines of f
@@ -62,8 +62,8 @@ module _ {A : Type 0} (h : A → Point → Bool) (m : A → Slot → Bool) (l : 
 
   pub rows_for : (c : Catalogue) (t : List Atom) (atoms : List A) (list out : List (List A)) → list ≡ atoms ∷ [] → IsConjunctionOf h m l atoms t → IsInhabitedPart h m l list out → IsListFor c (atom (rows t)) out
   rows_for c t atoms list out e k r = record {
-    holds = λ p i. (let same = r.is.holds p i ∙ ap (λ xs. conjs_hold h xs p) e ∙ or_false _ ∙ k.holds p in (λ x. sym same ∙ x, λ x. same ∙ x));
-    slots = λ s u. sym (ap (λ xs. conjs_mention m xs s) e ∙ or_false _ ∙ k.slots s) ∙ r.is.slots s u;
+    holds = λ p i. (let same = r.is.holds p i ∙ ap (λ xs. conjs_hold h xs p) e ∙ or-false _ ∙ k.holds p in (λ x. sym same ∙ x, λ x. same ∙ x));
+    slots = λ s u. sym (ap (λ xs. conjs_mention m xs s) e ∙ or-false _ ∙ k.slots s) ∙ r.is.slots s u;
     lines = subset_trans (conjs_lines l out) (conjs_lines l list) (atoms_lines t) r.is.lines (subst (λ ls. IsSubset ls (atoms_lines t)) (sym (ap (conjs_lines l) e ∙ append-nil (conj_lines l atoms))) k.lines);
   }
 
@@ -145,7 +145,7 @@ module _ {A : Type 0} (h : A → Point → Bool) (m : A → Slot → Bool) (l : 
       λ x y. (let both = (a.holds p i).0 x in ⊎_elim (λ n. n both.0) (λ z. ⊎_elim (λ s. both.1 s) (λ n. absurd n) z) y),
       λ y. by p i y (conjs_hold h xs p) refl,
     );
-    slots = λ s u. ap (λ b. plan_mentions f (slot s) || b) (or_false (plan_mentions g (slot s))) ∙ a.slots s u;
+    slots = λ s u. ap (λ b. plan_mentions f (slot s) || b) (or-false (plan_mentions g (slot s))) ∙ a.slots s u;
     lines = subst (λ ls. IsSubset (conjs_lines l xs) (plan_lines (stored_measures c) f ++ ls)) (sym (append-nil (plan_lines (stored_measures c) g))) a.lines;
   }
     where

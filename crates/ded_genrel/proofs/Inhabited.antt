@@ -13,7 +13,8 @@ use Rattle.ded_theory.specs.Verdicts.{IsVerdict, HoldsNowhere}
 use Rattle.ded_genrel.specs.Lists.{conjs_hold, conjs_mention, conjs_lines}
 use Rattle.ded_genrel.specs.Operations.{IsInhabitedPart}
 use Rattle.ded_genrel.proofs.Items.{all-push}
-use Rattle.ded_genrel.proofs.Laws.{or_false, conjs_hold-append, conjs_mention-append, conjs_lines-append}
+use Rattle.ded_genrel.proofs.Laws.{conjs_hold-append, conjs_mention-append, conjs_lines-append}
+use Rattle.std.proofs.Math.Bool.{or-false}
 
 module _ {A : Type 0} (h : A → Point → Bool) (m : A → Slot → Bool) (l : A → List Line) where
   -- the empty list
@@ -52,7 +53,7 @@ module _ {A : Type 0} (h : A → Point → Bool) (m : A → Slot → Bool) (l : 
   }
     where
       or_neither : (conjs : List (List A)) (c : List A) (p : Point) → conj_holds h c p ≡ false → conjs_hold h (conjs ++ c ∷ []) p ≡ conjs_hold h conjs p
-      or_neither conjs c p e = conjs_hold-append h conjs (c ∷ []) p ∙ ap (λ b. conjs_hold h conjs p || (b || false)) e ∙ or_false (conjs_hold h conjs p)
+      or_neither conjs c p e = conjs_hold-append h conjs (c ∷ []) p ∙ ap (λ b. conjs_hold h conjs p || (b || false)) e ∙ or-false (conjs_hold h conjs p)
 
   -- what is known of a conjunction whose verdict isn't `Empty`
   pub not_empty : (c : List A) (v : Verdict) → v ≢ Empty → IsVerdict h m l c v → (IsWide m l c → ⊥) → HoldsSomewhere (conj_holds h c)

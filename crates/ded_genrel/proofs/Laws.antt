@@ -3,7 +3,7 @@
 -- A list holds where one of its conjunctions does, so two lists one after another hold where one of them does. The pairs of two
 -- lists hold where both do, since a conjunction of two holds where both hold. Slots and lines of either are those of the two.
 use Rattle.std.proofs.Common.{◌≡◌, ◌<◌, Bool, true, false, ◌&&◌, ◌||◌, List, [], ◌∷◌, ◌++◌, ◌⊎◌, inl, inr, refl, sym, ap, ap₂, ◌∙◌, subst, true≢false, append_assoc}
-use Rattle.std.proofs.Math.Bool.{or_assoc}
+use Rattle.std.proofs.Math.Bool.{or_assoc, and-false}
 use Rattle.ded_model.specs.declared.slot.Slot.{Slot}
 use Rattle.ded_model.specs.Point.{slot, Point, IsSameAt, IsExtension}
 use Rattle.ded_model.specs.Cell.{conj_holds}
@@ -17,18 +17,6 @@ use Rattle.ded_genrel.specs.Lists.{AreNormal, conjs_hold, conjs_mention, conjs_l
 use Rattle.ded_genrel.specs.Operations.{IsUnion, IsMeet}
 
 -- ---- tests
-
-pub or_false : (a : Bool) → (a || false) ≡ a
-or_false true = refl
-or_false false = refl
-
-pub and_true : (a : Bool) → (a && true) ≡ a
-and_true true = refl
-and_true false = refl
-
-and_false : (a : Bool) → (a && false) ≡ false
-and_false true = refl
-and_false false = refl
 
 -- a with b, or a with c
 and_over_or : (a b c : Bool) → (a && (b || c)) ≡ ((a && b) || (a && c))
@@ -51,7 +39,7 @@ module _ {A : Type 0} (holds : A → Point → Bool) where
 
   -- the pairs with one conjunction hold where it and the list do
   pub pairs_with-hold : (c : List A) (ys : List (List A)) (p : Point) → conjs_hold holds (pairs_with c ys) p ≡ (conj_holds holds c p && conjs_hold holds ys p)
-  pairs_with-hold c [] p = sym (and_false (conj_holds holds c p))
+  pairs_with-hold c [] p = sym (and-false (conj_holds holds c p))
   pairs_with-hold c (y ∷ ys) p =
       ap₂ (λ a b. a || b) (conj_holds-append holds c y p) (pairs_with-hold c ys p) ∙ sym (and_over_or (conj_holds holds c p) (conj_holds holds y p) (conjs_hold holds ys p))
 

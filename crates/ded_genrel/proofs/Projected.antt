@@ -14,7 +14,8 @@ use Rattle.ded_theory.specs.Eliminations.{SomeExtension, IsElimination}
 use Rattle.ded_genrel.specs.Lists.{conjs_hold, conjs_mention, conjs_lines, conjs_elim, SomeConj}
 use Rattle.ded_genrel.specs.Operations.{IsProjection}
 use Rattle.ded_genrel.proofs.Items.{all-push, all_weaker}
-use Rattle.ded_genrel.proofs.Laws.{or_false, conjs_hold-append, conjs_mention-append, conjs_lines-append}
+use Rattle.ded_genrel.proofs.Laws.{conjs_hold-append, conjs_mention-append, conjs_lines-append}
+use Rattle.std.proofs.Math.Bool.{or-false}
 
 module _ {A : Type 0} where
   -- what is so of some conjunction is so of some of more
@@ -38,10 +39,10 @@ module _ {A : Type 0} where
 
 module _ {A : Type 0} (h : A → Point → Bool) (m : A → Slot → Bool) (l : A → List Line) (n : A → Type 0) where
   holds_push : (xs : List (List A)) (c : List A) (p : Point) → conjs_hold h (xs ++ c ∷ []) p ≡ (conjs_hold h xs p || conj_holds h c p)
-  holds_push xs c p = conjs_hold-append h xs (c ∷ []) p ∙ ap (λ b. conjs_hold h xs p || b) (or_false (conj_holds h c p))
+  holds_push xs c p = conjs_hold-append h xs (c ∷ []) p ∙ ap (λ b. conjs_hold h xs p || b) (or-false (conj_holds h c p))
 
   mention_push : (xs : List (List A)) (c : List A) (s : Slot) → conjs_mention m (xs ++ c ∷ []) s ≡ (conjs_mention m xs s || conj_mentions m c s)
-  mention_push xs c s = conjs_mention-append m xs (c ∷ []) s ∙ ap (λ b. conjs_mention m xs s || b) (or_false (conj_mentions m c s))
+  mention_push xs c s = conjs_mention-append m xs (c ∷ []) s ∙ ap (λ b. conjs_mention m xs s || b) (or-false (conj_mentions m c s))
 
   in_push : (xs : List (List A)) (c : List A) (x : Line) → In x (conjs_lines l (xs ++ c ∷ [])) → In x (conjs_lines l xs) ⊎ In x (conj_lines l c)
   in_push xs c x i = elim (In-split x (conjs_lines l xs) (conjs_lines l (c ∷ [])) (subst (In x) (conjs_lines-append l xs (c ∷ [])) i)) [

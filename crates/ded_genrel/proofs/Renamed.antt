@@ -11,7 +11,8 @@ use Rattle.ded_theory.specs.Conjunctions.{conj_mentions, conj_lines}
 use Rattle.ded_theory.proofs.Conjunctions.{conj_holds-append, conj_mentions-append}
 use Rattle.ded_genrel.specs.Lists.{conjs_hold, conjs_mention, conjs_lines}
 use Rattle.ded_genrel.specs.Operations.{IsRenaming}
-use Rattle.ded_genrel.proofs.Laws.{or_false, and_true, conjs_hold-append, conjs_mention-append, conj_lines-append, conjs_lines-append}
+use Rattle.ded_genrel.proofs.Laws.{conjs_hold-append, conjs_mention-append, conj_lines-append, conjs_lines-append}
+use Rattle.std.proofs.Math.Bool.{or-false, and-true}
 
 -- ---- fewer slots
 
@@ -72,10 +73,10 @@ module _ {A : Type 0} (h : A → Point → Bool) (m : A → Slot → Bool) (l : 
       (λ p. holds_push xs a p) (λ p. holds_push ys b p) (λ s. mention_push xs a s) (λ s. mention_push ys b s) (lines_push xs a) (lines_push ys b) r t
     where
       holds_push : (xs : List A) (a : A) (p : Point) → conj_holds h (xs ++ a ∷ []) p ≡ (conj_holds h xs p && h a p)
-      holds_push xs a p = conj_holds-append h xs (a ∷ []) p ∙ ap (λ b. conj_holds h xs p && b) (and_true (h a p))
+      holds_push xs a p = conj_holds-append h xs (a ∷ []) p ∙ ap (λ b. conj_holds h xs p && b) (and-true (h a p))
 
       mention_push : (xs : List A) (a : A) (s : Slot) → conj_mentions m (xs ++ a ∷ []) s ≡ (conj_mentions m xs s || m a s)
-      mention_push xs a s = conj_mentions-append m xs (a ∷ []) s ∙ ap (λ b. conj_mentions m xs s || b) (or_false (m a s))
+      mention_push xs a s = conj_mentions-append m xs (a ∷ []) s ∙ ap (λ b. conj_mentions m xs s || b) (or-false (m a s))
 
       lines_push : (xs : List A) (a : A) → conj_lines l (xs ++ a ∷ []) ≡ conj_lines l xs ++ l a
       lines_push xs a = conj_lines-append l xs (a ∷ []) ∙ ap (λ ls. conj_lines l xs ++ ls) (append-nil (l a))
@@ -96,10 +97,10 @@ module _ {A : Type 0} (h : A → Point → Bool) (m : A → Slot → Bool) (l : 
       (λ p. holds_push xs c p) (λ p. holds_push ys d p) (λ s. mention_push xs c s) (λ s. mention_push ys d s) (lines_push xs c) (lines_push ys d) r t
     where
       holds_push : (xs : List (List A)) (c : List A) (p : Point) → conjs_hold h (xs ++ c ∷ []) p ≡ (conjs_hold h xs p || conj_holds h c p)
-      holds_push xs c p = conjs_hold-append h xs (c ∷ []) p ∙ ap (λ b. conjs_hold h xs p || b) (or_false (conj_holds h c p))
+      holds_push xs c p = conjs_hold-append h xs (c ∷ []) p ∙ ap (λ b. conjs_hold h xs p || b) (or-false (conj_holds h c p))
 
       mention_push : (xs : List (List A)) (c : List A) (s : Slot) → conjs_mention m (xs ++ c ∷ []) s ≡ (conjs_mention m xs s || conj_mentions m c s)
-      mention_push xs c s = conjs_mention-append m xs (c ∷ []) s ∙ ap (λ b. conjs_mention m xs s || b) (or_false (conj_mentions m c s))
+      mention_push xs c s = conjs_mention-append m xs (c ∷ []) s ∙ ap (λ b. conjs_mention m xs s || b) (or-false (conj_mentions m c s))
 
       lines_push : (xs : List (List A)) (c : List A) → conjs_lines l (xs ++ c ∷ []) ≡ conjs_lines l xs ++ conj_lines l c
       lines_push xs c = conjs_lines-append l xs (c ∷ []) ∙ ap (λ ls. conjs_lines l xs ++ ls) (append-nil (conj_lines l c))

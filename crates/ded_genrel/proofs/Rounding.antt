@@ -22,8 +22,10 @@ use Rattle.ded_theory.specs.Conjunctions.{IsWide}
 use Rattle.ded_theory.specs.Verdicts.{IsSpan, IsBound}
 use Rattle.ded_box.specs.Intervals.{is_inside, is_within}
 use Rattle.ded_box.specs.Boxes.{in_box}
-use Rattle.ded_box.proofs.Shares.{Interval, Box, both}
+use Rattle.ded_box.proofs.Shares.{Interval, Box}
 use Rattle.ded_genrel.specs.Rounds.{values_at, IsRound, AreExact, AreSharp, IsBoxOf, interval_of}
+use Rattle.ded_theory.proofs.Parted.{exact_bound}
+use Rattle.std.proofs.lemmas.Bool.{and_from}
 
 strict : (x y : ℤ) → int_lt x y ≡ false → (x ≡ y → ⊥) → int_lt y x ≡ true
 strict x y h n = by_lt_z x y (λ l. absurd (true≢false (sym (less x y l) ∙ h))) (λ g. by_lt_z y x (λ l. less y x l) (λ k. absurd (n (omega (arith, ints)))))
@@ -40,23 +42,18 @@ inside_bound test s e Infinite p h i t = refl
 inside_bound test s e (Excluded f) p h i t = inside_excluded test s e f p (h.0 p i t) (λ same. h.1 (p, i, t, same))
 inside_bound test s e (Included f) p h i t = ap not (h p i t)
 
-exact_bound : (test : Point → Bool) (s : Slot) (e : End) (b : Bound) → IsExactBound test s e b → IsBound test s e b
-exact_bound test s e Infinite h = tt
-exact_bound test s e (Excluded f) h = (h.none, h.free)
-exact_bound test s e (Included f) h = h.none
-
 within_span : {A : Type 0} (h : A → Point → Bool) (m : A → Slot → Bool) (l : A → List Line) (atoms : List A) (s : Slot) (span : Span) → IsSpan h m l atoms s span → (p : Point) → IsPoint p → conj_holds h atoms p ≡ true → is_within (interval_of span) (value_at s p) ≡ true
 within_span h m l atoms s Nothing k p i t = absurd (true≢false (sym t ∙ k p i))
-within_span h m l atoms s (Exact a b) k p i t = both (is_inside lower a (value_at s p)) (is_inside upper b (value_at s p))
+within_span h m l atoms s (Exact a b) k p i t = and_from (is_inside lower a (value_at s p)) (is_inside upper b (value_at s p))
     (inside_bound (conj_holds h atoms) s lower a p (exact_bound (conj_holds h atoms) s lower a k.0) i t) (inside_bound (conj_holds h atoms) s upper b p (exact_bound (conj_holds h atoms) s upper b k.1) i t)
-within_span h m l atoms s (Around a b) k p i t = both (is_inside lower a (value_at s p)) (is_inside upper b (value_at s p))
+within_span h m l atoms s (Around a b) k p i t = and_from (is_inside lower a (value_at s p)) (is_inside upper b (value_at s p))
     (inside_bound (conj_holds h atoms) s lower a p k.1 i t) (inside_bound (conj_holds h atoms) s upper b p k.2 i t)
 
 in_box-push : (x : Box) (vs : List Fraction) (i : Interval) (v : Fraction) → in_box x vs ≡ true → is_within i v ≡ true → in_box (x ++ i ∷ []) (vs ++ v ∷ []) ≡ true
-in_box-push [] [] i v h k = both (is_within i v) true k refl
+in_box-push [] [] i v h k = and_from (is_within i v) true k refl
 in_box-push [] (w ∷ vs) i v h k = absurd (true≢false (sym h))
 in_box-push (j ∷ js) [] i v h k = absurd (true≢false (sym h))
-in_box-push (j ∷ js) (w ∷ vs) i v h k = both (is_within j w) (in_box (js ++ i ∷ []) (vs ++ v ∷ [])) (and_left (is_within j w) (in_box js vs) h) (in_box-push js vs i v (and_right (is_within j w) (in_box js vs) h) k)
+in_box-push (j ∷ js) (w ∷ vs) i v h k = and_from (is_within j w) (in_box (js ++ i ∷ []) (vs ++ v ∷ [])) (and_left (is_within j w) (in_box js vs) h) (in_box-push js vs i v (and_right (is_within j w) (in_box js vs) h) k)
 
 values_at-push : (ss : List Slot) (s : Slot) (p : Point) → values_at (ss ++ s ∷ []) p ≡ values_at ss p ++ value_at s p ∷ []
 values_at-push [] s p = refl

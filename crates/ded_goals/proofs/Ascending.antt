@@ -13,6 +13,7 @@ use Rattle.ded_model.proofs.Points.{same_slot_is, same_slot_refl}
 use Rattle.ded_model.proofs.CoefLemmas.{above_lesser, equal_by_number, coef_at-above, coef_at-here, coef_at-past}
 use Rattle.ded_model.proofs.LineCoefs.{AllNonzero, nonzero-nonzero, coef_at-put, coef_at-nonzero, coef_at-cut, coef_at-cut_here}
 use lib.IntN.{+ℤ_idl, +ℤ_idr}
+use Rattle.ded_row.proofs.Walks.{AllAbove-put}
 
 -- rational slots in ascending order
 abbrev pub Ascend : List (Slot × ℤ) → Type 0
@@ -39,15 +40,6 @@ nonzero-kept (c ∷ cs) h = (h.2, nonzero-kept cs h.4)
 
 -- ---- putting
 
-above-put : (n : ℕ) (s : Slot) (z : ℤ) (cs : List (Slot × ℤ)) → n < s.number → AllAbove n cs → AllAbove n (put s z cs)
-above-put n s z [] h k = (h, tt)
-above-put n s z (c ∷ cs) h k = go (same_slot c.0 s) (nat_lt s.number c.0.number) (above-put n s z cs h k.1)
-  where
-    go : (b d : Bool) → AllAbove n (put s z cs) → AllAbove n (cond b ((c.0, z +ℤ c.1) ∷ cs) (cond d ((s, z) ∷ c ∷ cs) (c ∷ put s z cs)))
-    go true d i = k
-    go false true i = (h, k)
-    go false false i = (k.0, i)
-
 lesser : (m n : ℕ) → nat_lt m n ≡ true → m < n
 lesser m n e = grind (arith, nat_tests)
 
@@ -72,7 +64,7 @@ ascend-put s z (c ∷ cs) r h = go (same_slot c.0 s) refl (nat_lt s.number c.0.n
         → Ascend (cond b ((c.0, z +ℤ c.1) ∷ cs) (cond d ((s, z) ∷ c ∷ cs) (c ∷ put s z cs)))
     go true e d f i = h
     go false e true f i = let l : s.number < c.0.number = lesser s.number c.0.number f in (r, (l, above_lesser s.number c.0.number cs (omega (arith, l)) h.1), h)
-    go false e false f i = (h.0, above-put c.0.number s z cs (above_by_tests c.0 s h.0 r e f) h.1, i)
+    go false e false f i = (h.0, AllAbove-put c.0.number s z cs (above_by_tests c.0 s h.0 r e f) h.1, i)
 
 ascend-put_all : (k : ℤ) (xs ys : List (Slot × ℤ)) → AllRational xs → Ascend ys → Ascend (put_all k xs ys)
 ascend-put_all k [] ys r h = h

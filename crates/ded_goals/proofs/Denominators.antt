@@ -28,19 +28,15 @@ use Rattle.ded_model.proofs.LineCoefs.{nonzero-nonzero}
 use Rattle.ded_model.proofs.Values.{denominator-positive}
 use Rattle.ded_row.specs.Multiples.{coefs_times, row_times}
 use Rattle.ded_row.proofs.Scaling.{IsFactor, normal_row-times, regroup}
-use Rattle.ded_row.proofs.MixedLines.{times-put, times-nonzero, nonzero_begins}
+use Rattle.ded_row.proofs.MixedLines.{times-put, times-nonzero, nonzero_begins, times-put_all}
 use Rattle.ded_goals.specs.Scope.{sum_over}
+use Rattle.ded_model.proofs.Definable.{neg_times}
 
 -- ---- sums as they stand
 
 -- the row of `l - r`, both over the denominator that they share
 abbrev pub plain_row : SlotSum → SlotSum → RowOp → LinearConstraint
 plain_row l r op = record { coefs = nonzero (mixed (pos 1) l.coefs (neg_ℤ (pos 1)) r.coefs); constant = l.constant -ℤ r.constant; op = op }
-
--- a multiple of a sum of multiples
-times-put_all : (j k : ℤ) (xs ys : List (Slot × ℤ)) → coefs_times j (put_all k xs ys) ≡ put_all (j *ℤ k) xs (coefs_times j ys)
-times-put_all j k [] ys = refl
-times-put_all j k (x ∷ xs) ys = times-put j x.0 (k *ℤ x.1) (put_all k xs ys) ∙ ap₂ (put x.0) (regroup j k x.1) (times-put_all j k xs ys)
 
 times_one : (d : ℤ) → d *ℤ pos 1 ≡ d
 times_one (pos n) = omega (arith, ints)
@@ -53,10 +49,6 @@ times_minus (negsuc n) = omega (arith, ints)
 one_times : (d : ℤ) → pos 1 *ℤ d ≡ d
 one_times (pos n) = omega (arith, ints)
 one_times (negsuc n) = omega (arith, ints)
-
-minus_times : (d : ℤ) → neg_ℤ (pos 1) *ℤ d ≡ neg_ℤ d
-minus_times (pos n) = omega (arith, ints)
-minus_times (negsuc n) = omega (arith, ints)
 
 -- a multiple of a difference
 times-difference : (d : ℤ) (xs ys : List (Slot × ℤ)) → coefs_times d (mixed (pos 1) xs (neg_ℤ (pos 1)) ys) ≡ mixed d xs (neg_ℤ d) ys
@@ -119,7 +111,7 @@ variable_left s m r op h e =
 variable_right : (l : SlotSum) (s : Slot) (m : ℤ) (op : RowOp) → pos 0 <ℤ m → l.over ≡ m → difference_row l (variable_over (pos 1) s) op ≡ plain_row l (variable_over m s) op
 variable_right l s m op h e =
     ap₂ (λ a b. crossed a b l (variable_over (pos 1) s) op) denominator_one (ap (λ k. pos (denominator k)) e ∙ denominator_is m h)
-    ∙ ap₂ (λ (z c : ℤ). record { coefs = nonzero (put_all (pos 1) l.coefs ((s, z) ∷ [])); constant = c; op = op }) (times_one (neg_ℤ m) ∙ sym (minus_times m)) (ap₂ (λ x y. x -ℤ y) (one_times l.constant) (*ℤ-zero m))
+    ∙ ap₂ (λ (z c : ℤ). record { coefs = nonzero (put_all (pos 1) l.coefs ((s, z) ∷ [])); constant = c; op = op }) (times_one (neg_ℤ m) ∙ sym (neg_times m)) (ap₂ (λ x y. x -ℤ y) (one_times l.constant) (*ℤ-zero m))
 
 -- ---- sides
 

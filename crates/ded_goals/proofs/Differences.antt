@@ -16,6 +16,7 @@ use Rattle.ded_model.proofs.LineCoefs.{coef_at-mixed}
 use Rattle.ded_row.proofs.FirstSlots.{entry, split, drop-kept}
 use Rattle.ded_goals.specs.Scope.{AreSmall}
 use Rattle.ded_goals.proofs.Ascending.{rational-kept, ascend-mixed, kept_is, coef_at-with_coef}
+use Rattle.ded_model.proofs.Definable.{neg_times}
 
 -- ---- the loop over the coefficients that are taken off
 
@@ -78,15 +79,11 @@ one_times : (x : ℤ) → pos 1 *ℤ x ≡ x
 one_times (pos n) = omega (arith, ints)
 one_times (negsuc n) = omega (arith, ints)
 
-one_off : (y : ℤ) → neg_ℤ (pos 1) *ℤ y ≡ neg_ℤ y
-one_off (pos n) = omega (arith, ints)
-one_off (negsuc n) = omega (arith, ints)
-
 minus_law : (x y : ℤ) → (x -ℤ y) +ℤ pos 0 ≡ x +ℤ neg_ℤ y
 minus_law x y = omega (arith, ints)
 
 all_law : (x y : ℤ) → (x -ℤ y) +ℤ pos 0 ≡ pos 1 *ℤ x +ℤ neg_ℤ (pos 1) *ℤ y
-all_law x y = minus_law x y ∙ sym (ap₂ (λ a b. a +ℤ b) (one_times x) (one_off y))
+all_law x y = minus_law x y ∙ sym (ap₂ (λ a b. a +ℤ b) (one_times x) (neg_times y))
 
 -- all are
 pub differing_all : (xs ys out : List (Slot × ℤ)) → AreCoefs xs → AreCoefs ys → AreCoefs out → Differing xs ys [] out → out ≡ nonzero (mixed (pos 1) xs (neg_ℤ (pos 1)) ys)

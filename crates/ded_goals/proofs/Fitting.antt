@@ -21,8 +21,9 @@ use Rattle.ded_model.specs.Plain.{IsPlain}
 use Rattle.ded_goals.specs.Scope.{sorts_of}
 use Rattle.ded_goals.specs.Tuples.{is_missorted_comparison, IsTextSide, IsFitting, AreFitting}
 use Rattle.ded_tuple.specs.Places.{placed}
-use Rattle.ded_goals.proofs.Summing.{sort_in-slot, fails_left, fails_right}
+use Rattle.ded_goals.proofs.Summing.{sort_in-slot}
 use Rattle.ded_goals.proofs.Reading.{numbered_heading, sorts_heading}
+use Rattle.ded_model.proofs.Bools.{or_false_left, or_false_right}
 
 -- what a slice of bytes has
 pub all_bytes : (xs : List ℕ) → ((i : ℕ) → Fits w8 (get_or xs i 0)) → AllBytes xs
@@ -96,10 +97,10 @@ falsehood_normal r e = subst (λ q. AreCoefs q.coefs × IsNormalRow q × (is_tru
 -- the one at a place
 pub fitting_at : (scope : SlotScope) (fs : List Formula) (i : ℕ) (d : Formula) → AreFitting scope (forms fs) → i < length fs → IsFitting scope (form (get_or fs i d))
 fitting_at scope [] i d h l = absurd (omega arith)
-fitting_at scope (f ∷ fs) zero d h l = record { apart = h.apart; plain = h.plain.0; bound = fails_left _ _ h.bound; sorted = fails_left _ _ h.sorted }
+fitting_at scope (f ∷ fs) zero d h l = record { apart = h.apart; plain = h.plain.0; bound = or_false_left _ _ h.bound; sorted = or_false_left _ _ h.sorted }
 fitting_at scope (f ∷ fs) (suc i) d h l =
     fitting_at scope fs i d
-    (record { apart = h.apart; plain = h.plain.1; bound = fails_right (some_below is_unbound_atom (sorts_of scope) (form f)) _ h.bound; sorted = fails_right (some_below is_missorted_comparison (sorts_of scope) (form f)) _ h.sorted })
+    (record { apart = h.apart; plain = h.plain.1; bound = or_false_right (some_below is_unbound_atom (sorts_of scope) (form f)) _ h.bound; sorted = or_false_right (some_below is_missorted_comparison (sorts_of scope) (form f)) _ h.sorted })
     (omega arith)
 
 -- atoms in front are put at their places

@@ -29,10 +29,10 @@ use Rattle.ded_row.proofs.Forms.{normal_row-normal}
 use Rattle.ded_row.proofs.MixedLines.{nonzero_begins}
 use Rattle.ded_goals.specs.Scope.{sorts_of}
 use Rattle.ded_goals.specs.Tuples.{is_missorted_comparison, IsTextSide}
-use Rattle.ded_goals.proofs.Summing.{fails_left, fails_right}
 use Rattle.ded_goals.proofs.Reading.{sorts_heading}
 use Rattle.ded_goals.proofs.Fitting.{text_sides}
 use Rattle.ded_goals.proofs.Accepted.{comparisons_of-accepted}
+use Rattle.ded_model.proofs.Bools.{or_false_left, or_false_right}
 
 -- ---- sums
 
@@ -118,7 +118,7 @@ normal_comparison scope l o r e = go (is_text_operand scope l || is_text_operand
   where
     go : (b : Bool) → (is_text_operand scope l || is_text_operand scope r) ≡ b → IsNormalGoal (cond b (texts_goal (text_side scope l) o (text_side scope r)) (sums_goal (slot_sum scope l) o (slot_sum scope r)))
     go true f =
-        let sides = text_sides scope l r o (fails_right (is_text_sum (sorts_of scope) l || is_text_sum (sorts_of scope) r) _ e) f in
+        let sides = text_sides scope l r o (or_false_right (is_text_sum (sorts_of scope) l || is_text_sum (sorts_of scope) r) _ e) f in
         normal_texts (text_side scope l) o (text_side scope r) sides.0 sides.1
     go false f = normal_sums (slot_sum scope l) o (slot_sum scope r)
 
@@ -131,15 +131,15 @@ mutual
   normal_below (negation f) scope n h = normal_below f scope n h
   normal_below (every_of fs) scope n h = all_normal_below fs scope n h
   normal_below (some_of fs) scope n h = all_normal_below fs scope n h
-  normal_below (implies f g) scope n h = (normal_below f scope n (fails_left _ _ h), normal_below g scope (n + quantifiers f) (fails_right (some_below is_missorted_comparison (sorts_of scope) f) _ h))
-  normal_below (minus f g) scope n h = (normal_below f scope n (fails_left _ _ h), normal_below g scope (n + quantifiers f) (fails_right (some_below is_missorted_comparison (sorts_of scope) f) _ h))
+  normal_below (implies f g) scope n h = (normal_below f scope n (or_false_left _ _ h), normal_below g scope (n + quantifiers f) (or_false_right (some_below is_missorted_comparison (sorts_of scope) f) _ h))
+  normal_below (minus f g) scope n h = (normal_below f scope n (or_false_left _ _ h), normal_below g scope (n + quantifiers f) (or_false_right (some_below is_missorted_comparison (sorts_of scope) f) _ h))
   normal_below (exists s k f) scope n h = normal_below f ((k, record { number = n; sort = s }) ∷ scope) (n + 1) h
   normal_below (forall s k f) scope n h = normal_below f ((k, record { number = n; sort = s }) ∷ scope) (n + 1) h
 
   -- of a list
   all_normal_below : (fs : Logics FormAtom) (scope : SlotScope) (n : ℕ) → some_below_of is_missorted_comparison (sorts_of scope) fs ≡ false → AllAtomsOf IsNormalGoalAtom (goals_below scope n fs)
   all_normal_below none scope n h = tt
-  all_normal_below (also f fs) scope n h = (normal_below f scope n (fails_left _ _ h), all_normal_below fs scope (n + quantifiers f) (fails_right (some_below is_missorted_comparison (sorts_of scope) f) _ h))
+  all_normal_below (also f fs) scope n h = (normal_below f scope n (or_false_left _ _ h), all_normal_below fs scope (n + quantifiers f) (or_false_right (some_below is_missorted_comparison (sorts_of scope) f) _ h))
 
 pub normal_goal : (h : List Column) (f : Form) → some_below is_missorted_comparison (scope_of h) f ≡ false → IsNormalGoal (goal_of h f)
 unfolding goal_of

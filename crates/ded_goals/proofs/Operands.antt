@@ -7,7 +7,8 @@ use Rattle.ded_model.specs.Slotted.{SlotScope, slot_of, is_text_operand}
 use Rattle.ded_model.specs.Known.{is_unbound_operand, is_text_sum}
 use Rattle.ded_model.specs.Plain.{IsPlainOperand, ArePlainOperands}
 use Rattle.ded_goals.specs.Scope.{sorts_of, AreApart, IsSummable, IsPlaceable, ArePlaceable}
-use Rattle.ded_goals.proofs.Summing.{rational, fails_left, fails_right}
+use Rattle.ded_goals.proofs.Summing.{rational}
+use Rattle.ded_model.proofs.Bools.{or_false_left, or_false_right}
 
 -- an operand that is no text is a number
 pub summable : (scope : SlotScope) (t : Operand) → AreApart scope → IsPlainOperand t → is_unbound_operand (sorts_of scope) t ≡ false → is_text_sum (sorts_of scope) t ≡ false → is_text_operand scope t ≡ false
@@ -26,8 +27,8 @@ pub all_placeable : (scope : SlotScope) (ts : List Operand) → AreApart scope �
     → ArePlaceable scope ts
 all_placeable scope [] h p b s = tt
 all_placeable scope (t ∷ ts) h p b s = (
-  placeable scope t h p.0 (fails_left _ _ b) (fails_left _ _ s),
-  all_placeable scope ts h p.1 (fails_right (is_unbound_operand (sorts_of scope) t) _ b) (fails_right (is_text_sum (sorts_of scope) t) _ s),
+  placeable scope t h p.0 (or_false_left _ _ b) (or_false_left _ _ s),
+  all_placeable scope ts h p.1 (or_false_right (is_unbound_operand (sorts_of scope) t) _ b) (or_false_right (is_text_sum (sorts_of scope) t) _ s),
 )
 
 -- the one at a place

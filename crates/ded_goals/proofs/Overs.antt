@@ -34,8 +34,8 @@ use Rattle.ded_model.proofs.LineSlots.{has_slot, put_slots, put_all_slots, nonze
 use Rattle.ded_row.proofs.Forms.{row_mentions-normal}
 use Rattle.ded_tuple.proofs.Ordered.{mentions-ordered}
 use Rattle.ded_goals.specs.Scope.{sorts_of}
-use Rattle.ded_goals.proofs.Summing.{fails_left, fails_right}
 use Rattle.ded_goals.proofs.Reading.{sorts_heading}
+use Rattle.ded_model.proofs.Bools.{or_false_left, or_false_right}
 
 -- the slots of a scope
 abbrev pub stands : SlotScope → Slot → Bool
@@ -60,8 +60,8 @@ same_in scope s t e h = ap (stands scope) (sym (same_slot_is s t e)) ∙ h
 parts_in : (scope : SlotScope) (cs : List (List ℕ × ℤ)) (s : Slot) → list_any (λ c. is_unbound_name (sorts_of scope) c.0) cs ≡ false → has_slot (add_parts scope cs) s ≡ true → stands scope s ≡ true
 parts_in scope [] s b h = absurd (true≢false (sym h))
 parts_in scope (c ∷ cs) s b h = elim (put_slots (slot_of scope c.0) c.1 (add_parts scope cs) s h) [
-  | inl e ↦ same_in scope (slot_of scope c.0) s e (slot_in scope c.0 (fails_left _ _ b))
-  | inr e ↦ parts_in scope cs s (fails_right (is_unbound_name (sorts_of scope) c.0) _ b) e
+  | inl e ↦ same_in scope (slot_of scope c.0) s e (slot_in scope c.0 (or_false_left _ _ b))
+  | inr e ↦ parts_in scope cs s (or_false_right (is_unbound_name (sorts_of scope) c.0) _ b) e
 ]
 
 sum_in : (scope : SlotScope) (t : Operand) (s : Slot) → is_unbound_operand (sorts_of scope) t ≡ false → has_slot (slot_sum scope t).coefs s ≡ true → stands scope s ≡ true
@@ -184,8 +184,8 @@ side_in scope (Quoted t) b = tt
 
 goal_in : (scope : SlotScope) (f : Form) → some_below is_unbound_atom (sorts_of scope) f ≡ false → IsIn scope (goal_below scope 0 f)
 goal_in scope (atom (compare l o r)) b =
-    let bl = fails_left _ _ b in
-    let br = fails_right (is_unbound_operand (sorts_of scope) l) _ b in
+    let bl = or_false_left _ _ b in
+    let br = or_false_right (is_unbound_operand (sorts_of scope) l) _ b in
     either_in scope (is_text_operand scope l || is_text_operand scope r) (texts_goal (text_side scope l) o (text_side scope r)) (sums_goal (slot_sum scope l) o (slot_sum scope r)) (texts_in scope (text_side scope l) (text_side scope r) o (side_in scope l bl) (side_in scope r br)) (sums_in scope (slot_sum scope l) (slot_sum scope r) o (λ s. sum_in scope l s bl) (λ s. sum_in scope r s br))
 goal_in scope (atom (member n ts)) b = λ s h. absurd (no_atoms s h)
 goal_in scope always b = λ s h. absurd (no_atoms s h)
@@ -213,8 +213,8 @@ mentions-append (x ∷ xs) ys s h = elim (or_split (atom_mentions x s) _ h) [
 comparisons_in : (scope : SlotScope) (fs : List Form) (s : Slot) → list_any (some_below is_unbound_atom (sorts_of scope)) fs ≡ false → tuple_mentions (comparison_atoms scope fs) s ≡ true → stands scope s ≡ true
 comparisons_in scope [] s b h = absurd (no_atoms s h)
 comparisons_in scope (f ∷ fs) s b h = elim (mentions-append (goal_atoms (goal_below scope 0 f)) (comparison_atoms scope fs) s h) [
-  | inl e ↦ goal_in scope f (fails_left _ _ b) s e
-  | inr e ↦ comparisons_in scope fs s (fails_right (some_below is_unbound_atom (sorts_of scope) f) _ b) e
+  | inl e ↦ goal_in scope f (or_false_left _ _ b) s e
+  | inr e ↦ comparisons_in scope fs s (or_false_right (some_below is_unbound_atom (sorts_of scope) f) _ b) e
 ]
 
 -- the slots of a heading

@@ -16,8 +16,8 @@ use Rattle.ded_model.specs.Plain.{IsPlain}
 use Rattle.ded_goals.specs.TextSums.{has_text_sum}
 use Rattle.ded_goals.specs.Scope.{sorts_of, AllOther, AreApart, AllUnder, IsNumbered, ArePlaceable}
 use Rattle.ded_goals.specs.Readable.{IsReadable, AreReadable}
-use Rattle.ded_goals.proofs.Summing.{fails_left, fails_right}
 use Rattle.ded_goals.proofs.Operands.{all_placeable}
+use Rattle.ded_model.proofs.Bools.{or_false_left, or_false_right}
 
 -- ---- numbers of slots
 
@@ -79,14 +79,14 @@ pub readable_some : {scope : SlotScope} {n : ℕ} {fs : Logics FormAtom} → IsR
 readable_some h = record { numbered = h.numbered; plain = h.plain; bound = h.bound; sorted = h.sorted; few = h.few }
 
 pub readable_left : {scope : SlotScope} {n : ℕ} {f g : Form} → IsReadable scope n (implies f g) → IsReadable scope n f
-readable_left h = record { numbered = h.numbered; plain = h.plain.0; bound = fails_left _ _ h.bound; sorted = fails_left _ _ h.sorted; few = omega (arith, h.few) }
+readable_left h = record { numbered = h.numbered; plain = h.plain.0; bound = or_false_left _ _ h.bound; sorted = or_false_left _ _ h.sorted; few = omega (arith, h.few) }
 
 pub readable_right : {scope : SlotScope} {n : ℕ} {f g : Form} → IsReadable scope n (implies f g) → IsReadable scope (n + quantifiers f) g
 readable_right {scope} {n} {f} {g} h = record {
   numbered = numbered_more scope n (quantifiers f) h.numbered;
   plain = h.plain.1;
-  bound = fails_right (some_below is_unbound_atom (sorts_of scope) f) _ h.bound;
-  sorted = fails_right (some_below has_text_sum (sorts_of scope) f) _ h.sorted;
+  bound = or_false_right (some_below is_unbound_atom (sorts_of scope) f) _ h.bound;
+  sorted = or_false_right (some_below has_text_sum (sorts_of scope) f) _ h.sorted;
   few = omega (arith, h.few);
 }
 
@@ -97,14 +97,14 @@ pub readable_forall : {scope : SlotScope} {n : ℕ} {s : Sort} {k : Key} {f : Fo
 readable_forall {scope} {n} {s} {k} {f} h = record { numbered = numbered_next k s scope n h.numbered; plain = h.plain; bound = h.bound; sorted = h.sorted; few = omega (arith, h.few) }
 
 pub readable_first : {scope : SlotScope} {n : ℕ} {f : Form} {fs : Logics FormAtom} → AreReadable scope n (also f fs) → IsReadable scope n f
-readable_first h = record { numbered = h.numbered; plain = h.plain.0; bound = fails_left _ _ h.bound; sorted = fails_left _ _ h.sorted; few = omega (arith, h.few) }
+readable_first h = record { numbered = h.numbered; plain = h.plain.0; bound = or_false_left _ _ h.bound; sorted = or_false_left _ _ h.sorted; few = omega (arith, h.few) }
 
 pub readable_rest : {scope : SlotScope} {n : ℕ} {f : Form} {fs : Logics FormAtom} → AreReadable scope n (also f fs) → AreReadable scope (n + quantifiers f) fs
 readable_rest {scope} {n} {f} {fs} h = record {
   numbered = numbered_more scope n (quantifiers f) h.numbered;
   plain = h.plain.1;
-  bound = fails_right (some_below is_unbound_atom (sorts_of scope) f) _ h.bound;
-  sorted = fails_right (some_below has_text_sum (sorts_of scope) f) _ h.sorted;
+  bound = or_false_right (some_below is_unbound_atom (sorts_of scope) f) _ h.bound;
+  sorted = or_false_right (some_below has_text_sum (sorts_of scope) f) _ h.sorted;
   few = omega (arith, h.few);
 }
 

@@ -25,17 +25,9 @@ use Rattle.ded_model.proofs.CoefLemmas.{AreCoefs-with_coef}
 use Rattle.ded_model.proofs.LineCoefs.{coef_at-put}
 use Rattle.ded_goals.specs.Scope.{sorts_of, AllOther, AreApart, AreSummable, AreSmall}
 use Rattle.ded_goals.proofs.Ascending.{Ascend, ascend-put, kept_is, coef_at-with_coef}
+use Rattle.ded_model.proofs.Bools.{or_false_left, or_false_right}
 
 -- ---- tests
-
--- two tests that both fail
-pub fails_left : (a b : Bool) → (a || b) ≡ false → a ≡ false
-fails_left true b e = e
-fails_left false b e = refl
-
-pub fails_right : (a b : Bool) → (a || b) ≡ false → b ≡ false
-fails_right true b e = absurd (true≢false e)
-fails_right false b e = e
 
 -- ---- names and their slots
 
@@ -98,15 +90,15 @@ rational Text h = absurd (true≢false h)
 
 -- the first part has a rational slot
 pub first_rational : (scope : SlotScope) (c : List ℕ × ℤ) (cs : List (List ℕ × ℤ)) → AreSummable scope (c ∷ cs) → (slot_of scope c.0).sort ≡ Rat
-first_rational scope c cs h = sym (sort_in-slot scope c.0) ∙ rational (sort_in (sorts_of scope) c.0) (fails_left _ _ h.rational)
+first_rational scope c cs h = sym (sort_in-slot scope c.0) ∙ rational (sort_in (sorts_of scope) c.0) (or_false_left _ _ h.rational)
 
 -- so have the others
 pub rest_summable : (scope : SlotScope) (c : List ℕ × ℤ) (cs : List (List ℕ × ℤ)) → AreSummable scope (c ∷ cs) → AreSummable scope cs
 rest_summable scope c cs h = record {
   apart = h.apart;
   once = h.once.1;
-  bound = fails_right _ _ h.bound;
-  rational = fails_right _ _ h.rational;
+  bound = or_false_right _ _ h.bound;
+  rational = or_false_right _ _ h.rational;
 }
 
 pub ascend-parts : (scope : SlotScope) (cs : List (List ℕ × ℤ)) → AreSummable scope cs → Ascend (add_parts scope cs)
@@ -124,8 +116,8 @@ absent : (scope : SlotScope) (x : List ℕ) (cs : List (List ℕ × ℤ)) → Ar
 absent scope x [] h e f n = refl
 absent scope x (c ∷ cs) h e f n =
     coef_at-put (slot_of scope c.0) c.1 (add_parts scope cs) (slot_of scope x)
-    ∙ past (same_slot (slot_of scope c.0) (slot_of scope x)) c.1 (coef_at (add_parts scope cs) (slot_of scope x)) (slots_apart scope c.0 x h (fails_left _ _ f) e (turned (fails_left (bytes_eq x c.0) _ n)))
-    ∙ absent scope x cs h e (fails_right _ _ f) (fails_right (bytes_eq x c.0) _ n)
+    ∙ past (same_slot (slot_of scope c.0) (slot_of scope x)) c.1 (coef_at (add_parts scope cs) (slot_of scope x)) (slots_apart scope c.0 x h (or_false_left _ _ f) e (turned (or_false_left (bytes_eq x c.0) _ n)))
+    ∙ absent scope x cs h e (or_false_right _ _ f) (or_false_right (bytes_eq x c.0) _ n)
   where
     turned : bytes_eq x c.0 ≡ false → bytes_eq c.0 x ≡ false
     turned k = go (bytes_eq c.0 x) refl
@@ -141,7 +133,7 @@ one_part scope c cs h s = coef_at-put (slot_of scope c.0) c.1 (add_parts scope c
   where
     go : (b : Bool) → same_slot (slot_of scope c.0) s ≡ b → cond b c.1 (pos 0) +ℤ coef_at (add_parts scope cs) s ≡ cond b c.1 (coef_at (add_parts scope cs) s)
     go true e =
-        ap (λ z. c.1 +ℤ z) (ap (coef_at (add_parts scope cs)) (sym (same_slot_is (slot_of scope c.0) s e)) ∙ absent scope c.0 cs h.apart (fails_left _ _ h.bound) (fails_right _ _ h.bound) h.once.0)
+        ap (λ z. c.1 +ℤ z) (ap (coef_at (add_parts scope cs)) (sym (same_slot_is (slot_of scope c.0) s e)) ∙ absent scope c.0 cs h.apart (or_false_left _ _ h.bound) (or_false_right _ _ h.bound) h.once.0)
         ∙ +ℤ_idr c.1
     go false e = +ℤ_idl (coef_at (add_parts scope cs) s)
 

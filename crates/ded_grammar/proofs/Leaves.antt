@@ -9,14 +9,8 @@ use Rattle.ded_grammar.specs.declared.piece.Quantifier.TheVariants.{Exists, Fora
 use Rattle.ded_model.specs.declared.name.Column.{Column}
 use Rattle.ded_grammar.specs.Trees.{PieceForm, conjunct, disjunct, arrow, closing, piece_atom, Whole, only, follows, Either, either_last, either_more, Both, both_last, both_more, One, negated, bound, grouped, plain, Body, bound_again, around, spell, spell_either, spell_both, spell_one, spell_body, meaning, members_either, members_both, meaning_one, meaning_body, quantified, all_of, any_of}
 use Rattle.ded_grammar.specs.Spelling.{Spells}
-
-or_assoc : (a b c : Bool) → ((a || b) || c) ≡ (a || (b || c))
-or_assoc true b c = refl
-or_assoc false b c = refl
-
-or_false : (a : Bool) → (a || false) ≡ a
-or_false true = refl
-or_false false = refl
+use Rattle.ded_model.proofs.Bools.{or_assoc}
+use Rattle.std.proofs.Math.Bool.{or-false}
 
 module _ (test : FormAtom → Bool) where
   any : List PieceForm → Bool
@@ -27,11 +21,11 @@ module _ (test : FormAtom → Bool) where
   any_append (p ∷ ps) qs = ap (λ (b : Bool). piece_atom test p || b) (any_append ps qs) ∙ sym (or_assoc (piece_atom test p) (list_any (piece_atom test) ps) (list_any (piece_atom test) qs))
 
   of_all : (fs : List Form) (f : Form) → some_atom test (all_of (f ∷ fs)) ≡ some_atom_of test (logics (f ∷ fs))
-  of_all [] f = sym (or_false (some_atom test f))
+  of_all [] f = sym (or-false (some_atom test f))
   of_all (g ∷ fs) f = refl
 
   of_any : (fs : List Form) (f : Form) → some_atom test (any_of (f ∷ fs)) ≡ some_atom_of test (logics (f ∷ fs))
-  of_any [] f = sym (or_false (some_atom test f))
+  of_any [] f = sym (or-false (some_atom test f))
   of_any (g ∷ fs) f = refl
 
   of_both : (b : Both) → some_atom test (all_of (members_both b)) ≡ some_atom_of test (logics (members_both b))
@@ -55,14 +49,14 @@ module _ (test : FormAtom → Bool) where
         ∙ ap (λ (b : Bool). some_atom test (any_of (members_either e)) || b) (whole_atoms w)
 
     pub either_atoms : (e : Either) → list_any (piece_atom test) (spell_either e) ≡ some_atom_of test (logics (members_either e))
-    either_atoms (either_last b) = both_atoms b ∙ sym (of_both b) ∙ sym (or_false (some_atom test (all_of (members_both b))))
+    either_atoms (either_last b) = both_atoms b ∙ sym (of_both b) ∙ sym (or-false (some_atom test (all_of (members_both b))))
     either_atoms (either_more b e) =
         any_append (spell_both b) (disjunct ∷ spell_either e)
         ∙ ap (λ (c : Bool). c || list_any (piece_atom test) (spell_either e)) (both_atoms b ∙ sym (of_both b))
         ∙ ap (λ (c : Bool). some_atom test (all_of (members_both b)) || c) (either_atoms e)
 
     pub both_atoms : (b : Both) → list_any (piece_atom test) (spell_both b) ≡ some_atom_of test (logics (members_both b))
-    both_atoms (both_last u) = one_atoms u ∙ sym (or_false (some_atom test (meaning_one u)))
+    both_atoms (both_last u) = one_atoms u ∙ sym (or-false (some_atom test (meaning_one u)))
     both_atoms (both_more u b) =
         any_append (spell_one u) (conjunct ∷ spell_both b)
         ∙ ap (λ (c : Bool). c || list_any (piece_atom test) (spell_both b)) (one_atoms u)
@@ -71,12 +65,12 @@ module _ (test : FormAtom → Bool) where
     pub one_atoms : (u : One) → list_any (piece_atom test) (spell_one u) ≡ some_atom test (meaning_one u)
     one_atoms (negated u) = one_atoms u
     one_atoms (bound q c b) = body_atoms b ∙ sym (bound_atoms q c (meaning_body b))
-    one_atoms (grouped w) = any_append (spell w) (closing ∷ []) ∙ or_false (list_any (piece_atom test) (spell w)) ∙ whole_atoms w
-    one_atoms (plain f) = or_false (some_atom test f)
+    one_atoms (grouped w) = any_append (spell w) (closing ∷ []) ∙ or-false (list_any (piece_atom test) (spell w)) ∙ whole_atoms w
+    one_atoms (plain f) = or-false (some_atom test f)
 
     pub body_atoms : (b : Body) → list_any (piece_atom test) (spell_body b) ≡ some_atom test (meaning_body b)
     body_atoms (bound_again q c b) = body_atoms b ∙ sym (bound_atoms q c (meaning_body b))
-    body_atoms (around w) = any_append (spell w) (closing ∷ []) ∙ or_false (list_any (piece_atom test) (spell w)) ∙ whole_atoms w
+    body_atoms (around w) = any_append (spell w) (closing ∷ []) ∙ or-false (list_any (piece_atom test) (spell w)) ∙ whole_atoms w
 
   pub spelled_atoms : (ps : List PieceForm) (f : Form) (depth : ℕ) → Spells ps f depth → list_any (piece_atom test) ps ≡ some_atom test f
   spelled_atoms ps f depth s = ap (list_any (piece_atom test)) (sym s.is) ∙ whole_atoms s.tree ∙ ap (some_atom test) s.means

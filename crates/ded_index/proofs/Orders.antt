@@ -14,7 +14,7 @@ use Rattle.ded_model.specs.declared.row.RowOp.TheVariants.{AtMost, Below}
 use Rattle.ded_model.specs.declared.bound.Bound.{Bound}
 use Rattle.ded_model.specs.declared.bound.Bound.TheVariants.{Infinite, Excluded, Included}
 use Rattle.ded_model.specs.Bound.{Fraction, lower}
-use Rattle.ded_model.proofs.Core.{Meets}
+use Rattle.ded_model.proofs.Core.{Meets, below_at_most}
 use Rattle.ded_box.specs.Intervals.{IsPositive, HasPositive}
 use Rattle.ded_box.proofs.Gaps.{gap, gap_chain, gap_turned}
 use Rattle.ded_box.proofs.Insides.{MayMeet}
@@ -114,9 +114,6 @@ follows_either (Excluded f) (Included g) = either_below f g
 follows_either (Included f) Infinite = inl tt
 follows_either (Included f) (Excluded g) = turned (either_below g f)
 follows_either (Included f) (Included g) = either_at_most f g
-
-below_at_most : (z : ℤ) → Meets Below z → Meets AtMost z
-below_at_most z h = omega (arith, ints)
 
 follows_chain : (a b c : Bound) → HasPositive a → HasPositive b → HasPositive c → Follows a b → Follows b c → Follows a c
 follows_chain Infinite b Infinite pa pb pc h k = tt

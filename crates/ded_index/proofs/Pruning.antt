@@ -19,6 +19,7 @@ use Rattle.ded_index.specs.Costs.{Begins}
 use Rattle.ded_index.proofs.Greatest.{low-positive, high-positive, EndsBy}
 use Rattle.ded_index.proofs.Members.{all-left, all-right, all-weaker, all-both, entries_of-append}
 use Rattle.ded_index.proofs.Orders.{entry_follows, earlier_meets}
+use Rattle.std.proofs.lemmas.Bool.{false_from_ne_true}
 
 -- ---- boxes that meet, meet in their first intervals
 
@@ -28,10 +29,6 @@ boxes_first [] (j ∷ js) h = absurd (true≢false (sym h))
 boxes_first (i ∷ is) [] h = absurd (true≢false (sym h))
 boxes_first (i ∷ is) (j ∷ js) h = and_left (intervals_meet i j) (boxes_meet is js) h
 
-false_from : (b : Bool) → (b ≡ true → ⊥) → b ≡ false
-false_from true h = absurd (h refl)
-false_from false h = refl
-
 -- entries whose first intervals don't meet that of the window
 abbrev pub IsFar : Box → Entry → Type 0
 IsFar w e = intervals_meet (first_of e.bounds) (first_of w) ≡ false
@@ -39,7 +36,7 @@ IsFar w e = intervals_meet (first_of e.bounds) (first_of w) ≡ false
 far_ids : (w : Box) (es : List Entry) → AllByRecursion (IsFar w) es → ids_in w es ≡ []
 far_ids w [] h = refl
 far_ids w (e ∷ es) h =
-    ap (λ b. cond b (e.id ∷ ids_in w es) (ids_in w es)) (false_from (boxes_meet e.bounds w) (λ m. true≢false (sym (boxes_first e.bounds w m) ∙ h.0))) ∙ far_ids w es h.1
+    ap (λ b. cond b (e.id ∷ ids_in w es) (ids_in w es)) (false_from_ne_true (boxes_meet e.bounds w) (λ m. true≢false (sym (boxes_first e.bounds w m) ∙ h.0))) ∙ far_ids w es h.1
 
 pub far_found : (w : Box) (es : List Entry) → AllByRecursion (IsFar w) es → ids_in w es ≡ []
 far_found = far_ids
@@ -49,24 +46,24 @@ far_found = far_ids
 module _ (w : Box) where
   -- what ends before the window begins
   far_behind : (e : Entry) → may_meet (first_of w).0 (high e) ≡ false → IsFar w e
-  far_behind e h = false_from (intervals_meet (first_of e.bounds) (first_of w)) (λ m. true≢false (sym (parts_of (first_of e.bounds) (first_of w) m).back ∙ h))
+  far_behind e h = false_from_ne_true (intervals_meet (first_of e.bounds) (first_of w)) (λ m. true≢false (sym (parts_of (first_of e.bounds) (first_of w) m).back ∙ h))
 
   -- what begins after it ends
   far_ahead : (e : Entry) → may_meet (low e) (first_of w).1 ≡ false → IsFar w e
-  far_ahead e h = false_from (intervals_meet (first_of e.bounds) (first_of w)) (λ m. true≢false (sym (parts_of (first_of e.bounds) (first_of w) m).forth ∙ h))
+  far_ahead e h = false_from_ne_true (intervals_meet (first_of e.bounds) (first_of w)) (λ m. true≢false (sym (parts_of (first_of e.bounds) (first_of w) m).forth ∙ h))
 
   -- an entry without values
   pub far_empty : (e : Entry) → has_value (first_of e.bounds) ≡ false → IsFar w e
-  far_empty e h = false_from (intervals_meet (first_of e.bounds) (first_of w)) (λ m. true≢false (sym (parts_of (first_of e.bounds) (first_of w) m).first ∙ h))
+  far_empty e h = false_from_ne_true (intervals_meet (first_of e.bounds) (first_of w)) (λ m. true≢false (sym (parts_of (first_of e.bounds) (first_of w) m).first ∙ h))
 
   -- a window without values
   pub far_window : (e : Entry) → has_value (first_of w) ≡ false → IsFar w e
-  far_window e h = false_from (intervals_meet (first_of e.bounds) (first_of w)) (λ m. true≢false (sym (parts_of (first_of e.bounds) (first_of w) m).second ∙ h))
+  far_window e h = false_from_ne_true (intervals_meet (first_of e.bounds) (first_of w)) (λ m. true≢false (sym (parts_of (first_of e.bounds) (first_of w) m).second ∙ h))
 
   -- a range whose greatest end is before the window
   pub dead_found : (es : List Entry) (b : Bound) → AreIntervals w → IsGreatest es b → may_meet (first_of w).0 b ≡ false → ids_in w es ≡ []
   dead_found es b iw g h = far_ids w es (all-weaker (EndsBy b) (IsFar w) es
-      (λ e f. far_behind e (false_from (may_meet (first_of w).0 (high e)) (λ m. true≢false (sym (f (first_of w).0 (low-positive w iw) m) ∙ h)))) g.upper)
+      (λ e f. far_behind e (false_from_ne_true (may_meet (first_of w).0 (high e)) (λ m. true≢false (sym (f (first_of w).0 (low-positive w iw) m) ∙ h)))) g.upper)
 
   near_one : (e : Entry) → intervals_meet (first_of e.bounds) (first_of w) ≡ true → (es : List Entry) → near_first w (e ∷ es) ≡ 1 + near_first w es
   near_one e h es = ap (λ b. cond b 1 0 + near_first w es) h
@@ -99,7 +96,7 @@ module _ (w : Box) where
   pub right_far : (e : Entry) (xs : List Entry) → AreIntervals w → AreIntervals e.bounds → AreSound xs → AllByRecursion (NotAfter e) xs → may_meet (low e) (first_of w).1 ≡ false → AllByRecursion (IsFar w) (e ∷ xs)
   right_far e xs iw ie s n h = (
     far_ahead e h,
-    all-both (λ x. AreIntervals x.bounds) (NotAfter e) (IsFar w) xs (λ x ix nx. far_ahead x (false_from (may_meet (low x) (first_of w).1) (λ m. true≢false (sym (begins_before e x iw ie ix nx m) ∙ h)))) s n,
+    all-both (λ x. AreIntervals x.bounds) (NotAfter e) (IsFar w) xs (λ x ix nx. far_ahead x (false_from_ne_true (may_meet (low x) (first_of w).1) (λ m. true≢false (sym (begins_before e x iw ie ix nx m) ∙ h)))) s n,
   )
 
 -- ---- a list in order, round one of its entries

@@ -14,7 +14,6 @@ use Rattle.ded_model.specs.Catalogue.{Catalogue, stored, meaning, PlanHolds, Giv
 use Rattle.ded_model.specs.Uses.{plan_atom_uses, plan_uses}
 use Rattle.ded_model.specs.Value.{Meaning}
 use Rattle.ded_model.proofs.Alike.{all_atoms}
-use Rattle.ded_sorts.proofs.Meanings.{or_fails_left, or_fails_right}
 use Rattle.ded_algebra.specs.Compiled.{is_scan_of}
 use Rattle.ded_model.proofs.PointTexts.{extension-point}
 use Rattle.ded_views.specs.Same.{MeansSame, ScansSame}
@@ -22,6 +21,7 @@ use Rattle.ded_views.proofs.Atoms.{all_with}
 use Rattle.ded_views.proofs.PlansAlike.{arguments_bytes, slots_positive, scans_alike}
 use Rattle.ded_keep.specs.Additive.{hides, some_hides, is_additive, AddsMeaning, IsOtherScan}
 use Rattle.ded_keep.proofs.Counting.{unused, unused_of, unscanned, used_once, scanned_once, not_hidden}
+use Rattle.ded_model.proofs.Bools.{or_false_left, or_false_right}
 
 -- ---- `or` in one of two parts
 
@@ -130,11 +130,11 @@ module _ (I J K : Meaning) (n : List ℕ) (adds : AddsMeaning I J K n) where
     added (some_of fs) h k o p i = some_added fs h k o p i
     added (implies f g) h k o p i = absurd (true≢false (sym (used_once n (implies f g) h) ∙ k))
     added (minus f g) h k o p i =
-        let taken : plan_uses n g ≡ false = or_fails_right (hides n f) _ k in
+        let taken : plan_uses n g ≡ false = or_false_right (hides n f) _ k in
         let none_taken : count_atoms (is_scan_of n) g ≡ 0 = unscanned n g taken in
         let once : count_atoms (is_scan_of n) f ≡ 1 = omega arith in
         let g_kept = kept g taken o.1 p i in
-        difference (added f once (or_fails_left _ _ k) o.0 p i) g_kept.first g_kept.second
+        difference (added f once (or_false_left _ _ k) o.0 p i) g_kept.first g_kept.second
     added (exists s k f) h j o p i =
         let there = λ (q : Point) (x : _). added f h j o q (extension-point s p q k i x) in (
           λ some. elim ((there some.0 some.1).0 some.2) [ inl x ↦ inl (some.0, some.1, x) | inr x ↦ inr (some.0, some.1, x) ],
@@ -148,10 +148,10 @@ module _ (I J K : Meaning) (n : List ℕ) (adds : AddsMeaning I J K n) where
     every_added (also f fs) h k o p i = elim (one_of (count_atoms (is_scan_of n) f) (count_atoms_of (is_scan_of n) fs) h) [
       | inl e ↦
           (let rest = kept (every_of fs) (unused_of n fs e.1) o.1 p i in
-          join_first (added f e.0 (or_fails_left _ _ k) o.0 p i) rest.first rest.second)
+          join_first (added f e.0 (or_false_left _ _ k) o.0 p i) rest.first rest.second)
       | inr e ↦
           (let here = kept f (unused n f e.0) o.0 p i in
-          join_second here.first here.second (every_added fs e.1 (or_fails_right (hides n f) _ k) o.1 p i))
+          join_second here.first here.second (every_added fs e.1 (or_false_right (hides n f) _ k) o.1 p i))
     ]
 
     some_added : (fs : Logics PlanAtom) → count_atoms_of (is_scan_of n) fs ≡ 1 → some_hides n fs ≡ false → Others (some_of fs) → (p : Point) → IsPoint p
@@ -160,10 +160,10 @@ module _ (I J K : Meaning) (n : List ℕ) (adds : AddsMeaning I J K n) where
     some_added (also f fs) h k o p i = elim (one_of (count_atoms (is_scan_of n) f) (count_atoms_of (is_scan_of n) fs) h) [
       | inl e ↦
           (let rest = kept (some_of fs) (unused_of n fs e.1) o.1 p i in
-          union_first (added f e.0 (or_fails_left _ _ k) o.0 p i) rest.first rest.second)
+          union_first (added f e.0 (or_false_left _ _ k) o.0 p i) rest.first rest.second)
       | inr e ↦
           (let here = kept f (unused n f e.0) o.0 p i in
-          union_second here.first here.second (some_added fs e.1 (or_fails_right (hides n f) _ k) o.1 p i))
+          union_second here.first here.second (some_added fs e.1 (or_false_right (hides n f) _ k) o.1 p i))
     ]
 
 -- over two catalogues, and relations that are given

@@ -9,6 +9,7 @@ use Rattle.ded_lex.specs.Gaps.{blank_byte, Gap, Space, Comment, OpenComment, gap
 use Rattle.ded_lex.specs.Machine.{turned, walked, stays_blank, ends_blank, all_stay_blank}
 use Rattle.ded_lex.proofs.Finds.{other_comment}
 use Rattle.ded_lex.proofs.Cases.{tested, same_or, same_some, none_some}
+use Rattle.std.proofs.Math.Bool.{and-true}
 
 -- the bytes are blank up to their end, from this state on
 abbrev blank_from : State → List ℕ → Bool
@@ -127,10 +128,6 @@ and_assoc : (x y z : Bool) → (x && (y && z)) ≡ ((x && y) && z)
 and_assoc true y z = refl
 and_assoc false y z = refl
 
-and_true : (x : Bool) → (x && true) ≡ x
-and_true true = refl
-and_true false = refl
-
 blank_walked : (s t : State) (bs : List ℕ) → walked s bs ≡ Some t → blank_from s bs ≡ (all_stay_blank s bs && ends_blank t)
 blank_walked s t [] h = ap ends_blank (same_some h)
 blank_walked s t (b ∷ bs) h = by_turn (turned s b) h (λ u. blank_walked u t bs)
@@ -143,7 +140,7 @@ pub stay_more : (s t u : State) (bs : List ℕ) (b : ℕ) → walked s bs ≡ So
 stay_more s t u [] b h e =
     ap (λ (v : State). all_stay_blank v (b ∷ [])) (same_some h)
     ∙ ap (λ (o : Option State). elim o as (λ _. Bool) [ None ↦ false | Some w ↦ stays_blank t b && true ]) e
-    ∙ and_true (stays_blank t b)
+    ∙ and-true (stays_blank t b)
 stay_more s t u (c ∷ bs) b h e = by_turn (turned s c) h (λ v. stay_more v t u bs b)
   where
     by_turn : (o : Option State) → (elim o as (λ _. Option State) [ None ↦ None | Some v ↦ walked v bs ]) ≡ Some t → ((v : State) → walked v bs ≡ Some t → turned t b ≡ Some u → all_stay_blank v (bs ++ b ∷ []) ≡ (all_stay_blank v bs && stays_blank t b)) → (elim o as (λ _. Bool) [ None ↦ false | Some v ↦ stays_blank s c && all_stay_blank v (bs ++ b ∷ []) ]) ≡ ((elim o as (λ _. Bool) [ None ↦ false | Some v ↦ stays_blank s c && all_stay_blank v bs ]) && stays_blank t b)

@@ -8,10 +8,7 @@ use Rattle.ded_lex.specs.Lexemes.{digit_byte, letter_byte, word_byte, text_byte,
 use Rattle.ded_lex.specs.Fronts.{longer, word_rest, number_rest, quoted_rest, line_length}
 use Rattle.ded_lex.proofs.Counting.{text_step}
 use Rattle.ded_lex.proofs.Cases.{tested, same_or, is_not, same_some, none_some}
-
-pub or_false : (x y : Bool) → (x || y) ≡ false → (x ≡ false) × (y ≡ false)
-or_false true y e = absurd cc
-or_false false y e = (refl, e)
+use Rattle.std.proofs.lemmas.Bool.{or_parts}
 
 pub longer_some : (o : Option ℕ) (n : ℕ) → longer o ≡ Some n → (m : ℕ) × (o ≡ Some m) × (m + 1 ≡ n)
 longer_some None n e = absurd (none_some e)
@@ -80,7 +77,7 @@ number_sound (b ∷ bs) n e = ⊎_elim
 pub number_found : (ds next : List ℕ) → Each digit_byte ds → BeginsNot word_byte next → number_rest (ds ++ next) ≡ Some (length ds)
 number_found [] [] all stops = refl
 number_found [] (b ∷ bs) all stops =
-    let free = or_false (letter_byte b) (digit_byte b) stops in
+    let free = or_parts (letter_byte b) (digit_byte b) stops in
     rw (free.0, free.1) refl
 number_found (d ∷ ds) next all stops =
     let step : number_rest (d ∷ (ds ++ next)) ≡ longer (number_rest (ds ++ next)) = rw (digit_no_letter d all.0, all.0) refl in

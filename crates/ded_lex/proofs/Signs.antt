@@ -6,13 +6,10 @@ use Rattle.ded_lex.specs.declared.token.TokenKind.TheVariants.{Sign as SignKind}
 use Rattle.ded_lex.specs.Lexemes.{BeginsNot, equals_byte, dash_byte, IsOneOf, lone_signs, open_signs, IsSign}
 use Rattle.ded_lex.specs.Fronts.{begins_with, lone_sign, open_sign, sign_rest, front_of}
 use Rattle.ded_lex.proofs.Cases.{same_some, none_some}
-
-or_true : (x y : Bool) → (x || y) ≡ true → (x ≡ true) ⊎ (y ≡ true)
-or_true true y e = inl refl
-or_true false y e = inr e
+use Rattle.ded_model.proofs.Members.{or_split}
 
 or_byte : {C : Type 0} (b k : ℕ) (y : Bool) → (b ≡ k → C) → (y ≡ true → C) → ((b == k) || y) ≡ true → C
-or_byte b k y here there e = ⊎_elim (λ h. here (eqb-true b k h)) there (or_true (b == k) y e)
+or_byte b k y here there e = ⊎_elim (λ h. here (eqb-true b k h)) there (or_split (b == k) y e)
 
 single : (b k : ℕ) → b ≡ k → b ∷ [] ≡ k ∷ []
 single b k e = ap (λ (x : ℕ). x ∷ []) e
@@ -46,7 +43,7 @@ two_is b c h f = ⊎_elim
     or_byte b 58 _ (λ e. at_eight (double b 58 c e f))
     (λ o1. or_byte b 60 _ (λ e. at_nine (double b 60 c e f)) (λ o2. at_ten (double b 62 c (eqb-true b 62 o2) f)) o1) o)
     (λ (n : (b == 33) ≡ true). at_eleven (double b 33 c (eqb-true b 33 n) f))
-    (or_true (open_sign b) (b == 33) h)
+    (or_split (open_sign b) (b == 33) h)
   where
     at_eight : b ∷ c ∷ [] ≡ 58 ∷ 61 ∷ [] → IsOneOf (b ∷ c ∷ []) lone_signs
     at_eight e = inr (inr (inr (inr (inr (inr (inr (inr (inl e))))))))

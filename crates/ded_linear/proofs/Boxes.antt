@@ -35,12 +35,13 @@ use Rattle.ded_box.specs.Intervals.{HasPositive, IsPositive, OnFraction, is_insi
 use Rattle.ded_linear.specs.Intervals.{row_bound, narrowed, is_single, coefs_fit, row_fits, same_places, same_place}
 use Rattle.ded_box.proofs.Gaps.{gap, gap_at, gap_self, chain_at}
 use Rattle.ded_box.proofs.Insides.{Inside, narrower-fraction, narrower-is, inside_decides, may_meet_decides, may_meet_turned, inside_meet}
-use Rattle.ded_linear.proofs.Exacts.{IsBetween, value-positive, exact_end}
+use Rattle.ded_linear.proofs.Exacts.{IsBetween, exact_end}
 use Rattle.ded_linear.proofs.Told.{exact_somewhere}
 use Rattle.ded_linear.proofs.Shadows.{IsShadow, HaveValue, extension_point, kept_value, exact_before}
 use Rattle.ded_linear.proofs.SlotLists.{turned_false, none_left}
 use Rattle.ded_linear.specs.SlotLists.{AreOthers}
 use Rattle.ded_linear.proofs.Roots.{Same, Within, IsSingle, AtAlone, IsProper, at_alone, row_proper, proper_positive, proper_lowest, row_within, holds_within, constant_holds}
+use Rattle.ded_box.proofs.Exact.{value-positive}
 
 -- ---- a row among others
 

@@ -14,12 +14,13 @@ use Rattle.ded_model.specs.declared.bound.Bound.TheVariants.{Infinite, Excluded,
 use Rattle.ded_model.specs.Point.{slot, number, Point, IsPoint, absent, same_key, as_number, number_at}
 use Rattle.ded_model.specs.Bound.{Fraction, End, lower, upper, is_outside, value_at, IsLowest, SomeOutside, NoneOutside, IsUnbounded, IsIncluded, IsExcluded}
 use Rattle.ded_model.specs.Interval.{IsExactBound}
-use Rattle.ded_model.proofs.Core.{Meets}
+use Rattle.ded_model.proofs.Core.{Meets, below_at_most}
 use Rattle.ded_model.proofs.Points.{same_key_refl, cond_true}
 use Rattle.ded_model.proofs.Numbers.{positive_is}
 use Rattle.ded_box.specs.Intervals.{HasPositive, IsPositive, OnFraction}
 use Rattle.ded_box.proofs.Gaps.{gap_at, other, outside_decides, chain_at, gap_turned, gap_self, gap_other, middle, middle-positive, middle-after, middle-before, beyond, beyond-positive, beyond-outside}
 use Rattle.ded_box.proofs.Insides.{Inside, MayMeet}
+use Rattle.std.proofs.lemmas.Bool.{false_from_ne_true}
 
 -- ---- a point with a value
 
@@ -37,9 +38,6 @@ pub point_with-value : (s : Slot) (v : Fraction) → IsPositive v → value_at s
 unfolding point_with number_at
 point_with-value s v h = fraction_with _ _ v.num v.den (ap as_number (cond_true (same_key (slot s) (slot s)) (number v.num) absent (same_key_refl (slot s)))) (sym (positive_is v.den h).1)
 
-pub value-positive : (s : Slot) (p : Point) → IsPoint p → IsPositive (value_at s p)
-value-positive s p h = let x = h.positive in omega (arith, ints)
-
 -- ---- the ends of an interval
 
 -- the test passes the points whose value is within the near bound, at the end e, and within the far one, at the other end
@@ -54,9 +52,6 @@ record Target (e : End) (far : Bound) (g : Fraction) : Type 0 where
   before : (v : Fraction) → IsPositive v → Meets Below (gap_at e v place) → Meets Below (gap_at e v g)
   within : (v : Fraction) → IsPositive v → Meets Below (gap_at e v place) → Inside (other e) far v
   near : (f : Fraction) → Meets Below (gap_at e f g) → OnFraction (λ h. Meets Below (gap_at e f h)) far → Meets Below (gap_at e f place)
-
-below_at_most : (z : ℤ) → Meets Below z → Meets AtMost z
-below_at_most z h = omega (arith, ints)
 
 -- h, or g where it lies before h
 of_fraction : (e : End) (far : Bound) (g h : Fraction) → IsPositive g → IsPositive h → ((v : Fraction) → Meets Below (gap_at e v h) → Inside (other e) far v)
@@ -110,13 +105,8 @@ unbounded test s e far is pf g pg =
     let b = beyond-outside e t.place t.positive in
     outside_at test s e Infinite far is tt pf v g pv tt (t.within v pv b) (t.before v pv b)
 
--- nothing inside is outside of f
-false_from : (b : Bool) → (b ≡ true → ⊥) → b ≡ false
-false_from true h = absurd (h refl)
-false_from false h = refl
-
 none_outside : (test : Point → Bool) (s : Slot) (e : End) (f : Fraction) → ((p : Point) → IsPoint p → IsTrue (test p) → Meets AtMost (gap_at e f (value_at s p))) → NoneOutside test s e f
-none_outside test s e f h p i t = false_from _ (λ o.
+none_outside test s e f h p i t = false_from_ne_true _ (λ o.
     let a = h p i t in
     let b = (outside_decides e (value_at s p) f).0 o in
     let turned = gap_turned e f (value_at s p) in

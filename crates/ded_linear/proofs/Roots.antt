@@ -37,6 +37,7 @@ use Rattle.ded_box.specs.Intervals.{HasPositive, IsPositive, OnFraction}
 use Rattle.ded_linear.specs.Intervals.{root_of, faces, bound_by, row_bound}
 use Rattle.ded_box.proofs.Gaps.{gap}
 use Rattle.ded_box.proofs.Insides.{Inside}
+use Rattle.ded_model.proofs.Eliminating.{meets-decides}
 
 -- one coefficient or none
 abbrev pub IsSingle : List (Slot × ℤ) → Type 0
@@ -63,12 +64,6 @@ at_alone s (c ∷ []) h n t m = elim (or_split (same_slot c.0 t) false m) [
   | inr e ↦ absurd (true≢false (sym e))
 ]
 at_alone s (c ∷ d ∷ cs) h n t m = absurd h
-
--- a test of the sign decides
-meets-decides : (op : RowOp) (z : ℤ) → Decides (sign_meets op z) (Meets op z)
-meets-decides Zero z = Decides-int_eq z (pos 0)
-meets-decides AtMost z = (λ e. grind (arith, ints), λ e. grind (arith, ints))
-meets-decides Below z = (λ e. grind (arith, ints), λ e. grind (arith, ints))
 
 -- ---- the sum at a value
 sum_alone : (s : Slot) (cs : List (Slot × ℤ)) (p : Point) → AtAlone s cs → sum_at cs p ≡ coef_at cs s *ℤ number_at p (slot s)

@@ -23,8 +23,9 @@ use Rattle.ded_model.proofs.Numbers.{extended, extended_is}
 use Rattle.ded_theory.specs.Eliminations.{SomeExtension}
 use Rattle.ded_theory.specs.Verdicts.{HoldsNowhere, IsBound}
 use Rattle.ded_box.specs.Intervals.{IsPositive}
-use Rattle.ded_box.proofs.Gaps.{gap, gap_at, outside_decides, chain_at}
-use Rattle.ded_linear.proofs.Exacts.{value-positive}
+use Rattle.ded_box.proofs.Gaps.{gap, gap_at, outside_decides, chain_at, chain_law}
+use Rattle.ded_model.proofs.PointTexts.{times_value, times_values}
+use Rattle.ded_box.proofs.Exact.{value-positive}
 
 -- ---- a point as an extension of itself
 
@@ -74,14 +75,6 @@ itself t rows p e h =
 
 -- ---- an extension of a point is one
 
-times_value : (e : ℕ) (v : Value) → IsValue v → IsValue (times e v)
-times_value e (number n) h = tt
-times_value e (text s) h = h
-
-times_values : (e : ℕ) (cs : List (Key × Value)) → AreValues cs → AreValues (all_times e cs)
-times_values e [] h = tt
-times_values e (c ∷ cs) h = (times_value e c.1 h.0, times_values e cs h.1)
-
 append_value : (cs : List (Key × Value)) (c : Key × Value) → AreValues cs → IsValue c.1 → AreValues (cs ++ c ∷ [])
 append_value [] c h v = (v, tt)
 append_value (b ∷ cs) c h v = (h.0, append_value cs c h.1 v)
@@ -122,9 +115,6 @@ shadow s t f rows e n h = record {
 
 -- ---- bounds carry over
 
-at_law : (nq dq np dp hn hd : ℤ) → dp *ℤ (nq *ℤ hd -ℤ hn *ℤ dq) ≡ hd *ℤ (nq *ℤ dp -ℤ np *ℤ dq) +ℤ dq *ℤ (np *ℤ hd -ℤ hn *ℤ dp)
-at_law nq dq np dp hn hd = rw (parts nq, parts dq, parts np, parts dp, parts hn, parts hd) (simp ring_pos (diff_same _ _ _ _ (omega arith)))
-
 zero_sum : (x y a b : ℤ) → x ≡ pos 0 → y ≡ pos 0 → a *ℤ x +ℤ b *ℤ y ≡ pos 0
 zero_sum x y a b e f = rw (e, f) (rw (parts a, parts b) (simp ring_pos (diff_same _ _ _ _ (omega arith))))
 
@@ -136,7 +126,7 @@ from_no_gap x y e = omega (arith, ints)
 
 same_at : (nq dq np dp hn hd : ℤ) → pos 0 <ℤ dp → nq *ℤ dp -ℤ np *ℤ dq ≡ pos 0 → np *ℤ hd ≡ hn *ℤ dp → nq *ℤ hd ≡ hn *ℤ dq
 same_at nq dq np dp hn hd p e f =
-    from_no_gap (nq *ℤ hd) (hn *ℤ dq) (meets_unscale Zero dp (nq *ℤ hd -ℤ hn *ℤ dq) p (at_law nq dq np dp hn hd ∙ zero_sum _ _ hd dq e (no_gap (np *ℤ hd) (hn *ℤ dp) f)))
+    from_no_gap (nq *ℤ hd) (hn *ℤ dq) (meets_unscale Zero dp (nq *ℤ hd -ℤ hn *ℤ dq) p (chain_law nq dq np dp hn hd ∙ zero_sum _ _ hd dq e (no_gap (np *ℤ hd) (hn *ℤ dp) f)))
 
 pub gap_zero : (e : End) (f g : Fraction) → gap f g ≡ pos 0 → gap_at e f g ≡ pos 0
 gap_zero lower f g h = h

@@ -16,6 +16,7 @@ use Rattle.ded_model.proofs.Points.{same_slot_is, same_slot_refl}
 use Rattle.ded_model.proofs.Rows.{or_left, or_right}
 use Rattle.ded_theory.specs.Conjunctions.{conj_mentions}
 use Rattle.ded_linear.specs.SlotLists.{with_slot, with_slots, with_all_slots, AreOthers, IsTaken}
+use Rattle.std.proofs.lemmas.Bool.{or_from}
 
 -- the test of two slots, turned
 pub turned_false : (s t : Slot) → same_slot s t ≡ false → same_slot t s ≡ false
@@ -78,14 +79,11 @@ more_refl s ss = record { apart = λ h. h; kept = λ u h. h }
 more_trans : (s : Slot) (ss ts us : List Slot) → IsMore s ss ts → IsMore s ts us → IsMore s ss us
 more_trans s ss ts us a b = record { apart = λ h. b.apart (a.apart h); kept = λ u h. b.kept u (a.kept u h) }
 
-or_false : (a b : Bool) → a ≡ false → b ≡ false → (a || b) ≡ false
-or_false a b e f = rw (e, f)
-
 added : (s : Slot) (ss : List Slot) (t : Slot) (a b : Bool) → same_slot t s ≡ a → stands_in ss t ≡ b → IsMore s ss (cond (a || b) ss (ss ++ t ∷ []))
 added s ss t true b e f = more_refl s ss
 added s ss t false true e f = more_refl s ss
 added s ss t false false e f = record {
-  apart = λ h. list_any-append (λ u. same_slot u s) ss (t ∷ []) ∙ or_false _ _ h (or_false _ _ e refl);
+  apart = λ h. list_any-append (λ u. same_slot u s) ss (t ∷ []) ∙ or_from _ _ h (or_from _ _ e refl);
   kept = λ u h. list_any-append (λ v. same_slot v u) ss (t ∷ []) ∙ or_left _ _ h;
 }
 

@@ -33,6 +33,7 @@ use Rattle.ded_model.proofs.Members.{In-split, or_split}
 use Rattle.ded_model.proofs.Growth.{renamed-In}
 use Rattle.ded_model.proofs.LineSlots.{has_slot, over_slots, put_slots, put_all_slots, line_slots, AreOver}
 use Rattle.ded_model.proofs.LineFree.{is_rat, free_in, over_past, lines_over}
+use Rattle.std.proofs.lemmas.Bool.{and_from}
 
 -- ---- rational slots
 
@@ -56,10 +57,6 @@ same_rational s t e h = rational t (subst (λ (u : Slot). u.sort ≡ Rat) (same_
 coefs_rational : (cs : List (Slot × ℤ)) (t : Slot) → AreRationalCoefs cs → has_slot cs t ≡ true → is_rat t ≡ true
 coefs_rational [] t r h = absurd (true≢false (sym h))
 coefs_rational (c ∷ cs) t r h = elim (or_split (same_slot c.0 t) _ h) [ inl x ↦ same_rational c.0 t r.0 x | inr x ↦ coefs_rational cs t r.1 x ]
-
--- both tests hold
-both : (a b : Bool) → a ≡ true → b ≡ true → (a && b) ≡ true
-both a b e f = rw (e, f) refl
 
 -- what the coefficients of a value keep says that they are rational
 pub AreCoefs-rational : (cs : List (Slot × ℤ)) → AreCoefs cs → AreRationalCoefs cs
@@ -245,8 +242,8 @@ mentions_row r t h = h
 -- the lines of a name and of the rows of its arguments
 scanned_over : (M : Measures) (n : List ℕ) (ts : List Place) (gs : List Scanned) → IsTied ts gs → AreOver (free_in (at_slot (λ u. mention ts u || stands_in (fresh_slots gs) u))) (scanned_lines M n gs)
 scanned_over M n ts gs h l i t m = elim (In-split l (renamed_lines (scanned_slots gs) (M n).lines) (atoms_lines (tied_atoms gs)) i) [
-  | inl x ↦ (let r = renamed_slots (scanned_slots gs) (M n).lines l t x m in both (mention ts t || stands_in (fresh_slots gs) t) (is_rat t) (one (h.slots t r.0)) r.1)
-  | inr x ↦ (let r = h.rows l x t m in both (mention ts t || stands_in (fresh_slots gs) t) (is_rat t) (one r.1) r.0)
+  | inl x ↦ (let r = renamed_slots (scanned_slots gs) (M n).lines l t x m in and_from (mention ts t || stands_in (fresh_slots gs) t) (is_rat t) (one (h.slots t r.0)) r.1)
+  | inr x ↦ (let r = h.rows l x t m in and_from (mention ts t || stands_in (fresh_slots gs) t) (is_rat t) (one r.1) r.0)
 ]
   where
     one : (mention ts t ≡ true) ⊎ (stands_in (fresh_slots gs) t ≡ true) → (mention ts t || stands_in (fresh_slots gs) t) ≡ true
@@ -254,14 +251,14 @@ scanned_over M n ts gs h l i t m = elim (In-split l (renamed_lines (scanned_slot
 
 -- an atom of a goal
 goal_atom_over : (M : Measures) (a : GoalAtom) → IsRationalGoalAtom a → AreOver (free_in (in_goal_atom a)) (goal_atom_lines M a)
-goal_atom_over M (linear r) h l i t m = let e = row_slots r l t i m in both (row_mentions r t) (is_rat t) (mentions_row r t e) (coefs_rational r.coefs t h e)
+goal_atom_over M (linear r) h l i t m = let e = row_slots r l t i m in and_from (row_mentions r t) (is_rat t) (mentions_row r t e) (coefs_rational r.coefs t h e)
 goal_atom_over M (theme a) h l i t m = absurd i
 goal_atom_over M (member n ts) h l i t m =
     let gs = scanned ts in
     let f : Key → Bool = at_slot (λ u. mention ts u || stands_in (fresh_slots gs) u) in
     let r = over_past_all (fresh_slots gs) f (scanned_lines M n gs) (scanned_over M n ts gs (tied [] (first_free ts) ts h)) l i t m in
     let p = and_left (past_test (fresh_slots gs) f (slot t)) (is_rat t) r in
-    both (mention ts t) (is_rat t) (elim (or_split (mention ts t) _ (past_test_is (fresh_slots gs) f (slot t) p)) [ inl y ↦ y | inr y ↦ absurd (past_test_not (fresh_slots gs) f t y p) ])
+    and_from (mention ts t) (is_rat t) (elim (or_split (mention ts t) _ (past_test_is (fresh_slots gs) f (slot t) p)) [ inl y ↦ y | inr y ↦ absurd (past_test_not (fresh_slots gs) f t y p) ])
     (and_right (past_test (fresh_slots gs) f (slot t)) (is_rat t) r)
 
 -- the rows of a list of atoms
@@ -276,8 +273,8 @@ atoms_over (Second a ∷ atoms) h l i t m = let e = atoms_over atoms h l i t m i
 
 -- an atom of a plan
 plan_atom_over : (M : Measures) (a : PlanAtom) → IsRationalPlanAtom a → AreOver (free_in (in_plan_atom a)) (plan_atom_lines M a)
-plan_atom_over M (scan n ss) h l i t m = let r = renamed_slots ss (M n).lines l t i m in both (stands_in ss t) (is_rat t) r.0 r.1
-plan_atom_over M (rows atoms) h l i t m = let r = atoms_over atoms h l i t m in both (tuple_mentions atoms t) (is_rat t) r.0 r.1
+plan_atom_over M (scan n ss) h l i t m = let r = renamed_slots ss (M n).lines l t i m in and_from (stands_in ss t) (is_rat t) r.0 r.1
+plan_atom_over M (rows atoms) h l i t m = let r = atoms_over atoms h l i t m in and_from (tuple_mentions atoms t) (is_rat t) r.0 r.1
 
 -- ---- the laws
 

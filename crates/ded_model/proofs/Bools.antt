@@ -1,5 +1,6 @@
--- Laws of `||` and `not` that std doesn't have.
-use Rattle.std.proofs.Common.{◌≡◌, Bool, true, false, ◌||◌, refl, true≢false}
+-- Laws of tests that std doesn't have.
+use Rattle.std.proofs.Common.{◌≡◌, ℕ, Bool, true, false, ◌&&◌, ◌||◌, List, refl, true≢false, bytes_eq}
+use Rattle.std.proofs.lemmas.Slice.Eq.{bytes_eq-Decides}
 
 -- neither of two tests passes where their disjunction fails
 pub or_false_left : (a b : Bool) → (a || b) ≡ false → a ≡ false
@@ -15,3 +16,18 @@ pub or_known : (a b : Bool) → (b ≡ true → a ≡ true) → a ≡ (a || b)
 or_known true b h = refl
 or_known false true h = h refl
 or_known false false h = refl
+
+-- in whichever order they stand, and however they are grouped
+pub or_assoc : (a b c : Bool) → ((a || b) || c) ≡ (a || (b || c))
+or_assoc true b c = refl
+or_assoc false b c = refl
+
+pub and_swap : (a b : Bool) → (a && b) ≡ (b && a)
+and_swap true true = refl
+and_swap true false = refl
+and_swap false true = refl
+and_swap false false = refl
+
+-- bytes are the same as themselves
+pub bytes_eq-refl : (n : List ℕ) → bytes_eq n n ≡ true
+bytes_eq-refl n = (bytes_eq-Decides n n).1 refl

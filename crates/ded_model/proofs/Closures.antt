@@ -26,6 +26,7 @@ use Rattle.ded_model.proofs.Values.{AreSameArguments}
 use Rattle.ded_model.proofs.ValueForms.{args}
 use Rattle.ded_model.proofs.Saying.{Says, absent_put, absent-says, either_says, puts_numbers, puts_texts}
 use Rattle.ded_model.proofs.Nearness.{abs_times, AreSameArguments-sym}
+use Rattle.std.proofs.Math.Bool.{and-false}
 
 -- ---- keys
 abbrev pub number_key : ℕ → Key
@@ -40,10 +41,6 @@ new_key i = slot (record { number = i; sort = Text })
 abbrev pub radius : Key
 radius = name []
 
-and_false : (b : Bool) → (b && false) ≡ false
-and_false true = refl
-and_false false = refl
-
 other_slot : (i j : ℕ) (b : Bool) → i < j → ((i == j) && b) ≡ false
 other_slot i j b h = let e : (i == j) ≡ false = grind (arith, nat_tests) in rw e refl
 
@@ -52,7 +49,7 @@ abbrev Away : ℕ → Key → Type 0
 Away i k = (j : ℕ) → i ≤ j → same_key k (new_key j) ≡ false
 
 number_away : (i j : ℕ) → Away i (number_key j)
-number_away i j l h = and_false (j == l)
+number_away i j l h = and-false (j == l)
 
 text_away : (i j : ℕ) → Away i (text_key j)
 text_away i j l h = refl

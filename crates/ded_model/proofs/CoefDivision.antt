@@ -33,7 +33,7 @@ after_turn by (c ∷ cs) (suc i) d k = ap (λ xs. (c.0, int_div c.1 by) ∷ xs) 
 -- ---- what is kept
 
 -- the slots stay
-AllAbove-coefs_over : (n : ℕ) (by : ℤ) (cs : List (Slot × ℤ)) → AllAbove n cs → AllAbove n (coefs_over by cs)
+pub AllAbove-coefs_over : (n : ℕ) (by : ℤ) (cs : List (Slot × ℤ)) → AllAbove n cs → AllAbove n (coefs_over by cs)
 AllAbove-coefs_over n by [] h = tt
 AllAbove-coefs_over n by (c ∷ cs) h = (h.0, AllAbove-coefs_over n by cs h.1)
 

@@ -63,6 +63,10 @@ meets_add Below Below x y p q = omega (arith, ints)
 pub times_neg : (k z : ℤ) → k *ℤ neg_ℤ z ≡ neg_ℤ (k *ℤ z)
 times_neg k z = rw (parts k, parts z) (simp ring_pos (diff_same _ _ _ _ (omega arith)))
 
+-- what is below 0 is at most 0
+pub below_at_most : (z : ℤ) → Meets Below z → Meets AtMost z
+below_at_most z h = omega (arith, ints)
+
 -- a positive factor may be taken away
 pub meets_unscale : (op : RowOp) (k z : ℤ) → pos 0 <ℤ k → Meets op (k *ℤ z) → Meets op z
 meets_unscale op (negsuc n) z h p = absurd (omega (arith, ints))
@@ -200,7 +204,7 @@ over ai ri bL rL = rw (parts ai, parts ri, parts bL, parts rL) (simp ring_pos (d
 level : (a r m e : ℤ) → a ≡ pos 0 → a *ℤ m +ℤ r *ℤ e ≡ e *ℤ r
 level a r m e h = rw h (rw (parts r, parts m, parts e) (simp ring_pos (diff_same _ _ _ _ (omega arith))))
 
-pos_mul : (a b : ℤ) → pos 0 <ℤ a → pos 0 <ℤ b → pos 0 <ℤ (a *ℤ b)
+pub pos_mul : (a b : ℤ) → pos 0 <ℤ a → pos 0 <ℤ b → pos 0 <ℤ (a *ℤ b)
 pos_mul a b p q =
     let h = meets_scale Below a (neg_ℤ b) p (omega (arith, ints)) in
     let e = times_neg a b in
@@ -306,7 +310,7 @@ exact xs h = ⊎_elim
 combined : (ku au ru kl al rl m e : ℤ) → ku *ℤ (au *ℤ m +ℤ ru *ℤ e) +ℤ kl *ℤ (al *ℤ m +ℤ rl *ℤ e) ≡ (ku *ℤ au +ℤ kl *ℤ al) *ℤ m +ℤ e *ℤ (ku *ℤ ru +ℤ kl *ℤ rl)
 combined ku au ru kl al rl m e = rw (parts ku, parts au, parts ru, parts kl, parts al, parts rl, parts m, parts e) (simp ring_pos (diff_same _ _ _ _ (omega arith)))
 
-no_slot : (z m y : ℤ) → z ≡ pos 0 → z *ℤ m +ℤ y ≡ y
+pub no_slot : (z m y : ℤ) → z ≡ pos 0 → z *ℤ m +ℤ y ≡ y
 no_slot z m y h = rw h (rw (parts m, parts y) (simp ring_pos (diff_same _ _ _ _ (omega arith))))
 
 -- a factor that may multiply a row: positive, or any for an equality

@@ -123,7 +123,7 @@ size_positive (pos zero) n = absurd (n refl)
 size_positive (pos (suc k)) n = omega (arith, ints)
 size_positive (negsuc k) n = omega (arith, ints)
 
-join_zero : (o : RowOp) → join o Zero ≡ o
+pub join_zero : (o : RowOp) → join o Zero ≡ o
 join_zero Zero = refl
 join_zero AtMost = refl
 join_zero Below = refl

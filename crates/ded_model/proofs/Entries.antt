@@ -1,4 +1,4 @@
--- A new entry at the end of a catalogue changes its own name alone.
+-- A new entry at the end of a catalogue changes its bytes_eq-refl name alone.
 --
 -- Meanings, measures and what is known of names are folds over the entries in order. So an entry at the end is read over
 -- the fold of those before it, which is what the shorter catalogue gives.
@@ -12,6 +12,7 @@ use Rattle.ded_model.specs.Measure.{Measures, near_measure, measure_as, entry_me
 use Rattle.ded_model.specs.Known.{KnownNames, entry_known, with_known, known_from, known_of}
 use Rattle.ded_model.specs.Uses.{MeansAlike}
 use Rattle.ded_model.proofs.Nearness.{read_as-alike}
+use Rattle.ded_model.proofs.Bools.{bytes_eq-refl}
 
 -- an entry at the end is read over those before it
 pub meaning_from-append : (es : List Entry) (e : Entry) (I : Meaning) → meaning_from I (es ++ e ∷ []) ≡ with_entry (meaning_from I es) e
@@ -43,11 +44,7 @@ pub known_of-append : (es : List Entry) (e : Entry) → known_of (es ++ e ∷ []
 unfolding known_of
 known_of-append es e = known_from-append es e _
 
--- ---- the entry's own name, and each other name
-
--- a name is the same as itself
-own : (n : List ℕ) → bytes_eq n n ≡ true
-own n = (bytes_eq-Decides n n).1 refl
+-- ---- the entry's bytes_eq-refl name, and each other name
 
 -- a choice where the test is false
 match_false : (b : Bool) (A B : Type 0) → b ≡ false → MatchBool b A B ↔ B
@@ -61,17 +58,17 @@ match_true b A B e = rw e (λ x. x, λ x. x)
 pub stored_other : (c d : Catalogue) (e : Entry) (n : List ℕ) (den : ℕ) (xs : List Argument) → d.entries ≡ c.entries ++ e ∷ [] → bytes_eq n (entry_name e) ≡ false → stored d n den xs ↔ stored c n den xs
 stored_other c d e n den xs h o = subst (λ I. I n den xs ↔ stored c n den xs) (sym (stored-append c d e h)) (match_false _ _ _ o)
 
--- under its own name it means what it does
+-- under its bytes_eq-refl name it means what it does
 pub stored_own : (c d : Catalogue) (e : Entry) (den : ℕ) (xs : List Argument) → d.entries ≡ c.entries ++ e ∷ [] → stored d (entry_name e) den xs ↔ entry_meaning (stored c) e den xs
-stored_own c d e den xs h = subst (λ I. I (entry_name e) den xs ↔ entry_meaning (stored c) e den xs) (sym (stored-append c d e h)) (match_true _ _ _ (own (entry_name e)))
+stored_own c d e den xs h = subst (λ I. I (entry_name e) den xs ↔ entry_meaning (stored c) e den xs) (sym (stored-append c d e h)) (match_true _ _ _ (bytes_eq-refl (entry_name e)))
 
 -- another entry measures the same
 pub stored_measure_other : (c d : Catalogue) (e : Entry) (n : List ℕ) → d.entries ≡ c.entries ++ e ∷ [] → bytes_eq n (entry_name e) ≡ false → stored_measures d n ≡ stored_measures c n
 stored_measure_other c d e n h o = ap (λ M. M n) (stored_measures-append c d e h) ∙ rw o
 
--- under its own name it measures as it does
+-- under its bytes_eq-refl name it measures as it does
 pub stored_measure_own : (c d : Catalogue) (e : Entry) → d.entries ≡ c.entries ++ e ∷ [] → stored_measures d (entry_name e) ≡ entry_measure (stored_measures c) e
-stored_measure_own c d e h = ap (λ M. M (entry_name e)) (stored_measures-append c d e h) ∙ rw (own (entry_name e))
+stored_measure_own c d e h = ap (λ M. M (entry_name e)) (stored_measures-append c d e h) ∙ rw (bytes_eq-refl (entry_name e))
 
 -- ---- names that are made of others, and names that are not
 
@@ -107,7 +104,7 @@ pub meaning_other : (c d : Catalogue) (e : Entry) (n : List ℕ) → d.entries �
 unfolding meaning
 meaning_other c d e n h o den xs = read_as-alike (stored d) (stored c) n (reading n) den xs (λ den' ys. stored_other c d e (base n) den' ys h o)
 
--- its own name means what the entry does
+-- its bytes_eq-refl name means what the entry does
 pub meaning_own : (c d : Catalogue) (e : Entry) (den : ℕ) (xs : List Argument) → d.entries ≡ c.entries ++ e ∷ [] → is_made (entry_name e) ≡ false → meaning d (entry_name e) den xs ↔ entry_meaning (stored c) e den xs
 meaning_own c d e den xs h m =
     let a = meaning-plain d (entry_name e) den xs m in
@@ -119,7 +116,7 @@ pub measure_other : (c d : Catalogue) (e : Entry) (n : List ℕ) → d.entries �
 unfolding measures
 measure_other c d e n h o = measure_as-same (stored_measures d) (stored_measures c) n (reading n) (stored_measure_other c d e (base n) h o)
 
--- its own name measures as the entry does
+-- its bytes_eq-refl name measures as the entry does
 pub measure_own : (c d : Catalogue) (e : Entry) → d.entries ≡ c.entries ++ e ∷ [] → is_made (entry_name e) ≡ false → measures d (entry_name e) ≡ entry_measure (stored_measures c) e
 measure_own c d e h m = measure-plain d (entry_name e) m ∙ stored_measure_own c d e h
 
@@ -127,6 +124,6 @@ measure_own c d e h m = measure-plain d (entry_name e) m ∙ stored_measure_own 
 pub known_other : (es : List Entry) (e : Entry) (n : List ℕ) → bytes_eq n (entry_name e) ≡ false → known_of (es ++ e ∷ []) n ≡ known_of es n
 known_other es e n o = ap (λ K. K n) (known_of-append es e) ∙ rw o
 
--- of its own name what is known of the entry
+-- of its bytes_eq-refl name what is known of the entry
 pub known_own : (es : List Entry) (e : Entry) → known_of (es ++ e ∷ []) (entry_name e) ≡ Some (entry_known (known_of es) e)
-known_own es e = ap (λ K. K (entry_name e)) (known_of-append es e) ∙ rw (own (entry_name e))
+known_own es e = ap (λ K. K (entry_name e)) (known_of-append es e) ∙ rw (bytes_eq-refl (entry_name e))

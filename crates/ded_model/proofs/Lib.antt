@@ -28,6 +28,7 @@ pub mod Nearness
 pub mod Numbers
 pub mod Points
 pub mod PointTexts
+pub mod RationalColumns
 pub mod Rows
 pub mod Sats
 pub mod Sameness

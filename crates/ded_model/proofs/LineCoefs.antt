@@ -23,7 +23,7 @@ plus_here true z c r = omega (arith, ints)
 plus_here false z c r = sym (+ℤ_idl (pos 0 +ℤ r))
 
 -- a number goes past another one
-plus_past : (x y r : ℤ) → y +ℤ (x +ℤ r) ≡ x +ℤ (y +ℤ r)
+pub plus_past : (x y r : ℤ) → y +ℤ (x +ℤ r) ≡ x +ℤ (y +ℤ r)
 plus_past x y r = omega (arith, ints)
 
 -- one place of the list

@@ -21,6 +21,7 @@ use Rattle.ded_model.specs.Lines.{Line, In, line_with, combination, both_mention
 use Rattle.ded_model.proofs.Divisors.{DivideWhole, divisor-whole, divisor-whole_constant}
 use Rattle.ded_model.proofs.LineCoefs.{coef_at-mixed, coef_at-cut, coef_at-cut_here, coef_at-nonzero}
 use Rattle.ded_model.proofs.Members.{elim-In, clash_of-In, Clash}
+use Rattle.std.proofs.lemmas.Bool.{or_from, and_right}
 
 -- a product of two numbers below p
 below_square : (u v p : ℕ) → u < p → v < p → u * v < p * p
@@ -51,33 +52,24 @@ not_lt n m h = grind (arith, nat_tests)
 pub not_long : (z : ℤ) → IsWithin 127 z → is_long z ≡ false
 not_long z h = not_lt (unsigned_abs z) (2 ^ 127) h
 
--- `or` fails where both parts fail
-or_false : (a b : Bool) → a ≡ false → b ≡ false → (a || b) ≡ false
-or_false a b e f = rw (e, f)
-
--- `and` fails where the second part does
-and_false : (a b : Bool) → b ≡ false → (a && b) ≡ false
-and_false true b e = e
-and_false false b e = refl
-
 -- products of numbers of 63 digits fit
 products_fit : (k x m y : ℤ) → IsWithin 63 k → IsWithin 63 x → IsWithin 63 m → IsWithin 63 y → products_clash k x m y ≡ false
 products_fit k x m y hk hx hm hy =
     let p = product_within k x 63 hk hx in
     let q = product_within m y 63 hm hy in
-    or_false _ _ (or_false _ _ (not_long (k *ℤ x) (omega arith)) (not_long (m *ℤ y) (omega arith))) (not_long (k *ℤ x -ℤ m *ℤ y) (difference_within k x m y 63 hk hx hm hy))
+    or_from _ _ (or_from _ _ (not_long (k *ℤ x) (omega arith)) (not_long (m *ℤ y) (omega arith))) (not_long (k *ℤ x -ℤ m *ℤ y) (difference_within k x m y 63 hk hx hm hy))
 
 -- at each slot of a list
 slots_fit : (s : Slot) (l m : Line) (cs : List (Slot × ℤ)) → IsLineWithin 63 l → IsLineWithin 63 m → slots_clash s l m cs ≡ false
 slots_fit s l m [] h k = refl
 slots_fit s l m (c ∷ cs) h k =
-    or_false _ _ (and_false (not (same_slot c.0 s)) _ (products_fit (coef_at m.coefs s) (coef_at l.coefs c.0) (coef_at l.coefs s) (coef_at m.coefs c.0) (k.coefs s) (h.coefs c.0) (h.coefs s) (k.coefs c.0))) (slots_fit s l m cs h k)
+    or_from _ _ (and_right (not (same_slot c.0 s)) _ (products_fit (coef_at m.coefs s) (coef_at l.coefs c.0) (coef_at l.coefs s) (coef_at m.coefs c.0) (k.coefs s) (h.coefs c.0) (h.coefs s) (k.coefs c.0))) (slots_fit s l m cs h k)
 
 -- of two lines
 pub lines_fit : (s : Slot) (l m : Line) → IsLineWithin 63 l → IsLineWithin 63 m → lines_clash s l m ≡ false
 unfolding lines_clash
 lines_fit s l m h k =
-    or_false _ _ (or_false _ _ (slots_fit s l m l.coefs h k) (slots_fit s l m m.coefs h k)) (products_fit (coef_at m.coefs s) l.constant (coef_at l.coefs s) m.constant (k.coefs s) h.constant (h.coefs s) k.constant)
+    or_from _ _ (or_from _ _ (slots_fit s l m l.coefs h k) (slots_fit s l m m.coefs h k)) (products_fit (coef_at m.coefs s) l.constant (coef_at l.coefs s) m.constant (k.coefs s) h.constant (h.coefs s) k.constant)
 
 -- what is not true is false
 from_not_true : (b : Bool) → ¬ (b ≡ true) → b ≡ false
@@ -87,7 +79,7 @@ from_not_true false h = refl
 -- so two short lines do not clash
 no_clash_of_two : (s : Slot) (l m : Line) → IsLineWithin 63 l → IsLineWithin 63 m → ¬ Clash s l m
 unfolding Clash
-no_clash_of_two s l m h k c = true≢false (sym c ∙ and_false (both_mention s l m) _ (lines_fit s l m h k))
+no_clash_of_two s l m h k c = true≢false (sym c ∙ and_right (both_mention s l m) _ (lines_fit s l m h k))
 
 -- nor does a set of short lines
 pub no_clash : (s : Slot) (ls : List Line) → AreWithin 63 ls → clash_at s ls ≡ false
@@ -112,7 +104,7 @@ times_more zero x y h e = absurd (omega arith)
 times_more (suc a) x y h e = omega arith
 
 -- a number that is not 0 has a magnitude
-some_abs : (k : ℤ) → k ≢ pos 0 → 0 < unsigned_abs k
+pub some_abs : (k : ℤ) → k ≢ pos 0 → 0 < unsigned_abs k
 some_abs k n = elim (below_or 0 (unsigned_abs k)) [ inl h ↦ h | inr h ↦ absurd (n (omega (arith, ints))) ]
   where
     below_or : (k m : ℕ) → (k < m) ⊎ (m ≤ k)
@@ -167,7 +159,7 @@ line_with-within (c ∷ cs) constant b h k l (inl e) =
 -- ---- combinations
 
 -- a sum with a negative factor
-sum_is_difference : (k x a y : ℤ) → k *ℤ x +ℤ neg_ℤ a *ℤ y ≡ k *ℤ x -ℤ a *ℤ y
+pub sum_is_difference : (k x a y : ℤ) → k *ℤ x +ℤ neg_ℤ a *ℤ y ≡ k *ℤ x -ℤ a *ℤ y
 sum_is_difference k x a y = rw (parts k, parts x, parts a, parts y) (simp ring (diff_same _ _ _ _ (omega arith)))
 
 -- what is cut is no longer

@@ -5,15 +5,15 @@ use Rattle.ded_model.specs.declared.slot.Sort.TheVariants.{Rat, Text}
 use Rattle.ded_model.specs.Point.{Key, Value, number, text, AllBytes, IsValue, AreValues, Point, IsPoint, IsExtension, text_at, same_key, times, all_times, absent, last_from, as_text}
 use Rattle.ded_model.proofs.Points.{positive-extension}
 
-append_values : (cs ds : List (Key × Value)) → AreValues cs → AreValues ds → AreValues (cs ++ ds)
+pub append_values : (cs ds : List (Key × Value)) → AreValues cs → AreValues ds → AreValues (cs ++ ds)
 append_values [] ds h k = k
 append_values (c ∷ cs) ds h k = (h.0, append_values cs ds h.1 k)
 
-times_value : (e : ℕ) (v : Value) → IsValue v → IsValue (times e v)
+pub times_value : (e : ℕ) (v : Value) → IsValue v → IsValue (times e v)
 times_value e (number n) h = tt
 times_value e (text t) h = h
 
-times_values : (e : ℕ) (cs : List (Key × Value)) → AreValues cs → AreValues (all_times e cs)
+pub times_values : (e : ℕ) (cs : List (Key × Value)) → AreValues cs → AreValues (all_times e cs)
 times_values e [] h = tt
 times_values e (c ∷ cs) h = (times_value e c.1 h.0, times_values e cs h.1)
 
@@ -28,15 +28,15 @@ extension-point Text p q k h x = record {
   bytes = subst AreValues (sym x.coords) (append_values p.coords ((k, text x.value) ∷ []) h.bytes (x.bytes, tt));
 }
 
-either : (b : Bool) (v w : Value) → IsValue v → IsValue w → IsValue (cond b v w)
+pub either : (b : Bool) (v w : Value) → IsValue v → IsValue w → IsValue (cond b v w)
 either true v w h k = h
 either false v w h k = k
 
-last-value : (v : Value) (cs : List (Key × Value)) (k : Key) → IsValue v → AreValues cs → IsValue (last_from v cs k)
+pub last-value : (v : Value) (cs : List (Key × Value)) (k : Key) → IsValue v → AreValues cs → IsValue (last_from v cs k)
 last-value v [] k h i = h
 last-value v (c ∷ cs) k h i = last-value (cond (same_key k c.0) c.1 v) cs k (either (same_key k c.0) c.1 v i.0 h) i.1
 
-text-bytes : (v : Value) → IsValue v → AllBytes (as_text v)
+pub text-bytes : (v : Value) → IsValue v → AllBytes (as_text v)
 text-bytes (number n) h = tt
 text-bytes (text t) h = h
 

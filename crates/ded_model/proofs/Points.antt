@@ -18,7 +18,7 @@ use Rattle.ded_num.proofs.Ring.{parts, ring, diff-pos, diff_same}
 -- ---- keys
 
 -- a sort is the same as itself
-same_sort_refl : (s : Sort) → same_sort s s ≡ true
+pub same_sort_refl : (s : Sort) → same_sort s s ≡ true
 same_sort_refl Rat = refl
 same_sort_refl Text = refl
 
@@ -32,7 +32,7 @@ pub same_slot_refl : (s : Slot) → same_slot s s ≡ true
 same_slot_refl s = same_key_refl (slot s)
 
 -- two sorts that are the same are equal
-same_sort_is : (a b : Sort) → same_sort a b ≡ true → a ≡ b
+pub same_sort_is : (a b : Sort) → same_sort a b ≡ true → a ≡ b
 same_sort_is Rat Rat h = refl
 same_sort_is Rat Text h = absurd (true≢false (sym h))
 same_sort_is Text Rat h = absurd (true≢false (sym h))
@@ -95,7 +95,7 @@ as_text-times e (number n) = refl
 as_text-times e (text t) = refl
 
 -- 0 times a number is 0
-times-absent : (e : ℕ) → times e absent ≡ absent
+pub times-absent : (e : ℕ) → times e absent ≡ absent
 times-absent e = ap number (zero-*ℤ (pos e))
 
 -- ---- a point over another denominator

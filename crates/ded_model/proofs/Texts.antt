@@ -10,26 +10,17 @@ use Rattle.std.proofs.lemmas.Slice.Eq.{bytes_eq-Decides}
 use Rattle.std.proofs.lemmas.Bool.Decides.{Decides-ltb, not_from_Decides}
 use lib.Dec.{ltb}
 use Rattle.ded_model.specs.Point.{Key, Point, text, AllBytes, IsTextExtension, same_key, number_at, text_at}
-use Rattle.ded_model.proofs.Points.{number_at-text_extended, number_at-text_kept, text_at-extended, text_at-kept}
+use Rattle.ded_model.proofs.Points.{number_at-text_extended, number_at-text_kept, text_at-extended, text_at-kept, and_left, and_right}
 use Rattle.ded_model.proofs.Lists.{Every, Some, every-left, every-right, some_weaker, some-map, some-unmap, from_some}
 use Rattle.ded_model.proofs.Terms.{linear_at, unit, const, linear-unit, linear-zero, Word, at, quoted, word_at, all_bytes, Test, same, bytes, fixed, test_at, Claim, Conj, ClaimHolds, ConjHolds, SomeHolds, Put, put_line, put_word, put, PutsNumbers, PutsTexts, lines_put, lines_unput, conj_put}
 use Rattle.ded_model.proofs.Numbers.{silent}
+use Rattle.std.proofs.lemmas.Bool.{and_from}
 
 -- ---- byte strings
-and_true : (a b : Bool) → a ≡ true → b ≡ true → (a && b) ≡ true
-and_true a b e f = rw (e, f) refl
-
-and_left : (a b : Bool) → (a && b) ≡ true → a ≡ true
-and_left true b e = refl
-and_left false b e = e
-
-and_right : (a b : Bool) → (a && b) ≡ true → b ≡ true
-and_right true b e = e
-and_right false b e = absurd (true≢false (sym e))
 
 bytes_to : (t : List ℕ) → AllBytes t → all_bytes t ≡ true
 bytes_to [] h = refl
-bytes_to (b ∷ bs) h = and_true (ltb b 256) (all_bytes bs) ((Decides-ltb b 256).1 h.0) (bytes_to bs h.1)
+bytes_to (b ∷ bs) h = and_from (ltb b 256) (all_bytes bs) ((Decides-ltb b 256).1 h.0) (bytes_to bs h.1)
 
 bytes_from : (t : List ℕ) → all_bytes t ≡ true → AllBytes t
 bytes_from [] e = tt

@@ -44,7 +44,7 @@ zeros : (d d' : ℕ) → pos 0 *ℤ pos d' ≡ pos 0 *ℤ pos d
 zeros d d' = zero-*ℤ (pos d') ∙ sym (zero-*ℤ (pos d))
 
 -- the factors of a product of three may be swapped
-swap_law : (n x y : ℤ) → (n *ℤ x) *ℤ y ≡ (n *ℤ y) *ℤ x
+pub swap_law : (n x y : ℤ) → (n *ℤ x) *ℤ y ≡ (n *ℤ y) *ℤ x
 swap_law n x y = rw (parts n, parts x, parts y) (simp ring (diff_same _ _ _ _ (omega arith)))
 
 -- ---- comparisons
@@ -246,7 +246,7 @@ operand_value-positive p (Sum t) = denominator-positive t.over
 operand_value-positive p (Quoted t) = omega arith
 
 -- so is each value's own denominator
-sorted : (s : Sort) (n : ℤ) (t : List ℕ) → 0 < (sorted_value s n t).over
+pub sorted : (s : Sort) (n : ℤ) (t : List ℕ) → 0 < (sorted_value s n t).over
 sorted Rat n t = omega arith
 sorted Text n t = omega arith
 

@@ -30,6 +30,7 @@ use Rattle.ded_model.proofs.Points.{same_key_refl, same_slot_is, last_from-scale
 use Rattle.ded_model.proofs.Eliminating.{meets-decides}
 use Rattle.ded_model.proofs.Atoms.{and_to, and_from, or_to, or_from}
 use Rattle.ded_model.proofs.Nearness.{abs_times}
+use Rattle.ded_model.proofs.Bools.{or_false_left, or_false_right}
 
 -- ---- ops
 -- what meets an op meets the weak one
@@ -89,14 +90,6 @@ abbrev row_slots : List Atom → List Slot
 row_slots [] = []
 row_slots (First r ∷ t) = map (λ c. c.0) r.coefs ++ row_slots t
 row_slots (Second a ∷ t) = row_slots t
-
-or_false_left : (a b : Bool) → (a || b) ≡ false → a ≡ false
-or_false_left true b h = absurd (true≢false h)
-or_false_left false b h = refl
-
-or_false_right : (a b : Bool) → (a || b) ≡ false → b ≡ false
-or_false_right true b h = absurd (true≢false h)
-or_false_right false b h = h
 
 module _ (p w : Point) where
   -- how far p and w are from one another

@@ -25,11 +25,11 @@ use Rattle.ded_model.specs.Known.{Known, KnownNames, is_unknown_atom, other_arit
 use Rattle.ded_model.proofs.Points.{and_left, and_right}
 use Rattle.ded_model.proofs.Rows.{or_left, or_right}
 use Rattle.ded_model.proofs.Members.{or_split}
-use Rattle.ded_sorts.proofs.Meanings.{or_fails_left, or_fails_right}
 use Rattle.ded_sorts.proofs.Scopes.{sorts_of, sort_in-slot}
 use Rattle.ded_sorts.proofs.Headings.{sorts_of-heading}
 use Rattle.ded_algebra.specs.Compiled.{place_sort, same_sorts, is_scanned_by}
 use Rattle.ded_algebra.specs.Evaluation.{HaveSorts}
+use Rattle.ded_model.proofs.Bools.{or_false_left, or_false_right}
 
 -- ---- comparisons
 
@@ -120,9 +120,9 @@ columns_fit slots (c ∷ cs) (t ∷ ts) [] e d h = absurd (true≢false (sym h))
 columns_fit slots (c ∷ cs) (t ∷ ts) (s ∷ ss) e d h =
     let here = place_sort (place_of slots t) in
     let fits = not (same_sort c.sort (operand_sort (sorts_of slots) t)) in
-    let column : c.sort ≡ operand_sort (sorts_of slots) t = same_sort_is c.sort _ (is_true _ (or_fails_left fits _ d)) in
+    let column : c.sort ≡ operand_sort (sorts_of slots) t = same_sort_is c.sort _ (is_true _ (or_false_left fits _ d)) in
     let slot : here ≡ s.sort = same_sort_is here s.sort (and_left (same_sort here s.sort) _ h) in
-    (column ∙ sym (place_sort-operand slots t) ∙ slot, columns_fit slots cs ts ss (omega arith) (or_fails_right fits _ d) (and_right (same_sort here s.sort) _ h))
+    (column ∙ sym (place_sort-operand slots t) ∙ slot, columns_fit slots cs ts ss (omega arith) (or_false_right fits _ d) (and_right (same_sort here s.sort) _ h))
 
 -- so it is with the columns of a name that is known and has as many
 known_fits : (slots : SlotScope) (o : Option Known) (ts : List Operand) (ss : List Slot) → is_none o ≡ false → other_arity o ts ≡ false
@@ -143,7 +143,7 @@ module _ (K : KnownNames) (n : List ℕ) (ss : List Slot) where
   atom_use slots (compare l op r) u a m h = absurd (true≢false (sym h ∙ comparison_none n ss slots l op r))
   atom_use slots (member x ts) u a m h =
       let same = and_left (bytes_eq n x) _ h in
-      let fits = known_fits slots (K (base x)) ts ss u a (or_fails_right _ (arguments_differ (sorts_of slots) (columns_with (K (base x))) ts) m) (and_right (bytes_eq n x) _ h) in
+      let fits = known_fits slots (K (base x)) ts ss u a (or_false_right _ (arguments_differ (sorts_of slots) (columns_with (K (base x))) ts) m) (and_right (bytes_eq n x) _ h) in
       (same, subst (λ y. HaveSorts (columns_with (K (base y))) ss) (sym ((bytes_eq-Decides n x).0 same)) fits)
 
   -- two parts, each of which is a use where it is scanned
@@ -161,11 +161,11 @@ module _ (K : KnownNames) (n : List ℕ) (ss : List Slot) where
     formula_use (every_of fs) slots m u v w h = formulas_use fs slots m u v w h
     formula_use (some_of fs) slots m u v w h = formulas_use fs slots m u v w h
     formula_use (implies f g) slots m u v w h =
-        parts_use _ _ _ _ h (formula_use f slots m (or_fails_left _ _ u) (or_fails_left _ _ v) (or_fails_left _ _ w))
-        (formula_use g slots (m + quantifiers f) (or_fails_right (some_atom (is_unknown_atom K) f) _ u) (or_fails_right (some_atom (is_arity_atom K) f) _ v) (or_fails_right (some_below (is_missorted_atom K) (sorts_of slots) f) _ w))
+        parts_use _ _ _ _ h (formula_use f slots m (or_false_left _ _ u) (or_false_left _ _ v) (or_false_left _ _ w))
+        (formula_use g slots (m + quantifiers f) (or_false_right (some_atom (is_unknown_atom K) f) _ u) (or_false_right (some_atom (is_arity_atom K) f) _ v) (or_false_right (some_below (is_missorted_atom K) (sorts_of slots) f) _ w))
     formula_use (minus f g) slots m u v w h =
-        parts_use _ _ _ _ h (formula_use f slots m (or_fails_left _ _ u) (or_fails_left _ _ v) (or_fails_left _ _ w))
-        (formula_use g slots (m + quantifiers f) (or_fails_right (some_atom (is_unknown_atom K) f) _ u) (or_fails_right (some_atom (is_arity_atom K) f) _ v) (or_fails_right (some_below (is_missorted_atom K) (sorts_of slots) f) _ w))
+        parts_use _ _ _ _ h (formula_use f slots m (or_false_left _ _ u) (or_false_left _ _ v) (or_false_left _ _ w))
+        (formula_use g slots (m + quantifiers f) (or_false_right (some_atom (is_unknown_atom K) f) _ u) (or_false_right (some_atom (is_arity_atom K) f) _ v) (or_false_right (some_below (is_missorted_atom K) (sorts_of slots) f) _ w))
     formula_use (exists s k f) slots m u v w h = formula_use f ((k, record { number = m; sort = s }) ∷ slots) (m + 1) u v w h
     formula_use (forall s k f) slots m u v w h = formula_use f ((k, record { number = m; sort = s }) ∷ slots) (m + 1) u v w h
 
@@ -174,8 +174,8 @@ module _ (K : KnownNames) (n : List ℕ) (ss : List Slot) where
         → some_below_of (is_missorted_atom K) (sorts_of slots) fs ≡ false → some_atom_of (is_scanned_by n ss) (goals_below slots m fs) ≡ true → IsUse (some_atom_of (atom_uses n) fs)
     formulas_use none slots m u v w h = absurd (true≢false (sym h))
     formulas_use (also f fs) slots m u v w h =
-        parts_use _ _ _ _ h (formula_use f slots m (or_fails_left _ _ u) (or_fails_left _ _ v) (or_fails_left _ _ w))
-        (formulas_use fs slots (m + quantifiers f) (or_fails_right (some_atom (is_unknown_atom K) f) _ u) (or_fails_right (some_atom (is_arity_atom K) f) _ v) (or_fails_right (some_below (is_missorted_atom K) (sorts_of slots) f) _ w))
+        parts_use _ _ _ _ h (formula_use f slots m (or_false_left _ _ u) (or_false_left _ _ v) (or_false_left _ _ w))
+        (formulas_use fs slots (m + quantifiers f) (or_false_right (some_atom (is_unknown_atom K) f) _ u) (or_false_right (some_atom (is_arity_atom K) f) _ v) (or_false_right (some_below (is_missorted_atom K) (sorts_of slots) f) _ w))
 
 -- the goal of an accepted formula
 pub goal_use : (K : KnownNames) (h : List Column) (f : Form) → IsAccepted K h f → (n : List ℕ) (ss : List Slot) → some_atom (is_scanned_by n ss) (goal_of h f) ≡ true

@@ -23,7 +23,8 @@ use Rattle.ded_eval.specs.Given.{has_name}
 use Rattle.ded_views.proofs.Clashing.{plan_clashing}
 use Rattle.ded_views.proofs.GoalNames.{speaks_used}
 use Rattle.ded_query.specs.Gathering.{IsGivenOf, IsGathered, IsFront, IsPosed}
-use Rattle.ded_query.proofs.Names.{scanned_used, used_known, all_named, some_named}
+use Rattle.ded_query.proofs.Names.{scanned_used, used_known}
+use Rattle.ded_views.proofs.Named.{all_named, some_named}
 
 pub gathered_none : (c : Catalogue) (rs : List GivenRelation) → AllByRecursion (IsGivenOf c) rs → IsGathered c rs rs
 gathered_none c rs k = record { of = k; kept = λ n h. h }

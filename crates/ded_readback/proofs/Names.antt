@@ -3,7 +3,7 @@ use Rattle.std.proofs.Common.{◌≡◌, ℕ, zero, suc, ◌+◌, ◌^◌, ◌<�
 use Rattle.std.specs.Prelude.{Some, None, ◌==◌, nat_lt}
 use Rattle.std.specs.List.{list_any, AllByRecursion}
 use Rattle.std.proofs.lemmas.Bool.Decides.{nat_tests}
-use Rattle.std.proofs.lemmas.Bool.{or_cases}
+use Rattle.std.proofs.lemmas.Bool.{or_cases, or_parts}
 use Rattle.std.proofs.Math.Seq.{take-append_seam, drop-append_seam}
 use Rattle.std.proofs.lemmas.Slice.Eq.{bytes_eq-Decides}
 use Rattle.ded_model.specs.declared.slot.Sort.{Sort}
@@ -13,21 +13,19 @@ use Rattle.ded_model.specs.Point.{same_slot, stands_in}
 use Rattle.ded_model.proofs.Points.{same_slot_is}
 use Rattle.ded_model.specs.Known.{has_twice, heading_slots}
 use Rattle.ded_lex.specs.Lexemes.{digit_byte, letter_byte, word_byte, BeginsWith, BeginsNot}
-use Rattle.ded_lex.proofs.Rests.{or_false, word_found}
+use Rattle.ded_lex.proofs.Rests.{word_found}
 use Rattle.ded_print.specs.Tuples.{column_at, column_names}
 use Rattle.ded_readback.specs.Plain.{IsWord, IsPlainHeading}
 use Rattle.ded_readback.specs.Reading.{with_rest, numbered, column_slot, slot_at}
-
-same_bytes : (x : List ℕ) → bytes_eq x x ≡ true
-same_bytes x = (bytes_eq-Decides x x).1 refl
+use Rattle.ded_model.proofs.Bools.{bytes_eq-refl}
 
 -- ---- columns
 
 -- the names of further columns are other ones
 other_name : (x : List ℕ) (cs : List Column) (k : ℕ) → k < length cs → list_any (λ d. bytes_eq x d.name) cs ≡ false → bytes_eq x (column_at cs k) ≡ false
 other_name x [] k l e = absurd (omega (arith, l))
-other_name x (c ∷ cs) zero l e = (or_false (bytes_eq x c.name) (list_any (λ d. bytes_eq x d.name) cs) e).0
-other_name x (c ∷ cs) (suc k) l e = other_name x cs k (omega (arith, l)) (or_false (bytes_eq x c.name) (list_any (λ d. bytes_eq x d.name) cs) e).1
+other_name x (c ∷ cs) zero l e = (or_parts (bytes_eq x c.name) (list_any (λ d. bytes_eq x d.name) cs) e).0
+other_name x (c ∷ cs) (suc k) l e = other_name x cs k (omega (arith, l)) (or_parts (bytes_eq x c.name) (list_any (λ d. bytes_eq x d.name) cs) e).1
 
 -- the slot is column number k of these, counted from i on, and found by its name
 pub record IsColumn (i : ℕ) (h : List Column) (s : Slot) : Type 0 where
@@ -44,7 +42,7 @@ here i c cs s l e = record {
   place = 0;
   number = ap (λ (t : Slot). t.number) (sym e) ∙ omega arith;
   within = omega arith;
-  found = rw (same_bytes c.name) (numbered_is i c.sort l ∙ ap (λ (t : Slot). Some t) e);
+  found = rw (bytes_eq-refl c.name) (numbered_is i c.sort l ∙ ap (λ (t : Slot). Some t) e);
 }
 
 further : (i : ℕ) (c : Column) (cs : List Column) (s : Slot) → list_any (λ d. bytes_eq c.name d.name) cs ≡ false → IsColumn (i + 1) cs s → IsColumn i (c ∷ cs) s
@@ -58,7 +56,7 @@ further i c cs s once k = record {
 pub is_column : (i : ℕ) (h : List Column) (s : Slot) → has_twice h ≡ false → i + length h ≤ 2 ^ 32 → stands_in (heading_slots i h) s ≡ true → IsColumn i h s
 is_column i [] s once few e = absurd cc
 is_column i (c ∷ cs) s once few e =
-    let parts = or_false (list_any (λ d. bytes_eq c.name d.name) cs) (has_twice cs) once in
+    let parts = or_parts (list_any (λ d. bytes_eq c.name d.name) cs) (has_twice cs) once in
     ⊎_elim
     (λ e. here i c cs s (omega (arith, few)) (same_slot_is (record { number = i; sort = c.sort }) s e))
     (λ e. further i c cs s parts.0 (is_column (i + 1) cs s parts.1 (omega (arith, few)) e))

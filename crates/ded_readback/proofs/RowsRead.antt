@@ -18,7 +18,6 @@ use Rattle.ded_model.specs.Point.{same_sort}
 use Rattle.ded_model.specs.Row.{Atom, sign_meets}
 use Rattle.ded_model.specs.Normal.{IsNormalRow, normal_row, constant_row, is_true_with}
 use Rattle.ded_model.proofs.Points.{cond_true, cond_false}
-use Rattle.ded_lex.proofs.Rests.{or_false}
 use Rattle.ded_model.proofs.Divisors.{divisor-nonzero_first}
 use Rattle.ded_lex.specs.Lexemes.{letter_byte, digit_byte, word_byte, BeginsNot}
 use Rattle.ded_print.specs.Numbers.{integer_text}
@@ -31,6 +30,7 @@ use Rattle.ded_readback.proofs.Names.{IsNamed, no_column}
 use Rattle.ded_readback.proofs.Signs.{plus, turned_abs, constant_back, constant_abs, first_plus}
 use Rattle.ded_readback.proofs.TermsRead.{summand, summand_of, IsFactor, term_read, later_begins, terms_read, terms_length}
 use Rattle.ded_readback.proofs.CoefsRead.{short_is, coefs_read}
+use Rattle.std.proofs.lemmas.Bool.{or_parts}
 
 -- ---- the first coefficient of a normal equality
 
@@ -83,7 +83,7 @@ op_begins true Below rest = refl
 -- ---- the sides
 
 no_digit_byte : (b : ℕ) → word_byte b ≡ false → digit_byte b ≡ false
-no_digit_byte b h = (or_false (letter_byte b) (digit_byte b) h).1
+no_digit_byte b h = (or_parts (letter_byte b) (digit_byte b) h).1
 
 pub no_digit : (rest : List ℕ) → BeginsNot word_byte rest → BeginsNot digit_byte rest
 no_digit [] h = tt

@@ -5,17 +5,13 @@ use lib.IntN.{neg_ℤ}
 use Rattle.std.proofs.lemmas.Bool.Decides.{nat_tests}
 use Rattle.ded_print.specs.Tuples.{signed}
 use Rattle.ded_readback.specs.Reading.{number_of}
+use Rattle.std.proofs.Math.IntN.{neg_ℤ-neg_ℤ}
 
 pub plus : (n : ℕ) → int_lt (pos n) (pos 0) ≡ false
 plus n = grind (arith, nat_tests)
 
-neg_twice : (z : ℤ) → neg_ℤ (neg_ℤ z) ≡ z
-neg_twice (pos zero) = refl
-neg_twice (pos (suc n)) = refl
-neg_twice (negsuc n) = refl
-
 turned_twice : (t : Bool) (z : ℤ) → signed t (signed t z) ≡ z
-turned_twice true z = neg_twice z
+turned_twice true z = neg_ℤ-neg_ℤ z
 turned_twice false z = refl
 
 -- a number by its sign and its magnitude
@@ -36,8 +32,8 @@ pub number_back : (t : Bool) (z : ℤ) → number_of t (int_lt (signed t z) (pos
 number_back t z = ap (signed t) (sign_back (signed t z)) ∙ turned_twice t z
 
 back_over : (t : Bool) (z : ℤ) → signed (not t) (neg_ℤ (signed t z)) ≡ z
-back_over true z = neg_twice z
-back_over false z = neg_twice z
+back_over true z = neg_ℤ-neg_ℤ z
+back_over false z = neg_ℤ-neg_ℤ z
 
 pub constant_back : (t : Bool) (z : ℤ) → number_of (not t) (int_lt (neg_ℤ (signed t z)) (pos 0)) (unsigned_abs (neg_ℤ (signed t z))) ≡ z
 constant_back t z = ap (signed (not t)) (sign_back (neg_ℤ (signed t z))) ∙ back_over t z

@@ -22,18 +22,14 @@ use Rattle.ded_theory.specs.Conjunctions.{conj_mentions, conj_lines, IsWide}
 use Rattle.ded_theory.specs.Verdicts.{HoldsNowhere, IsVerdict}
 use Rattle.ded_theory.proofs.Conjunctions.{conj_holds-append, conj_mentions-append}
 use Rattle.ded_theory.proofs.Parted.{wide_more}
-use Rattle.ded_genrel.proofs.Laws.{or_false, and_true, conj_lines-append}
+use Rattle.ded_genrel.proofs.Laws.{conj_lines-append}
 use Rattle.ded_reduce.specs.Kept.{IsSublist, MayBeOpen, IsNeeded, IsImplied, IsSifted}
 use Rattle.ded_reduce.proofs.Sublists.{sublist_refl, sublist_trans, sublist_without, length_without, sublist_all, parted_at, parted_others, parted_length}
+use Rattle.std.proofs.lemmas.Bool.{not-true}
+use Rattle.ded_model.proofs.Bools.{and_swap}
+use Rattle.std.proofs.Math.Bool.{or-false, and-true}
 
 -- ---- tests
-
-both_true : (a b : Bool) → a ≡ true → b ≡ true → (a && b) ≡ true
-both_true a b e f = ap₂ (λ x y. x && y) e f
-
-not_true : (a : Bool) → not a ≡ true → a ≡ false
-not_true true e = sym e
-not_true false e = refl
 
 -- what doesn't go with the negation goes with it
 implied_same : (x a : Bool) → (x && not a) ≡ false → x ≡ (x && a)
@@ -41,19 +37,13 @@ implied_same true true e = refl
 implied_same true false e = e
 implied_same false a e = refl
 
-and_swap : (a b : Bool) → (a && b) ≡ (b && a)
-and_swap true true = refl
-and_swap true false = refl
-and_swap false true = refl
-and_swap false false = refl
-
 with_either : (x a b c : Bool) → (a || b) ≡ c → (x && c) ≡ ((x && a) || (x && b))
 with_either true a b c e = sym e
 with_either false a b c e = refl
 
 module _ {A : Type 0} (D : Type 0) (h : A → Point → Bool) (m : A → Slot → Bool) (l : A → List Line) where
   push_holds : (xs : List A) (a : A) (p : Point) → conj_holds h (xs ++ a ∷ []) p ≡ (conj_holds h xs p && h a p)
-  push_holds xs a p = conj_holds-append h xs (a ∷ []) p ∙ ap (λ b. conj_holds h xs p && b) (and_true (h a p))
+  push_holds xs a p = conj_holds-append h xs (a ∷ []) p ∙ ap (λ b. conj_holds h xs p && b) (and-true (h a p))
 
   -- ---- others and one more atom
 
@@ -80,7 +70,7 @@ module _ {A : Type 0} (D : Type 0) (h : A → Point → Bool) (m : A → Slot �
         (λ x i. subst (In x) (conj_lines-append l others (b ∷ []) ∙ ap (λ ls. conj_lines l others ++ (ls ++ [])) same ∙ sym (conj_lines-append l others (a ∷ []))) i)
         (λ s e. conj_mentions-append m others (a ∷ []) s ∙ (elim (or_split (conj_mentions m others s) (m b s || false) (sym (conj_mentions-append m others (b ∷ []) s) ∙ e)) [
           | inl i ↦ or_left (conj_mentions m others s) (m a s || false) i
-          | inr j ↦ or_right (conj_mentions m others s) (m a s || false) (or_left (m a s) false (slots s (sym (or_false (m b s)) ∙ j)))
+          | inr j ↦ or_right (conj_mentions m others s) (m a s || false) (or_left (m a s) false (slots s (sym (or-false (m b s)) ∙ j)))
         ])) w.1,
   )
 
@@ -139,7 +129,7 @@ module _ {A : Type 0} (D : Type 0) (h : A → Point → Bool) (m : A → Slot �
   others_mention [] k a s lt e i = absurd (omega (arith, lt))
   others_mention (x ∷ xs) zero a s lt e i = elim (or_split (conj_mentions m xs s) (m a s || false) (sym (conj_mentions-append m xs (a ∷ []) s) ∙ i)) [
     | inl j ↦ or_right (m x s) (conj_mentions m xs s) j
-    | inr j ↦ or_left (m x s) (conj_mentions m xs s) (ap (λ y. m y s) (sym e) ∙ (sym (or_false (m a s)) ∙ j))
+    | inr j ↦ or_left (m x s) (conj_mentions m xs s) (ap (λ y. m y s) (sym e) ∙ (sym (or-false (m a s)) ∙ j))
   ]
   others_mention (x ∷ xs) (suc k) a s lt e i = elim (or_split (m x s) (conj_mentions m ((take k xs ++ drop (suc k) xs) ++ a ∷ []) s) i) [
     | inl j ↦ or_left (m x s) (conj_mentions m xs s) j
@@ -176,7 +166,7 @@ module _ {A : Type 0} (D : Type 0) (h : A → Point → Bool) (m : A → Slot �
         v.0,
         v.1,
         ap (λ ys. conj_holds h ys v.0) (sym f) ∙ and_left (conj_holds h others v.0) (not (h a v.0)) v.2,
-        ap (λ y. h y v.0) (at_index xs k a b lt e i) ∙ not_true (h a v.0) (and_right (conj_holds h others v.0) (not (h a v.0)) v.2),
+        ap (λ y. h y v.0) (at_index xs k a b lt e i) ∙ not-true (h a v.0) (and_right (conj_holds h others v.0) (not (h a v.0)) v.2),
       )
 
   -- ---- atom after atom

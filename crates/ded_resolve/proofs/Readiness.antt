@@ -15,8 +15,8 @@ use Rattle.ded_model.specs.Plain.{IsPlainCommand}
 use Rattle.ded_sorts.specs.Checks.{HasNoCause, forms_of}
 use Rattle.ded_model.specs.Entries.{known, columns_in}
 use Rattle.ded_goals.proofs.Accepted.{sums_of-accepted, comparisons_of-accepted, few-accepted}
-use Rattle.ded_goals.proofs.Summing.{fails_left}
 use Rattle.ded_resolve.specs.Ready.{IsReady, AreReady}
+use Rattle.ded_model.proofs.Bools.{or_false_left}
 
 -- as a fact of the command that it is
 along : (P : CommandForm → Type 0) (k l : CommandForm) → l ≡ k → P k → P l
@@ -27,7 +27,7 @@ pub view_ready : (c : Catalogue) (k : CommandForm) (n : List ℕ) (h : List Colu
 view_ready c k n h f e = along (λ k. IsPlainCommand k → HasNoCause c k → IsReady h f) (view n h f) k e (λ p a. record {
   plain = p;
   bound = a Unbound refl;
-  sorted = sums_of-accepted (known c) h f (fails_left (has_missorted (known c) h f) _ (a WrongSort refl));
+  sorted = sums_of-accepted (known c) h f (or_false_left (has_missorted (known c) h f) _ (a WrongSort refl));
   few = few-accepted h f (a Many refl);
 })
 
@@ -35,7 +35,7 @@ pub ask_ready : (c : Catalogue) (k : CommandForm) (f : Form) → k ≡ ask f →
 ask_ready c k f e = along (λ k. IsPlainCommand k → HasNoCause c k → IsReady [] f) (ask f) k e (λ p a. record {
   plain = p;
   bound = a Unbound refl;
-  sorted = sums_of-accepted (known c) [] f (fails_left (has_missorted (known c) [] f) _ (a WrongSort refl));
+  sorted = sums_of-accepted (known c) [] f (or_false_left (has_missorted (known c) [] f) _ (a WrongSort refl));
   few = few-accepted [] f (a Many refl);
 })
 
@@ -43,7 +43,7 @@ pub query_ready : (c : Catalogue) (k : CommandForm) (h : List Column) (f : Form)
 query_ready c k h f e = along (λ k. IsPlainCommand k → HasNoCause c k → IsReady h f) (query h f) k e (λ p a. record {
   plain = p;
   bound = a Unbound refl;
-  sorted = sums_of-accepted (known c) h f (fails_left (has_missorted (known c) h f) _ (a WrongSort refl));
+  sorted = sums_of-accepted (known c) h f (or_false_left (has_missorted (known c) h f) _ (a WrongSort refl));
   few = few-accepted h f (a Many refl);
 })
 
@@ -51,7 +51,7 @@ pub explain_ready : (c : Catalogue) (k : CommandForm) (h : List Column) (f : For
 explain_ready c k h f e = along (λ k. IsPlainCommand k → HasNoCause c k → IsReady h f) (explain h f) k e (λ p a. record {
   plain = p;
   bound = a Unbound refl;
-  sorted = sums_of-accepted (known c) h f (fails_left (has_missorted (known c) h f) _ (a WrongSort refl));
+  sorted = sums_of-accepted (known c) h f (or_false_left (has_missorted (known c) h f) _ (a WrongSort refl));
   few = few-accepted h f (a Many refl);
 })
 
@@ -60,7 +60,7 @@ pub insert_ready : (c : Catalogue) (k : CommandForm) (n : List ℕ) (fs : Logics
 insert_ready c k n fs e = along (λ k. IsPlainCommand k → has_long_row k ≡ false → HasNoCause c k → AreReady (columns_in c n) fs) (insert n fs) k e (λ p s a. record {
   plain = p;
   bound = a Unbound refl;
-  sorted = comparisons_of-accepted (known c) (columns_in c n) (every_of fs) (fails_left (has_missorted (known c) (columns_in c n) (every_of fs)) _ (a WrongSort refl));
+  sorted = comparisons_of-accepted (known c) (columns_in c n) (every_of fs) (or_false_left (has_missorted (known c) (columns_in c n) (every_of fs)) _ (a WrongSort refl));
   short = s;
 })
 

@@ -31,8 +31,8 @@ use Rattle.ded_model.proofs.Divisors.{abs_divisor, positive_divisor, divisor-who
 use Rattle.ded_model.proofs.LineCoefs.{AllNonzero, nonzero-nonzero}
 use Rattle.ded_goals.specs.Scope.{sum_over}
 use Rattle.ded_goals.proofs.Denominators.{plain_rows, plain_rows_turned}
-use Rattle.ded_goals.proofs.Summing.{fails_left, fails_right}
 use Rattle.ded_resolve.proofs.SlotNumbers.{AreNumbers, AllHave, side_row, row_has, turned_row_has, constant_has, turned_constant_has}
+use Rattle.ded_model.proofs.Bools.{or_false_left, or_false_right}
 
 -- ---- common divisors
 
@@ -71,8 +71,8 @@ quotient_below n e = grind (arith, nat_tests)
 all_fit : (g : ℕ) (zs : List ℤ) → 0 < g → DividesAll g zs → list_any (is_long_over g) zs ≡ false → AllHave (IsFit g) zs
 all_fit g [] h d e = tt
 all_fit g (z ∷ zs) h d e = (
-  record { divides = d.0; below = under (unsigned_abs z) g (2 ^ 63) h (quotient_below (unsigned_abs z / g) (fails_left (is_long_over g z) (list_any (is_long_over g) zs) e)) },
-  all_fit g zs h d.1 (fails_right (is_long_over g z) (list_any (is_long_over g) zs) e),
+  record { divides = d.0; below = under (unsigned_abs z) g (2 ^ 63) h (quotient_below (unsigned_abs z / g) (or_false_left (is_long_over g z) (list_any (is_long_over g) zs) e)) },
+  all_fit g zs h d.1 (or_false_right (is_long_over g z) (list_any (is_long_over g) zs) e),
 )
 
 -- such numbers have the divisor g
@@ -91,7 +91,7 @@ zero_turned z e = omega (arith, ints)
 -- none is
 all_zero : (zs : List ℤ) → list_any is_nonzero zs ≡ false → AllHave IsZero zs
 all_zero [] e = tt
-all_zero (z ∷ zs) e = ((Decides-int_eq z (pos 0)).0 (opposite (int_eq z (pos 0)) (fails_left (is_nonzero z) (list_any is_nonzero zs) e)), all_zero zs (fails_right (is_nonzero z) (list_any is_nonzero zs) e))
+all_zero (z ∷ zs) e = ((Decides-int_eq z (pos 0)).0 (opposite (int_eq z (pos 0)) (or_false_left (is_nonzero z) (list_any is_nonzero zs) e)), all_zero zs (or_false_right (is_nonzero z) (list_any is_nonzero zs) e))
   where
     opposite : (b : Bool) → not b ≡ false → b ≡ true
     opposite true e = refl

@@ -29,10 +29,10 @@ use Rattle.ded_model.specs.Slotted.{SlotScope, heading_scope, slot_sum, comparis
 use Rattle.ded_goals.specs.Scope.{sorts_of, AreApart}
 use Rattle.ded_goals.specs.Tuples.{is_missorted_comparison}
 use Rattle.ded_goals.proofs.Reading.{numbered_heading, sorts_heading}
-use Rattle.ded_goals.proofs.Summing.{fails_left, fails_right}
 use Rattle.ded_resolve.specs.Ready.{AreReady}
 use Rattle.ded_resolve.proofs.SlotNumbers.{summable_parts}
 use Rattle.ded_resolve.proofs.ShortRows.{AllShort, constant_short, IsNumeric, comparison_short}
+use Rattle.ded_model.proofs.Bools.{or_false_left, or_false_right}
 
 -- ---- atoms
 
@@ -164,13 +164,13 @@ compare_short scope l r o apart h = go (is_text_operand scope l) refl (is_text_o
     go true e d f = texts_short (text_side scope l) (text_side scope r) o
     go false e true f = texts_short (text_side scope l) (text_side scope r) o
     go false e false f =
-        let sums : (is_text_sum (sorts_of scope) l || is_text_sum (sorts_of scope) r) ≡ false = fails_left (is_text_sum (sorts_of scope) l || is_text_sum (sorts_of scope) r) _ h.sorted in
+        let sums : (is_text_sum (sorts_of scope) l || is_text_sum (sorts_of scope) r) ≡ false = or_false_left (is_text_sum (sorts_of scope) l || is_text_sum (sorts_of scope) r) _ h.sorted in
         let m = denominator_of l r in
         sums_short scope l r o
         (record {
           numbers = record {
-            left = summable_parts m scope l apart h.plain.0 (fails_left _ _ h.bound) (fails_left _ _ sums) e;
-            right = summable_parts m scope r apart h.plain.1 (fails_right (is_unbound_operand (sorts_of scope) l) _ h.bound) (fails_right (is_text_sum (sorts_of scope) l) _ sums) f;
+            left = summable_parts m scope l apart h.plain.0 (or_false_left _ _ h.bound) (or_false_left _ _ sums) e;
+            right = summable_parts m scope r apart h.plain.1 (or_false_right (is_unbound_operand (sorts_of scope) l) _ h.bound) (or_false_right (is_text_sum (sorts_of scope) l) _ sums) f;
           };
           positive = positive_denominator l r h.plain.0 h.plain.1;
           shared = h.plain.2;
@@ -199,8 +199,8 @@ atoms_short : (scope : SlotScope) (fs : List Form) → AreApart scope → AllAto
 atoms_short scope [] a p b s h = tt
 atoms_short scope (f ∷ fs) a p b s h =
     short-append (goal_atoms (goal_below scope 0 f)) (comparison_atoms scope fs)
-    (goal_short scope f a (record { plain = p.0; bound = fails_left _ _ b; sorted = fails_left _ _ s; short = fails_left _ _ h }))
-    (atoms_short scope fs a p.1 (fails_right (some_below is_unbound_atom (sorts_of scope) f) _ b) (fails_right (some_below is_missorted_comparison (sorts_of scope) f) _ s) (fails_right (some_atom is_long_atom f) _ h))
+    (goal_short scope f a (record { plain = p.0; bound = or_false_left _ _ b; sorted = or_false_left _ _ s; short = or_false_left _ _ h }))
+    (atoms_short scope fs a p.1 (or_false_right (some_below is_unbound_atom (sorts_of scope) f) _ b) (or_false_right (some_below is_missorted_comparison (sorts_of scope) f) _ s) (or_false_right (some_atom is_long_atom f) _ h))
 
 -- the tuple of comparisons over a heading
 pub tuple_short : (h : List Column) (fs : List Form) → AreReady h (logics fs) → tuple_length (tuple_of h fs) ≤ 63

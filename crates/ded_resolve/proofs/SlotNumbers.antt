@@ -26,7 +26,10 @@ use Rattle.ded_model.proofs.LineCoefs.{coef_at-mixed, coef_at-nonzero}
 use Rattle.ded_goals.specs.Scope.{sorts_of, AreApart, AreSummable, sum_over}
 use Rattle.ded_goals.proofs.Denominators.{plain_row}
 use Rattle.ded_goals.proofs.Ascending.{Ascend, AllRational, ascend-mixed, ascend-nonzero}
-use Rattle.ded_goals.proofs.Summing.{fails_left, slots_apart, sort_in-slot, rest_summable, ascend-parts, one_part}
+use Rattle.ded_goals.proofs.Summing.{slots_apart, sort_in-slot, rest_summable, ascend-parts, one_part}
+use Rattle.std.proofs.lemmas.Bool.{or_from}
+use Rattle.ded_model.proofs.Definable.{neg_times}
+use Rattle.ded_model.proofs.Bools.{or_false_left}
 
 -- ---- operands that are numbers
 
@@ -35,17 +38,14 @@ pub record AreNumbers (m : ℤ) (scope : SlotScope) (l r : Operand) : Type 0 whe
   pub left : AreSummable scope (parts_over m l)
   pub right : AreSummable scope (parts_over m r)
 
-neither : (a b : Bool) → a ≡ false → b ≡ false → (a || b) ≡ false
-neither a b e f = ap₂ (λ x y. x || y) e f
-
 -- an operand that is no text
 pub summable_parts : (m : ℤ) (scope : SlotScope) (t : Operand) → AreApart scope → IsPlainOperand t → is_unbound_operand (sorts_of scope) t ≡ false → is_text_sum (sorts_of scope) t ≡ false → is_text_operand scope t ≡ false
     → AreSummable scope (parts_over m t)
 summable_parts m scope (Single x) h p b s e = record {
   apart = h;
   once = (refl, tt);
-  bound = neither (is_unbound_name (sorts_of scope) x) false b refl;
-  rational = neither (same_sort (sort_in (sorts_of scope) x) Text) false (ap (λ s. same_sort s Text) (sort_in-slot scope x) ∙ e) refl;
+  bound = or_from (is_unbound_name (sorts_of scope) x) false b refl;
+  rational = or_from (same_sort (sort_in (sorts_of scope) x) Text) false (ap (λ s. same_sort s Text) (sort_in-slot scope x) ∙ e) refl;
 }
 summable_parts m scope (Sum t) h p b s e = record { apart = h; once = p.1; bound = b; rational = s }
 summable_parts m scope (Quoted t) h p b s e = absurd (true≢false e)
@@ -75,7 +75,7 @@ coef_of_name scope (c ∷ cs) x h b =
         let here : same_slot (slot_of scope c.0) (slot_of scope x) ≡ true = ap (λ y. same_slot (slot_of scope c.0) (slot_of scope y)) (sym ((bytes_eq-Decides c.0 x).0 e)) ∙ same_slot_refl (slot_of scope c.0) in
         ap (λ b. cond b c.1 (coef_at (add_parts scope cs) (slot_of scope x))) here
     go false e ih =
-        ap (λ b. cond b c.1 (coef_at (add_parts scope cs) (slot_of scope x))) (slots_apart scope c.0 x h.apart (fails_left _ _ h.bound) b e) ∙ ih
+        ap (λ b. cond b c.1 (coef_at (add_parts scope cs) (slot_of scope x))) (slots_apart scope c.0 x h.apart (or_false_left _ _ h.bound) b e) ∙ ih
 
 -- the coefficient of `l - r` over m at a slot
 at_slot : ℤ → SlotScope → Operand → Operand → Slot → ℤ
@@ -91,10 +91,6 @@ one_times : (x : ℤ) → pos 1 *ℤ x ≡ x
 one_times (pos n) = omega (arith, ints)
 one_times (negsuc n) = omega (arith, ints)
 
-one_off : (y : ℤ) → neg_ℤ (pos 1) *ℤ y ≡ neg_ℤ y
-one_off (pos n) = omega (arith, ints)
-one_off (negsuc n) = omega (arith, ints)
-
 minus_is : (x y : ℤ) → x +ℤ neg_ℤ y ≡ x -ℤ y
 minus_is x y = omega (arith, ints)
 
@@ -109,7 +105,7 @@ coef_at-row m scope l r op s =
     let xs = (sum_over m scope l).coefs in
     let ys = (sum_over m scope r).coefs in
     coef_at-nonzero (mixed (pos 1) xs (neg_ℤ (pos 1)) ys) s ∙ coef_at-mixed (pos 1) xs (neg_ℤ (pos 1)) ys s
-    ∙ ap₂ (λ y z. y +ℤ z) (one_times (coef_at xs s)) (one_off (coef_at ys s)) ∙ minus_is (coef_at xs s) (coef_at ys s)
+    ∙ ap₂ (λ y z. y +ℤ z) (one_times (coef_at xs s)) (neg_times (coef_at ys s)) ∙ minus_is (coef_at xs s) (coef_at ys s)
     ∙ ap₂ (λ y z. y -ℤ z) (coefs_are m scope l s) (coefs_are m scope r s)
 
 -- its constant is the difference of theirs
@@ -160,7 +156,7 @@ module _ (m : ℤ) (P : ℤ → Type 0) (zero_has : P (pos 0)) (turned_has : (z 
   slot_has scope l r (p ∷ ps) s h k all = go (same_slot (slot_of scope p.0) s) refl (slot_has scope l r ps s h (rest_summable scope p ps k) all.1)
     where
       go : (b : Bool) → same_slot (slot_of scope p.0) s ≡ b → P (at_slot m scope l r s) ⊎ (coef_at (add_parts scope ps) s ≡ pos 0) → P (at_slot m scope l r s) ⊎ (coef_at (add_parts scope (p ∷ ps)) s ≡ pos 0)
-      go true e rest = inl (subst P (sym (at_name m scope l r p.0 h (fails_left _ _ k.bound)) ∙ ap (at_slot m scope l r) (same_slot_is (slot_of scope p.0) s e)) all.0)
+      go true e rest = inl (subst P (sym (at_name m scope l r p.0 h (or_false_left _ _ k.bound)) ∙ ap (at_slot m scope l r) (same_slot_is (slot_of scope p.0) s e)) all.0)
       go false e (inl f) = inl f
       go false e (inr f) = inr (one_part scope p ps k s ∙ ap (λ b. cond b p.1 (coef_at (add_parts scope ps) s)) e ∙ f)
 

@@ -9,9 +9,9 @@ use Rattle.std.specs.List.{list_any}
 use Rattle.std.specs.Ordering.{int_eq}
 use Rattle.std.proofs.lemmas.Int.{ints, unsigned_abs-mul}
 use Rattle.std.proofs.lemmas.Bool.Decides.{same_from_decides, Decides-int_eq}
-use Rattle.std.proofs.Math.IntN.{*ℤ-zero}
+use Rattle.std.proofs.Math.IntN.{*ℤ-zero, neg_ℤ-neg_ℤ}
 use Rattle.ded_num.specs.Gcd.{gcd_all}
-use Rattle.ded_num.proofs.Ring.{parts, ring, diff_same}
+use Rattle.ded_num.proofs.Ring.{parts, ring, diff_same, mul-add_ℤ}
 use Rattle.ded_model.specs.declared.slot.Slot.{Slot}
 use Rattle.ded_model.specs.declared.row.RowOp.{RowOp}
 use Rattle.ded_model.specs.declared.row.RowOp.TheVariants.{Zero}
@@ -29,12 +29,9 @@ use Rattle.ded_row.proofs.Forms.{coefs_back, row_lines-times, row_lines-normal}
 use Rattle.ded_row.proofs.Pieces.{neg_is, normal_gcd}
 use Rattle.ded_row.proofs.Normals.{turned_law}
 use Rattle.ded_row.proofs.Mixes.{IsPair, turned_first, turned_second, factors}
+use Rattle.ded_model.proofs.LineLengths.{sum_is_difference}
 
 -- ---- multiples of sums
-
--- a multiple of a sum
-add_law : (j z c : ℤ) → j *ℤ (z +ℤ c) ≡ j *ℤ z +ℤ j *ℤ c
-add_law j z c = rw (parts j, parts z, parts c) (simp ring (diff_same _ _ _ _ (omega arith)))
 
 pub times-put : (j : ℤ) (s : Slot) (z : ℤ) (cs : List (Slot × ℤ)) → coefs_times j (put s z cs) ≡ put s (j *ℤ z) (coefs_times j cs)
 times-put j s z [] = refl
@@ -43,12 +40,12 @@ times-put j s z (c ∷ cs) = go (same_slot c.0 s) (nat_lt s.number c.0.number) (
     go : (b d : Bool) → coefs_times j (put s z cs) ≡ put s (j *ℤ z) (coefs_times j cs)
         → coefs_times j (cond b ((c.0, z +ℤ c.1) ∷ cs) (cond d ((s, z) ∷ c ∷ cs) (c ∷ put s z cs)))
         ≡ cond b ((c.0, j *ℤ z +ℤ j *ℤ c.1) ∷ coefs_times j cs) (cond d ((s, j *ℤ z) ∷ (c.0, j *ℤ c.1) ∷ coefs_times j cs) ((c.0, j *ℤ c.1) ∷ put s (j *ℤ z) (coefs_times j cs)))
-    go true d ih = ap (λ y. (c.0, y) ∷ coefs_times j cs) (add_law j z c.1)
+    go true d ih = ap (λ y. (c.0, y) ∷ coefs_times j cs) (mul-add_ℤ j z c.1)
     go false true ih = refl
     go false false ih = ap (λ ys. (c.0, j *ℤ c.1) ∷ ys) ih
 
 -- of a sum of multiples
-times-put_all : (j k : ℤ) (xs ys : List (Slot × ℤ)) → coefs_times j (put_all k xs ys) ≡ put_all (j *ℤ k) xs (coefs_times j ys)
+pub times-put_all : (j k : ℤ) (xs ys : List (Slot × ℤ)) → coefs_times j (put_all k xs ys) ≡ put_all (j *ℤ k) xs (coefs_times j ys)
 times-put_all j k [] ys = refl
 times-put_all j k (x ∷ xs) ys = times-put j x.0 (k *ℤ x.1) (put_all k xs ys) ∙ ap₂ (put x.0) (regroup j k x.1) (times-put_all j k xs ys)
 
@@ -106,15 +103,8 @@ line_times j s k xs m ys z n =
 combination_with : Slot → List (Slot × ℤ) → ℤ → List (Slot × ℤ) → ℤ → List Line
 combination_with s xs c ys d = line_with (mixed_coefs s (coef_at ys s) xs (neg_ℤ (coef_at xs s)) ys) (coef_at ys s *ℤ c -ℤ coef_at xs s *ℤ d)
 
-sum_is_difference : (k x a y : ℤ) → k *ℤ x +ℤ neg_ℤ a *ℤ y ≡ k *ℤ x -ℤ a *ℤ y
-sum_is_difference k x a y = rw (parts k, parts x, parts a, parts y) (simp ring (diff_same _ _ _ _ (omega arith)))
-
 turned_difference : (b c a d : ℤ) → neg_ℤ b *ℤ c +ℤ a *ℤ d ≡ neg_ℤ (b *ℤ c -ℤ a *ℤ d)
 turned_difference b c a d = rw (parts b, parts c, parts a, parts d) (simp ring (diff_same _ _ _ _ (omega arith)))
-
--- a number turned twice
-twice : (z : ℤ) → neg_ℤ (neg_ℤ z) ≡ z
-twice z = omega (arith, ints)
 
 minus_one : negsuc 0 ≢ pos 0
 minus_one e = absurd (omega (arith, ap unsigned_abs e))
@@ -131,7 +121,7 @@ mixed_line s xs c ys d k m (turned_first e f) =
     let b = coef_at ys s in
     ap₂ (λ u v. line_with (mixed_coefs s u xs v ys) (u *ℤ c +ℤ v *ℤ d)) e f
     ∙ ap (line_with (mixed_coefs s (neg_ℤ b) xs a ys)) (turned_difference b c a d ∙ neg_is (b *ℤ c -ℤ a *ℤ d))
-    ∙ ap₂ (λ u v. line_with (mixed_coefs s u xs v ys) (negsuc 0 *ℤ (b *ℤ c -ℤ a *ℤ d))) (neg_is b) (sym (twice a) ∙ neg_is (neg_ℤ a))
+    ∙ ap₂ (λ u v. line_with (mixed_coefs s u xs v ys) (negsuc 0 *ℤ (b *ℤ c -ℤ a *ℤ d))) (neg_is b) (sym (neg_ℤ-neg_ℤ a) ∙ neg_is (neg_ℤ a))
     ∙ line_times (negsuc 0) s b xs (neg_ℤ a) ys (b *ℤ c -ℤ a *ℤ d) minus_one
 
 -- the line of a combination of two rows is the combination of the rows
@@ -202,7 +192,7 @@ coef_at-times j [] s = sym (*ℤ-zero j)
 coef_at-times j (c ∷ cs) s = ap (λ z. cond (same_slot c.0 s) (j *ℤ c.1) (pos 0) +ℤ z) (coef_at-times j cs s) ∙ go (same_slot c.0 s)
   where
     go : (b : Bool) → cond b (j *ℤ c.1) (pos 0) +ℤ j *ℤ coef_at cs s ≡ j *ℤ (cond b c.1 (pos 0) +ℤ coef_at cs s)
-    go true = sym (add_law j c.1 (coef_at cs s))
+    go true = sym (mul-add_ℤ j c.1 (coef_at cs s))
     go false = +ℤ_idl (j *ℤ coef_at cs s) ∙ ap (λ z. j *ℤ z) (sym (+ℤ_idl (coef_at cs s)))
 
 -- products of multiples

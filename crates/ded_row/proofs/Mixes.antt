@@ -24,6 +24,7 @@ use Rattle.ded_row.proofs.Normals.{normal_row-holds}
 use Rattle.ded_row.proofs.Scaling.{IsFactor, IsSignFor, magnitude, sign_times}
 use Rattle.ded_row.proofs.Forms.{row_mentions-normal}
 use Rattle.ded_row.proofs.Sums.{sum_at-mixed, sum_at-nonzero}
+use Rattle.ded_model.proofs.Numbers.{cancel_pair}
 
 -- ---- the factors
 
@@ -52,15 +53,12 @@ factors (negsuc x) (pos zero) h l = absurd (l refl)
 factors (negsuc x) (pos (suc y)) h l = turned_first (ap (λ t. by_sign t (suc y)) (not_above x)) (ap (λ t. by_sign t (suc x)) (not_above y))
 factors (negsuc x) (negsuc y) h l = turned_second (ap (λ t. by_sign t (suc y)) (not_above x)) (ap (λ t. by_sign t (suc x)) (above y))
 
-first_law : (a b : ℤ) → neg_ℤ b *ℤ a +ℤ a *ℤ b ≡ pos 0
-first_law a b = rw (parts a, parts b, diff-pos 0) (simp ring (diff_same _ _ _ _ (omega arith)))
-
 second_law : (a b : ℤ) → b *ℤ a +ℤ neg_ℤ a *ℤ b ≡ pos 0
 second_law a b = rw (parts a, parts b, diff-pos 0) (simp ring (diff_same _ _ _ _ (omega arith)))
 
 -- they cancel the coefficients
 pub cancels : (a b k m : ℤ) → IsPair a b k m → k *ℤ a +ℤ m *ℤ b ≡ pos 0
-cancels a b k m (turned_first e f) = ap₂ (λ x y. x *ℤ a +ℤ y *ℤ b) e f ∙ first_law a b
+cancels a b k m (turned_first e f) = ap₂ (λ x y. x *ℤ a +ℤ y *ℤ b) e f ∙ cancel_pair a b
 cancels a b k m (turned_second e f) = ap₂ (λ x y. x *ℤ a +ℤ y *ℤ b) e f ∙ second_law a b
 
 -- a coefficient that bounds its slot isn't 0

@@ -13,16 +13,13 @@ use Rattle.ded_model.specs.Point.{slot, Point, number_at, same_slot}
 use Rattle.ded_model.specs.Coefs.{put, put_all, mixed, nonzero}
 use Rattle.ded_model.specs.Row.{sum_at}
 use Rattle.ded_model.proofs.Points.{same_slot_is}
+use Rattle.ded_model.proofs.LineCoefs.{plus_past}
 
 -- ---- sums of lists
 
 -- more of a coefficient that is there
 more_law : (z c x r : ℤ) → (z +ℤ c) *ℤ x +ℤ r ≡ z *ℤ x +ℤ (c *ℤ x +ℤ r)
 more_law z c x r = rw (parts z, parts c, parts x, parts r) (simp ring (diff_same _ _ _ _ (omega arith)))
-
--- a number goes past another one
-past_law : (x y r : ℤ) → y +ℤ (x +ℤ r) ≡ x +ℤ (y +ℤ r)
-past_law x y r = omega (arith, ints)
 
 -- one place of the list
 put_step : (s : Slot) (z : ℤ) (c : Slot × ℤ) (cs : List (Slot × ℤ)) (p : Point) (b b' : Bool) → same_slot c.0 s ≡ b
@@ -31,7 +28,7 @@ put_step : (s : Slot) (z : ℤ) (c : Slot × ℤ) (cs : List (Slot × ℤ)) (p :
 put_step s z c cs p true b' e ih =
     more_law z c.1 (number_at p (slot c.0)) (sum_at cs p) ∙ ap (λ t. z *ℤ number_at p (slot t) +ℤ (c.1 *ℤ number_at p (slot c.0) +ℤ sum_at cs p)) (same_slot_is c.0 s e)
 put_step s z c cs p false true e ih = refl
-put_step s z c cs p false false e ih = ap (λ w. c.1 *ℤ number_at p (slot c.0) +ℤ w) ih ∙ past_law (z *ℤ number_at p (slot s)) (c.1 *ℤ number_at p (slot c.0)) (sum_at cs p)
+put_step s z c cs p false false e ih = ap (λ w. c.1 *ℤ number_at p (slot c.0) +ℤ w) ih ∙ plus_past (z *ℤ number_at p (slot s)) (c.1 *ℤ number_at p (slot c.0)) (sum_at cs p)
 
 -- a number more at a slot
 pub sum_at-put : (s : Slot) (z : ℤ) (cs : List (Slot × ℤ)) (p : Point) → sum_at (put s z cs) p ≡ z *ℤ number_at p (slot s) +ℤ sum_at cs p

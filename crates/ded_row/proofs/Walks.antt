@@ -26,7 +26,7 @@ use Rattle.ded_row.specs.Mixing.{mixed_coefs, sum_is_long, long_at, coefs_are_lo
 -- ---- sums of multiples, from the front
 
 -- putting keeps above a lesser number
-AllAbove-put : (n : ℕ) (s : Slot) (z : ℤ) (cs : List (Slot × ℤ)) → n < s.number → AllAbove n cs → AllAbove n (put s z cs)
+pub AllAbove-put : (n : ℕ) (s : Slot) (z : ℤ) (cs : List (Slot × ℤ)) → n < s.number → AllAbove n cs → AllAbove n (put s z cs)
 AllAbove-put n s z [] h k = (h, tt)
 AllAbove-put n s z (c ∷ cs) h k = go (same_slot c.0 s) (nat_lt s.number c.0.number) (AllAbove-put n s z cs h k.1)
   where

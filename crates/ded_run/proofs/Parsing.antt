@@ -25,6 +25,7 @@ use Rattle.ded_run.specs.Words.{OptionWords, BothOptions}
 use Rattle.clap.specs.Walk.{Text, nothing_held, Rule, Row, Held, Walk, Waiting, Outcome, Step, idle, option, arg_by_long, reading_by, reacted, used, settled, walked, with_default, more_values, without, at_row, has_row, after_step, after_flag, long_met, long_or_other, short_or_plain, plain_word, bundle_met, bundle_step, plain, trailing, next as proceed, rows_of, first_of, finished}
 use Rattle.clap.specs.declared.builder.value_parser.ValueParser.TheVariants as parser
 use Rattle.clap.specs.declared.parser.matches.ValueSource.TheVariants.{CommandLine}
+use Rattle.ded_lex.proofs.Cases.{none_some, same_some}
 
 -- ---- the command, built
 
@@ -80,12 +81,6 @@ ends_more w word rest e =
     (both.0, (both.1, e.1))
 
 -- ---- how a word of an option is spelled
-
-none_some : {A : Type 0} {x : A} → None ≡ Some x → ⊥
-none_some e = cc
-
-same_some : {A : Type 0} {x y : A} → Some x ≡ Some y → x ≡ y
-same_some e = cc
 
 bind : {A B : Type 0} (f : A → Option B) (o : Option A) (y : B) → option_and_then f o ≡ Some y → (x : A) × (o ≡ Some x) × (f x ≡ Some y)
 bind f None y e = absurd (none_some e)

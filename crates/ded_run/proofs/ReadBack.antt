@@ -5,7 +5,7 @@
 use Rattle.std.proofs.Common.{◌≡◌, ◌≤◌, ◌^◌, ◌||◌, ℕ, Bool, true, false, List, [], ◌∷◌, length, refl, sym, ap, ◌∙◌, subst, arith}
 use Rattle.std.specs.Prelude.{nat_lt}
 use Rattle.std.specs.List.{AllByRecursion}
-use Rattle.std.proofs.lemmas.Bool.{or_parts}
+use Rattle.std.proofs.lemmas.Bool.{or_parts, false_from_ne_true}
 use Rattle.std.proofs.lemmas.Bool.Decides.{nat_tests}
 use Rattle.ded_lex.specs.Pieces.{Statement, Whole}
 use Rattle.ded_lex.specs.Pieces as pieces
@@ -39,19 +39,14 @@ few_columns n m e = at_most (or_parts (nat_lt 16 n) (nat_lt 64 m) e).0
     at_most : nat_lt 16 n ≡ false → n ≤ 2 ^ 32
     at_most k = grind (arith, nat_tests, k)
 
--- what no refusal applies to is false
-unless : (b : Bool) → (b ≡ true → ⊥) → b ≡ false
-unless true f = absurd (f refl)
-unless false f = refl
-
 module _ (l : Language) (c d : Catalogue) (piece : List ℕ) where
   query_answered : (h k : List Column) (f : Form) (ts : List (List Atom)) (a : Accepted l piece c (λ x. Does x c (tuples k ts) d))
       → a.command ≡ query h f → IsAnswered k ts
   query_answered h k f ts a e =
       let so : Does (query h f) c (tuples k ts) d = subst (λ x. Does x c (tuples k ts) d) e a.so in
       let names = subst (λ x. NamesPlainly x) e (spelled_names l piece a.command a.depth a.spells) in
-      let once = unless (has_twice h) (λ t. a.none Twice (record { command = a.command; depth = a.depth; spells = a.spells; cause = ap (has_cause Twice c) e ∙ t })) in
-      let few = unless (is_many h f) (λ t. a.none Many (record { command = a.command; depth = a.depth; spells = a.spells; cause = ap (has_cause Many c) e ∙ t })) in
+      let once = false_from_ne_true (has_twice h) (λ t. a.none Twice (record { command = a.command; depth = a.depth; spells = a.spells; cause = ap (has_cause Twice c) e ∙ t })) in
+      let few = false_from_ne_true (is_many h f) (λ t. a.none Many (record { command = a.command; depth = a.depth; spells = a.spells; cause = ap (has_cause Many c) e ∙ t })) in
       subst (λ g. IsAnswered g ts) (sym so.0) (record {
         plain = record { once = once; words = names.0; few = few_columns (length h) _ few };
         over = so.1.over;

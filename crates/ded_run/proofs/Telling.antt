@@ -36,16 +36,10 @@ use Rattle.ded_session.specs.PlainNames.{ArePlainColumns, HasPlainNames}
 use Rattle.ded_session.specs.Replies.{ReplyForm, done, number, truth, tuples, stored, boxes, steps, refused}
 use Rattle.ded_session.specs.Steps.{Step}
 use Rattle.ded_session.proofs.Pairs.{plain_reply, two_replies}
+use Rattle.ded_model.proofs.Members.{or_split}
+use Rattle.ded_model.proofs.Points.{and_left}
 
 -- ---- plain names are quiet
-
-or_cases : (a b : Bool) → (a || b) ≡ true → (a ≡ true) ⊎ (b ≡ true)
-or_cases true b e = inl refl
-or_cases false b e = inr e
-
-and_left : (a b : Bool) → (a && b) ≡ true → a ≡ true
-and_left true b e = refl
-and_left false b e = e
 
 from : (m b : ℕ) → 39 < m → nat_le m b ≡ true → 39 < b
 from m b h e = ⊎_elim (λ t. let k = t.1 in omega (arith, h, k)) (λ t. absurd (true≢false (sym e ∙ t.0))) (leb_tells m b)
@@ -57,10 +51,10 @@ word_above : (b : ℕ) → word_byte b ≡ true → 39 < b
 word_above b e = ⊎_elim
     (λ l. ⊎_elim
     (λ u. from 65 b (omega arith) (and_left (nat_le 65 b) _ u))
-    (λ v. ⊎_elim (λ w. from 97 b (omega arith) (and_left (nat_le 97 b) _ w)) (λ w. is_95 b w) (or_cases (nat_le 97 b && nat_le b 122) (b == 95) v))
-    (or_cases (nat_le 65 b && nat_le b 90) _ l))
+    (λ v. ⊎_elim (λ w. from 97 b (omega arith) (and_left (nat_le 97 b) _ w)) (λ w. is_95 b w) (or_split (nat_le 97 b && nat_le b 122) (b == 95) v))
+    (or_split (nat_le 65 b && nat_le b 90) _ l))
     (λ d. from 48 b (omega arith) (and_left (nat_le 48 b) _ d))
-    (or_cases (letter_byte b) (digit_byte b) e)
+    (or_split (letter_byte b) (digit_byte b) e)
 
 each_quiet : (bs : List ℕ) → Each word_byte bs → IsQuiet bs
 each_quiet [] h = tt

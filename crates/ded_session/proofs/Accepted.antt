@@ -30,6 +30,8 @@ use Rattle.ded_session.specs.Carrying.{IsReady, Carries, refusal_left}
 use Rattle.ded_session.specs.PlainNames.{NamesPlainly}
 use Rattle.ded_session.specs.Replies.{ReplyForm, refused}
 use Rattle.ded_session.proofs.Unmade.{unmade}
+use Rattle.std.proofs.lemmas.Bool.{not-false}
+use Rattle.ded_model.proofs.Bools.{or_false_left}
 
 -- ---- tests
 
@@ -41,21 +43,13 @@ some_of : {A : Type 0} (o : Option A) → is_none o ≡ false → is_some o ≡ 
 some_of None e = absurd (true≢false e)
 some_of (Some x) e = refl
 
-true_of : (b : Bool) → not b ≡ false → b ≡ true
-true_of true e = refl
-true_of false e = absurd (true≢false e)
-
-or_left : (a b : Bool) → (a || b) ≡ false → a ≡ false
-or_left false b e = refl
-or_left true b e = absurd (true≢false e)
-
 relation_of : (o : Option Known) → is_none o ≡ false → is_view_with o ≡ false → is_relation_with o ≡ true
 relation_of None e f = absurd (true≢false e)
 relation_of (Some k) e f = ap not f
 
 view_of : (o : Option Known) → is_none o ≡ false → is_relation_with o ≡ false → is_view_with o ≡ true
 view_of None e f = absurd (true≢false e)
-view_of (Some k) e f = true_of k.is_view f
+view_of (Some k) e f = not-false k.is_view f
 
 at_most : (n : ℕ) → nat_lt 16 n ≡ false → n ≤ 16
 at_most n e = grind (arith, nat_tests)
@@ -83,7 +77,7 @@ module _ (c : Catalogue) where
   of_view n a = view_of (known c n) (a Unknown refl) (a Kind refl)
 
   present : (n : List ℕ) (k : ℕ) → HasNoCause c (delete n k) → list_any (λ t. t.0 == k) (tuples_in c n) ≡ true
-  present n k a = true_of (list_any (λ t. t.0 == k) (tuples_in c n)) (a NoTuple refl)
+  present n k a = not-false (list_any (λ t. t.0 == k) (tuples_in c n)) (a NoTuple refl)
 
   pub accepted : (h : List Column) (f : Form) → is_many h f ≡ false → has_twice h ≡ false → uses_unknown (known c) f ≡ false → has_other_arity (known c) f ≡ false
       → has_unbound h f ≡ false → (has_missorted (known c) h f || false) ≡ false → IsAccepted (known c) h f
@@ -93,7 +87,7 @@ module _ (c : Catalogue) where
     known = unknown;
     arity = arity;
     bound = unbound;
-    sorted = or_left (has_missorted (known c) h f) false sort;
+    sorted = or_false_left (has_missorted (known c) h f) false sort;
   }
 
   -- ---- by slots

@@ -20,12 +20,10 @@ use Rattle.ded_sorts.proofs.KnownEntries.{columns_there}
 use Rattle.ded_session.specs.Replies.{boxes}
 use Rattle.ded_session.specs.Steps.{Does, MayBeWide}
 use Rattle.ded_model.specs.Command.{box_of}
+use Rattle.ded_views.proofs.Views.{stored_over}
+use Rattle.ded_catalog.proofs.SnapshotTuples.{tuples-push}
 
 -- ---- the tuples of a relation are over its columns
-
-stored_over : (h : List Column) (m k : ℕ) (ts : List (ℕ × List Atom)) → AreStored h m k ts → AllByRecursion (IsTupleOver h) (tuples_of ts)
-stored_over h m k [] s = tt
-stored_over h m k (t ∷ ts) s = (s.2, stored_over h m t.0 ts s.4)
 
 -- an entry is well formed over those before it
 formed_at : (limit : ℕ) (K : KnownNames) (es : List Entry) (n : List ℕ) (e : Entry) → AreEntriesOver limit K es → entry_of es n ≡ Some e → (J : KnownNames) × IsEntryOver limit J e
@@ -72,10 +70,6 @@ within : (before rest : List (ℕ × List Atom)) (e : ℕ × List Atom) → leng
 within [] rest e = omega arith
 within (d ∷ ds) rest e = let less = within ds rest e in omega (arith, less)
 
-pushed : (ts : List (ℕ × List Atom)) (e : ℕ × List Atom) → tuples_of (ts ++ e ∷ []) ≡ tuples_of ts ++ e.1 ∷ []
-pushed [] e = refl
-pushed (t ∷ ts) e = ap (λ (us : List (List Atom)). t.1 ∷ us) (pushed ts e)
-
 module _ (h : List Column) (all left rest : List (ℕ × List Atom)) (k : ℕ) (t : List Atom) (extent : BoxReply) (b : Bounded h all left extent) (step : left ≡ (k, t) ∷ rest) where
   split : b.before ++ (k, t) ∷ rest ≡ all
   split = ap (λ (us : List (ℕ × List Atom)). b.before ++ us) (sym step) ∙ b.is
@@ -92,7 +86,7 @@ module _ (h : List Column) (all left rest : List (ℕ × List Atom)) (k : ℕ) (
   next_bounded more extends = record {
     before = b.before ++ (k, t) ∷ [];
     is = append_assoc b.before ((k, t) ∷ []) rest ∙ split;
-    box = extent_more h (tuples_of b.before) (tuples_of (b.before ++ (k, t) ∷ [])) t more (pushed b.before (k, t)) (extends (tuples_hold (tuples_of b.before)) b.box);
+    box = extent_more h (tuples_of b.before) (tuples_of (b.before ++ (k, t) ∷ [])) t more (tuples-push b.before (k, t)) (extends (tuples_hold (tuples_of b.before)) b.box);
   }
 
 pub bounded_all : (h : List Column) (all left : List (ℕ × List Atom)) (extent : BoxReply) → Bounded h all left extent → left ≡ [] → IsBox (tuples_hold (tuples_of all)) h extent

@@ -36,14 +36,8 @@ use Rattle.ded_session.specs.Replies.{ReplyForm, done, number, truth, tuples, st
 use Rattle.ded_session.specs.Steps.{Does, Accepts, Step}
 use Rattle.ded_session.proofs.PlainNames.{plain_columns}
 use Rattle.ded_session.proofs.PlainSpelling.{spelled_names}
-
-and_left : (a b : Bool) → (a && b) ≡ true → a ≡ true
-and_left true b e = refl
-and_left false b e = e
-
-and_right : (a b : Bool) → (a && b) ≡ true → b ≡ true
-and_right true b e = e
-and_right false b e = absurd (true≢false (sym e))
+use Rattle.ded_model.proofs.Points.{and_left, and_right}
+use Rattle.std.proofs.lemmas.Bool.{or_from}
 
 -- ---- names that a formula uses
 
@@ -67,9 +61,6 @@ mutual
 
 -- ---- plans mention no names
 
-either_false : (a b : Bool) → a ≡ false → b ≡ false → (a || b) ≡ false
-either_false a b e f = rw e f
-
 still_false : (a b : Bool) → b ≡ false → (a && b) ≡ false
 still_false true b e = e
 still_false false b e = refl
@@ -85,14 +76,14 @@ mutual
   no_names x (negation f) = no_names x f
   no_names x (every_of fs) = no_names_of x fs
   no_names x (some_of fs) = no_names_of x fs
-  no_names x (implies f g) = either_false _ _ (no_names x f) (no_names x g)
-  no_names x (minus f g) = either_false _ _ (no_names x f) (no_names x g)
+  no_names x (implies f g) = or_from _ _ (no_names x f) (no_names x g)
+  no_names x (minus f g) = or_from _ _ (no_names x f) (no_names x g)
   no_names x (exists s k f) = still_false _ _ (no_names x f)
   no_names x (forall s k f) = still_false _ _ (no_names x f)
 
   no_names_of : (x : List ℕ) (fs : Logics PlanAtom) → any_mentions in_plan_atom fs (name x) ≡ false
   no_names_of x none = refl
-  no_names_of x (also f fs) = either_false _ _ (no_names x f) (no_names_of x fs)
+  no_names_of x (also f fs) = or_from _ _ (no_names x f) (no_names_of x fs)
 
 projects_mentioned : (k : Key) (f : PlanForm) → may_project k f ≡ true → plan_mentions f k ≡ true
 projects_mentioned k (some_of fs) e = absurd (true≢false (sym e))

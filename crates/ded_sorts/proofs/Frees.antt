@@ -25,10 +25,10 @@ use Rattle.ded_model.specs.Known.{heading_slots, has_unbound, is_unbound_name, i
 use Rattle.ded_model.proofs.Points.{same_slot_is, same_key_refl, and_left, and_right}
 use Rattle.ded_model.proofs.Rows.{or_left, or_right}
 use Rattle.ded_model.proofs.Members.{or_split}
-use Rattle.ded_sorts.proofs.Meanings.{or_fails_left, or_fails_right}
 use Rattle.ded_sorts.proofs.Scopes.{sorts_of, no_slot}
 use Rattle.ded_sorts.proofs.Headings.{sorts_of-heading}
 use Rattle.ded_sorts.proofs.Overs.{AreSlots, IsSideOver, IsThemeOver, ArePlacesOver, IsOver, put_slots, nonzero_slots, comparison_over}
+use Rattle.ded_model.proofs.Bools.{or_false_left, or_false_right}
 
 -- ---- what is mentioned
 
@@ -114,7 +114,7 @@ bound_in (v ∷ slots) x h = step (same_key v.0 (name x)) h (λ e. bound_in slot
 parts_in : (slots : SlotScope) (cs : List (List ℕ × ℤ)) → list_any (λ c. is_unbound_name (sorts_of slots) c.0) cs ≡ false → AreSlots (IsIn slots) (add_parts slots cs)
 parts_in slots [] h = tt
 parts_in slots (c ∷ cs) h =
-    put_slots (IsIn slots) (slot_of slots c.0) c.1 (add_parts slots cs) (bound_in slots c.0 (or_fails_left _ _ h)) (parts_in slots cs (or_fails_right (is_unbound_name (sorts_of slots) c.0) _ h))
+    put_slots (IsIn slots) (slot_of slots c.0) c.1 (add_parts slots cs) (bound_in slots c.0 (or_false_left _ _ h)) (parts_in slots cs (or_false_right (is_unbound_name (sorts_of slots) c.0) _ h))
 
 -- of an operand that is a number
 sum_in : (slots : SlotScope) (t : Operand) → is_unbound_operand (sorts_of slots) t ≡ false → AreSlots (IsIn slots) (slot_sum slots t).coefs
@@ -131,15 +131,15 @@ side_in slots (Quoted t) h = tt
 -- of arguments
 places_in : (slots : SlotScope) (ts : List Operand) → list_any (is_unbound_operand (sorts_of slots)) ts ≡ false → ArePlacesOver (IsIn slots) (IsIn slots) (map (place_of slots) ts)
 places_in slots [] h = tt
-places_in slots (Single x ∷ ts) h = (bound_in slots x (or_fails_left _ _ h), places_in slots ts (or_fails_right (is_unbound_name (sorts_of slots) x) _ h))
-places_in slots (Sum t ∷ ts) h = (sum_in slots (Sum t) (or_fails_left _ _ h), places_in slots ts (or_fails_right (is_unbound_operand (sorts_of slots) (Sum t)) _ h))
+places_in slots (Single x ∷ ts) h = (bound_in slots x (or_false_left _ _ h), places_in slots ts (or_false_right (is_unbound_name (sorts_of slots) x) _ h))
+places_in slots (Sum t ∷ ts) h = (sum_in slots (Sum t) (or_false_left _ _ h), places_in slots ts (or_false_right (is_unbound_operand (sorts_of slots) (Sum t)) _ h))
 places_in slots (Quoted t ∷ ts) h = places_in slots ts h
 
 -- of an atom
 atom_in : (slots : SlotScope) (a : FormAtom) → is_unbound_atom (sorts_of slots) a ≡ false → AllAtoms (IsOver (IsIn slots) (IsIn slots)) (atom_goal slots a)
 atom_in slots (compare l op r) h =
-    let hl = or_fails_left _ _ h in
-    let hr = or_fails_right (is_unbound_operand (sorts_of slots) l) _ h in
+    let hl = or_false_left _ _ h in
+    let hr = or_false_right (is_unbound_operand (sorts_of slots) l) _ h in
     comparison_over (IsIn slots) (IsIn slots) slots l op r (λ e. sum_in slots l hl) (λ e. sum_in slots r hr) (side_in slots l hl) (side_in slots r hr)
 atom_in slots (member x ts) h = places_in slots ts h
 
@@ -163,12 +163,12 @@ mutual
   free_below (every_of fs) slots n h j m = free_below_all fs slots n h j m
   free_below (some_of fs) slots n h j m = free_below_all fs slots n h j m
   free_below (implies f g) slots n h j m = elim (or_split (goal_mentions (goal_below slots n f) j) _ m) [
-    | inl e ↦ free_below f slots n (or_fails_left _ _ h) j e
-    | inr e ↦ free_below g slots (n + quantifiers f) (or_fails_right (some_below is_unbound_atom (sorts_of slots) f) _ h) j e
+    | inl e ↦ free_below f slots n (or_false_left _ _ h) j e
+    | inr e ↦ free_below g slots (n + quantifiers f) (or_false_right (some_below is_unbound_atom (sorts_of slots) f) _ h) j e
   ]
   free_below (minus f g) slots n h j m = elim (or_split (goal_mentions (goal_below slots n f) j) _ m) [
-    | inl e ↦ free_below f slots n (or_fails_left _ _ h) j e
-    | inr e ↦ free_below g slots (n + quantifiers f) (or_fails_right (some_below is_unbound_atom (sorts_of slots) f) _ h) j e
+    | inl e ↦ free_below f slots n (or_false_left _ _ h) j e
+    | inr e ↦ free_below g slots (n + quantifiers f) (or_false_right (some_below is_unbound_atom (sorts_of slots) f) _ h) j e
   ]
   free_below (exists s k f) slots n h j m =
       let u : Slot = record { number = n; sort = s } in
@@ -181,8 +181,8 @@ mutual
   free_below_all : (fs : Logics FormAtom) (slots : SlotScope) (n : ℕ) → some_below_of is_unbound_atom (sorts_of slots) fs ≡ false → (j : Key) → any_mentions in_goal_atom (goals_below slots n fs) j ≡ true → AtSlot (IsIn slots) j
   free_below_all none slots n h j m = absurd (true≢false (sym m))
   free_below_all (also f fs) slots n h j m = elim (or_split (goal_mentions (goal_below slots n f) j) _ m) [
-    | inl e ↦ free_below f slots n (or_fails_left _ _ h) j e
-    | inr e ↦ free_below_all fs slots (n + quantifiers f) (or_fails_right (some_below is_unbound_atom (sorts_of slots) f) _ h) j e
+    | inl e ↦ free_below f slots n (or_false_left _ _ h) j e
+    | inr e ↦ free_below_all fs slots (n + quantifiers f) (or_false_right (some_below is_unbound_atom (sorts_of slots) f) _ h) j e
   ]
 
 -- ---- headings

@@ -21,7 +21,8 @@ use Rattle.ded_model.specs.Known.{KnownNames, has_twice, has_unbound, has_missor
 use Rattle.ded_model.proofs.Points.{same_key_refl, cond_true, cond_false}
 use Rattle.ded_sorts.proofs.Sides.{bytes_eq-sym}
 use Rattle.ded_sorts.proofs.Scopes.{sorts_of, no_slot, older_slot, newer_slot, IsOnlyOf, Agrees}
-use Rattle.ded_sorts.proofs.Meanings.{or_fails_left, or_fails_right, goal_means}
+use Rattle.ded_sorts.proofs.Meanings.{goal_means}
+use Rattle.ded_model.proofs.Bools.{or_false_left, or_false_right}
 
 -- the scope of a heading has the heading's sorts
 pub sorts_of-heading : (i : ℕ) (h : List Column) → sorts_of (heading_scope i h) ≡ scope_of h
@@ -35,8 +36,8 @@ other_names : (cs : List Column) (xs : List Argument) (v : Value) (x : List ℕ)
 other_names [] xs v x h = refl
 other_names (c ∷ cs) [] v x h = refl
 other_names (c ∷ cs) (a ∷ xs) v x h =
-    ap (λ w. last_from w (at_names cs xs) (name x)) (cond_false (bytes_eq x c.name) (argument_coordinate c.sort a) v (or_fails_left _ _ h))
-    ∙ other_names cs xs v x (or_fails_right (bytes_eq x c.name) _ h)
+    ap (λ w. last_from w (at_names cs xs) (name x)) (cond_false (bytes_eq x c.name) (argument_coordinate c.sort a) v (or_false_left _ _ h))
+    ∙ other_names cs xs v x (or_false_right (bytes_eq x c.name) _ h)
 
 -- a slot below those of all columns
 other_slots : (i : ℕ) (cs : List Column) (xs : List Argument) (v : Value) (u : Slot) → u.number < i → last_from v (at_slots i cs xs) (slot u) ≡ v
@@ -110,12 +111,12 @@ later_same i c cs (a ∷ xs) x u e s =
 -- each name that the heading has
 column_same : (h : List Column) (i : ℕ) (x : List ℕ) → has_twice h ≡ false → is_unbound_name (scope_of h) x ≡ false → (xs : List Argument) → ColumnSame i h xs x (slot_of (heading_scope i h) x)
 column_same [] i x t b xs = absurd (true≢false b)
-column_same (c ∷ cs) i x t b xs = step (bytes_eq c.name x) refl b (λ k ys. column_same cs (i + 1) x (or_fails_right (list_any (λ d. bytes_eq c.name d.name) cs) _ t) k ys)
+column_same (c ∷ cs) i x t b xs = step (bytes_eq c.name x) refl b (λ k ys. column_same cs (i + 1) x (or_false_right (list_any (λ d. bytes_eq c.name d.name) cs) _ t) k ys)
   where
     step : (e : Bool) → bytes_eq c.name x ≡ e → is_none (cond e (Some c.sort) (nearest (scope_of cs) (name x))) ≡ false
         → (is_unbound_name (scope_of cs) x ≡ false → (ys : List Argument) → ColumnSame (i + 1) cs ys x (slot_of (heading_scope (i + 1) cs) x))
         → ColumnSame i (c ∷ cs) xs x (unwrap_or (cond e (Some (record { number = i; sort = c.sort })) (nearest (heading_scope (i + 1) cs) (name x))) no_slot)
-    step true e h rest = first_same i c cs xs x e (or_fails_left _ _ t)
+    step true e h rest = first_same i c cs xs x e (or_false_left _ _ t)
     step false e h rest = later_same i c cs xs x _ e (rest h)
 
 -- ---- points

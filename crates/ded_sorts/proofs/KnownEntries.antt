@@ -17,7 +17,7 @@ KnownFrom None before k = k ≡ before
 KnownFrom (Some e) before k = (J : KnownNames) × (k ≡ Some (entry_known J e))
 
 -- a name of which something is known isn't one of a later entry
-absent : (limit : ℕ) (K : KnownNames) (es : List Entry) (n : List ℕ) → AreEntriesOver limit K es → is_some (K n) ≡ true → entry_of es n ≡ None
+pub absent : (limit : ℕ) (K : KnownNames) (es : List Entry) (n : List ℕ) → AreEntriesOver limit K es → is_some (K n) ≡ true → entry_of es n ≡ None
 absent limit K [] n h k = refl
 absent limit K (e ∷ es) n h k = by (bytes_eq n (entry_name e)) refl (absent limit (with_known K e) es n h.2)
   where

@@ -27,16 +27,7 @@ use Rattle.ded_row.proofs.Sums.{sum_at-put, sum_at-nonzero}
 use Rattle.ded_sorts.proofs.Sums.{IsSumValue, sums_mean}
 use Rattle.ded_sorts.proofs.Sides.{IsSideValue, texts_mean}
 use Rattle.ded_sorts.proofs.Scopes.{sorts_of, sort_in-slot, IsOnlyOf, Agrees, extend_slots, extend_names}
-
--- the first part of an `or` that fails fails
-pub or_fails_left : (a b : Bool) → (a || b) ≡ false → a ≡ false
-or_fails_left true b e = e
-or_fails_left false b e = refl
-
--- and the second one
-pub or_fails_right : (a b : Bool) → (a || b) ≡ false → b ≡ false
-or_fails_right true b e = absurd (true≢false e)
-or_fails_right false b e = e
+use Rattle.ded_model.proofs.Bools.{or_false_left, or_false_right}
 
 -- a choice of true and true doesn't fail
 never_false : (b : Bool) → cond b true true ≡ false → ⊥
@@ -85,8 +76,8 @@ module _ (slots : SlotScope) (n : ℕ) (p q : Point) (A : Agrees slots n p q) wh
   parts_same : (cs : List (List ℕ × ℤ)) → list_any (λ c. is_unbound_name (sorts_of slots) c.0) cs ≡ false → sum_at (add_parts slots cs) q ≡ parts_at cs p
   parts_same [] h = refl
   parts_same (c ∷ cs) h =
-      let here = A.each c.0 (or_fails_left _ _ h) in
-      let rest = parts_same cs (or_fails_right (is_unbound_name (sorts_of slots) c.0) _ h) in
+      let here = A.each c.0 (or_false_left _ _ h) in
+      let rest = parts_same cs (or_false_right (is_unbound_name (sorts_of slots) c.0) _ h) in
       sum_at-put (slot_of slots c.0) c.1 (add_parts slots cs) q ∙ rw (here.number, rest) refl
 
   -- with the constant
@@ -142,7 +133,7 @@ module _ (slots : SlotScope) (n : ℕ) (p q : Point) (A : Agrees slots n p q) wh
       → map (λ t. place_value t q) (map (place_of slots) ts) ≡ map (λ t. operand_value t p) ts
   place_values-same [] h = refl
   place_values-same (t ∷ ts) h =
-      rw (place_value-same t (or_fails_left _ _ h), place_values-same ts (or_fails_right (is_unbound_operand (sorts_of slots) t) _ h)) refl
+      rw (place_value-same t (or_false_left _ _ h), place_values-same ts (or_false_right (is_unbound_operand (sorts_of slots) t) _ h)) refl
 
   -- ---- atoms
 
@@ -181,8 +172,8 @@ module _ (slots : SlotScope) (n : ℕ) (p q : Point) (A : Agrees slots n p q) wh
       → AtomHolds I a p ↔ Sat (GoalAtomHolds I) (atom_goal slots a) q
   atom_means I K (compare l op r) u m =
       let differ = sorts_differ op (operand_sort (sorts_of slots) l) (operand_sort (sorts_of slots) r) in
-      let d : differ ≡ false = or_fails_right (is_text_sum (sorts_of slots) l || is_text_sum (sorts_of slots) r) differ m in
-      let e = comparison_means I l op r (or_fails_left _ _ u) (or_fails_right (is_unbound_operand (sorts_of slots) l) _ u) (operand_sort (sorts_of slots) l) (operand_sort (sorts_of slots) r) refl refl d in
+      let d : differ ≡ false = or_false_right (is_text_sum (sorts_of slots) l || is_text_sum (sorts_of slots) r) differ m in
+      let e = comparison_means I l op r (or_false_left _ _ u) (or_false_right (is_unbound_operand (sorts_of slots) l) _ u) (operand_sort (sorts_of slots) l) (operand_sort (sorts_of slots) r) refl refl d in
       (e.1, e.0)
   atom_means I K (member x ts) u m = same_name I x p.den q.den (map (λ t. operand_value t p) ts) (map (λ t. place_value t q) (map (place_of slots) ts)) A.den (sym (place_values-same ts u))
 
@@ -208,12 +199,12 @@ module _ (I : Meaning) (K : KnownNames) where
     goal_means (every_of fs) slots n p q A u m = every_means fs slots n p q A u m
     goal_means (some_of fs) slots n p q A u m = some_means fs slots n p q A u m
     goal_means (implies f g) slots n p q A u m =
-        let e = goal_means f slots n p q A (or_fails_left _ _ u) (or_fails_left _ _ m) in
-        let e' = goal_means g slots (n + quantifiers f) p q (later slots n p q A (quantifiers f)) (or_fails_right (some_below is_unbound_atom (sorts_of slots) f) _ u) (or_fails_right (some_below (is_missorted_atom K) (sorts_of slots) f) _ m) in
+        let e = goal_means f slots n p q A (or_false_left _ _ u) (or_false_left _ _ m) in
+        let e' = goal_means g slots (n + quantifiers f) p q (later slots n p q A (quantifiers f)) (or_false_right (some_below is_unbound_atom (sorts_of slots) f) _ u) (or_false_right (some_below (is_missorted_atom K) (sorts_of slots) f) _ m) in
         (λ i h. e'.0 (i (e.1 h)), λ i h. e'.1 (i (e.0 h)))
     goal_means (minus f g) slots n p q A u m =
-        let e = goal_means f slots n p q A (or_fails_left _ _ u) (or_fails_left _ _ m) in
-        let e' = goal_means g slots (n + quantifiers f) p q (later slots n p q A (quantifiers f)) (or_fails_right (some_below is_unbound_atom (sorts_of slots) f) _ u) (or_fails_right (some_below (is_missorted_atom K) (sorts_of slots) f) _ m) in
+        let e = goal_means f slots n p q A (or_false_left _ _ u) (or_false_left _ _ m) in
+        let e' = goal_means g slots (n + quantifiers f) p q (later slots n p q A (quantifiers f)) (or_false_right (some_below is_unbound_atom (sorts_of slots) f) _ u) (or_false_right (some_below (is_missorted_atom K) (sorts_of slots) f) _ m) in
         (λ h. (e.0 h.0, λ i. h.1 (e'.1 i)), λ h. (e.1 h.0, λ i. h.1 (e'.0 i)))
     goal_means (exists s k f) slots n p q A u m = (
       λ w. let x = extend_slots slots n p q A k s w.0 w.1 in (x.0, x.1, (goal_means f ((k, record { number = n; sort = s }) ∷ slots) (n + 1) w.0 x.0 x.2 u m).0 w.2),
@@ -229,8 +220,8 @@ module _ (I : Meaning) (K : KnownNames) where
         → some_below_of (is_missorted_atom K) (sorts_of slots) fs ≡ false → SatEvery (AtomHolds I) fs p ↔ SatEvery (GoalAtomHolds I) (goals_below slots n fs) q
     every_means none slots n p q A u m = (λ h. h, λ h. h)
     every_means (also f fs) slots n p q A u m =
-        let e = goal_means f slots n p q A (or_fails_left _ _ u) (or_fails_left _ _ m) in
-        let e' = every_means fs slots (n + quantifiers f) p q (later slots n p q A (quantifiers f)) (or_fails_right (some_below is_unbound_atom (sorts_of slots) f) _ u) (or_fails_right (some_below (is_missorted_atom K) (sorts_of slots) f) _ m) in
+        let e = goal_means f slots n p q A (or_false_left _ _ u) (or_false_left _ _ m) in
+        let e' = every_means fs slots (n + quantifiers f) p q (later slots n p q A (quantifiers f)) (or_false_right (some_below is_unbound_atom (sorts_of slots) f) _ u) (or_false_right (some_below (is_missorted_atom K) (sorts_of slots) f) _ m) in
         (λ h. (e.0 h.0, e'.0 h.1), λ h. (e.1 h.0, e'.1 h.1))
 
     -- some of a list
@@ -238,6 +229,6 @@ module _ (I : Meaning) (K : KnownNames) where
         → some_below_of (is_missorted_atom K) (sorts_of slots) fs ≡ false → SatSome (AtomHolds I) fs p ↔ SatSome (GoalAtomHolds I) (goals_below slots n fs) q
     some_means none slots n p q A u m = (λ h. h, λ h. h)
     some_means (also f fs) slots n p q A u m =
-        let e = goal_means f slots n p q A (or_fails_left _ _ u) (or_fails_left _ _ m) in
-        let e' = some_means fs slots (n + quantifiers f) p q (later slots n p q A (quantifiers f)) (or_fails_right (some_below is_unbound_atom (sorts_of slots) f) _ u) (or_fails_right (some_below (is_missorted_atom K) (sorts_of slots) f) _ m) in
+        let e = goal_means f slots n p q A (or_false_left _ _ u) (or_false_left _ _ m) in
+        let e' = some_means fs slots (n + quantifiers f) p q (later slots n p q A (quantifiers f)) (or_false_right (some_below is_unbound_atom (sorts_of slots) f) _ u) (or_false_right (some_below (is_missorted_atom K) (sorts_of slots) f) _ m) in
         (λ h. elim h [ inl a ↦ inl (e.0 a) | inr b ↦ inr (e'.0 b) ], λ h. elim h [ inl a ↦ inl (e.1 a) | inr b ↦ inr (e'.1 b) ])

@@ -23,7 +23,7 @@ use Rattle.ded_model.specs.Point.{same_slot}
 use Rattle.ded_model.specs.Logic.{always, never, atom, AllAtoms}
 use Rattle.ded_model.specs.Goal.{GoalAtom, linear, theme, member, GoalForm}
 use Rattle.ded_model.specs.Slotted.{SlotScope, slot_sum, difference_row, sums_goal, TextSide, at, word, text_side, same_text_goal, other_text_goal, texts_goal, is_text_operand, compare_goal}
-use Rattle.ded_sorts.proofs.Meanings.{or_fails_left, or_fails_right}
+use Rattle.ded_model.proofs.Bools.{or_false_left, or_false_right}
 
 -- the slot of each coefficient has the property
 abbrev pub AreSlots : (Slot → Type 0) → List (Slot × ℤ) → Type 0
@@ -153,4 +153,4 @@ module _ (Q R : Slot → Type 0) where
       by_test : (b : Bool) → (is_text_operand slots l || is_text_operand slots r) ≡ b
           → AllAtoms (IsOver Q R) (cond b (texts_goal (text_side slots l) op (text_side slots r)) (sums_goal (slot_sum slots l) op (slot_sum slots r)))
       by_test true e = texts_over (text_side slots l) (text_side slots r) op sl sr
-      by_test false e = sums_over (slot_sum slots l) (slot_sum slots r) op (el (or_fails_left _ _ e)) (er (or_fails_right (is_text_operand slots l) _ e))
+      by_test false e = sums_over (slot_sum slots l) (slot_sum slots r) op (el (or_false_left _ _ e)) (er (or_false_right (is_text_operand slots l) _ e))

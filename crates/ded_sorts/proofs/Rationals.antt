@@ -26,10 +26,10 @@ use Rattle.ded_model.specs.Goal as goal
 use Rattle.ded_model.specs.Rational.{AreRationalCoefs, AreRationalPlaces, IsRationalGoalAtom, IsRationalGoal}
 use Rattle.ded_model.specs.Slotted.{SlotScope, slot_of, add_parts, slot_sum, sums_goal, TextSide, at, word, text_side, same_text_goal, other_text_goal, texts_goal, is_text_operand, place_of, atom_goal, goal_below, goals_below, goal_of, heading_scope}
 use Rattle.ded_model.specs.Known.{KnownNames, sort_in, sorts_differ, operand_sort, is_text_sum, is_missorted_atom, has_missorted}
-use Rattle.ded_sorts.proofs.Meanings.{or_fails_left, or_fails_right}
 use Rattle.ded_sorts.proofs.Scopes.{sorts_of, sort_in-slot}
 use Rattle.ded_sorts.proofs.Headings.{sorts_of-heading}
 use Rattle.ded_sorts.proofs.Overs.{AreSlots, IsSideOver, ArePlacesOver, IsOver, put_slots, nonzero_slots, comparison_over}
+use Rattle.ded_model.proofs.Bools.{or_false_left, or_false_right}
 
 -- ---- sorted goals
 
@@ -132,15 +132,15 @@ module _ (P : GoalAtom → Type 0) (test : Scope → FormAtom → Bool) (step : 
     all_below (negation f) slots n h = all_below f slots n h
     all_below (every_of fs) slots n h = all_below_of fs slots n h
     all_below (some_of fs) slots n h = all_below_of fs slots n h
-    all_below (implies f g) slots n h = (all_below f slots n (or_fails_left _ _ h), all_below g slots (n + quantifiers f) (or_fails_right (some_below test (sorts_of slots) f) _ h))
-    all_below (minus f g) slots n h = (all_below f slots n (or_fails_left _ _ h), all_below g slots (n + quantifiers f) (or_fails_right (some_below test (sorts_of slots) f) _ h))
+    all_below (implies f g) slots n h = (all_below f slots n (or_false_left _ _ h), all_below g slots (n + quantifiers f) (or_false_right (some_below test (sorts_of slots) f) _ h))
+    all_below (minus f g) slots n h = (all_below f slots n (or_false_left _ _ h), all_below g slots (n + quantifiers f) (or_false_right (some_below test (sorts_of slots) f) _ h))
     all_below (exists s k f) slots n h = all_below f ((k, record { number = n; sort = s }) ∷ slots) (n + 1) h
     all_below (forall s k f) slots n h = all_below f ((k, record { number = n; sort = s }) ∷ slots) (n + 1) h
 
     -- of a list
     all_below_of : (fs : Logics FormAtom) (slots : SlotScope) (n : ℕ) → some_below_of test (sorts_of slots) fs ≡ false → AllAtomsOf P (goals_below slots n fs)
     all_below_of none slots n h = tt
-    all_below_of (also f fs) slots n h = (all_below f slots n (or_fails_left _ _ h), all_below_of fs slots (n + quantifiers f) (or_fails_right (some_below test (sorts_of slots) f) _ h))
+    all_below_of (also f fs) slots n h = (all_below f slots n (or_false_left _ _ h), all_below_of fs slots (n + quantifiers f) (or_false_right (some_below test (sorts_of slots) f) _ h))
 
 -- ---- rational slots
 
@@ -166,8 +166,8 @@ any_side (word t) = tt
 parts_rational : (slots : SlotScope) (cs : List (List ℕ × ℤ)) → list_any (λ c. same_sort (sort_in (sorts_of slots) c.0) Text) cs ≡ false → AreSlots Rational (add_parts slots cs)
 parts_rational slots [] h = tt
 parts_rational slots (c ∷ cs) h =
-    put_slots Rational (slot_of slots c.0) c.1 (add_parts slots cs) (sym (sort_in-slot slots c.0) ∙ rational (sort_in (sorts_of slots) c.0) (or_fails_left _ _ h))
-    (parts_rational slots cs (or_fails_right (same_sort (sort_in (sorts_of slots) c.0) Text) _ h))
+    put_slots Rational (slot_of slots c.0) c.1 (add_parts slots cs) (sym (sort_in-slot slots c.0) ∙ rational (sort_in (sorts_of slots) c.0) (or_false_left _ _ h))
+    (parts_rational slots cs (or_false_right (same_sort (sort_in (sorts_of slots) c.0) Text) _ h))
 
 -- an operand that is no text
 sum_rational : (slots : SlotScope) (t : Operand) → is_text_sum (sorts_of slots) t ≡ false → is_text_operand slots t ≡ false → AreSlots Rational (slot_sum slots t).coefs
@@ -180,16 +180,16 @@ places_rational : (slots : SlotScope) (ts : List Operand) → list_any (is_text_
 places_rational slots [] h = tt
 places_rational slots (Single x ∷ ts) h = (tt, places_rational slots ts h)
 places_rational slots (Sum t ∷ ts) h =
-    (nonzero_slots Rational (add_parts slots t.parts) (parts_rational slots t.parts (or_fails_left _ _ h)), places_rational slots ts (or_fails_right (is_text_sum (sorts_of slots) (Sum t)) _ h))
+    (nonzero_slots Rational (add_parts slots t.parts) (parts_rational slots t.parts (or_false_left _ _ h)), places_rational slots ts (or_false_right (is_text_sum (sorts_of slots) (Sum t)) _ h))
 places_rational slots (Quoted t ∷ ts) h = places_rational slots ts h
 
 -- an atom
 atom_over : (K : KnownNames) (slots : SlotScope) (a : FormAtom) → is_missorted_atom K (sorts_of slots) a ≡ false → AllAtoms (IsOver Rational Any) (atom_goal slots a)
 atom_over K slots (compare l op r) h =
-    let sums = or_fails_left (is_text_sum (sorts_of slots) l || is_text_sum (sorts_of slots) r) (sorts_differ op (operand_sort (sorts_of slots) l) (operand_sort (sorts_of slots) r)) h in
-    comparison_over Rational Any slots l op r (sum_rational slots l (or_fails_left _ _ sums)) (sum_rational slots r (or_fails_right (is_text_sum (sorts_of slots) l) _ sums))
+    let sums = or_false_left (is_text_sum (sorts_of slots) l || is_text_sum (sorts_of slots) r) (sorts_differ op (operand_sort (sorts_of slots) l) (operand_sort (sorts_of slots) r)) h in
+    comparison_over Rational Any slots l op r (sum_rational slots l (or_false_left _ _ sums)) (sum_rational slots r (or_false_right (is_text_sum (sorts_of slots) l) _ sums))
     (any_side (text_side slots l)) (any_side (text_side slots r))
-atom_over K slots (member x ts) h = places_rational slots ts (or_fails_left _ _ h)
+atom_over K slots (member x ts) h = places_rational slots ts (or_false_left _ _ h)
 
 -- ---- in the words of the specifications
 

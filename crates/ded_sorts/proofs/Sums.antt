@@ -23,6 +23,7 @@ use Rattle.ded_model.specs.Slotted.{difference_row, sums_goal}
 use Rattle.ded_model.proofs.Values.{lt_by_sign, le_by_sign, eq_by_sign}
 use Rattle.ded_row.proofs.Normals.{normal_row-holds}
 use Rattle.ded_row.proofs.Sums.{sum_at-mixed, sum_at-nonzero}
+use Rattle.std.proofs.Math.Bool.{and-true}
 
 -- ---- values of sums
 
@@ -51,11 +52,6 @@ difference_at v w l r op q e f =
 
 -- ---- comparisons
 
--- `and` with what is true
-and_true : (a : Bool) → (a && true) ≡ a
-and_true true = refl
-and_true false = refl
-
 -- equal tests are passed alike
 pub iff_true : (a b : Bool) → a ≡ b → IsTrue a ↔ IsTrue b
 iff_true a b e = (λ h. sym e ∙ h, λ h. e ∙ h)
@@ -73,7 +69,7 @@ module _ (v w : OperandValue) (l r : SlotSum) (q : Point) (h : 0 < q.den) (e : I
 
   -- two numbers are the same value where they are equal
   same_means : is_same_value v w ≡ sign_meets Zero (crosswise v w -ℤ crosswise w v)
-  same_means = rw (e.text, f.text) (and_true (int_eq (crosswise v w) (crosswise w v))) ∙ eq_by_sign (crosswise v w) (crosswise w v)
+  same_means = rw (e.text, f.text) (and-true (int_eq (crosswise v w) (crosswise w v))) ∙ eq_by_sign (crosswise v w) (crosswise w v)
 
 -- the goal of a comparison of sums holds where their values compare so
 pub sums_mean : (I : Meaning) (v w : OperandValue) (l r : SlotSum) (op : CompareOp) (q : Point) → 0 < q.den → IsSumValue v l q → IsSumValue w r q

@@ -14,6 +14,7 @@ use Rattle.ded_syntax.specs.Items.{capped, capped_of, is_long_name, is_long_lite
 use Rattle.ded_syntax.specs.Spelling.{is_long_word, is_long_number}
 use Rattle.ded_syntax.proofs.Agrees.{Alike, AllAlike}
 use Rattle.std.proofs.lemmas.Slice.Eq.{bytes_eq-Decides}
+use Rattle.std.proofs.lemmas.Bool.{or_parts}
 
 -- ---- names
 
@@ -199,10 +200,6 @@ long_literals ls = any_same is_long_literal is_long_number symbol_literal ls
 
 -- ---- numbers that are not long are read as they are
 
-or_false : (x y : Bool) → (x || y) ≡ false → (x ≡ false) × (y ≡ false)
-or_false true y e = absurd cc
-or_false false y e = (refl, e)
-
 not_capped : (n : ℕ) → nat_le (2 ^ 63) n ≡ false → capped n ≡ n
 not_capped n h = grind (arith, nat_tests)
 
@@ -212,7 +209,7 @@ symbol_alike t e = tt
 
 pub all_alike : (ts : List Symbol) → list_any is_long_literal ts ≡ false → AllAlike capped_of number_of ts
 all_alike [] e = tt
-all_alike (t ∷ ts) e = let both = or_false (is_long_literal t) (list_any is_long_literal ts) e in (symbol_alike t both.0, all_alike ts both.1)
+all_alike (t ∷ ts) e = let both = or_parts (is_long_literal t) (list_any is_long_literal ts) e in (symbol_alike t both.0, all_alike ts both.1)
 
 turned_one : (t : Symbol) → Alike capped_of number_of t → Alike number_of capped_of t
 turned_one (Number d) e = sym e

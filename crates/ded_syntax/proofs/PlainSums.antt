@@ -19,28 +19,19 @@ use Rattle.ded_syntax.specs.Operands.{Reader, Product, Side, text, sum, Sums, si
 use Rattle.ded_syntax.specs.Atoms.{Comparison, comparison_form, Atom, truth, relates, belongs, atom_form, IsPiece, ArePieces, SpellsFormula}
 use Rattle.ded_syntax.specs.Commands.{Plain, defines, inserts_none, inserts, deletes, drops, keeps, shows, boxes, plain_form, Prefix, views, asks, queries, explains, prefix_form, SpellsCommand}
 use Rattle.ded_syntax.specs.Spelling.{Spells}
+use Rattle.std.proofs.lemmas.Bool.{or_from}
+use Rattle.ded_model.proofs.Bools.{or_false_left, or_false_right}
 
 -- ---- sums
 
-either_false : (a b : Bool) → a ≡ false → b ≡ false → (a || b) ≡ false
-either_false a b e f = ap₂ (λ x y. x || y) e f
-
-left_false : (a b : Bool) → (a || b) ≡ false → a ≡ false
-left_false true b e = e
-left_false false b e = refl
-
-right_false : (a b : Bool) → (a || b) ≡ false → b ≡ false
-right_false true b e = absurd (true≢false e)
-right_false false b e = e
-
 -- a name that isn't among the parts and isn't put there
 absent : (m : List ℕ) (ps : List (List ℕ × ℤ)) (n : List ℕ) (z : ℤ) → bytes_eq m n ≡ false → list_any (λ d. bytes_eq m d.0) ps ≡ false → list_any (λ d. bytes_eq m d.0) (put ps n z) ≡ false
-absent m [] n z other h = either_false (bytes_eq m n) false other refl
-absent m (p ∷ ps) n z other h = go (bytes_eq p.0 n) (absent m ps n z other (right_false (bytes_eq m p.0) _ h))
+absent m [] n z other h = or_from (bytes_eq m n) false other refl
+absent m (p ∷ ps) n z other h = go (bytes_eq p.0 n) (absent m ps n z other (or_false_right (bytes_eq m p.0) _ h))
   where
     go : (b : Bool) → list_any (λ d. bytes_eq m d.0) (put ps n z) ≡ false → list_any (λ d. bytes_eq m d.0) (cond b ((p.0, p.1 +ℤ z) ∷ ps) (p ∷ put ps n z)) ≡ false
     go true rest = h
-    go false rest = either_false (bytes_eq m p.0) _ (left_false (bytes_eq m p.0) _ h) rest
+    go false rest = or_from (bytes_eq m p.0) _ (or_false_left (bytes_eq m p.0) _ h) rest
 
 once_put : (ps : List (List ℕ × ℤ)) (n : List ℕ) (z : ℤ) → AreOnce ps → AreOnce (put ps n z)
 once_put [] n z h = (refl, tt)

@@ -9,6 +9,7 @@ use Rattle.ded_model.proofs.Points.{same_slot_is, same_slot_refl, text_at-extend
 use Rattle.ded_model.proofs.Unused.{extension_same}
 use Rattle.ded_model.proofs.Texts.{zeros, zeros-bytes, text_extended, text_extended_is}
 use Rattle.ded_theme.specs.Sources.{Source, at, quoted, is_at, text_of, texts, IsNormalSource}
+use Rattle.ded_model.proofs.PointTexts.{either, last-value, text-bytes}
 
 -- ---- sources at a slot
 
@@ -23,18 +24,6 @@ is_at-sort s (at t) h n = subst (λ (u : Slot). u.sort ≡ Text) (same_slot_is t
 is_at-sort s (quoted t) h n = absurd (true≢false (sym h))
 
 -- ---- the texts of a point are bytes
-
-choose-value : (b : Bool) (v w : Value) → IsValue v → IsValue w → IsValue (cond b v w)
-choose-value true v w h k = h
-choose-value false v w h k = k
-
-last-value : (v : Value) (cs : List (Key × Value)) (k : Key) → IsValue v → AreValues cs → IsValue (last_from v cs k)
-last-value v [] k h n = h
-last-value v (c ∷ cs) k h n = last-value (if same_key k c.0 then c.1 else v) cs k (choose-value (same_key k c.0) c.1 v n.0 h) n.1
-
-text-bytes : (v : Value) → IsValue v → AllBytes (as_text v)
-text-bytes (number n) h = tt
-text-bytes (text t) h = h
 
 pub point-bytes : (p : Point) (s : Slot) → IsPoint p → AllBytes (texts p s)
 unfolding text_at

@@ -20,8 +20,7 @@ use Rattle.ded_theme.specs.Sources.{Source, is_at, text_of, texts, left, right, 
 use Rattle.ded_theme.specs.Replacing.{IsFree, kept}
 use Rattle.ded_model.proofs.Points.{and_left, and_right}
 use Rattle.ded_model.proofs.Rows.{or_left, or_right}
-use Rattle.std.proofs.lemmas.Bool.{or_cases, false_from_ne_true}
-use Rattle.ded_theme.proofs.Lists.{and_both}
+use Rattle.std.proofs.lemmas.Bool.{or_cases, false_from_ne_true, and_from}
 use Rattle.ded_theme.proofs.Comparing.{theme_holds-is, theme_mentions-is, left_normal, right_normal, compares-other, compares-by}
 use Rattle.ded_theme.proofs.Extending.{is_at-text, is_at-sort, other-source, extended_far}
 use Rattle.ded_theme.proofs.Pinning.{sides_apart, mentions_left, mentions_right}
@@ -82,7 +81,7 @@ module _ (s : Slot) (p q : Point) (x : IsExtension s.sort p (slot s) q) where
     where
       by : (b : Bool) → theme_mentions a s ≡ b → conj_holds theme_holds (kept s atoms) p ≡ true → conj_holds theme_holds (cond b (kept s atoms) (a ∷ kept s atoms)) p ≡ true
       by true e k = k
-      by false e k = and_both (theme_holds a p) _ (same_without s p q x a e ∙ and_left (theme_holds a q) _ h) k
+      by false e k = and_from (theme_holds a p) _ (same_without s p q x a e ∙ and_left (theme_holds a q) _ h) k
 
   kept_exact : (n : ℕ) (atoms : List ThemeAtom) → AllByRecursion IsNormalTheme atoms → IsFree s atoms → (s.sort ≡ Text → texts q s ≡ zeros n) → sizes atoms p < n → conj_holds theme_holds (kept s atoms) p ≡ true → conj_holds theme_holds atoms q ≡ true
   unfolding sizes
@@ -91,8 +90,8 @@ module _ (s : Slot) (p q : Point) (x : IsExtension s.sort p (slot s) q) where
     where
       by : (b : Bool) → theme_mentions a s ≡ b → conj_holds theme_holds (cond b (kept s atoms) (a ∷ kept s atoms)) p ≡ true
           → (conj_holds theme_holds (kept s atoms) p ≡ true → conj_holds theme_holds atoms q ≡ true) → conj_holds theme_holds (a ∷ atoms) q ≡ true
-      by true e k rest = and_both (theme_holds a q) _ (far-atom s p q x n a m.0 z (omega (arith, l)) (f.0 e) e) (rest k)
-      by false e k rest = and_both (theme_holds a q) _ (sym (same_without s p q x a e) ∙ and_left (theme_holds a p) _ k) (rest (and_right (theme_holds a p) _ k))
+      by true e k rest = and_from (theme_holds a q) _ (far-atom s p q x n a m.0 z (omega (arith, l)) (f.0 e) e) (rest k)
+      by false e k rest = and_from (theme_holds a q) _ (sym (same_without s p q x a e) ∙ and_left (theme_holds a p) _ k) (rest (and_right (theme_holds a p) _ k))
 
 pub free_exact : (s : Slot) (atoms : List ThemeAtom) (p : Point) → AllByRecursion IsNormalTheme atoms → IsFree s atoms → IsTrue (conj_holds theme_holds (kept s atoms) p) ↔ SomeExtension s (conj_holds theme_holds atoms) p
 free_exact s atoms p m f = (there, λ y. kept_sound s p y.0 y.1 atoms y.2)

@@ -6,12 +6,9 @@ use Rattle.std.proofs.Math.ListN.{drop_of_length-le}
 use Rattle.ded_model.proofs.Points.{and_left, and_right}
 use Rattle.ded_model.proofs.Rows.{or_left, or_right}
 use Rattle.std.specs.List.{list_all, list_any, AllByRecursion}
+use Rattle.std.proofs.lemmas.Bool.{and_from}
 
 -- ---- tests
-
--- `and` holds where both parts do
-pub and_both : (b c : Bool) → b ≡ true → c ≡ true → (b && c) ≡ true
-and_both b c h k = rw (h, k) refl
 
 -- ---- lists
 
@@ -85,7 +82,7 @@ module _ {A : Type 0} where
 
   pub test_from_all : (t : A → Bool) (xs : List A) → AllByRecursion (λ x. t x ≡ true) xs → list_all t xs ≡ true
   test_from_all t [] h = refl
-  test_from_all t (x ∷ xs) h = and_both (t x) _ h.0 (test_from_all t xs h.1)
+  test_from_all t (x ∷ xs) h = and_from (t x) _ h.0 (test_from_all t xs h.1)
 
   -- a test of all that passes at the element
   pub test-at : (t : A → Bool) (xs : List A) (i : ℕ) (x : A) → i < length xs → x ≡ get_or xs i x → list_all t xs ≡ true → t x ≡ true

@@ -9,7 +9,8 @@ use Rattle.ded_model.specs.declared.slot.Slot.{Slot}
 use Rattle.ded_model.specs.declared.slot.Sort.{Sort}
 use Rattle.ded_model.specs.declared.slot.Sort.TheVariants.{Rat, Text}
 use Rattle.ded_model.specs.Point.{Key, slot, name, Value, number, text, Point, IsPoint, IsValue, AreValues, IsSameAt, same_key, same_sort, absent, last_from, as_number, as_text, number_at, text_at, times, all_times}
-use Rattle.ded_model.proofs.Points.{same_key_is, scaled_law, last_from-all_times}
+use Rattle.ded_model.proofs.Points.{same_key_is, scaled_law, last_from-all_times, times-absent, as_number-times, as_text-times}
+use Rattle.ded_model.proofs.PointTexts.{append_values}
 
 -- ---- coordinates at keys of one sort
 
@@ -49,25 +50,14 @@ last_from-none s e v (c ∷ cs) k h = go (λ w. last_from-none s e w cs k h) (is
     go ih true i false f = ih (cond (same_key k c.0) (times e c.1) v) ∙ ap (λ b. cond b (times e c.1) v) f
     go ih false i d f = ih v
 
-times_absent : (e : ℕ) → times e absent ≡ absent
-times_absent e = ap number (zero-*ℤ (pos e))
-
 last_from-times : (s : Sort) (e : ℕ) (cs : List (Key × Value)) (k : Key) → is_of s k ≡ true → last_from absent (all_times e (keep s cs)) k ≡ times e (last_from absent cs k)
 last_from-times s e cs k h =
-    ap (λ v. last_from v (all_times e (keep s cs)) k) (sym (times_absent e)) ∙ last_from-all_times e absent (keep s cs) k ∙ ap (times e) (last_from-keep s absent cs k h)
+    ap (λ v. last_from v (all_times e (keep s cs)) k) (sym (times-absent e)) ∙ last_from-all_times e absent (keep s cs) k ∙ ap (times e) (last_from-keep s absent cs k h)
 
 -- ---- the merged point
 
 pub merged : Point → Point → Point
 merged p q = record { den = p.den * q.den; coords = all_times q.den (keep Rat p.coords) ++ all_times p.den (keep Text q.coords) }
-
-as_number_times : (e : ℕ) (v : Value) → as_number (times e v) ≡ as_number v *ℤ pos e
-as_number_times e (number n) = refl
-as_number_times e (text t) = sym (zero-*ℤ (pos e))
-
-as_text_times : (e : ℕ) (v : Value) → as_text (times e v) ≡ as_text v
-as_text_times e (number n) = refl
-as_text_times e (text t) = refl
 
 first_value : (p q : Point) (s : Slot) → s.sort ≡ Rat → last_from absent (merged p q).coords (slot s) ≡ times q.den (last_from absent p.coords (slot s))
 unfolding merged
@@ -87,16 +77,16 @@ second_value p q s e =
 pub merged_first : (p q : Point) (s : Slot) → s.sort ≡ Rat → IsSameAt p (merged p q) (slot s)
 unfolding number_at text_at merged
 merged_first p q s e = record {
-  number = scaled_law (number_at p (slot s)) p.den q.den ∙ ap (λ n. n *ℤ pos p.den) (sym (ap as_number (first_value p q s e) ∙ as_number_times q.den (last_from absent p.coords (slot s))));
-  text = sym (ap as_text (first_value p q s e) ∙ as_text_times q.den (last_from absent p.coords (slot s)));
+  number = scaled_law (number_at p (slot s)) p.den q.den ∙ ap (λ n. n *ℤ pos p.den) (sym (ap as_number (first_value p q s e) ∙ as_number-times q.den (last_from absent p.coords (slot s))));
+  text = sym (ap as_text (first_value p q s e) ∙ as_text-times q.den (last_from absent p.coords (slot s)));
 }
 
 -- at a text slot the second
 pub merged_second : (p q : Point) (s : Slot) → s.sort ≡ Text → IsSameAt q (merged p q) (slot s)
 unfolding number_at text_at merged
 merged_second p q s e = record {
-  number = ap (λ d. number_at q (slot s) *ℤ pos d) (turn p.den q.den) ∙ scaled_law (number_at q (slot s)) q.den p.den ∙ ap (λ n. n *ℤ pos q.den) (sym (ap as_number (second_value p q s e) ∙ as_number_times p.den (last_from absent q.coords (slot s))));
-  text = sym (ap as_text (second_value p q s e) ∙ as_text_times p.den (last_from absent q.coords (slot s)));
+  number = ap (λ d. number_at q (slot s) *ℤ pos d) (turn p.den q.den) ∙ scaled_law (number_at q (slot s)) q.den p.den ∙ ap (λ n. n *ℤ pos q.den) (sym (ap as_number (second_value p q s e) ∙ as_number-times p.den (last_from absent q.coords (slot s))));
+  text = sym (ap as_text (second_value p q s e) ∙ as_text-times p.den (last_from absent q.coords (slot s)));
 }
   where
     turn : (m n : ℕ) → m * n ≡ n * m
@@ -116,13 +106,9 @@ kept_values s e (c ∷ cs) h = go (kept_values s e cs h.1) (is_of s c.0)
     go ih true = (scaled c.1 h.0, ih)
     go ih false = ih
 
-both_values : (cs ds : List (Key × Value)) → AreValues cs → AreValues ds → AreValues (cs ++ ds)
-both_values [] ds h k = k
-both_values (c ∷ cs) ds h k = (h.0, both_values cs ds h.1 k)
-
 pub merged_is : (p q : Point) → IsPoint p → IsPoint q → IsPoint (merged p q)
 unfolding merged
 merged_is p q h k = record {
   positive = mul-pos h.positive k.positive;
-  bytes = both_values (all_times q.den (keep Rat p.coords)) (all_times p.den (keep Text q.coords)) (kept_values Rat q.den p.coords h.bytes) (kept_values Text p.den q.coords k.bytes);
+  bytes = append_values (all_times q.den (keep Rat p.coords)) (all_times p.den (keep Text q.coords)) (kept_values Rat q.den p.coords h.bytes) (kept_values Text p.den q.coords k.bytes);
 }

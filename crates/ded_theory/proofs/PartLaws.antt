@@ -31,6 +31,7 @@ use Rattle.ded_theory.proofs.Conjunctions.{conj_holds-same, conj_holds-extended,
 use Rattle.ded_theory.proofs.TwoKinds.{parts_hold, parts_mention, parts_normal, firsts_normal, seconds_normal, parts_lines, first_lines, second_lines}
 use Rattle.ded_theory.proofs.Merged.{merged, merged_first, merged_second, merged_is}
 use Rattle.ded_theory.proofs.Parted.{joined_exact, wide_more, SharesValues, exact_shared, bound_within, exact_bound}
+use Rattle.ded_model.proofs.Bools.{and_swap}
 
 -- ---- a theory of one sort
 
@@ -55,12 +56,6 @@ sorts_apart e = true≢false (ap sort_test e)
     sort_test : Sort → Bool
     sort_test Rat = true
     sort_test Text = false
-
-and_swap : (a b : Bool) → (a && b) ≡ (b && a)
-and_swap true true = refl
-and_swap true false = refl
-and_swap false true = refl
-and_swap false false = refl
 
 not_both : (a b : Bool) → (a ≡ false) ⊎ (b ≡ false) → (a && b) ≡ false
 not_both true b (inl e) = absurd (true≢false e)

@@ -10,23 +10,21 @@ use Rattle.ded_model.specs.Bound.{Fraction, End, lower, upper, is_outside, value
 use Rattle.ded_model.specs.Interval.{IsExactBound}
 use Rattle.ded_model.specs.Lines.{Line, IsSubset}
 use Rattle.ded_model.proofs.Points.{and_left, and_right}
-use Rattle.ded_model.proofs.Values.{int_lt-same, int_eq-same}
+use Rattle.ded_model.proofs.Values.{int_lt-same, int_eq-same, swap_law}
 use Rattle.ded_num.proofs.Ring.{parts, ring, diff_same}
 use Rattle.ded_theory.specs.Conjunctions.{conj_mentions, conj_lines, IsWide}
 use Rattle.ded_theory.specs.Eliminations.{SomeExtension}
 use Rattle.ded_theory.specs.Verdicts.{IsBound}
+use Rattle.std.proofs.lemmas.Bool.{and_from}
 
 -- ---- eliminations
-
-both_true : (a b : Bool) → a ≡ true → b ≡ true → (a && b) ≡ true
-both_true a b e f = ap₂ (λ x y. x && y) e f
 
 -- a test is two, and the second one says the same of an extension: so eliminating from the first does
 pub joined_exact : (s : Slot) (p : Point) (whole f g : Point → Bool) (b : Bool) → ((q : Point) → whole q ≡ (f q && g q)) → (IsTrue b ↔ SomeExtension s f p)
     → ((q : Point) → IsExtension s.sort p (slot s) q → g p ≡ g q) → IsTrue (b && g p) ↔ SomeExtension s whole p
 joined_exact s p whole f g b split exact kept = (
-  λ h. let w = exact.0 (and_left b (g p) h) in (w.0, w.1, split w.0 ∙ both_true (f w.0) (g w.0) w.2 (sym (kept w.0 w.1) ∙ and_right b (g p) h)),
-  λ w. let h = sym (split w.0) ∙ w.2 in both_true b (g p) (exact.1 (w.0, w.1, and_left (f w.0) (g w.0) h)) (kept w.0 w.1 ∙ and_right (f w.0) (g w.0) h),
+  λ h. let w = exact.0 (and_left b (g p) h) in (w.0, w.1, split w.0 ∙ and_from (f w.0) (g w.0) w.2 (sym (kept w.0 w.1) ∙ and_right b (g p) h)),
+  λ w. let h = sym (split w.0) ∙ w.2 in and_from b (g p) (exact.1 (w.0, w.1, and_left (f w.0) (g w.0) h)) (kept w.0 w.1 ∙ and_right (f w.0) (g w.0) h),
 )
 
 -- ---- wide parts
@@ -45,24 +43,21 @@ cross_law n n' f d d' e = turn n f d' ∙ ap (λ z. z *ℤ f) e ∙ sym (turn n'
     turn : (x y z : ℤ) → (x *ℤ y) *ℤ z ≡ (x *ℤ z) *ℤ y
     turn x y z = rw (parts x, parts y, parts z) (simp ring (diff_same _ _ _ _ (omega arith)))
 
-swap_last : (f d d' : ℤ) → (f *ℤ d) *ℤ d' ≡ (f *ℤ d') *ℤ d
-swap_last f d d' = rw (parts f, parts d, parts d') (simp ring (diff_same _ _ _ _ (omega arith)))
-
 -- one value lies outside of the same fractions at two points
 pub outside_same : (e : End) (s : Slot) (p q : Point) (f : Fraction) → 0 < p.den → 0 < q.den → IsSameAt p q (slot s) → is_outside e (value_at s p) f ≡ is_outside e (value_at s q) f
 outside_same lower s p q f i j h =
     int_lt-same (number_at p (slot s) *ℤ f.den) (f.num *ℤ pos p.den) (number_at q (slot s) *ℤ f.den) (f.num *ℤ pos q.den) p.den q.den i j
-    (cross_law (number_at p (slot s)) (number_at q (slot s)) f.den (pos p.den) (pos q.den) h.number) (swap_last f.num (pos p.den) (pos q.den))
+    (cross_law (number_at p (slot s)) (number_at q (slot s)) f.den (pos p.den) (pos q.den) h.number) (swap_law f.num (pos p.den) (pos q.den))
 outside_same upper s p q f i j h =
     int_lt-same (f.num *ℤ pos p.den) (number_at p (slot s) *ℤ f.den) (f.num *ℤ pos q.den) (number_at q (slot s) *ℤ f.den) p.den q.den i j
-    (swap_last f.num (pos p.den) (pos q.den)) (cross_law (number_at p (slot s)) (number_at q (slot s)) f.den (pos p.den) (pos q.den) h.number)
+    (swap_law f.num (pos p.den) (pos q.den)) (cross_law (number_at p (slot s)) (number_at q (slot s)) f.den (pos p.den) (pos q.den) h.number)
 
 -- a value that is attained
 pub at_same : (s : Slot) (p q : Point) (f : Fraction) → 0 < p.den → 0 < q.den → IsSameAt p q (slot s) → number_at p (slot s) *ℤ f.den ≡ f.num *ℤ pos p.den → number_at q (slot s) *ℤ f.den ≡ f.num *ℤ pos q.den
 at_same s p q f i j h e =
     (Decides-int_eq (number_at q (slot s) *ℤ f.den) (f.num *ℤ pos q.den)).0
     (sym (int_eq-same (number_at p (slot s) *ℤ f.den) (f.num *ℤ pos p.den) (number_at q (slot s) *ℤ f.den) (f.num *ℤ pos q.den) p.den q.den i j
-    (cross_law (number_at p (slot s)) (number_at q (slot s)) f.den (pos p.den) (pos q.den) h.number) (swap_last f.num (pos p.den) (pos q.den)))
+    (cross_law (number_at p (slot s)) (number_at q (slot s)) f.den (pos p.den) (pos q.den) h.number) (swap_law f.num (pos p.den) (pos q.den)))
     ∙ (Decides-int_eq (number_at p (slot s) *ℤ f.den) (f.num *ℤ pos p.den)).1 e)
 
 -- a test that is narrower, with a point of the same value for each point of the wider one

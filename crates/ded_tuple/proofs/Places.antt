@@ -9,6 +9,7 @@ use Rattle.ded_model.specs.Row.{Atom}
 use Rattle.ded_model.specs.Normal.{atom_order, IsNormalAtom, BeginsAfter, IsNormalTuple, place_atom}
 use Rattle.ded_tuple.specs.Places.{atom_place, is_placed}
 use Rattle.ded_tuple.proofs.AtomOrders.{atom_order-turned}
+use Rattle.std.proofs.lemmas.Bool.{not-true, not-false}
 
 -- ---- what the code does
 
@@ -78,20 +79,12 @@ place-normal a (b ∷ bs) h k = go (atom_order a b) refl (place-normal a bs h k.
 
 -- ---- as the code has it
 
-not_taken : (b : Bool) → not b ≡ true → b ≡ false
-not_taken true e = absurd (true≢false (sym e))
-not_taken false e = refl
-
-is_taken : (b : Bool) → not b ≡ false → b ≡ true
-is_taken true e = refl
-is_taken false e = absurd (true≢false e)
-
 pub put-inserted : (a : Atom) (xs ys out : List Atom) (at : ℕ) (taken : Bool) → xs ≡ ys → at ≡ atom_place a xs → taken ≡ is_placed a xs → not taken ≡ true → out ≡ insert ys at a → out ≡ place_atom a ys
 put-inserted a xs ys out at taken is e f g o =
-    o ∙ ap (λ n. insert ys n a) (e ∙ ap (atom_place a) is) ∙ sym (unplaced-is a ys (ap (is_placed a) (sym is) ∙ sym f ∙ not_taken taken g))
+    o ∙ ap (λ n. insert ys n a) (e ∙ ap (atom_place a) is) ∙ sym (unplaced-is a ys (ap (is_placed a) (sym is) ∙ sym f ∙ not-true taken g))
 
 pub put-there : (a : Atom) (xs ys : List Atom) (taken : Bool) → xs ≡ ys → taken ≡ is_placed a xs → not taken ≡ false → ys ≡ place_atom a ys
-put-there a xs ys taken is f g = sym (placed-is a ys (ap (is_placed a) (sym is) ∙ sym f ∙ is_taken taken g))
+put-there a xs ys taken is f g = sym (placed-is a ys (ap (is_placed a) (sym is) ∙ sym f ∙ not-false taken g))
 
 pub put-normal : (a : Atom) (ys out : List Atom) → out ≡ place_atom a ys → IsNormalAtom a → IsNormalTuple ys → IsNormalTuple out
 put-normal a ys out e h k = subst IsNormalTuple (sym e) (place-normal a ys h k)

@@ -4,8 +4,8 @@ use Rattle.std.proofs.Math.Nat.{le-max_left, le-max_right}
 use Rattle.ded_model.specs.Logic.{Logic, atom, always, never, negation, every_of, some_of, implies, minus, exists, forall, Logics, none, also, AllAtoms, AllAtomsOf, Scope, some_atom, some_atom_of, some_below, some_below_of, greatest, greatest_of}
 use Rattle.ded_model.proofs.Rows.{or_left, or_right}
 use Rattle.ded_model.proofs.Members.{or_split}
-use Rattle.ded_sorts.proofs.Meanings.{or_fails_left, or_fails_right}
 use Rattle.ded_sorts.proofs.Unscoped.{some_below-unscoped}
+use Rattle.ded_model.proofs.Bools.{or_false_left, or_false_right}
 
 -- what follows of each atom from a property of it, and from facts of the names that it uses, holds of all
 module _ {L : Type 0} (uses : List ℕ → L → Bool) (Q R : L → Type 0) (P : List ℕ → Type 0) (step : (a : L) → Q a → ((n : List ℕ) → uses n a ≡ true → P n) → R a) where
@@ -41,15 +41,15 @@ module _ {L : Type 0} (test : L → Bool) (P : L → Type 0) (step : (a : L) →
     all_where_none (negation f) h = all_where_none f h
     all_where_none (every_of fs) h = all_where_none_of fs h
     all_where_none (some_of fs) h = all_where_none_of fs h
-    all_where_none (implies f g) h = (all_where_none f (or_fails_left _ _ h), all_where_none g (or_fails_right (some_atom test f) _ h))
-    all_where_none (minus f g) h = (all_where_none f (or_fails_left _ _ h), all_where_none g (or_fails_right (some_atom test f) _ h))
+    all_where_none (implies f g) h = (all_where_none f (or_false_left _ _ h), all_where_none g (or_false_right (some_atom test f) _ h))
+    all_where_none (minus f g) h = (all_where_none f (or_false_left _ _ h), all_where_none g (or_false_right (some_atom test f) _ h))
     all_where_none (exists s k f) h = all_where_none f h
     all_where_none (forall s k f) h = all_where_none f h
 
     -- of a list
     all_where_none_of : (fs : Logics L) → some_atom_of test fs ≡ false → AllAtomsOf P fs
     all_where_none_of none h = tt
-    all_where_none_of (also f fs) h = (all_where_none f (or_fails_left _ _ h), all_where_none_of fs (or_fails_right (some_atom test f) _ h))
+    all_where_none_of (also f fs) h = (all_where_none f (or_false_left _ _ h), all_where_none_of fs (or_false_right (some_atom test f) _ h))
 
 -- what follows of an atom that has a property and passes a test, where all have the property and some atom passes
 module _ {L : Type 0} (test : L → Bool) (P : L → Type 0) (X : Type 0) (step : (a : L) → P a → test a ≡ true → X) where

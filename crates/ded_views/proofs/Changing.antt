@@ -2,7 +2,7 @@
 use Rattle.std.proofs.Common.{◌≡◌, ℕ, ◌≤◌, arith, Bool, true, false, not, ◌||◌, cond, List, [], ◌∷◌, ◌++◌, Option, Some, None, is_some, inl, inr, refl, sym, ap, ap₂, ◌∙◌, subst, true≢false, bytes_eq}
 use Rattle.std.specs.Prelude.{◌↔◌, ◌⊎◌, IsTrue}
 use Rattle.std.specs.List.{list_any}
-use Rattle.std.proofs.lemmas.Bool.{not-true, not_from_false}
+use Rattle.std.proofs.lemmas.Bool.{not-true, not_from_false, false_from_ne_true}
 use Rattle.std.proofs.Math.Bool.{or_assoc, or-false}
 use Rattle.std.proofs.lemmas.Option.{none-some, same_Some}
 use Rattle.std.proofs.lemmas.Slice.Eq.{bytes_eq-Decides}
@@ -22,22 +22,16 @@ use Rattle.ded_model.specs.Lines.{IsSubset, tuples_lines}
 use Rattle.ded_model.proofs.Members.{or_split, subset_refl, subset_append}
 use Rattle.ded_model.proofs.Rows.{or_left, or_right}
 use Rattle.ded_sorts.specs.Changes.{AddsEntry, ChangesEntry, DropsEntry, Inserts}
-use Rattle.ded_sorts.proofs.KnownEntries.{columns_there}
-use Rattle.ded_sorts.proofs.Meanings.{or_fails_left, or_fails_right}
+use Rattle.ded_sorts.proofs.KnownEntries.{columns_there, absent}
 use Rattle.ded_views.specs.Reaching.{with_reach, reach_from, reaches}
 use Rattle.ded_views.specs.Unaffected.{AreUnaffected}
 use Rattle.ded_views.proofs.Folds.{parts}
-use Rattle.ded_views.proofs.Named.{own_name}
-use Rattle.ded_views.proofs.Placing.{none_known, none_reached, known-is, reaches-is, known_other, reaches_other, no_later, unknown}
+use Rattle.ded_views.proofs.Placing.{none_known, none_reached, known-is, reaches-is, known_other, reaches_other, unknown}
 use Rattle.ded_views.proofs.ViewNames.{used_known}
 use Rattle.ded_views.proofs.Views.{relation_means, view_accepted, relation_reaches, used_reaches}
+use Rattle.ded_model.proofs.Bools.{or_false_left, or_false_right, bytes_eq-refl}
 
 -- ---- tests
-
--- a test that its truth refutes fails
-pub fails : (b : Bool) → (b ≡ true → ⊥) → b ≡ false
-fails true h = absurd (h refl)
-fails false h = refl
 
 -- ---- the entry of another name
 
@@ -62,14 +56,14 @@ entry_fails test [] n e h f = absurd (none-some e h)
 entry_fails test (d ∷ es) n e h f = by (bytes_eq n (entry_name d)) h (entry_fails test es n e)
   where
     by : (b : Bool) → cond b (Some d) (entry_of es n) ≡ Some e → (entry_of es n ≡ Some e → list_any test es ≡ false → test e ≡ false) → test e ≡ false
-    by true h later = subst (λ x. test x ≡ false) (same_Some d e h) (or_fails_left _ _ f)
-    by false h later = later h (or_fails_right (test d) _ f)
+    by true h later = subst (λ x. test x ≡ false) (same_Some d e h) (or_false_left _ _ f)
+    by false h later = later h (or_false_right (test d) _ f)
 
 -- ---- an entry's own name
 
 -- it has an entry
 own_there : (before after : List Entry) (e : Entry) → is_some (entry_of (before ++ e ∷ after) (entry_name e)) ≡ true
-own_there [] after e = ap (λ b. is_some (cond b (Some e) (entry_of after (entry_name e)))) (own_name (entry_name e))
+own_there [] after e = ap (λ b. is_some (cond b (Some e) (entry_of after (entry_name e)))) (bytes_eq-refl (entry_name e))
 own_there (d ∷ before) after e = by (bytes_eq (entry_name e) (entry_name d)) (own_there before after e)
   where
     by : (b : Bool) → is_some (entry_of (before ++ e ∷ after) (entry_name e)) ≡ true → is_some (cond b (Some d) (entry_of (before ++ e ∷ after) (entry_name e))) ≡ true
@@ -80,20 +74,20 @@ own_there (d ∷ before) after e = by (bytes_eq (entry_name e) (entry_name d)) (
 pub none_before : (limit : ℕ) (K : KnownNames) (before after : List Entry) (e : Entry) → AreEntriesOver limit K (before ++ e ∷ after) → list_any (λ x. bytes_eq (entry_name e) (entry_name x)) before ≡ false
 none_before limit K [] after e w = refl
 none_before limit K (d ∷ before) after e w =
-    ap₂ (◌||◌) (fails (bytes_eq (entry_name e) (entry_name d)) same) (none_before limit (with_known K d) before after e w.2)
+    ap₂ (◌||◌) (false_from_ne_true (bytes_eq (entry_name e) (entry_name d)) same) (none_before limit (with_known K d) before after e w.2)
   where
     same : bytes_eq (entry_name e) (entry_name d) ≡ true → ⊥
     same b =
         true≢false
         (sym (own_there before after e)
-        ∙ ap is_some (no_later limit (with_known K d) (before ++ e ∷ after) (entry_name e) w.2 (ap (λ c. is_some (cond c (Some (entry_known K d)) (K (entry_name e)))) b)))
+        ∙ ap is_some (absent limit (with_known K d) (before ++ e ∷ after) (entry_name e) w.2 (ap (λ c. is_some (cond c (Some (entry_known K d)) (K (entry_name e)))) b)))
 
 -- so it is the entry of its name
 own_entry : (before after : List Entry) (e : Entry) → list_any (λ x. bytes_eq (entry_name e) (entry_name x)) before ≡ false → entry_of (before ++ e ∷ after) (entry_name e) ≡ Some e
-own_entry [] after e h = ap (λ b. cond b (Some e) (entry_of after (entry_name e))) (own_name (entry_name e))
+own_entry [] after e h = ap (λ b. cond b (Some e) (entry_of after (entry_name e))) (bytes_eq-refl (entry_name e))
 own_entry (d ∷ before) after e h =
-    ap (λ b. cond b (Some d) (entry_of (before ++ e ∷ after) (entry_name e))) (or_fails_left _ _ h)
-    ∙ own_entry before after e (or_fails_right (bytes_eq (entry_name e) (entry_name d)) _ h)
+    ap (λ b. cond b (Some d) (entry_of (before ++ e ∷ after) (entry_name e))) (or_false_left _ _ h)
+    ∙ own_entry before after e (or_false_right (bytes_eq (entry_name e) (entry_name d)) _ h)
 
 -- over a well formed catalogue
 pub entry_there : (c : Catalogue) (before after : List Entry) (e : Entry) (n : List ℕ) → IsWellFormed c → c.entries ≡ before ++ e ∷ after → entry_name e ≡ n → entry_of c.entries n ≡ Some e
@@ -117,16 +111,16 @@ dropped c d n x none = record {
   same = λ m other.
       ap (λ y. entry_of y.entries m) x.is
       ∙ sym (ap (λ es. entry_of es m) x.was ∙ entry_without x.before x.after x.old m (ap (bytes_eq m) x.named ∙ not-true (bytes_eq m n) other));
-  closed = λ m m' k h f other there used. not_from_false (bytes_eq k n) (fails (bytes_eq k n)
+  closed = λ m m' k h f other there used. not_from_false (bytes_eq k n) (false_from_ne_true (bytes_eq k n)
       (λ same. true≢false (sym (ap (λ j. speaks_of j f) (sym ((bytes_eq-Decides k n).0 same)) ∙ used) ∙ entry_fails (entry_uses n) c.entries m (view m' h f) there none)));
 }
 
 module _ (c d : Catalogue) (n : List ℕ) (h : List Column) (i j : ℕ) (ts us : List (ℕ × List Atom)) (x : ChangesEntry c d n (relation n h i ts) (relation n h j us)) where
   -- a name that doesn't reach the relation isn't its name
   other : IsWellFormed c → (m : List ℕ) → not (reaches c m n) ≡ true → bytes_eq m n ≡ false
-  other w m o = fails (bytes_eq m n)
+  other w m o = false_from_ne_true (bytes_eq m n)
       (λ same. true≢false
-      (sym (own_name n)
+      (sym (bytes_eq-refl n)
       ∙ sym (relation_reaches c w n n h i ts (entry_there c x.before x.after (relation n h i ts) n w x.was refl) n)
       ∙ ap (λ k. reaches c k n) (sym ((bytes_eq-Decides m n).0 same))
       ∙ not-true (reaches c m n) o))
@@ -141,7 +135,7 @@ module _ (c d : Catalogue) (n : List ℕ) (h : List Column) (i j : ℕ) (ts us :
   pub changed : IsWellFormed c → AreUnaffected c d (λ m. not (reaches c m n))
   changed w = record {
     same = λ m o. same_entry m (other w m o);
-    closed = λ m m' k h' f o there used. not_from_false (reaches c k n) (fails (reaches c k n)
+    closed = λ m m' k h' f o there used. not_from_false (reaches c k n) (false_from_ne_true (reaches c k n)
         (λ reached. true≢false (sym (used_reaches c w m m' h' f there k n used reached) ∙ not-true (reaches c m n) o)));
   }
 

@@ -9,10 +9,7 @@ use Rattle.ded_model.specs.Measure.{Measures, goal_atom_lines, goal_atom_clash, 
 use Rattle.ded_model.specs.Uses.{goal_atom_uses, goal_uses, plan_atom_uses, plan_uses}
 use Rattle.ded_model.proofs.Rows.{or_left, or_right}
 use Rattle.ded_model.proofs.Members.{or_split}
-
--- one of two tests passes where one of two stronger ones does
-or_weaker : (a b a' b' : Bool) → (a ≡ true → a' ≡ true) → (b ≡ true → b' ≡ true) → (a || b) ≡ true → (a' || b') ≡ true
-or_weaker a b a' b' f g h = elim (or_split a b h) [ inl e ↦ or_left a' b' (f e) | inr e ↦ or_right a' b' (g e) ]
+use Rattle.ded_model.proofs.Monotone.{or-grows}
 
 -- a formula clashes where one of its atoms does
 module _ {L : Type 0} (of_atom : L → List Line) (in_atom : L → Bool) (test : L → Bool) (step : (a : L) → test a ≡ true → in_atom a ≡ true) where
@@ -24,15 +21,15 @@ module _ {L : Type 0} (of_atom : L → List Line) (in_atom : L → Bool) (test :
     atom_clashes (negation f) h = atom_clashes f h
     atom_clashes (every_of fs) h = atom_clashes_of fs h
     atom_clashes (some_of fs) h = atom_clashes_of fs h
-    atom_clashes (implies f g) h = or_weaker (some_atom test f) (some_atom test g) _ _ (atom_clashes f) (atom_clashes g) h
-    atom_clashes (minus f g) h = or_weaker (some_atom test f) (some_atom test g) _ _ (atom_clashes f) (atom_clashes g) h
+    atom_clashes (implies f g) h = or-grows (some_atom test f) (some_atom test g) _ _ (atom_clashes f) (atom_clashes g) h
+    atom_clashes (minus f g) h = or-grows (some_atom test f) (some_atom test g) _ _ (atom_clashes f) (atom_clashes g) h
     atom_clashes (exists s k f) h = or_left (clashes of_atom in_atom f) (clash_past s k (lines of_atom f)) (atom_clashes f h)
     atom_clashes (forall s k f) h = or_left (clashes of_atom in_atom f) (clash_past s k (lines of_atom f)) (atom_clashes f h)
 
     -- of a list
     atom_clashes_of : (fs : Logics L) → some_atom_of test fs ≡ true → any_clashes of_atom in_atom fs ≡ true
     atom_clashes_of none h = h
-    atom_clashes_of (also f fs) h = or_weaker (some_atom test f) (some_atom_of test fs) _ _ (atom_clashes f) (atom_clashes_of fs) h
+    atom_clashes_of (also f fs) h = or-grows (some_atom test f) (some_atom_of test fs) _ _ (atom_clashes f) (atom_clashes_of fs) h
 
 -- of the same name
 same_clash : (M : Measures) (n m : List ℕ) → bytes_eq n m ≡ true → (M n).clash ≡ true → (M m).clash ≡ true

@@ -10,10 +10,9 @@ use Rattle.ded_model.specs.Catalogue.{Entry, relation, Catalogue, entry_name, en
 use Rattle.ded_model.specs.Entries.{stored_in, inserts_in}
 use Rattle.ded_model.specs.Known.{KnownNames, AreStored, AreEntriesOver, IsWellFormed, with_known}
 use Rattle.ded_sorts.specs.Changes.{ChangesEntry, Inserts, Deletes}
-use Rattle.ded_sorts.proofs.Meanings.{or_fails_left, or_fails_right}
 use Rattle.ded_views.proofs.Placing.{none_known}
 use Rattle.ded_views.proofs.Changing.{none_before}
-use Rattle.ded_views.proofs.Named.{own_name}
+use Rattle.ded_model.proofs.Bools.{or_false_left, or_false_right, bytes_eq-refl}
 
 -- ---- parts
 
@@ -28,12 +27,12 @@ module _ {A : Type 0} (test : A → Bool) where
       → before ++ x ∷ after ≡ before' ++ x' ∷ after' → AreSameParts before before' after after' x x'
   same_parts [] [] after after' x x' f f' t t' e = record { front = refl; here = cc; back = cc }
   same_parts [] (y ∷ before') after after' x x' f f' t t' e =
-      let same : x ≡ y = cc in absurd (true≢false (sym t ∙ ap test same ∙ or_fails_left _ _ f'))
+      let same : x ≡ y = cc in absurd (true≢false (sym t ∙ ap test same ∙ or_false_left _ _ f'))
   same_parts (y ∷ before) [] after after' x x' f f' t t' e =
-      let same : y ≡ x' = cc in absurd (true≢false (sym t' ∙ ap test (sym same) ∙ or_fails_left _ _ f))
+      let same : y ≡ x' = cc in absurd (true≢false (sym t' ∙ ap test (sym same) ∙ or_false_left _ _ f))
   same_parts (y ∷ before) (z ∷ before') after after' x x' f f' t t' e =
       let first : y ≡ z = cc in
-      let rest = same_parts before before' after after' x x' (or_fails_right (test y) _ f) (or_fails_right (test z) _ f') t t' cc in
+      let rest = same_parts before before' after after' x x' (or_false_right (test y) _ f) (or_false_right (test z) _ f') t t' cc in
       record { front = ap₂ (◌∷◌) first rest.front; here = rest.here; back = rest.back }
 
 -- ---- changes
@@ -43,7 +42,7 @@ same_entries : (c d e : Catalogue) (n : List ℕ) (old new old' new' : Entry) �
     → AreSameParts x.before y.before x.after y.after old old'
 same_entries c d e n old new old' new' w x y =
     same_parts (λ z. bytes_eq n (entry_name z)) x.before y.before x.after y.after old old' (none x.before x.after old x.was x.named) (none y.before y.after old' y.was y.named)
-    (ap (bytes_eq n) x.named ∙ own_name n) (ap (bytes_eq n) y.named ∙ own_name n) (sym x.was ∙ y.was)
+    (ap (bytes_eq n) x.named ∙ bytes_eq-refl n) (ap (bytes_eq n) y.named ∙ bytes_eq-refl n) (sym x.was ∙ y.was)
   where
     none : (before after : List Entry) (o : Entry) → c.entries ≡ before ++ o ∷ after → entry_name o ≡ n → list_any (λ z. bytes_eq n (entry_name z)) before ≡ false
     none before after o p named =

@@ -14,6 +14,7 @@ use Rattle.ded_model.specs.Known.{KnownNames, IsEntryOver, IsNewName, AreEntries
 use Rattle.ded_model.specs.Measure.{Measures, entry_measure, with_measure, measures_from, stored_measures}
 use Rattle.ded_views.specs.Reaching.{entry_reaches, with_reach, reach_from, reaches}
 use Rattle.ded_views.proofs.Folds.{there, kept}
+use Rattle.ded_sorts.proofs.KnownEntries.{absent}
 
 -- ---- before any entry
 
@@ -118,13 +119,6 @@ not_new K n m new k = by (bytes_eq n m) refl
     by true b = absurd (true≢false (sym k ∙ ap is_some (ap K ((bytes_eq-Decides n m).0 b) ∙ new)))
     by false b = refl
 
--- the entries over it have other names
-pub no_later : (limit : ℕ) (K : KnownNames) (es : List Entry) (n : List ℕ) → AreEntriesOver limit K es → is_some (K n) ≡ true → entry_of es n ≡ None
-no_later limit K [] n w k = refl
-no_later limit K (e ∷ es) n w k =
-    let other : bytes_eq n (entry_name e) ≡ false = not_new K n (entry_name e) w.0.0 k in
-    ap (λ c. cond c (Some e) (entry_of es n)) other ∙ no_later limit (with_known K e) es n w.2 (ap (λ c. is_some (cond c (Some (entry_known K e)) (K n))) other ∙ k)
-
 -- ---- the entry of a name
 
 -- it has the name, which is new to the entries before it, and is well formed over these
@@ -215,10 +209,10 @@ entry_read c w n e h = by (placed c.limit none_known c.entries n e w h)
         own_added = ap (λ c. cond c (Some (entry_known K e)) (K n)) own
 
         own_later : entry_of p.after n ≡ None
-        own_later = no_later c.limit (with_known K e) p.after n p.rest (ap is_some own_added)
+        own_later = absent c.limit (with_known K e) p.after n p.rest (ap is_some own_added)
 
         other : (m : List ℕ) → is_some (K m) ≡ true → bytes_eq m (entry_name e) ≡ false
         other m k = not_new K m (entry_name e) p.new.0 k
 
         later : (m : List ℕ) → is_some (K m) ≡ true → entry_of p.after m ≡ None
-        later m k = no_later c.limit (with_known K e) p.after m p.rest (ap (λ c. is_some (cond c (Some (entry_known K e)) (K m))) (other m k) ∙ k)
+        later m k = absent c.limit (with_known K e) p.after m p.rest (ap (λ c. is_some (cond c (Some (entry_known K e)) (K m))) (other m k) ∙ k)

@@ -15,7 +15,7 @@ use Rattle.ded_model.specs.Logic.{Sat, AllAtoms}
 use Rattle.ded_model.specs.PlanForm.{PlanForm, PlanAtom, scan, rows, PlanAtomHolds}
 use Rattle.ded_model.specs.Uses.{plan_atom_uses, plan_uses}
 use Rattle.ded_model.proofs.Alike.{all_atoms}
-use Rattle.ded_model.proofs.Values.{overs-positive}
+use Rattle.ded_model.proofs.Values.{overs-positive, sorted}
 use Rattle.ded_model.proofs.PointTexts.{point-bytes}
 use Rattle.ded_views.specs.Same.{AreByteArguments, MeansSame, ScansSame}
 use Rattle.ded_views.proofs.Atoms.{all_weaker}
@@ -31,17 +31,13 @@ sorted_bytes : (s : Sort) (n : ℤ) (t : List ℕ) → AllBytes t → AllBytes (
 sorted_bytes Rat n t h = tt
 sorted_bytes Text n t h = h
 
-sorted_positive : (s : Sort) (n : ℤ) (t : List ℕ) → 0 < (sorted_value s n t).over
-sorted_positive Rat n t = omega arith
-sorted_positive Text n t = omega arith
-
 pub arguments_bytes : (p : Point) → IsPoint p → (ss : List Slot) → AreByteArguments (arguments (map (slot_value p) ss))
 arguments_bytes p i [] = tt
 arguments_bytes p i (s ∷ ss) =
     (sorted_bytes s.sort (number_at p (slot s)) (text_at p (slot s)) (point-bytes p (slot s) i), times_bytes (slot_value p s).over (arguments (map (slot_value p) ss)) (arguments_bytes p i ss))
 
 pub slots_positive : (p : Point) (ss : List Slot) → 0 < overs (map (slot_value p) ss)
-slots_positive p ss = overs-positive (slot_value p) (λ s. sorted_positive s.sort (number_at p (slot s)) (text_at p (slot s))) ss
+slots_positive p ss = overs-positive (slot_value p) (λ s. sorted s.sort (number_at p (slot s)) (text_at p (slot s))) ss
 
 pub arguments_length : (f : Slot → OperandValue) (ss : List Slot) → length (arguments (map f ss)) ≡ length ss
 arguments_length f [] = refl

@@ -13,7 +13,7 @@ use Rattle.ded_model.specs.Slotted.{goal_of}
 use Rattle.ded_model.proofs.Alike.{all_atoms}
 use Rattle.ded_views.specs.Reaching.{atom_reaches}
 use Rattle.ded_views.proofs.Atoms.{some_with}
-use Rattle.ded_views.proofs.Named.{own_name}
+use Rattle.ded_model.proofs.Bools.{bytes_eq-refl}
 
 -- the name is a view, and the goal that of its formula
 pub record IsGoalOfView (c : Catalogue) (n : List ℕ) (g : GoalForm) : Type 0 where
@@ -45,4 +45,4 @@ reached_by_used R r f h =
   where
     step : (a : FormAtom) → ((n : List ℕ) → atom_uses n a ≡ true → uses n f ≡ true) → atom_reaches R r a ≡ true → IsReachedByUsed R r f
     step (compare l op r') k t = absurd (true≢false (sym t))
-    step (member m ts) k t = record { name = m; used = k m (own_name m); reaches = t }
+    step (member m ts) k t = record { name = m; used = k m (bytes_eq-refl m); reaches = t }

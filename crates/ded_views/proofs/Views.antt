@@ -96,7 +96,7 @@ used_reaches c w n m h f e k r u t = view_reaches c w n m h f e r ∙ or_right (
 
 -- ---- well formed entries
 
-stored_over : (h : List Column) (inserts m : ℕ) (ts : List (ℕ × List Atom)) → AreStored h inserts m ts → AllByRecursion (IsTupleOver h) (tuples_of ts)
+pub stored_over : (h : List Column) (inserts m : ℕ) (ts : List (ℕ × List Atom)) → AreStored h inserts m ts → AllByRecursion (IsTupleOver h) (tuples_of ts)
 stored_over h inserts m [] s = tt
 stored_over h inserts m (t ∷ ts) s = (s.2, stored_over h inserts t.0 ts s.4)
 

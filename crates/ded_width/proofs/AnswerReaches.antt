@@ -33,10 +33,11 @@ use Rattle.ded_model.specs.Slotted.{goal_of}
 use Rattle.ded_model.specs.Width.{IsNarrowWith, IsNarrowList, greatest_length, row_length, tuple_length, with_slots, rational_slots, rational_slots_after, rational_columns}
 use Rattle.ded_model.proofs.CoefLemmas.{coef_at-here, coef_at-past, coef_at-above}
 use Rattle.ded_model.proofs.Divisors.{abs_divisor, divisor-whole, divisor-whole_constant}
-use Rattle.ded_model.proofs.LineLengths.{zero_within}
+use Rattle.ded_model.proofs.LineLengths.{zero_within, some_abs}
 use Rattle.ded_model.proofs.LineSlots.{has_slot}
 use Rattle.ded_model.proofs.Members.{or_split, In-left, In-right}
 use Rattle.ded_model.proofs.Points.{same_slot_is, same_slot_refl}
+use Rattle.ded_model.proofs.RationalColumns.{rational_heading, rational_heading-length, rational_heading-has}
 use Rattle.ded_model.proofs.Rows.{or_left, or_right}
 use Rattle.ded_width.proofs.FormulaReaches.{formula_within}
 use Rattle.ded_width.proofs.LineReaches.{coefs_ascending, slot_rational}
@@ -49,13 +50,6 @@ first_number : List (Slot × ℤ) → ℤ
 first_number [] = pos 0
 first_number (c ∷ cs) = c.1
 
-some_size : (z : ℤ) → z ≢ pos 0 → 0 < unsigned_abs z
-some_size z n = go (unsigned_abs z) refl
-  where
-    go : (m : ℕ) → unsigned_abs z ≡ m → 0 < unsigned_abs z
-    go zero e = absurd (n (omega (arith, ints, e)))
-    go (suc m) e = omega (arith, e)
-
 one_factor : (a x : ℕ) → 0 < x → a * x ≡ x → a ≡ 1
 one_factor zero x h e = absurd (omega (arith, h, e))
 one_factor (suc zero) x h e = refl
@@ -63,7 +57,7 @@ one_factor (suc (suc a)) x h e = absurd (omega (arith, h, e))
 
 -- what leaves a number that is not 0 as it is has the magnitude 1
 one_size : (d z : ℤ) → z ≢ pos 0 → d *ℤ z ≡ z → unsigned_abs d ≡ 1
-one_size d z n e = one_factor (unsigned_abs d) (unsigned_abs z) (some_size z n) (sym (unsigned_abs-mul d z) ∙ ap unsigned_abs e)
+one_size d z n e = one_factor (unsigned_abs d) (unsigned_abs z) (some_abs z n) (sym (unsigned_abs-mul d z) ∙ ap unsigned_abs e)
 
 -- and then a quotient has the magnitude of the number
 same_size : (d x z : ℤ) → unsigned_abs d ≡ 1 → d *ℤ x ≡ z → unsigned_abs x ≡ unsigned_abs z
@@ -123,43 +117,6 @@ tuple_short (First r ∷ t) k n w =
     let row : row_length r ≤ k = row_short k r.op r.constant r.coefs n.0.0 n.0.1.normal (λ l i. w l (In-left l (row_lines r) (atoms_lines t) i)) in
     let rest = tuple_short t k n.2 (λ l i. w l (In-right l (row_lines r) (atoms_lines t) i)) in omega (arith, row, rest)
 tuple_short (Second a ∷ t) k n w = tuple_short t k n.2 w
-
--- ---- the rational columns of a heading
-
--- their slots, of the columns from slot i on
-rational_heading : ℕ → List Column → List Slot
-rational_heading i [] = []
-rational_heading i (c ∷ cs) = cond (same_sort c.sort Rat) (record { number = i; sort = c.sort } ∷ rational_heading (i + 1) cs) (rational_heading (i + 1) cs)
-
-count : (i : ℕ) (cs : List Column) → length (rational_heading i cs) ≡ rational_columns cs
-unfolding rational_heading
-count i [] = refl
-count i (c ∷ cs) = by (same_sort c.sort Rat) (count (i + 1) cs)
-  where
-    by : (b : Bool) → length (rational_heading (i + 1) cs) ≡ rational_columns cs
-        → length (cond b (record { number = i; sort = c.sort } ∷ rational_heading (i + 1) cs) (rational_heading (i + 1) cs)) ≡ cond b 1 0 + rational_columns cs
-    by true e = omega (arith, e)
-    by false e = omega (arith, e)
-
-rational_sort : (s : Sort) → s ≡ Rat → same_sort s Rat ≡ true
-rational_sort s e = subst (λ x. same_sort x Rat ≡ true) (sym e) refl
-
--- each rational slot of the heading is one of them
-there : (i : ℕ) (cs : List Column) (s : Slot) → stands_in (heading_slots i cs) s ≡ true → s.sort ≡ Rat → stands_in (rational_heading i cs) s ≡ true
-unfolding rational_heading
-there i [] s h r = absurd (true≢false (sym h))
-there i (c ∷ cs) s h r = elim (or_split (same_slot (record { number = i; sort = c.sort }) s) (stands_in (heading_slots (i + 1) cs) s) h) [
-  | inl e ↦ first (same_sort c.sort Rat) (rational_sort c.sort (ap (λ (u : Slot). u.sort) (same_slot_is (record { number = i; sort = c.sort }) s e) ∙ r)) e
-  | inr e ↦ later (same_sort c.sort Rat) (there (i + 1) cs s e r)
-]
-  where
-    first : (b : Bool) → b ≡ true → same_slot (record { number = i; sort = c.sort }) s ≡ true → stands_in (cond b (record { number = i; sort = c.sort } ∷ rational_heading (i + 1) cs) (rational_heading (i + 1) cs)) s ≡ true
-    first true f e = or_left _ (stands_in (rational_heading (i + 1) cs) s) e
-    first false f e = absurd (true≢false (sym f))
-
-    later : (b : Bool) → stands_in (rational_heading (i + 1) cs) s ≡ true → stands_in (cond b (record { number = i; sort = c.sort } ∷ rational_heading (i + 1) cs) (rational_heading (i + 1) cs)) s ≡ true
-    later true e = or_right (same_slot (record { number = i; sort = c.sort }) s) _ e
-    later false e = e
 
 -- ---- the slots of a tuple
 
@@ -232,9 +189,9 @@ with_atoms ys (Second b ∷ t) ss n a h = with_atoms ys t ss n.2 a (λ s i q. h 
 -- a tuple over a heading mentions no more rational slots than this has columns
 slots_few : (h : List Column) (t : List Atom) → IsTupleOver h t → length (rational_slots t) ≤ rational_columns h
 slots_few h t o =
-    subst (λ n. length (rational_slots t) ≤ n) (count 0 h)
+    subst (λ n. length (rational_slots t) ≤ n) (rational_heading-length 0 h)
     (no_more (rational_heading 0 h) (rational_slots t)
-    (with_atoms (rational_heading 0 h) t [] o.normal (record { distinct = tt; among = λ s i. absurd (true≢false (sym i)) }) (λ s m r. there 0 h s (o.slots s m) r)))
+    (with_atoms (rational_heading 0 h) t [] o.normal (record { distinct = tt; among = λ s i. absurd (true≢false (sym i)) }) (λ s m r. rational_heading-has 0 h s (o.slots s m) r)))
 
 -- ---- answers
 

@@ -22,6 +22,7 @@ use Rattle.ded_model.proofs.Points.{same_slot_is, same_slot_refl}
 use Rattle.ded_model.proofs.Members.{or_split}
 use Rattle.ded_goals.proofs.Ascending.{Ascend, AllRational, ascend-put, ascend-mixed}
 use Rattle.ded_width.specs.Reach.{AreAscending, AreAscendingRows, AreAscendingPlaces}
+use Rattle.ded_model.proofs.CoefDivision.{AllAbove-coefs_over}
 
 -- ---- slots that differ
 
@@ -124,13 +125,9 @@ pub all_rational : (cs : List (Slot × ℤ)) → AreAscending cs → AllRational
 all_rational [] h = tt
 all_rational (c ∷ cs) h = (h.0, all_rational cs h.2)
 
-above_over : (n : ℕ) (k : ℤ) (cs : List (Slot × ℤ)) → AllAbove n cs → AllAbove n (coefs_over k cs)
-above_over n k [] h = tt
-above_over n k (c ∷ cs) h = (h.0, above_over n k cs h.1)
-
 ascending_over : (k : ℤ) (cs : List (Slot × ℤ)) → AreAscending cs → AreAscending (coefs_over k cs)
 ascending_over k [] h = tt
-ascending_over k (c ∷ cs) h = (h.0, above_over c.0.number k cs h.1, ascending_over k cs h.2)
+ascending_over k (c ∷ cs) h = (h.0, AllAbove-coefs_over c.0.number k cs h.1, ascending_over k cs h.2)
 
 -- a normal row has the slots of the row
 pub normal_ascending : (r : LinearConstraint) → AreAscending r.coefs → AreAscending (normal_row r).coefs

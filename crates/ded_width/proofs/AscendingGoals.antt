@@ -22,20 +22,21 @@ use Rattle.ded_model.specs.Slotted.{SlotScope, slot_of, heading_scope, add_parts
 use Rattle.ded_model.specs.Known.{KnownNames, has_missorted, sort_in, is_text_sum}
 use Rattle.ded_goals.specs.TextSums.{has_text_sum}
 use Rattle.ded_goals.specs.Scope.{sorts_of}
-use Rattle.ded_goals.proofs.Summing.{fails_left, fails_right, sort_in-slot, rational}
+use Rattle.ded_goals.proofs.Summing.{sort_in-slot, rational}
 use Rattle.ded_goals.proofs.Ascending.{Ascend, AllRational, ascend-put, ascend-mixed, ascend-nonzero}
 use Rattle.ded_goals.proofs.Accepted.{sums_of-accepted}
 use Rattle.ded_goals.proofs.Reading.{sorts_heading}
 use Rattle.ded_width.specs.Reach.{AreAscending, AreAscendingPlaces, IsAscendingGoalAtom, IsAscendingGoal}
 use Rattle.ded_width.proofs.ArgumentSlots.{ascend, all_rational, normal_ascending}
+use Rattle.ded_model.proofs.Bools.{or_false_left, or_false_right}
 
 -- ---- sums
 
 parts_ascend : (scope : SlotScope) (cs : List (List ℕ × ℤ)) → list_any (λ c. same_sort (sort_in (sorts_of scope) c.0) Text) cs ≡ false → Ascend (add_parts scope cs)
 parts_ascend scope [] h = tt
 parts_ascend scope (c ∷ cs) h =
-    ascend-put (slot_of scope c.0) c.1 (add_parts scope cs) (sym (sort_in-slot scope c.0) ∙ rational (sort_in (sorts_of scope) c.0) (fails_left _ _ h))
-    (parts_ascend scope cs (fails_right (same_sort (sort_in (sorts_of scope) c.0) Text) _ h))
+    ascend-put (slot_of scope c.0) c.1 (add_parts scope cs) (sym (sort_in-slot scope c.0) ∙ rational (sort_in (sorts_of scope) c.0) (or_false_left _ _ h))
+    (parts_ascend scope cs (or_false_right (same_sort (sort_in (sorts_of scope) c.0) Text) _ h))
 
 -- a sum without text variables
 sum_ascends : (scope : SlotScope) (cs : List (List ℕ × ℤ)) → list_any (λ c. same_sort (sort_in (sorts_of scope) c.0) Text) cs ≡ false → AreAscending (nonzero (add_parts scope cs))
@@ -108,16 +109,16 @@ compare_ascends scope l r op h = go (is_text_operand scope l || is_text_operand 
         → IsAscendingGoal (cond b (texts_goal (text_side scope l) op (text_side scope r)) (sums_goal (slot_sum scope l) op (slot_sum scope r)))
     go true e = texts_ascend (text_side scope l) (text_side scope r) op
     go false e =
-        sums_ascend (slot_sum scope l) (slot_sum scope r) op (operand_rational scope l (fails_left _ _ h) (fails_left _ _ e))
-        (operand_rational scope r (fails_right (is_text_sum (sorts_of scope) l) _ h) (fails_right (is_text_operand scope l) _ e))
+        sums_ascend (slot_sum scope l) (slot_sum scope r) op (operand_rational scope l (or_false_left _ _ h) (or_false_left _ _ e))
+        (operand_rational scope r (or_false_right (is_text_sum (sorts_of scope) l) _ h) (or_false_right (is_text_operand scope l) _ e))
 
 -- ---- arguments
 
 places_ascend : (scope : SlotScope) (ts : List Operand) → list_any (is_text_sum (sorts_of scope)) ts ≡ false → AreAscendingPlaces (map (place_of scope) ts)
 places_ascend scope [] h = tt
-places_ascend scope (Single x ∷ ts) h = places_ascend scope ts (fails_right (is_text_sum (sorts_of scope) (Single x)) _ h)
-places_ascend scope (Sum t ∷ ts) h = (sum_ascends scope t.parts (fails_left _ _ h), places_ascend scope ts (fails_right (is_text_sum (sorts_of scope) (Sum t)) _ h))
-places_ascend scope (Quoted t ∷ ts) h = places_ascend scope ts (fails_right (is_text_sum (sorts_of scope) (Quoted t)) _ h)
+places_ascend scope (Single x ∷ ts) h = places_ascend scope ts (or_false_right (is_text_sum (sorts_of scope) (Single x)) _ h)
+places_ascend scope (Sum t ∷ ts) h = (sum_ascends scope t.parts (or_false_left _ _ h), places_ascend scope ts (or_false_right (is_text_sum (sorts_of scope) (Sum t)) _ h))
+places_ascend scope (Quoted t ∷ ts) h = places_ascend scope ts (or_false_right (is_text_sum (sorts_of scope) (Quoted t)) _ h)
 
 -- ---- formulas
 
@@ -130,15 +131,15 @@ mutual
   goal_ascends scope n (negation f) h = goal_ascends scope n f h
   goal_ascends scope n (every_of fs) h = goals_ascend scope n fs h
   goal_ascends scope n (some_of fs) h = goals_ascend scope n fs h
-  goal_ascends scope n (implies f g) h = (goal_ascends scope n f (fails_left _ _ h), goal_ascends scope (n + quantifiers f) g (fails_right (some_below has_text_sum (sorts_of scope) f) _ h))
-  goal_ascends scope n (minus f g) h = (goal_ascends scope n f (fails_left _ _ h), goal_ascends scope (n + quantifiers f) g (fails_right (some_below has_text_sum (sorts_of scope) f) _ h))
+  goal_ascends scope n (implies f g) h = (goal_ascends scope n f (or_false_left _ _ h), goal_ascends scope (n + quantifiers f) g (or_false_right (some_below has_text_sum (sorts_of scope) f) _ h))
+  goal_ascends scope n (minus f g) h = (goal_ascends scope n f (or_false_left _ _ h), goal_ascends scope (n + quantifiers f) g (or_false_right (some_below has_text_sum (sorts_of scope) f) _ h))
   goal_ascends scope n (exists s k f) h = goal_ascends ((k, record { number = n; sort = s }) ∷ scope) (n + 1) f h
   goal_ascends scope n (forall s k f) h = goal_ascends ((k, record { number = n; sort = s }) ∷ scope) (n + 1) f h
 
   -- of a list
   goals_ascend : (scope : SlotScope) (n : ℕ) (fs : Logics FormAtom) → some_below_of has_text_sum (sorts_of scope) fs ≡ false → AllAtomsOf IsAscendingGoalAtom (goals_below scope n fs)
   goals_ascend scope n none h = tt
-  goals_ascend scope n (also f fs) h = (goal_ascends scope n f (fails_left _ _ h), goals_ascend scope (n + quantifiers f) fs (fails_right (some_below has_text_sum (sorts_of scope) f) _ h))
+  goals_ascend scope n (also f fs) h = (goal_ascends scope n f (or_false_left _ _ h), goals_ascend scope (n + quantifiers f) fs (or_false_right (some_below has_text_sum (sorts_of scope) f) _ h))
 
 -- the goal of a formula in which no text stands where a number has to
 pub accepted_ascending : (K : KnownNames) (h : List Column) (f : Form) → has_missorted K h f ≡ false → IsAscendingGoal (goal_of h f)

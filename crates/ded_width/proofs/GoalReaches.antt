@@ -20,12 +20,9 @@ use Rattle.ded_width.proofs.LineReaches.{row_in_reach, atoms_in_reach}
 use Rattle.ded_width.proofs.RenamedReaches.{renamed_in_reach}
 use Rattle.ded_width.proofs.PlanReaches.{name_in_reach}
 use Rattle.ded_width.proofs.ArgumentSlots.{arguments_distinct, arguments_ascending}
+use Rattle.ded_model.proofs.Bools.{or_assoc}
 
 -- ---- past the new slots
-
-or_assoc : (a b c : Bool) → ((a || b) || c) ≡ (a || (b || c))
-or_assoc true b c = refl
-or_assoc false b c = refl
 
 or_none : (a : Bool) → a ≡ (a || false)
 or_none true = refl

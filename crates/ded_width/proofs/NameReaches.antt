@@ -19,6 +19,7 @@ use Rattle.ded_width.proofs.LineReaches.{atoms_in_reach, tuple_ascending}
 use Rattle.ded_width.proofs.PlanReaches.{name_in_reach}
 use Rattle.ded_width.proofs.GoalReaches.{goal_in_reach}
 use Rattle.ded_width.proofs.AscendingGoals.{accepted_ascending}
+use Rattle.std.proofs.lemmas.Bool.{or_from}
 
 -- a name with its lines
 abbrev IsNameInReach : Measure → Type 0
@@ -32,14 +33,11 @@ tuples_in_reach h inserts m (t ∷ ts) s = both _ _ _ _ _ _ _ _ (atoms_in_reach 
 not_wide : (n : ℕ) → n ≤ 128 → nat_lt 128 n ≡ false
 not_wide n h = grind (arith, nat_tests)
 
-neither : (a b : Bool) → a ≡ false → b ≡ false → (a || b) ≡ false
-neither a b e f = rw (e, f)
-
 -- a closure or an interior
 near_in_reach : (m : Measure) → IsNameInReach m → IsNameInReach (near_measure m)
 near_in_reach m h =
     let more = higher m.b m.b m.rank (m.rank + m.columns) m.lines m.clash (omega arith) (omega arith) h in
-    record { lines = more.lines; rational = more.rational; tight = λ n. neither m.clash (is_wide_with m.b (m.rank + m.columns)) (more.tight n) (not_wide _ n) }
+    record { lines = more.lines; rational = more.rational; tight = λ n. or_from m.clash (is_wide_with m.b (m.rank + m.columns)) (more.tight n) (not_wide _ n) }
 
 -- so are all names
 read_in_reach : (M : Measures) → AreInReach M → AreInReach (read_measure M)

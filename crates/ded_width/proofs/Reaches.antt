@@ -17,6 +17,7 @@ use Rattle.ded_model.proofs.Members.{In-split}
 use Rattle.ded_model.proofs.LineLengths.{within_more, elim-within, no_clash}
 use Rattle.ded_model.proofs.LineSlots.{elim_slots}
 use Rattle.ded_width.specs.Reach.{AreWithinReach, AreRationalLines}
+use Rattle.std.proofs.lemmas.Bool.{or_from}
 
 -- ---- numbers
 
@@ -74,9 +75,6 @@ pub record IsInReach (b q : ℕ) (ls : List Line) (clash : Bool) : Type 0 where
   pub rational : AreRationalLines ls
   pub tight : IsNarrowWith b q → clash ≡ false
 
-or_false : (a b : Bool) → a ≡ false → b ≡ false → (a || b) ≡ false
-or_false a b e f = rw (e, f)
-
 -- no lines
 pub nothing : (b q : ℕ) → IsInReach b q [] false
 nothing b q = record { lines = λ l i. absurd i; rational = λ l i. absurd i; tight = λ n. refl }
@@ -105,7 +103,7 @@ both b d i j xs ys c e m n =
     record {
       lines = λ l x. elim (In-split l xs ys x) [ inl a ↦ m'.lines l a | inr a ↦ n'.lines l a ];
       rational = λ l x. elim (In-split l xs ys x) [ inl a ↦ m.rational l a | inr a ↦ n.rational l a ];
-      tight = λ a. or_false c e (m'.tight a) (n'.tight a);
+      tight = λ a. or_from c e (m'.tight a) (n'.tight a);
     }
 
 -- an elimination mentions slots that its lines mention
@@ -119,10 +117,10 @@ past b q Rat (slot s) ls c n =
     record {
       lines = subst (λ m. AreWithin m (elim_at s ls)) (sym (double_reach b q)) (elim-within s ls (reach b q) n.lines);
       rational = elim_rational s ls n.rational;
-      tight = λ a. or_false c _ (m.tight a) (no_clash s ls (λ l i. within_more _ _ l (short_below b q a) (n.lines l i)));
+      tight = λ a. or_from c _ (m.tight a) (no_clash s ls (λ l i. within_more _ _ l (short_below b q a) (n.lines l i)));
     }
-past b q Rat (name x) ls c n = let m = higher b b q (suc q) ls c (omega arith) (omega arith) n in record { lines = m.lines; rational = m.rational; tight = λ a. or_false c false (m.tight a) refl }
-past b q Text k ls c n = record { lines = n.lines; rational = n.rational; tight = λ a. or_false c false (n.tight a) refl }
+past b q Rat (name x) ls c n = let m = higher b b q (suc q) ls c (omega arith) (omega arith) n in record { lines = m.lines; rational = m.rational; tight = λ a. or_from c false (m.tight a) refl }
+past b q Text k ls c n = record { lines = n.lines; rational = n.rational; tight = λ a. or_from c false (n.tight a) refl }
 
 -- ---- formulas
 

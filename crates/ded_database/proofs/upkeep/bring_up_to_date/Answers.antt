@@ -1,10 +1,11 @@
 use Rattle.std.proofs.Common.{take, sym, ap, ◌∙◌, subst}
 use Rattle.ded_database.specs.Changes.{before, after, inserted_tuple}
 use Rattle.ded_database.specs.Held.{IsUpheld}
-use Rattle.ded_database.proofs.Ready.{on_err_always, first_ones, upheld_left, held_after, ready}
+use Rattle.ded_database.proofs.Ready.{on_err_always, upheld_left, held_after, ready}
 use Rattle.ded_database.proofs.ListsStaying.{has_others}
 use Rattle.ded_database.proofs.Views.{changes_relation}
 use Rattle.ded_database.proofs.upkeep.bring_up_to_date.Goals as goal
+use Rattle.ded_query.proofs.Gathered.{front_kept}
 
 pub take_stale-requires-clause-relation : goal.take_stale-requires-clause-relation
 take_stale-requires-clause-relation c =
@@ -33,5 +34,5 @@ pub returns-clause-err : goal.returns-clause-err
 returns-clause-err c =
     let b = before c.args.change.now in
     let n = c.args.change.now.name.now in
-    subst (IsUpheld b c.args.marks.now) (sym (c.keep_first.ensures ∙ ap (λ i. take i c.renew_all.new.held) c.count-count.ensures ∙ first_ones c.take_stale.new.held c.renew_all.new.held c.renew_all.ensures.front))
+    subst (IsUpheld b c.args.marks.now) (sym (c.keep_first.ensures ∙ ap (λ i. take i c.renew_all.new.held) c.count-count.ensures ∙ front_kept c.take_stale.new.held c.renew_all.new.held c.renew_all.ensures.front))
     (upheld_left b n c.args.marks.now c.args.held.now c.requires.upheld c.take_stale.new.held c.take_stale.ensures.left)

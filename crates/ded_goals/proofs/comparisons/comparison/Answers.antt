@@ -7,10 +7,11 @@ use Rattle.ded_model.proofs.Rows.{or_left, or_right}
 use Rattle.ded_goals.specs.Scope.{sum_over}
 use Rattle.ded_goals.specs.Tuples.{IsTextSide}
 use Rattle.ded_goals.proofs.Denominators.{goal_over}
-use Rattle.ded_goals.proofs.Summing.{fails_right, in_code}
+use Rattle.ded_goals.proofs.Summing.{in_code}
 use Rattle.ded_goals.proofs.Fitting.{text_sides}
 use Rattle.ded_goals.proofs.comparisons.comparison.Goals as goal
 use Rattle.ded_goals.proofs.comparisons.comparison.Goals.{then-is_text-via-then-is_text, then-is_text-via-else-is_text+then-is_text-2}
+use Rattle.ded_model.proofs.Bools.{or_false_right}
 
 pub returns-then-is_text-clause-normal : goal.returns-then-is_text-clause-normal
 returns-then-is_text-clause-normal c = λ sorted.
@@ -19,7 +20,7 @@ returns-then-is_text-clause-normal c = λ sorted.
       | then-is_text-via-then-is_text w ↦ or_left _ _ (sym w.if-is_text.ensures)
       | then-is_text-via-else-is_text+then-is_text-2 w ↦ or_right (is_text_operand scope c.args.left.now) _ (sym w.if-is_text-2.ensures)
     ] in
-    let sides = text_sides scope c.args.left.now c.args.right.now c.args.op (fails_right _ _ sorted) some in
+    let sides = text_sides scope c.args.left.now c.args.right.now c.args.op (or_false_right _ _ sorted) some in
     c.texts.ensures.normal (subst IsTextSide (sym c.text_side.ensures) sides.0) (subst IsTextSide (sym c.text_side-then-is_text.ensures) sides.1)
 
 pub returns-clause-goal : goal.returns-clause-goal

@@ -18,8 +18,8 @@ use Rattle.ded_query.proofs.Entries.{view_goal, view_posed, view_low, view_level
 use Rattle.ded_query.proofs.Evaluable.{evaluable}
 use Rattle.ded_query.proofs.Evaluations.{evaluated_of, evaluated_part, clash_of_goal}
 use Rattle.ded_query.proofs.Gathered.{gathered_none, gathered_more, front_none, front_more, named_more, posed_scans, posed_known, posed_levels, posed_clash}
-use Rattle.ded_query.proofs.Names.{of_named}
 use Rattle.ded_query.proofs.gathering.+evaluated.Goals as goal
+use Rattle.ded_views.proofs.Named.{of_named}
 
 -- ---- evaluated
 
