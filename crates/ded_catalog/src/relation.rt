@@ -7,6 +7,7 @@ ghost use Rattle.ded_catalog.specs.Tuples.{AreUpTo, refusal_of, IsSame, Pushes, 
 
 use crate::stored::Relation;
 use ded_model::command::Refusal;
+use ded_model::limits;
 use ded_model::tuple::Tuple;
 
 impl Relation {
@@ -16,7 +17,7 @@ impl Relation {
     {
         if self.tuples.len() >= limit as usize {
             Some(Refusal::Full)
-        } else if self.inserts == u32::MAX {
+        } else if self.inserts == limits::INSERTS {
             Some(Refusal::Spent)
         } else {
             None

@@ -3,4 +3,3 @@ pub mod ScanCounts
 pub mod AdditivePlans
 pub mod AloneMeanings
 pub mod Appended
-pub mod RowsEvaluated

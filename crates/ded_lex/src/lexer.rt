@@ -2,7 +2,7 @@
 ghost use Rattle.std.specs.Prelude.{◌≡◌, ◌<◌, ◌≤◌, ◌+◌, ◌++◌, ℕ, List, length, IfOk, IfErr, All};
 ghost use Rattle.ded_lex.specs.declared.token.Token.{Token};
 ghost use Rattle.ded_lex.specs.Fronts.{front_tokens};
-ghost use Rattle.ded_lex.specs.Tokens.{AreTokens, token_text};
+ghost use Rattle.ded_lex.specs.Tokens.{AreTokens};
 
 use crate::front::{Front, front_of};
 use crate::token::{LexFault, Token, TokenList};
@@ -47,13 +47,4 @@ pub fn tokens(alloc: Global, bytes: &[u8]) -> Result<TokenList, LexFault>
         at += front.length;
     }
     Ok(TokenList::of(list))
-}
-
-/// The bytes of a token.
-pub fn text_of(bytes: &[u8], token: Token) -> &[u8]
-    requires ordered { token.start ≤ token.end }
-    requires within { token.end ≤ length bytes.now }
-    ensures { result.now ≡ token_text bytes.now token }
-{
-    &bytes[token.start as usize..token.end as usize]
 }

@@ -26,6 +26,6 @@ pub use laws::{
     blank_bytes_have_no_token, cut_goes_on, each_input_is_cut, one_cut, one_token_list,
     piece_stays_whole, tokens_say_what_bytes_say, tokens_stand_in_order,
 };
-pub use lexer::{text_of, tokens};
+pub use lexer::tokens;
 pub use splitter::{Fed, Rest, Splitter};
 pub use token::{LexFault, Token, TokenKind, TokenList};

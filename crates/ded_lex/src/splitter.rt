@@ -2,6 +2,7 @@
 ghost use Rattle.std.specs.Prelude.{◌≡◌, ◌≤◌, vec_len};
 
 use crate::state::{State, is_still_blank, may_end_blank, turn};
+use ded_model::limits::STATEMENT_BYTES;
 use ded_model::memory::NoMemory;
 use std::alloc::Global;
 
@@ -26,9 +27,6 @@ pub enum Rest {
     /// Anything else, of more than 65,536 bytes.
     CutLong,
 }
-
-/// How many bytes of a piece are kept.
-const LONGEST: usize = 65_536;
 
 /// Cuts a stream of bytes into pieces, a byte at a time, in one buffer of 65,536 bytes. Of a longer piece it keeps no
 /// more than that.
@@ -60,7 +58,7 @@ impl Splitter {
         ensures { IfOk result (λ s. Since s []) }
     {
         Ok(Splitter {
-            kept: vec![in alloc; 0u8; LONGEST]?,
+            kept: vec![in alloc; 0u8; STATEMENT_BYTES]?,
             count: 0,
             state: State::Plain,
             blank: true,
@@ -90,8 +88,8 @@ impl Splitter {
             Some(next) => {
                 self.blank = is_still_blank(self.blank, self.state, byte);
                 self.state = next;
-                if self.count >= LONGEST {
-                    self.count = LONGEST + 1;
+                if self.count >= STATEMENT_BYTES {
+                    self.count = STATEMENT_BYTES + 1;
                     return Fed::More;
                 }
                 self.kept[self.count] = byte;
@@ -99,8 +97,8 @@ impl Splitter {
                 Fed::More
             }
             None => {
-                let long = self.count > LONGEST;
-                self.ended = self.count.min(LONGEST);
+                let long = self.count > STATEMENT_BYTES;
+                self.ended = self.count.min(STATEMENT_BYTES);
                 self.count = 0;
                 self.state = State::Plain;
                 self.blank = true;
@@ -128,7 +126,7 @@ impl Splitter {
         if self.is_blank() {
             return Rest::Blank;
         }
-        if self.count > LONGEST {
+        if self.count > STATEMENT_BYTES {
             return Rest::CutLong;
         }
         Rest::Cut

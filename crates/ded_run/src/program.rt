@@ -11,6 +11,7 @@ use crate::dialogue::Dialogue;
 use crate::made::feed_script;
 use crate::words::{WordFault, Words, options_in};
 use ded_io::{Failed, Sink, Source};
+use ded_model::limits;
 use std::alloc::Global;
 
 /// The limits of a run.
@@ -161,8 +162,6 @@ pub fn make<K: Sink>(alloc: Global, setup: &Setup, size: u32, sink: &mut K) -> S
     conclude(&mut dialogue, sink)
 }
 
-const INPUT_LIMIT: u64 = 1 << 40;
-
 /// All that the program does: reads the words, and then serves, or makes a script where they ask for one. Names are
 /// hashed by the keys.
 pub fn run<S: Source, K: Sink>(
@@ -199,7 +198,7 @@ pub fn run<S: Source, K: Sink>(
     };
     let setup = Setup {
         limit: options.limit,
-        input_limit: INPUT_LIMIT,
+        input_limit: limits::INPUT_BYTES,
         keys,
     };
     match options.size {

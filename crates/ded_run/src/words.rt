@@ -9,6 +9,7 @@ ghost use Rattle.ded_run.specs.Words.{AcceptedWords, IsNumber, LimitValue, SizeV
 
 use clap::error::ErrorKind;
 use clap::{Arg, ArgAction, Command};
+use ded_model::limits;
 use ded_model::memory::NoMemory;
 use std::alloc::Global;
 
@@ -28,8 +29,6 @@ pub struct Options {
 }
 
 const DEFAULT_LIMIT: u32 = 100_000;
-
-const GREATEST_LIMIT: u32 = 1_000_000;
 
 const GREATEST_SIZE: u32 = 100;
 
@@ -135,7 +134,7 @@ fn limit_of(value: Option<&str>) -> Option<u32>
         (λ limit. LimitValue (option_map (λ t. t.now) value.entry) limit) }
 {
     match value {
-        Some(text) => number_of(text, GREATEST_LIMIT),
+        Some(text) => number_of(text, limits::TUPLES),
         None => Some(DEFAULT_LIMIT),
     }
 }

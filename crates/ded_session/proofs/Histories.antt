@@ -34,8 +34,11 @@ use Rattle.ded_database.specs.Upkeep.{IsTightView}
 use Rattle.ded_database.proofs.Under.{same_name, other_left}
 use Rattle.ded_database.specs.State.{State, catalogue_at, is_kept, IsSound}
 use Rattle.ded_database.specs.Steps.{KeepsLists, Marks, Unmarks}
-use Rattle.ded_session.specs.Histories.{Turn, IsTurn, AreTurns, last_state, renews, loses, SpellsSome, NoneRenews, IsLost}
-use Rattle.ded_session.specs.Keeping.{Upholds, UpholdsPiece, KeepsUpLists, LosesLists}
+use Rattle.ded_session.specs.declared.session.Piece.{Piece}
+use Rattle.ded_session.specs.declared.session.Piece.TheVariants as piece
+use Rattle.ded_session.specs.Histories.{Turn, IsTurn, AreTurns, last_state, renews, loses, SpellsSome, PieceSpells, NoneRenews, IsLost}
+use Rattle.ded_session.specs.Pieces.{StepsPiece}
+use Rattle.ded_session.specs.Keeping.{Upholds, UpholdsPiece, UpholdsStatement, KeepsUpLists, LosesLists}
 use Rattle.ded_session.specs.Replies.{ReplyForm, done, number, truth, tuples, stored, boxes, steps, refused}
 use Rattle.ded_session.specs.Runs.{next_language}
 use Rattle.ded_session.specs.Steps.{Does, Accepts, Step}
@@ -170,31 +173,37 @@ no_refusal c (insert n fs) q v e = true≢false (sym e)
 no_refusal c (delete n k) q v e = true≢false (sym e)
 no_refusal c _ q v e = true≢false (sym e)
 
--- whether a piece spells a command that passes a test is decided
-decided : (l : Language) (piece : List ℕ) (test : CommandForm → Bool) → SpellsSome l piece test ⊎ (SpellsSome l piece test → ⊥)
-decided l piece test = elim (spelling_decided l piece) [
+-- whether bytes, or a piece, spell a command that passes a test is decided
+decided : (l : Language) (bytes : List ℕ) (test : CommandForm → Bool) → SpellsSome l bytes test ⊎ (SpellsSome l bytes test → ⊥)
+decided l bytes test = elim (spelling_decided l bytes) [
   | inl x ↦ by x.0 x.1 x.2 (test x.0) refl
   | inr none ↦ inr (λ y. none y.command y.depth y.spells)
 ]
   where
-    by : (x : CommandForm) (depth : ℕ) → Spells l piece x depth → (b : Bool) → test x ≡ b → SpellsSome l piece test ⊎ (SpellsSome l piece test → ⊥)
+    by : (x : CommandForm) (depth : ℕ) → Spells l bytes x depth → (b : Bool) → test x ≡ b → SpellsSome l bytes test ⊎ (SpellsSome l bytes test → ⊥)
     by x depth k true e = inl (record { command = x; depth = depth; spells = k; passes = e })
-    by x depth k false e = inr (λ y. true≢false (sym y.passes ∙ ap test (one_command l piece y.command x y.depth depth y.spells k).0 ∙ e))
+    by x depth k false e = inr (λ y. true≢false (sym y.passes ∙ ap test (one_command l bytes y.command x y.depth depth y.spells k).0 ∙ e))
 
-module _ (l : Language) (s : State) (x : Turn) (v : List ℕ) (a : IsSound s) (k : IsTurn l s x) where
+piece_decided : (l : Language) (p : Piece) (test : CommandForm → Bool) → PieceSpells l p test ⊎ (PieceSpells l p test → ⊥)
+piece_decided l (piece.Whole bytes) test = decided l bytes.now test
+piece_decided l piece.Long test = inr (λ h. h)
+piece_decided l piece.Cut test = inr (λ h. h)
+
+-- of a whole piece
+module _ (l : Language) (s t : State) (bytes v : List ℕ) (a : IsSound s) (b : IsSound t) where
   -- an accepted one
-  accepted : (reply : ReplyForm) → Accepts l (Whole x.piece) (catalogue_at s) (λ y. Does y (catalogue_at s) reply (catalogue_at x.left)) → UpholdsPiece l x.piece reply s x.left → IsDue s v → IsDue x.left v
+  accepted : (reply : ReplyForm) → Accepts l (Whole bytes) (catalogue_at s) (λ y. Does y (catalogue_at s) reply (catalogue_at t)) → UpholdsPiece l bytes reply s t → IsDue s v → IsDue t v
   accepted reply y p due = by (renews (catalogue_at s) y.command reply v) refl
     where
       u : has_cause Used (catalogue_at s) y.command ≡ false
       u = false_from_ne_true (has_cause Used (catalogue_at s) y.command) (λ e. y.none Used (record { command = y.command; depth = y.depth; spells = y.spells; cause = e }))
 
-      by : (b : Bool) → renews (catalogue_at s) y.command reply v ≡ b → IsDue x.left v
-      by true e = gives s x.left v a k.sound y.command reply y.so (p.spelled y.command y.depth y.spells) e
-      by false e = after_answer s x.left v a k.sound due y.command reply u y.so (p.spelled y.command y.depth y.spells) e
+      by : (d : Bool) → renews (catalogue_at s) y.command reply v ≡ d → IsDue t v
+      by true e = gives s t v a b y.command reply y.so (p.spelled y.command y.depth y.spells) e
+      by false e = after_answer s t v a b due y.command reply u y.so (p.spelled y.command y.depth y.spells) e
 
   -- unless it may lose the list, the list stays due
-  stays : (reply : ReplyForm) → Step l (catalogue_at s) (Whole x.piece) reply (catalogue_at x.left) → UpholdsPiece l x.piece reply s x.left → (SpellsSome l x.piece (λ y. loses (catalogue_at s) y reply v) → ⊥) → IsDue s v → IsDue x.left v
+  stays : (reply : ReplyForm) → Step l (catalogue_at s) (Whole bytes) reply (catalogue_at t) → UpholdsPiece l bytes reply s t → (SpellsSome l bytes (λ y. loses (catalogue_at s) y reply v) → ⊥) → IsDue s v → IsDue t v
   stays done y p n due = accepted done y p due
   stays (number j) y p n due = accepted (number j) y p due
   stays (truth b) y p n due = accepted (truth b) y p due
@@ -202,19 +211,19 @@ module _ (l : Language) (s : State) (x : Turn) (v : List ℕ) (a : IsSound s) (k
   stays (stored h ts) y p n due = accepted (stored h ts) y p due
   stays (boxes h b) y p n due = accepted (boxes h b) y p due
   stays (steps plan) y p n due = accepted (steps plan) y p due
-  stays (refused q) y p n due = elim (spelling_decided l x.piece) [
-    | inl z ↦ after_refused s x.left v a k.sound due z.0 q y.1 (p.spelled z.0 z.1 z.2)
+  stays (refused q) y p n due = elim (spelling_decided l bytes) [
+    | inl z ↦ after_refused s t v a b due z.0 q y.1 (p.spelled z.0 z.1 z.2)
         (false_from_ne_true (loses (catalogue_at s) z.0 (refused q) v) (λ e. n (record { command = z.0; depth = z.1; spells = z.2; passes = e })))
-    | inr none ↦ same_lists s x.left v a k.sound due y.1 (p.other none)
+    | inr none ↦ same_lists s t v a b due y.1 (p.other none)
   ]
 
   -- one that has the list made
-  renewed : (reply : ReplyForm) → Accepts l (Whole x.piece) (catalogue_at s) (λ y. Does y (catalogue_at s) reply (catalogue_at x.left)) → UpholdsPiece l x.piece reply s x.left
-      → SpellsSome l x.piece (λ y. renews (catalogue_at s) y reply v) → IsDue x.left v
-  renewed reply y p r = gives s x.left v a k.sound y.command reply y.so (p.spelled y.command y.depth y.spells)
-      (ap (λ z. renews (catalogue_at s) z reply v) (one_command l x.piece y.command r.command y.depth r.depth y.spells r.spells).0 ∙ r.passes)
+  renewed : (reply : ReplyForm) → Accepts l (Whole bytes) (catalogue_at s) (λ y. Does y (catalogue_at s) reply (catalogue_at t)) → UpholdsPiece l bytes reply s t
+      → SpellsSome l bytes (λ y. renews (catalogue_at s) y reply v) → IsDue t v
+  renewed reply y p r = gives s t v a b y.command reply y.so (p.spelled y.command y.depth y.spells)
+      (ap (λ z. renews (catalogue_at s) z reply v) (one_command l bytes y.command r.command y.depth r.depth y.spells r.spells).0 ∙ r.passes)
 
-  made : (reply : ReplyForm) → Step l (catalogue_at s) (Whole x.piece) reply (catalogue_at x.left) → UpholdsPiece l x.piece reply s x.left → SpellsSome l x.piece (λ y. renews (catalogue_at s) y reply v) → IsDue x.left v
+  made : (reply : ReplyForm) → Step l (catalogue_at s) (Whole bytes) reply (catalogue_at t) → UpholdsPiece l bytes reply s t → SpellsSome l bytes (λ y. renews (catalogue_at s) y reply v) → IsDue t v
   made done y p r = renewed done y p r
   made (number j) y p r = renewed (number j) y p r
   made (truth b) y p r = renewed (truth b) y p r
@@ -224,6 +233,19 @@ module _ (l : Language) (s : State) (x : Turn) (v : List ℕ) (a : IsSound s) (k
   made (steps plan) y p r = renewed (steps plan) y p r
   made (refused q) y p r = absurd (no_refusal (catalogue_at s) r.command q v r.passes)
 
+-- of any piece: a long one and a cut one change nothing
+piece_stays : (l : Language) (s t : State) (p : Piece) (reply : ReplyForm) (v : List ℕ) → IsSound s → IsSound t → StepsPiece p l (catalogue_at s) reply (catalogue_at t) → UpholdsStatement p l reply s t
+    → (PieceSpells l p (λ y. loses (catalogue_at s) y reply v) → ⊥) → IsDue s v → IsDue t v
+piece_stays l s t (piece.Whole bytes) reply v a b y p n due = stays l s t bytes.now v a b reply y p n due
+piece_stays l s t piece.Long reply v a b y p n due = same_lists s t v a b due y.1 p
+piece_stays l s t piece.Cut reply v a b y p n due = same_lists s t v a b due y.1 p
+
+piece_made : (l : Language) (s t : State) (p : Piece) (reply : ReplyForm) (v : List ℕ) → IsSound s → IsSound t → StepsPiece p l (catalogue_at s) reply (catalogue_at t) → UpholdsStatement p l reply s t
+    → PieceSpells l p (λ y. renews (catalogue_at s) y reply v) → IsDue t v
+piece_made l s t (piece.Whole bytes) reply v a b y p r = made l s t bytes.now v a b reply y p r
+piece_made l s t piece.Long reply v a b y p r = absurd r
+piece_made l s t piece.Cut reply v a b y p r = absurd r
+
 -- ---- statements one after another
 
 mutual
@@ -231,17 +253,17 @@ mutual
   if_due : (xs : List Turn) (l : Language) (s : State) (v : List ℕ) → IsSound s → AreTurns l s xs → IsDue s v → is_kept (last_state s xs) v ≡ true → IsTightView (catalogue_at (last_state s xs)) v
       → held_under (last_state s xs).held v ≡ None → IsLost l s xs v
   if_due [] l s v a k due m i e = absurd (true≢false (sym (due m i) ∙ ap is_some e))
-  if_due (x ∷ xs) l s v a k due m i e = elim (decided l x.piece (λ y. loses (catalogue_at s) y x.reply v)) [
+  if_due (x ∷ xs) l s v a k due m i e = elim (piece_decided l x.piece (λ y. loses (catalogue_at s) y x.reply v)) [
     | inl y ↦ elim (if_none xs (next_language l) x.left v k.0.sound k.1 m i e) [ inl n ↦ inl (y, n) | inr n ↦ inr n ]
-    | inr n ↦ inr (if_due xs (next_language l) x.left v k.0.sound k.1 (stays l s x v a k.0 x.reply k.0.step k.0.upholds n due) m i e)
+    | inr n ↦ inr (if_due xs (next_language l) x.left v k.0.sound k.1 (piece_stays l s x.left x.piece x.reply v a k.0.sound k.0.step k.0.upholds n due) m i e)
   ]
 
   -- and else no statement had it made since, or one did and it was lost after that
   if_none : (xs : List Turn) (l : Language) (s : State) (v : List ℕ) → IsSound s → AreTurns l s xs → is_kept (last_state s xs) v ≡ true → IsTightView (catalogue_at (last_state s xs)) v
       → held_under (last_state s xs).held v ≡ None → NoneRenews l s xs v ⊎ IsLost l s xs v
   if_none [] l s v a k m i e = inl tt
-  if_none (x ∷ xs) l s v a k m i e = elim (decided l x.piece (λ y. renews (catalogue_at s) y x.reply v)) [
-    | inl y ↦ inr (inr (if_due xs (next_language l) x.left v k.0.sound k.1 (made l s x v a k.0 x.reply k.0.step k.0.upholds y) m i e))
+  if_none (x ∷ xs) l s v a k m i e = elim (piece_decided l x.piece (λ y. renews (catalogue_at s) y x.reply v)) [
+    | inl y ↦ inr (inr (if_due xs (next_language l) x.left v k.0.sound k.1 (piece_made l s x.left x.piece x.reply v a k.0.sound k.0.step k.0.upholds y) m i e))
     | inr n ↦ elim (if_none xs (next_language l) x.left v k.0.sound k.1 m i e) [ inl y ↦ inl (n, y) | inr y ↦ inr (inr y) ]
   ]
 

@@ -1,7 +1,6 @@
 -- What becomes of the list of a kept view over statements one after another.
 use Rattle.std.specs.Prelude.{◌≡◌, ◌⊎◌, ℕ, Bool, true, false, List, [], ◌∷◌}
 use Rattle.std.specs.Str.{bytes_eq}
-use Rattle.ded_lex.specs.Pieces.{Whole}
 use Rattle.ded_model.specs.declared.command.Language.{Language}
 use Rattle.ded_model.specs.declared.command.Refusal.TheVariants.{Memory}
 use Rattle.ded_model.specs.Catalogue.{Catalogue}
@@ -9,21 +8,23 @@ use Rattle.ded_model.specs.Command.{CommandForm, insert, delete, keep}
 use Rattle.ded_syntax.specs.Spelling.{Spells}
 use Rattle.ded_views.specs.Reaching.{reaches}
 use Rattle.ded_database.specs.State.{State, catalogue_at, IsSound}
-use Rattle.ded_session.specs.Keeping.{UpholdsPiece}
+use Rattle.ded_session.specs.declared.session.Piece.{Piece}
+use Rattle.ded_session.specs.declared.session.Piece.TheVariants as piece
+use Rattle.ded_session.specs.Keeping.{UpholdsStatement}
+use Rattle.ded_session.specs.Pieces.{StepsPiece}
 use Rattle.ded_session.specs.Replies.{ReplyForm, done, number, refused}
 use Rattle.ded_session.specs.Runs.{next_language}
-use Rattle.ded_session.specs.Steps.{Step}
 
--- a whole piece, its reply, and the state that it leaves
+-- a piece, whole, long or cut, its reply, and the state that it leaves
 pub record Turn : Type 0 where
-  pub piece : List ℕ
+  pub piece : Piece
   pub reply : ReplyForm
   pub left : State
 
 -- one step of the rules, over a state that is sound, to one that is
 pub record IsTurn (language : Language) (s : State) (x : Turn) : Type 0 where
-  pub step : Step language (catalogue_at s) (Whole x.piece) x.reply (catalogue_at x.left)
-  pub upholds : UpholdsPiece language x.piece x.reply s x.left
+  pub step : StepsPiece x.piece language (catalogue_at s) x.reply (catalogue_at x.left)
+  pub upholds : UpholdsStatement x.piece language x.reply s x.left
   pub sound : IsSound x.left
 
 abbrev pub AreTurns : Language → State → List Turn → Type 0
@@ -49,18 +50,24 @@ loses c (insert n fs) (refused Memory) v = reaches c v n
 loses c (delete n k) (refused Memory) v = reaches c v n
 loses c _ _ v = false
 
--- the piece spells a command that passes the test
-pub record SpellsSome (language : Language) (piece : List ℕ) (test : CommandForm → Bool) : Type 0 where
+-- the bytes spell a command that passes the test
+pub record SpellsSome (language : Language) (bytes : List ℕ) (test : CommandForm → Bool) : Type 0 where
   pub command : CommandForm
   pub depth : ℕ
-  pub spells : Spells language piece command depth
+  pub spells : Spells language bytes command depth
   pub passes : test command ≡ true
 
+-- those of a whole piece do; a long and a cut one spell none
+abbrev pub PieceSpells : Language → Piece → (CommandForm → Bool) → Type 0
+PieceSpells language (piece.Whole bytes) test = SpellsSome language bytes.now test
+PieceSpells language piece.Long test = ⊥
+PieceSpells language piece.Cut test = ⊥
+
 abbrev pub Renews : Language → State → Turn → List ℕ → Type 0
-Renews language s x v = SpellsSome language x.piece (λ command. renews (catalogue_at s) command x.reply v)
+Renews language s x v = PieceSpells language x.piece (λ command. renews (catalogue_at s) command x.reply v)
 
 abbrev pub Loses : Language → State → Turn → List ℕ → Type 0
-Loses language s x v = SpellsSome language x.piece (λ command. loses (catalogue_at s) command x.reply v)
+Loses language s x v = PieceSpells language x.piece (λ command. loses (catalogue_at s) command x.reply v)
 
 -- ---- statements one after another
 

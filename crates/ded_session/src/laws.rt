@@ -67,7 +67,7 @@ pub fn accepted_statements()
         Run limit (script_of (accepted run.statements replies)) (accepted_replies replies) last }
 {}
 
-/// Over steps one after another no list is held of a kept view only where its formula isn't tight, or where a list may
+/// Over pieces one after another, whole, long or cut, no list is held of a kept view only where its formula isn't tight, or where a list may
 /// have been lost: an insert or a delete in a relation that the view reaches was refused as out of memory, and since
 /// then none was accepted there, nor a `keep` of the view.
 pub fn lost_lists()

@@ -3,15 +3,15 @@ use Rattle.ded_lex.proofs.Feeding.{more_short, more_long, cut_here, kept_whole, 
 use Rattle.ded_lex.specs.Splits.{Since, ended_piece}
 use Rattle.ded_lex.proofs.splitter.Splitter.feed.Goals as goal
 
-pub returns-then-self-ge-LONGEST-clause-more : goal.returns-then-self-ge-LONGEST-clause-more
+pub returns-then-self-ge-STATEMENT_BYTES-clause-more : goal.returns-then-self-ge-STATEMENT_BYTES-clause-more
 unfolding Since ended_piece
-returns-then-self-ge-LONGEST-clause-more c = λ is bytes f.
-    more_long _ _ _ _ _ _ _ _ c.if-self-ge-LONGEST.true (sym c.in-Some.ensures) c.is_still_blank-self.ensures f
+returns-then-self-ge-STATEMENT_BYTES-clause-more c = λ is bytes f.
+    more_long _ _ _ _ _ _ _ _ c.if-self-ge-STATEMENT_BYTES.true (sym c.in-Some.ensures) c.is_still_blank-self.ensures f
 
-pub returns-else-self-ge-LONGEST-clause-more : goal.returns-else-self-ge-LONGEST-clause-more
+pub returns-else-self-ge-STATEMENT_BYTES-clause-more : goal.returns-else-self-ge-STATEMENT_BYTES-clause-more
 unfolding Since ended_piece
-returns-else-self-ge-LONGEST-clause-more c = λ is bytes f.
-    more_short _ _ _ _ _ _ _ _ (omega (arith, c.args.self.now.room, c.args.self.now.kept.ok.0)) c.if-self-ge-LONGEST.false (sym c.in-Some.ensures) c.is_still_blank-self.ensures f
+returns-else-self-ge-STATEMENT_BYTES-clause-more c = λ is bytes f.
+    more_short _ _ _ _ _ _ _ _ (omega (arith, c.args.self.now.room, c.args.self.now.kept.ok.0)) c.if-self-ge-STATEMENT_BYTES.false (sym c.in-Some.ensures) c.is_still_blank-self.ensures f
 
 pub returns-then-long-clause-ended_long : goal.returns-then-long-clause-ended_long
 unfolding Since ended_piece

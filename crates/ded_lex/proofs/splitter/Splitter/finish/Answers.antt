@@ -13,14 +13,14 @@ unfolding Since
 returns-then-is_blank-clause-blank c = λ is bytes f.
     blank_tells _ _ _ f.walks f.blanks (sym c.is_blank.ensures ∙ c.if-is_blank.true)
 
-pub returns-then-self-gt-LONGEST-clause-rest : goal.returns-then-self-gt-LONGEST-clause-rest
+pub returns-then-self-gt-STATEMENT_BYTES-clause-rest : goal.returns-then-self-gt-STATEMENT_BYTES-clause-rest
 unfolding Since
-returns-then-self-gt-LONGEST-clause-rest c = λ bytes f. none_ended _ _ _ _ _ f
+returns-then-self-gt-STATEMENT_BYTES-clause-rest c = λ bytes f. none_ended _ _ _ _ _ f
 
-pub returns-then-self-gt-LONGEST-clause-cut_long : goal.returns-then-self-gt-LONGEST-clause-cut_long
+pub returns-then-self-gt-STATEMENT_BYTES-clause-cut_long : goal.returns-then-self-gt-STATEMENT_BYTES-clause-cut_long
 unfolding Since
-returns-then-self-gt-LONGEST-clause-cut_long c = λ is bytes f.
-    (cut_tells _ _ _ f.walks f.blanks (sym c.is_blank.ensures ∙ c.if-is_blank.false), omega (arith, f.counts, c.if-self-gt-LONGEST.true))
+returns-then-self-gt-STATEMENT_BYTES-clause-cut_long c = λ is bytes f.
+    (cut_tells _ _ _ f.walks f.blanks (sym c.is_blank.ensures ∙ c.if-is_blank.false), omega (arith, f.counts, c.if-self-gt-STATEMENT_BYTES.true))
 
 pub returns-clause-rest : goal.returns-clause-rest
 unfolding Since
@@ -29,4 +29,4 @@ returns-clause-rest c = λ bytes f. none_ended _ _ _ _ _ f
 pub returns-clause-cut : goal.returns-clause-cut
 unfolding Since
 returns-clause-cut c = λ is bytes f.
-    (cut_tells _ _ _ f.walks f.blanks (sym c.is_blank.ensures ∙ c.if-is_blank.false), omega (arith, f.counts, c.if-self-gt-LONGEST.false))
+    (cut_tells _ _ _ f.walks f.blanks (sym c.is_blank.ensures ∙ c.if-is_blank.false), omega (arith, f.counts, c.if-self-gt-STATEMENT_BYTES.false))
