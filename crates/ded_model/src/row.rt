@@ -189,10 +189,7 @@ impl Row {
     pub fn mentions(&self, slot: Slot) -> bool
         ensures { result ≡ row_mentions self.now slot }
     {
-        self.coefs
-            .list()
-            .iter()
-            .any(|entry| entry.0.is_same(slot))
+        self.coefs.list().iter().any(|entry| entry.0.is_same(slot))
     }
 
     /// An equal row.

@@ -51,4 +51,3 @@ used_known K f n k u = some_with (atom_uses n) (λ a. (m : List ℕ) → atom_us
     step (member x ts) h m e = subst (λ y. is_some (K (base y)) ≡ true) (sym ((bytes_eq-Decides m x).0 e)) (is_known (K (base x)) h)
 
 -- ---- lists of names
-
