@@ -6,6 +6,7 @@ pub mod Classical
 pub mod Closures
 pub mod CoefDivision
 pub mod CoefLemmas
+pub mod Comparisons
 pub mod Computing
 pub mod Core
 pub mod Deciding

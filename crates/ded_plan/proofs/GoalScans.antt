@@ -27,6 +27,7 @@ use Rattle.ded_model.proofs.Rows.{or_left, or_right}
 use Rattle.ded_model.proofs.Members.{or_split}
 use Rattle.ded_sorts.proofs.Scopes.{sorts_of, sort_in-slot}
 use Rattle.ded_sorts.proofs.Headings.{sorts_of-heading}
+use Rattle.ded_model.proofs.Comparisons.{comparison_has}
 use Rattle.ded_algebra.specs.Compiled.{place_sort, same_sorts, is_scanned_by}
 use Rattle.ded_algebra.specs.Evaluation.{HaveSorts}
 use Rattle.ded_model.proofs.Bools.{or_false_left, or_false_right}
@@ -38,52 +39,9 @@ module _ (n : List ℕ) (ss : List Slot) where
   abbrev ScansNone : GoalForm → Type 0
   ScansNone g = some_atom (is_scanned_by n ss) g ≡ false
 
-  -- a choice of goals
-  either_none : (b : Bool) (g g' : GoalForm) → ScansNone g → ScansNone g' → ScansNone (cond b g g')
-  either_none true g g' e f = e
-  either_none false g g' e f = f
-
-  -- the goal of a comparison of sums
-  sums_none : (l r : SlotSum) (op : CompareOp) → ScansNone (sums_goal l op r)
-  sums_none l r Less = refl
-  sums_none l r LessEq = refl
-  sums_none l r Equal = refl
-  sums_none l r NotEqual = refl
-  sums_none l r GreaterEq = refl
-  sums_none l r Greater = refl
-
-  -- of two texts that are the same
-  same_none : (l r : TextSide) → ScansNone (same_text_goal l r)
-  same_none (at s) (at t) =
-      let in_order = cond (nat_lt s.number t.number) (atom (theme (EqSlot s t))) (atom (theme (EqSlot t s))) in
-      either_none (same_slot s t) always in_order refl (either_none (nat_lt s.number t.number) (atom (theme (EqSlot s t))) (atom (theme (EqSlot t s))) refl refl)
-  same_none (at s) (word t) = refl
-  same_none (word t) (at s) = refl
-  same_none (word t) (word u) = either_none (bytes_eq t u) always never refl refl
-
-  -- of two texts that differ
-  other_none : (l r : TextSide) → ScansNone (other_text_goal l r)
-  other_none (at s) (at t) =
-      let in_order = cond (nat_lt s.number t.number) (atom (theme (NeSlot s t))) (atom (theme (NeSlot t s))) in
-      either_none (same_slot s t) never in_order refl (either_none (nat_lt s.number t.number) (atom (theme (NeSlot s t))) (atom (theme (NeSlot t s))) refl refl)
-  other_none (at s) (word t) = refl
-  other_none (word t) (at s) = refl
-  other_none (word t) (word u) = either_none (bytes_eq t u) never always refl refl
-
-  -- of any comparison of texts
-  texts_none : (l r : TextSide) (op : CompareOp) → ScansNone (texts_goal l op r)
-  texts_none l r Less = refl
-  texts_none l r LessEq = refl
-  texts_none l r Equal = same_none l r
-  texts_none l r NotEqual = other_none l r
-  texts_none l r GreaterEq = refl
-  texts_none l r Greater = refl
-
-  -- of any comparison
+  -- nor is one of any comparison
   comparison_none : (slots : SlotScope) (l : Operand) (op : CompareOp) (r : Operand) → ScansNone (compare_goal slots l op r)
-  comparison_none slots l op r =
-      either_none (is_text_operand slots l || is_text_operand slots r) (texts_goal (text_side slots l) op (text_side slots r)) (sums_goal (slot_sum slots l) op (slot_sum slots r))
-      (texts_none (text_side slots l) (text_side slots r) op) (sums_none (slot_sum slots l) (slot_sum slots r) op)
+  comparison_none slots l op r = comparison_has ScansNone (record { holds = refl; fails = refl; text = λ a. refl }) (record { row = λ q. refl; other = λ q. refl }) slots l r op
 
 -- ---- atoms of names
 

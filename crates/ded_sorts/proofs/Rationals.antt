@@ -26,6 +26,7 @@ use Rattle.ded_model.specs.Goal as goal
 use Rattle.ded_model.specs.Rational.{AreRationalCoefs, AreRationalPlaces, IsRationalGoalAtom, IsRationalGoal}
 use Rattle.ded_model.specs.Slotted.{SlotScope, slot_of, add_parts, slot_sum, sums_goal, TextSide, at, word, text_side, same_text_goal, other_text_goal, texts_goal, is_text_operand, place_of, atom_goal, goal_below, goals_below, goal_of, heading_scope}
 use Rattle.ded_model.specs.Known.{KnownNames, sort_in, sorts_differ, operand_sort, is_text_sum, is_missorted_atom, has_missorted}
+use Rattle.ded_model.proofs.Comparisons.{comparison_has}
 use Rattle.ded_sorts.proofs.Scopes.{sorts_of, sort_in-slot}
 use Rattle.ded_sorts.proofs.Headings.{sorts_of-heading}
 use Rattle.ded_sorts.proofs.Overs.{AreSlots, IsSideOver, ArePlacesOver, IsOver, put_slots, nonzero_slots, comparison_over}
@@ -33,52 +34,9 @@ use Rattle.ded_model.proofs.Bools.{or_false_left, or_false_right}
 
 -- ---- sorted goals
 
--- a choice of goals
-either_sorted : (b : Bool) (g g' : GoalForm) → IsSorted g → IsSorted g' → IsSorted (cond b g g')
-either_sorted true g g' e f = e
-either_sorted false g g' e f = f
-
--- the goal of a comparison of sums
-sums_sorted : (l r : SlotSum) (op : CompareOp) → IsSorted (sums_goal l op r)
-sums_sorted l r Less = tt
-sums_sorted l r LessEq = tt
-sums_sorted l r Equal = tt
-sums_sorted l r NotEqual = tt
-sums_sorted l r GreaterEq = tt
-sums_sorted l r Greater = tt
-
--- of two texts that are the same
-same_sorted : (l r : TextSide) → IsSorted (same_text_goal l r)
-same_sorted (at s) (at t) =
-    let in_order = cond (nat_lt s.number t.number) (atom (theme (EqSlot s t))) (atom (theme (EqSlot t s))) in
-    either_sorted (same_slot s t) always in_order tt (either_sorted (nat_lt s.number t.number) (atom (theme (EqSlot s t))) (atom (theme (EqSlot t s))) tt tt)
-same_sorted (at s) (word t) = tt
-same_sorted (word t) (at s) = tt
-same_sorted (word t) (word u) = either_sorted (bytes_eq t u) always never tt tt
-
--- of two texts that differ
-other_sorted : (l r : TextSide) → IsSorted (other_text_goal l r)
-other_sorted (at s) (at t) =
-    let in_order = cond (nat_lt s.number t.number) (atom (theme (NeSlot s t))) (atom (theme (NeSlot t s))) in
-    either_sorted (same_slot s t) never in_order tt (either_sorted (nat_lt s.number t.number) (atom (theme (NeSlot s t))) (atom (theme (NeSlot t s))) tt tt)
-other_sorted (at s) (word t) = tt
-other_sorted (word t) (at s) = tt
-other_sorted (word t) (word u) = either_sorted (bytes_eq t u) never always tt tt
-
--- of any comparison of texts
-texts_sorted : (l r : TextSide) (op : CompareOp) → IsSorted (texts_goal l op r)
-texts_sorted l r Less = tt
-texts_sorted l r LessEq = tt
-texts_sorted l r Equal = same_sorted l r
-texts_sorted l r NotEqual = other_sorted l r
-texts_sorted l r GreaterEq = tt
-texts_sorted l r Greater = tt
-
 -- the goal of an atom
 atom_sorted : (slots : SlotScope) (a : FormAtom) → IsSorted (atom_goal slots a)
-atom_sorted slots (compare l op r) =
-    either_sorted (is_text_operand slots l || is_text_operand slots r) (texts_goal (text_side slots l) op (text_side slots r)) (sums_goal (slot_sum slots l) op (slot_sum slots r))
-    (texts_sorted (text_side slots l) (text_side slots r) op) (sums_sorted (slot_sum slots l) (slot_sum slots r) op)
+atom_sorted slots (compare l op r) = comparison_has IsSorted (record { holds = tt; fails = tt; text = λ a. tt }) (record { row = λ q. tt; other = λ q. tt }) slots l r op
 atom_sorted slots (member x ts) = tt
 
 mutual

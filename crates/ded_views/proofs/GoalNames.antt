@@ -20,54 +20,16 @@ use Rattle.ded_model.specs.Measure.{Measure, Measures, goal_atom_b, goal_atom_ra
 use Rattle.ded_model.specs.Slotted.{SlotScope, slot_sum, sums_goal, TextSide, at, word, text_side, same_text_goal, other_text_goal, texts_goal, is_text_operand, compare_goal, goal_below, goals_below, goal_of}
 use Rattle.ded_model.specs.Uses.{goal_atom_uses, goal_uses}
 use Rattle.ded_model.proofs.Alike.{all_atoms}
+use Rattle.ded_model.proofs.Comparisons.{comparison_has}
 use Rattle.ded_views.proofs.Measuring.{measured-same}
 use Rattle.ded_views.proofs.ViewNames.{used_known}
 
 -- ---- names
 
 module _ (n : List ℕ) where
-  -- a choice of goals
-  either : (b : Bool) (g g' : GoalForm) → goal_uses n g ≡ false → goal_uses n g' ≡ false → goal_uses n (cond b g g') ≡ false
-  either true g g' h k = h
-  either false g g' h k = k
-
-  sums : (l r : SlotSum) (op : CompareOp) → goal_uses n (sums_goal l op r) ≡ false
-  sums l r Less = refl
-  sums l r LessEq = refl
-  sums l r Equal = refl
-  sums l r NotEqual = refl
-  sums l r GreaterEq = refl
-  sums l r Greater = refl
-
-  same_texts : (l r : TextSide) → goal_uses n (same_text_goal l r) ≡ false
-  same_texts (at s) (at t) =
-      let in_order = cond (nat_lt s.number t.number) (atom (theme (EqSlot s t))) (atom (theme (EqSlot t s))) in
-      either (same_slot s t) always in_order refl (either (nat_lt s.number t.number) (atom (theme (EqSlot s t))) (atom (theme (EqSlot t s))) refl refl)
-  same_texts (at s) (word t) = refl
-  same_texts (word t) (at s) = refl
-  same_texts (word t) (word u) = either (bytes_eq t u) always never refl refl
-
-  other_texts : (l r : TextSide) → goal_uses n (other_text_goal l r) ≡ false
-  other_texts (at s) (at t) =
-      let in_order = cond (nat_lt s.number t.number) (atom (theme (NeSlot s t))) (atom (theme (NeSlot t s))) in
-      either (same_slot s t) never in_order refl (either (nat_lt s.number t.number) (atom (theme (NeSlot s t))) (atom (theme (NeSlot t s))) refl refl)
-  other_texts (at s) (word t) = refl
-  other_texts (word t) (at s) = refl
-  other_texts (word t) (word u) = either (bytes_eq t u) never always refl refl
-
-  texts : (l r : TextSide) (op : CompareOp) → goal_uses n (texts_goal l op r) ≡ false
-  texts l r Less = refl
-  texts l r LessEq = refl
-  texts l r Equal = same_texts l r
-  texts l r NotEqual = other_texts l r
-  texts l r GreaterEq = refl
-  texts l r Greater = refl
-
   -- a comparison uses no name
   comparison : (slots : SlotScope) (l r : Operand) (op : CompareOp) → goal_uses n (compare_goal slots l op r) ≡ false
-  comparison slots l r op =
-      either (is_text_operand slots l || is_text_operand slots r) (texts_goal (text_side slots l) op (text_side slots r)) (sums_goal (slot_sum slots l) op (slot_sum slots r))
-      (texts (text_side slots l) (text_side slots r) op) (sums (slot_sum slots l) (slot_sum slots r) op)
+  comparison = comparison_has (λ g. goal_uses n g ≡ false) (record { holds = refl; fails = refl; text = λ a. refl }) (record { row = λ r. refl; other = λ r. refl })
 
   mutual
     -- a goal uses the names of its formula

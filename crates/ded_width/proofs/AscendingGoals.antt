@@ -27,6 +27,7 @@ use Rattle.ded_goals.proofs.Ascending.{Ascend, AllRational, ascend-put, ascend-m
 use Rattle.ded_goals.proofs.Accepted.{sums_of-accepted}
 use Rattle.ded_goals.proofs.Reading.{sorts_heading}
 use Rattle.ded_width.specs.Reach.{AreAscending, AreAscendingPlaces, IsAscendingGoalAtom, IsAscendingGoal}
+use Rattle.ded_model.proofs.Comparisons.{texts_have}
 use Rattle.ded_width.proofs.ArgumentSlots.{ascend, all_rational, normal_ascending}
 use Rattle.ded_model.proofs.Bools.{or_false_left, or_false_right}
 
@@ -72,35 +73,8 @@ sums_ascend l r GreaterEq h k = normal_ascending _ (comparison_ascends l r Great
 sums_ascend l r Greater h k = normal_ascending _ (comparison_ascends l r Greater h k)
 
 -- a comparison of texts has no row
-either_goal : (b : Bool) (f g : GoalForm) → IsAscendingGoal f → IsAscendingGoal g → IsAscendingGoal (cond b f g)
-either_goal true f g h k = h
-either_goal false f g h k = k
-
-same_slots : (s t : Slot) → IsAscendingGoal (same_slots_goal s t)
-same_slots s t = either_goal (same_slot s t) _ _ tt (either_goal (nat_lt s.number t.number) _ _ tt tt)
-
-other_slots : (s t : Slot) → IsAscendingGoal (other_slots_goal s t)
-other_slots s t = either_goal (same_slot s t) _ _ tt (either_goal (nat_lt s.number t.number) _ _ tt tt)
-
-same_text : (l r : TextSide) → IsAscendingGoal (same_text_goal l r)
-same_text (at s) (at t) = same_slots s t
-same_text (at s) (word t) = tt
-same_text (word t) (at s) = tt
-same_text (word t) (word u) = either_goal (bytes_eq t u) _ _ tt tt
-
-other_text : (l r : TextSide) → IsAscendingGoal (other_text_goal l r)
-other_text (at s) (at t) = other_slots s t
-other_text (at s) (word t) = tt
-other_text (word t) (at s) = tt
-other_text (word t) (word u) = either_goal (bytes_eq t u) _ _ tt tt
-
 texts_ascend : (l r : TextSide) (op : CompareOp) → IsAscendingGoal (texts_goal l op r)
-texts_ascend l r Less = tt
-texts_ascend l r LessEq = tt
-texts_ascend l r Equal = same_text l r
-texts_ascend l r NotEqual = other_text l r
-texts_ascend l r GreaterEq = tt
-texts_ascend l r Greater = tt
+texts_ascend = texts_have IsAscendingGoal (record { holds = tt; fails = tt; text = λ a. tt })
 
 compare_ascends : (scope : SlotScope) (l r : Operand) (op : CompareOp) → (is_text_sum (sorts_of scope) l || is_text_sum (sorts_of scope) r) ≡ false → IsAscendingGoal (compare_goal scope l op r)
 compare_ascends scope l r op h = go (is_text_operand scope l || is_text_operand scope r) refl
