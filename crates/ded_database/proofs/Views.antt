@@ -1,11 +1,14 @@
 -- Marked views and the relation that is changed.
-use Rattle.std.proofs.Common.{◌≡◌, ℕ, true, false, Some, is_some, List, refl, sym, ap, ◌∙◌, true≢false, bytes_eq}
+use Rattle.std.proofs.Common.{◌≡◌, ℕ, true, false, Some, List, refl, sym, ap, ◌∙◌, true≢false, bytes_eq}
 use Rattle.std.proofs.lemmas.Bool.{false_from_ne_true}
 use Rattle.ded_model.specs.Catalogue.{relation, view, Catalogue}
-use Rattle.ded_model.specs.Entries.{known, entry_of, view_in}
+use Rattle.ded_model.specs.Entries.{known, entry_of}
 use Rattle.ded_model.specs.Known.{IsWellFormed}
 use Rattle.ded_model.specs.Measure.{measures}
+use Rattle.ded_model.specs.PlanForm.{plan_form}
+use Rattle.ded_model.specs.Slotted.{goal_of}
 use Rattle.ded_sorts.specs.Causes.{is_relation_with}
+use Rattle.ded_query.specs.Gathering.{IsViewPlan}
 use Rattle.ded_views.specs.Reaching.{reaches}
 use Rattle.ded_views.proofs.Changing.{entry_there, same_entry}
 use Rattle.ded_views.proofs.Views.{name_known}
@@ -41,8 +44,9 @@ module _ (c d : Catalogue) (n : List ℕ) (x : HasOthers c d n) where
     mark_entry =
         same_entry c d n x.columns x.inserts x.inserts_after x.tuples x.tuples_after x.changes m.name (mark_other c n m x.formed_before changes_relation k) ∙ k.entry
 
-    pub is_view : is_some (view_in (entry_of d.entries m.name)) ≡ true
-    is_view = ap (λ o. is_some (view_in o)) mark_entry
+    -- with the plan that is remembered of it
+    pub mark_plan : IsViewPlan d m.name (plan_form m.plan)
+    mark_plan = record { goal = goal_of k.columns k.formula; view = record { own = k.own; columns = k.columns; formula = k.formula; entry = mark_entry; goal = refl }; planned = k.planned }
 
     -- it is not tight where it clashes
     pub mark_clash : (measures d m.name).clash ≡ true → IsTightView d m.name → ⊥

@@ -19,7 +19,7 @@ use crate::mark::Mark;
 use ded_eval::{Given, GivenRelation};
 use ded_model::memory::{NoMemory, Refused};
 use ded_model::tuple::Tuples;
-use ded_query::{held_view, view_tuples};
+use ded_query::{held_view, planned_view};
 use std::alloc::{AllocError, Global};
 
 /// Makes the lists of those of the marked views that reach the relation, and holds them behind what is held. Where a list is too wide,
@@ -83,8 +83,8 @@ fn renew(
     }
 }
 
-/// The list of one view after the change: the list before, extended, where there is one and the change only adds to it, and else what the view's
-/// formula is evaluated to. What is held stays as it is.
+/// The list of one view after the change: the list before, extended, where there is one and the change only adds to it, and else what its
+/// plan is evaluated to. What is held stays as it is.
 ///
 /// # Errors
 /// `Wide` only where the view clashes over the catalogue as it will be, otherwise out of memory.
@@ -111,6 +111,6 @@ fn new_list(
             *added = added.saturating_add(1);
             Ok(tuples)
         }
-        _ => view_tuples(alloc, change.snapshot, &mark.name, held),
+        _ => planned_view(alloc, change.snapshot, &mark.name, &mark.plan, held),
     }
 }

@@ -12,10 +12,12 @@ use Rattle.ded_model.specs.Lines.{IsSubset, tuples_lines}
 use Rattle.ded_model.specs.Made.{base}
 use Rattle.ded_model.specs.Measure.{measures, goal_lines}
 use Rattle.ded_model.specs.Normal.{IsNormalTuple}
+use Rattle.ded_model.specs.PlanForm.{PlanForm}
 use Rattle.ded_model.specs.Point.{slot, Point, IsPoint}
 use Rattle.ded_model.specs.Row.{Atom, tuples_hold, tuples_mention}
 use Rattle.ded_model.specs.Slotted.{goal_of}
 use Rattle.ded_model.specs.Value.{Argument}
+use Rattle.ded_plan.specs.Planned.{IsPlanned}
 use Rattle.ded_eval.specs.declared.given.GivenRelation.{GivenRelation}
 use Rattle.ded_eval.specs.Given.{has_name}
 use Rattle.ded_views.specs.Same.{AreByteArguments}
@@ -51,6 +53,12 @@ pub record IsPosed (c : Catalogue) (g : GoalForm) (level : ℕ) : Type 0 where
   pub question : IsQuestion c columns g formula
   pub levels : (n : List ℕ) → speaks_of n formula ≡ true → level_with (known c n) ≤ level
 
+-- the plan is one of such a goal
+pub record IsPosedPlan (c : Catalogue) (plan : PlanForm) (level : ℕ) : Type 0 where
+  pub goal : GoalForm
+  pub posed : IsPosed c goal level
+  pub planned : IsPlanned goal plan
+
 -- tuples that hold exactly where the goal does over the catalogue, mention only slots that the goal mentions freely, and have lines
 -- among the goal's
 pub record IsEvaluated (c : Catalogue) (g : GoalForm) (ts : List (List Atom)) : Type 0 where
@@ -65,6 +73,12 @@ pub record IsViewGoal (c : Catalogue) (n : List ℕ) (g : GoalForm) : Type 0 whe
   pub formula : Form
   pub entry : entry_of c.entries n ≡ Some (view own columns formula)
   pub goal : g ≡ goal_of columns formula
+
+-- the name is a view, and the plan one of its formula's goal
+pub record IsViewPlan (c : Catalogue) (n : List ℕ) (plan : PlanForm) : Type 0 where
+  pub goal : GoalForm
+  pub view : IsViewGoal c n goal
+  pub planned : IsPlanned goal plan
 
 -- the name is a view, whose goal the tuples are evaluated from, and they are normal
 pub record IsViewOf (c : Catalogue) (n : List ℕ) (ts : List (List Atom)) : Type 0 where

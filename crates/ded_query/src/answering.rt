@@ -6,25 +6,30 @@ ghost use Rattle.ded_model.specs.Catalogue.{IsTruth};
 ghost use Rattle.ded_model.specs.Cell.{IsReduced};
 ghost use Rattle.ded_model.specs.Entries.{known, entry_of, view_in};
 ghost use Rattle.ded_model.specs.Form.{Form};
-ghost use Rattle.ded_model.specs.Goal.{goal_form};
+ghost use Rattle.ded_model.specs.Goal.{GoalForm, goal_form};
 ghost use Rattle.ded_model.specs.Made.{base};
 ghost use Rattle.ded_model.specs.Measure.{measures, goal_clashes, IsTight};
+ghost use Rattle.ded_model.specs.PlanForm.{plan_form};
 ghost use Rattle.ded_model.specs.Row.{atom_holds};
 ghost use Rattle.ded_model.specs.Width.{IsNarrowList};
 ghost use Rattle.ded_eval.specs.Given.{has_name};
 ghost use Rattle.ded_catalog.specs.Snapshots.{snapshot_of};
-ghost use Rattle.ded_query.specs.Gathering.{IsGivenOf, IsGathered, IsFront, IsPosed, IsEvaluated, IsViewOf};
+ghost use Rattle.ded_plan.specs.Planned.{IsPlanned};
+ghost use Rattle.ded_query.specs.Gathering.{IsGivenOf, IsGathered, IsFront, IsPosed, IsPosedPlan, IsEvaluated, IsViewOf, IsViewPlan};
 ghost use Rattle.ded_query.specs.Questions.{IsQuestion, IsAnswer};
 
-use crate::gathering::{evaluated, give_all};
+use crate::gathering::{evaluated_by, give_all};
 use ded_answers::{holds_everywhere, reduced};
 use ded_catalog::Snapshot;
 use ded_eval::Given;
+use ded_goals::laws::normal_goals;
 use ded_model::goal::Goal;
 use ded_model::limits;
 use ded_model::memory::Refused;
 use ded_model::name::{Heading, Name};
+use ded_model::plan::Plan;
 use ded_model::tuple::Tuples;
+use ded_plan::plan;
 use std::alloc::Global;
 
 /// Whether a closed formula, given as its goal, is true over the catalogue. What is held of views is read in their place, and is
@@ -103,6 +108,29 @@ pub fn view_tuples(
     Ok(reduced(alloc, tuples)?)
 }
 
+/// The answer to a view's formula, as [`view_tuples`] gives it, by a plan of the formula's goal.
+///
+/// # Errors
+/// `Wide` only where the view clashes, otherwise out of memory.
+pub fn planned_view(
+    alloc: Global,
+    snapshot: &Snapshot<'_>,
+    name: &Name,
+    plan: &Plan,
+    held: &mut Given,
+) -> Result<Tuples, Refused>
+    requires plan { IsViewPlan (snapshot_of snapshot.now) name.now (plan_form plan.now) }
+    requires held { AllByRecursion (IsGivenOf (snapshot_of snapshot.now)) held.old }
+    ensures is { IfOk result (IsViewOf (snapshot_of snapshot.now) name.now) }
+    ensures reduced { IfOk result (λ ts. AllByRecursion (λ t. IsNarrowList t → IsReduced atom_holds t) ts) }
+    ensures held { held.new ≡ held.old }
+    ensures wide { IsErrOf result Wide → (measures (snapshot_of snapshot.now) name.now).clash ≡ true }
+{
+    snapshot.formed();
+    let tuples = planned_over(alloc, snapshot, plan, held)?;
+    Ok(reduced(alloc, tuples)?)
+}
+
 /// Gives the names as well, which are made of defined ones. What was given stays at the front.
 ///
 /// # Errors
@@ -140,8 +168,31 @@ fn evaluated_over(
     ensures held { held.new ≡ held.old }
     ensures wide { IsErrOf result Wide → goal_clashes (measures (snapshot_of snapshot.now)) (goal_form goal.now) ≡ true }
 {
+    normal_goals();
+    let plan = plan(alloc, goal)?;
+    planned_over(alloc, snapshot, &plan, held)
+}
+
+/// What the goals of accepted formulas are evaluated to of which the plan is one. What is held is the same after it.
+///
+/// # Errors
+/// `Wide` only where each of these goals clashes, otherwise out of memory.
+fn planned_over(
+    alloc: Global,
+    snapshot: &Snapshot<'_>,
+    plan: &Plan,
+    held: &mut Given,
+) -> Result<Tuples, Refused>
+    requires posed { IsPosedPlan (snapshot_of snapshot.now) (plan_form plan.now) 16 }
+    requires held { AllByRecursion (IsGivenOf (snapshot_of snapshot.now)) held.old }
+    ensures is { (g : GoalForm) → IsPosed (snapshot_of snapshot.now) g 16 → IsPlanned g (plan_form plan.now)
+        → IfOk result (λ ts. IsEvaluated (snapshot_of snapshot.now) g ts) }
+    ensures held { held.new ≡ held.old }
+    ensures wide { IsErrOf result Wide → (g : GoalForm) → IsPosed (snapshot_of snapshot.now) g 16 → IsPlanned g (plan_form plan.now)
+        → goal_clashes (measures (snapshot_of snapshot.now)) g ≡ true }
+{
     let count = held.count();
-    let tuples = evaluated(alloc, snapshot, goal, limits::LEVELS, held);
+    let tuples = evaluated_by(alloc, snapshot, plan, limits::LEVELS, held);
     held.keep_first(count);
     tuples
 }

@@ -5,13 +5,15 @@ ghost use Rattle.std.specs.Option.{option_map};
 ghost use Rattle.ded_model.specs.declared.memory.Refused.TheVariants.{Wide};
 ghost use Rattle.ded_model.specs.Catalogue.{Catalogue};
 ghost use Rattle.ded_model.specs.Entries.{known, entry_of, relation_in, view_in};
-ghost use Rattle.ded_model.specs.Goal.{goal_form};
+ghost use Rattle.ded_model.specs.Goal.{GoalForm, goal_form};
 ghost use Rattle.ded_model.specs.Known.{level_with};
 ghost use Rattle.ded_model.specs.Made.{base};
 ghost use Rattle.ded_model.specs.Measure.{measures, goal_clashes};
+ghost use Rattle.ded_model.specs.PlanForm.{plan_form};
 ghost use Rattle.ded_catalog.specs.Snapshots.{snapshot_of};
 ghost use Rattle.ded_eval.specs.Given.{has_name};
-ghost use Rattle.ded_query.specs.Gathering.{IsGivenOf, IsGathered, IsFront, IsPosed, IsEvaluated, IsViewGoal, IsViewOf, IsGivenAs};
+ghost use Rattle.ded_plan.specs.Planned.{IsPlanned};
+ghost use Rattle.ded_query.specs.Gathering.{IsGivenOf, IsGathered, IsFront, IsPosed, IsPosedPlan, IsEvaluated, IsViewGoal, IsViewOf, IsGivenAs};
 
 use ded_algebra::{Evaluate, Relations};
 use ded_answers::reduced;
@@ -21,6 +23,7 @@ use ded_goals::laws::normal_goals;
 use ded_model::goal::Goal;
 use ded_model::memory::{NoMemory, Refused};
 use ded_model::name::Name;
+use ded_model::plan::Plan;
 use ded_model::tuple::Tuples;
 use ded_plan::{plan, scanned_names};
 use std::alloc::Global;
@@ -48,9 +51,33 @@ pub(crate) fn evaluated(
 {
     normal_goals();
     let plan = plan(alloc, goal)?;
-    let names = scanned_names(alloc, &plan)?;
+    evaluated_by(alloc, snapshot, &plan, level, given)
+}
+
+/// Tuples that hold exactly where the goals do of which the plan is one, as [`evaluated`] gives them.
+///
+/// # Errors
+/// `Wide` only where each of these goals clashes, otherwise out of memory. More may be given then.
+#[cycle(evaluated)]
+pub(crate) fn evaluated_by(
+    alloc: Global,
+    snapshot: &Snapshot<'_>,
+    plan: &Plan,
+    level: u32,
+    given: &mut Given,
+) -> Result<Tuples, Refused>
+    requires posed { IsPosedPlan (snapshot_of snapshot.now) (plan_form plan.now) level }
+    requires given { AllByRecursion (IsGivenOf (snapshot_of snapshot.now)) given.old }
+    ensures is { (g : GoalForm) → IsPosed (snapshot_of snapshot.now) g level → IsPlanned g (plan_form plan.now)
+        → IfOk result (λ ts. IsEvaluated (snapshot_of snapshot.now) g ts) }
+    ensures gathered { OnOk result (IsGathered (snapshot_of snapshot.now) given.old given.new) }
+    ensures front { IsFront given.old given.new }
+    ensures wide { IsErrOf result Wide → (g : GoalForm) → IsPosed (snapshot_of snapshot.now) g level → IsPlanned g (plan_form plan.now)
+        → goal_clashes (measures (snapshot_of snapshot.now)) g ≡ true }
+{
+    let names = scanned_names(alloc, plan)?;
     give_all(alloc, snapshot, &names, level, given)?;
-    Engine {}.evaluate(alloc, &plan, &*given)
+    Engine {}.evaluate(alloc, plan, &*given)
 }
 
 /// Gives the names, which are made of defined ones that have at most the level.

@@ -1,7 +1,7 @@
 //! Questions over a catalogue, and their answers.
 //!
 //! [`is_true`] answers a closed question, [`answer`] one over a heading by normal tuples, and [`view_tuples`] a view. Each plans the
-//! goal of the formula, gathers what the plan scans (the tuples of relations, and views as their answers, each evaluated once),
+//! goal of the formula ([`planned_view`] is handed the plan), gathers what the plan scans (the tuples of relations, and views as their answers, each evaluated once),
 //! evaluates the plan over it, and reduces what comes out. Numbers get too long only where the formula isn't tight.
 //!
 //! The catalogue is read as a `Snapshot`: as it is, or as a change will make it. Answers of views that are held already are handed
@@ -16,5 +16,5 @@
 mod answering;
 mod gathering;
 
-pub use answering::{answer, give_names, is_true, view_tuples};
+pub use answering::{answer, give_names, is_true, planned_view, view_tuples};
 pub use gathering::held_view;

@@ -1,7 +1,20 @@
-use Rattle.std.proofs.Common.{take, ap, ◌∙◌}
-use Rattle.ded_query.proofs.Gathered.{front_kept}
+use Rattle.std.proofs.Common.{sym, subst}
+use Rattle.ded_model.specs.Entries.{known}
+use Rattle.ded_model.specs.Goal.{goal_form}
+use Rattle.ded_model.specs.NormalGoal.{IsNormalGoal}
+use Rattle.ded_catalog.specs.Snapshots.{snapshot_of}
 use Rattle.ded_query.proofs.answering.evaluated_over.Goals as goal
 
-pub returns-clause-held : goal.returns-clause-held
-returns-clause-held c =
-    c.keep_first.ensures ∙ ap (λ k. take k c.evaluated-tuples.new.given) c.count-count.ensures ∙ front_kept c.args.held.now c.evaluated-tuples.new.given c.evaluated-tuples.ensures.front
+pub plan-requires : goal.plan-requires
+plan-requires c =
+    let p = c.requires.posed in
+    record { normal = subst IsNormalGoal (sym p.question.goal) (c.normal_goals.ensures.accepted (known (snapshot_of c.args.snapshot.now)) p.columns p.formula p.question.accepted) }
+
+pub planned_over-requires-clause-posed : goal.planned_over-requires-clause-posed
+planned_over-requires-clause-posed c = record { goal = goal_form c.args.goal.now; posed = c.requires.posed; planned = c.in_ok-plan.ensures }
+
+pub returns-clause-is : goal.returns-clause-is
+returns-clause-is c = c.planned_over.ensures.is (goal_form c.args.goal.now) c.requires.posed c.in_ok-plan.ensures
+
+pub returns-clause-wide : goal.returns-clause-wide
+returns-clause-wide c = λ i. c.planned_over.ensures.wide i (goal_form c.args.goal.now) c.requires.posed c.in_ok-plan.ensures

@@ -28,55 +28,67 @@ evaluated-plan-requires t c =
     let p = c.requires.posed in
     record { normal = subst IsNormalGoal (sym p.question.goal) (c.normal_goals.ensures.accepted (known (snapshot_of c.args.snapshot.now)) p.columns p.formula p.question.accepted) }
 
-pub evaluated-give_all-requires : goal.evaluated-give_all-requires
-evaluated-give_all-requires t c =
+pub evaluated-evaluated_by-requires : goal.evaluated-evaluated_by-requires
+evaluated-evaluated_by-requires t c =
+    (search rules, (record { goal = goal_form c.args.goal.now; posed = c.requires.posed; planned = c.in_ok-plan.ensures }, c.requires.given))
+
+pub evaluated-returns-clause-is : goal.evaluated-returns-clause-is
+evaluated-returns-clause-is t c = c.evaluated_by.ensures.is (goal_form c.args.goal.now) c.requires.posed c.in_ok-plan.ensures
+
+pub evaluated-returns-clause-wide : goal.evaluated-returns-clause-wide
+evaluated-returns-clause-wide t c = λ i. c.evaluated_by.ensures.wide i (goal_form c.args.goal.now) c.requires.posed c.in_ok-plan.ensures
+
+-- ---- evaluated_by
+
+pub evaluated_by-give_all-requires : goal.evaluated_by-give_all-requires
+evaluated_by-give_all-requires t c =
     let cat = snapshot_of c.args.snapshot.now in
-    let plan = plan_form c.in_ok-plan.plan in
+    let plan = plan_form c.args.plan.now in
     let ns = c.deref.result.now in
     let all : (n : List ℕ) → plan_uses n plan ≡ list_any (bytes_eq n) ns = λ n. c.in_ok-names.ensures.all n ∙ ap (list_any (bytes_eq n)) (sym c.deref.ensures.value) in (
       search rules,
       (
-        posed_known cat (goal_form c.args.goal.now) plan c.args.level c.requires.posed c.in_ok-plan.ensures ns all,
+        posed_known cat c.requires.posed.goal plan c.args.level c.requires.posed.posed c.requires.posed.planned ns all,
         (
-          posed_levels cat (goal_form c.args.goal.now) plan c.args.level c.requires.posed c.in_ok-plan.ensures ns all,
+          posed_levels cat c.requires.posed.goal plan c.args.level c.requires.posed.posed c.requires.posed.planned ns all,
           c.requires.given,
         ),
       ),
     )
 
-pub evaluated-returns-in_err-give_all-clause-wide : goal.evaluated-returns-in_err-give_all-clause-wide
-evaluated-returns-in_err-give_all-clause-wide t c = λ i.
+pub evaluated_by-returns-in_err-give_all-clause-wide : goal.evaluated_by-returns-in_err-give_all-clause-wide
+evaluated_by-returns-in_err-give_all-clause-wide t c = λ i g q k.
     let p = err_from_is_err_and c.from_residual-in_err-give_all.result c.from_residual-in_err-give_all.ensures.1 in
     let is : c.in_err-give_all.field-0.0 ≡ Wide = cc (p.1, p.2, i) in
     let cat = snapshot_of c.args.snapshot.now in
-    let plan = plan_form c.in_ok-plan.plan in
+    let plan = plan_form c.args.plan.now in
     let ns = c.deref.result.now in
-    posed_clash cat (goal_form c.args.goal.now) plan c.args.level c.requires.posed c.in_ok-plan.ensures ns (λ n. c.in_ok-names.ensures.all n ∙ ap (list_any (bytes_eq n)) (sym c.deref.ensures.value)) (c.in_err-give_all.ensures.wide (ap Err is))
+    posed_clash cat g plan c.args.level q k ns (λ n. c.in_ok-names.ensures.all n ∙ ap (list_any (bytes_eq n)) (sym c.deref.ensures.value)) (c.in_err-give_all.ensures.wide (ap Err is))
 
-pub evaluated-evaluate-requires : goal.evaluated-evaluate-requires
-evaluated-evaluate-requires t c =
+pub evaluated_by-evaluate-requires : goal.evaluated_by-evaluate-requires
+evaluated_by-evaluate-requires t c =
     let cat = snapshot_of c.args.snapshot.now in
-    let plan = plan_form c.in_ok-plan.plan in
+    let plan = plan_form c.args.plan.now in
     let ns = c.deref.result.now in
     let rs = c.give_all.new.given in
-    evaluable cat c.requires.posed.formula rs c.in_ok-give_all.ensures.gathered.of plan
-    (posed_scans cat (goal_form c.args.goal.now) plan c.args.level c.requires.posed c.in_ok-plan.ensures)
+    evaluable cat c.requires.posed.posed.formula rs c.in_ok-give_all.ensures.gathered.of plan
+    (posed_scans cat c.requires.posed.goal plan c.args.level c.requires.posed.posed c.requires.posed.planned)
     (λ n u. of_named (λ m. has_name m rs ≡ true) ns n c.in_ok-give_all.ensures.all (sym (c.in_ok-names.ensures.all n ∙ ap (list_any (bytes_eq n)) (sym c.deref.ensures.value)) ∙ u))
 
-pub evaluated-returns-clause-is : goal.evaluated-returns-clause-is
-evaluated-returns-clause-is t c =
+pub evaluated_by-returns-clause-is : goal.evaluated_by-returns-clause-is
+evaluated_by-returns-clause-is t c = λ g p k.
     let cat = snapshot_of c.args.snapshot.now in
-    let plan = plan_form c.in_ok-plan.plan in
+    let plan = plan_form c.args.plan.now in
     let ns = c.deref.result.now in
     let rs = c.give_all.new.given in
     let uses : (n : List ℕ) → plan_uses n plan ≡ true → has_name n rs ≡ true =
     λ n u. of_named (λ m. has_name m rs ≡ true) ns n c.in_ok-give_all.ensures.all (sym (c.in_ok-names.ensures.all n ∙ ap (list_any (bytes_eq n)) (sym c.deref.ensures.value)) ∙ u) in
     IfOk-weaker c.evaluate.result _ _
-    (λ ts e. evaluated_of cat (goal_form c.args.goal.now) plan rs c.in_ok-give_all.ensures.gathered.of c.in_ok-plan.ensures c.requires.posed.formula (posed_scans cat (goal_form c.args.goal.now) plan c.args.level c.requires.posed c.in_ok-plan.ensures) ts uses e) c.evaluate.ensures.is
+    (λ ts e. evaluated_of cat g plan rs c.in_ok-give_all.ensures.gathered.of k p.formula (posed_scans cat g plan c.args.level p k) ts uses e) c.evaluate.ensures.is
 
-pub evaluated-returns-clause-wide : goal.evaluated-returns-clause-wide
-evaluated-returns-clause-wide t c = λ i.
-    clash_of_goal (snapshot_of c.args.snapshot.now) (goal_form c.args.goal.now) (plan_form c.in_ok-plan.plan) c.give_all.new.given c.in_ok-give_all.ensures.gathered.of c.in_ok-plan.ensures (c.evaluate.ensures.wide i)
+pub evaluated_by-returns-clause-wide : goal.evaluated_by-returns-clause-wide
+evaluated_by-returns-clause-wide t c = λ i g p k.
+    clash_of_goal (snapshot_of c.args.snapshot.now) g (plan_form c.args.plan.now) c.give_all.new.given c.in_ok-give_all.ensures.gathered.of k (c.evaluate.ensures.wide i)
 
 -- ---- give
 

@@ -6,16 +6,19 @@ use Rattle.ded_query.specs.Gathering.{IsGathered, IsFront}
 use Rattle.ded_query.proofs.gathering.+evaluated.Given as goal
 
 abbrev pub decreases-give_view : goal.decreases-give_view
-decreases-give_view l = 4 * l.level
+decreases-give_view l = 5 * l.level
 
 abbrev pub decreases-give : goal.decreases-give
-decreases-give l = 4 * l.level + 1
+decreases-give l = 5 * l.level + 1
 
 abbrev pub decreases-give_all : goal.decreases-give_all
-decreases-give_all l = 4 * l.level + 2
+decreases-give_all l = 5 * l.level + 2
+
+abbrev pub decreases-evaluated_by : goal.decreases-evaluated_by
+decreases-evaluated_by l = 5 * l.level + 3
 
 abbrev pub decreases-evaluated : goal.decreases-evaluated
-decreases-evaluated l = 4 * l.level + 3
+decreases-evaluated l = 5 * l.level + 4
 
 abbrev pub invariant-give_all-loop-name : goal.invariant-give_all-loop-name
 invariant-give_all-loop-name l = IsGathered (snapshot_of l.snapshot) l.fn.given l.given × AllByRecursion (λ n. has_name n l.given ≡ true) (take l.name-index l.names) × IsFront l.fn.given l.given
