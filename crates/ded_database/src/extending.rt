@@ -13,7 +13,7 @@ ghost use Rattle.ded_database.specs.Held.{IsHeld};
 ghost use Rattle.ded_database.specs.Upkeep.{IsLonger};
 
 use crate::change::Change;
-use crate::laws::nothing_beside;
+use crate::laws;
 use crate::mark::Mark;
 use ded_algebra::Relations;
 use ded_answers::reduced;
@@ -76,7 +76,7 @@ fn extended_over(
     ensures front { IsFront held.old held.new }
     ensures wide { IsErrOf result Wide → (measures (after change.now) mark.now.name).clash ≡ true }
 {
-    nothing_beside();
+    laws::nothing_beside();
     let names = other_names(alloc, &mark.plan, change.name)?;
     give_names(alloc, change.snapshot, &names, held)?;
     // The others don't reach the relation, so nothing of it is given. This says so.

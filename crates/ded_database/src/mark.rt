@@ -7,7 +7,7 @@ ghost use Rattle.ded_database.specs.Marks.{mark_reaches, reaches_beside, mark_ad
 
 use crate::reaching::uses_of;
 use ded_catalog::Catalogue;
-use ded_goals::laws::normal_goals;
+use ded_goals::laws;
 use ded_keep::is_additive;
 use ded_model::memory::NoMemory;
 use ded_model::name::Name;
@@ -52,7 +52,7 @@ pub fn mark_of(alloc: Global, catalogue: &Catalogue, name: &Name) -> Result<Mark
     let Some(goal) = catalogue.goal(name) else {
         unreachable!()
     };
-    normal_goals();
+    laws::normal_goals();
     Ok(Mark {
         name: name.copy()?,
         plan: plan(alloc, goal)?,

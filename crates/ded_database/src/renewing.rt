@@ -14,7 +14,7 @@ ghost use Rattle.ded_database.specs.Upkeep.{IsLonger};
 
 use crate::change::Change;
 use crate::extending::extended;
-use crate::laws::{conjunctive_views, marks_reach};
+use crate::laws;
 use crate::mark::Mark;
 use ded_eval::{Given, GivenRelation};
 use ded_model::memory::{NoMemory, Refused};
@@ -44,7 +44,7 @@ pub(crate) fn renew_all(
     ensures ok { OnOk result (AreRenewed (before change.now) (after change.now) change.now.name.now marks.now (inserted_tuple change.now) stale.old stale.new held.old held.new) }
     ensures front { IsFront held.old held.new }
 {
-    marks_reach();
+    laws::marks_reach();
     for mark in marks {
         if mark.reaches(change.name) {
             renew(alloc, change, mark, stale, held, added)?;
@@ -74,7 +74,7 @@ fn renew(
     ensures ok { OnOk result (IsRenewed (before change.now) (after change.now) change.now.name.now mark.now.name (inserted_tuple change.now) (held_under stale.old mark.now.name) held.old held.new) }
     ensures err { OnErr result (held.new ≡ held.old) }
 {
-    conjunctive_views();
+    laws::conjunctive_views();
     let list = stale.take(&mark.name);
     match new_list(alloc, change, mark, list, held, added) {
         Ok(tuples) => held.add(held_view(change.snapshot, &mark.name, tuples)?),

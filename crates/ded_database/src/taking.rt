@@ -9,7 +9,7 @@ ghost use Rattle.ded_sorts.specs.Causes.{is_relation_with};
 ghost use Rattle.ded_database.specs.Held.{IsHeld, AreMarkedApart};
 ghost use Rattle.ded_database.specs.Renewed.{AreLeft, AreTaken, with_taken};
 
-use crate::laws::marks_reach;
+use crate::laws;
 use crate::mark::Mark;
 use ded_catalog::Catalogue;
 use ded_eval::Given;
@@ -36,7 +36,7 @@ pub(crate) fn take_stale(
     ensures left { AreLeft (catalogue_of catalogue.now) name.now held.old held.new }
 {
     catalogue.formed();
-    marks_reach();
+    laws::marks_reach();
     for mark in marks {
         if mark.reaches(name) {
             take_one(&mark.name, held, stale)?;

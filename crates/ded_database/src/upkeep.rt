@@ -15,7 +15,7 @@ ghost use Rattle.ded_database.specs.Held.{is_marked, IsUpheld};
 ghost use Rattle.ded_database.specs.Upkeep.{KeepsUp, LeavesOthers, OnlyAdds, IsReady, IsReadyWithout};
 
 use crate::change::Change;
-use crate::laws::lasting_marks;
+use crate::laws;
 use crate::mark::Mark;
 use crate::renewing::renew_all;
 use crate::taking::take_stale;
@@ -25,7 +25,6 @@ use ded_model::command::Refusal;
 use ded_model::memory::NoMemory;
 use ded_model::name::Name;
 use ded_model::tuple::Tuple;
-use ded_views::laws::one_change;
 use std::alloc::{AllocError, Global};
 
 /// Inserts a tuple into the relation of the name, gives the tuple's number, and brings the lists up to date that are held of kept views.
@@ -72,8 +71,8 @@ pub fn inserted(
     let Ok(count) = bring_up_to_date(alloc, &change, marks, held, added) else {
         return Err(Refusal::Memory);
     };
-    one_change();
-    lasting_marks();
+    ded_views::laws::one_change();
+    laws::lasting_marks();
     match catalogue.insert(name, tuple) {
         Ok(number) => Ok(number),
         Err(refusal) => {
@@ -107,8 +106,8 @@ pub fn deleted(
 {
     catalogue.formed();
     ready_without(alloc, catalogue, marks, held, added, name, number)?;
-    one_change();
-    lasting_marks();
+    ded_views::laws::one_change();
+    laws::lasting_marks();
     catalogue.delete(name, number);
     Ok(())
 }

@@ -22,7 +22,7 @@ use crate::gathering::{evaluated_by, give_all};
 use ded_answers::{holds_everywhere, reduced};
 use ded_catalog::Snapshot;
 use ded_eval::Given;
-use ded_goals::laws::normal_goals;
+use ded_goals::laws;
 use ded_model::goal::Goal;
 use ded_model::limits;
 use ded_model::memory::Refused;
@@ -168,7 +168,7 @@ fn evaluated_over(
     ensures held { held.new ≡ held.old }
     ensures wide { IsErrOf result Wide → goal_clashes (measures (snapshot_of snapshot.now)) (goal_form goal.now) ≡ true }
 {
-    normal_goals();
+    laws::normal_goals();
     let plan = plan(alloc, goal)?;
     planned_over(alloc, snapshot, &plan, held)
 }

@@ -19,7 +19,7 @@ use ded_algebra::{Evaluate, Relations};
 use ded_answers::reduced;
 use ded_catalog::Snapshot;
 use ded_eval::{Engine, Given, GivenRelation};
-use ded_goals::laws::normal_goals;
+use ded_goals::laws;
 use ded_model::goal::Goal;
 use ded_model::memory::{NoMemory, Refused};
 use ded_model::name::Name;
@@ -49,7 +49,7 @@ pub(crate) fn evaluated(
     ensures front { IsFront given.old given.new }
     ensures wide { IsErrOf result Wide → goal_clashes (measures (snapshot_of snapshot.now)) (goal_form goal.now) ≡ true }
 {
-    normal_goals();
+    laws::normal_goals();
     let plan = plan(alloc, goal)?;
     evaluated_by(alloc, snapshot, &plan, level, given)
 }

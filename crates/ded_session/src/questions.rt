@@ -13,7 +13,7 @@ ghost use Rattle.ded_session.specs.Steps.{Does, MayBeWide};
 
 use crate::reply::Reply;
 use ded_database::Database;
-use ded_goals::laws::normal_goals;
+use ded_goals::laws;
 use ded_model::answer::Answer;
 use ded_model::goal::Goal;
 use ded_model::memory::Refused;
@@ -66,6 +66,6 @@ pub(crate) fn steps(alloc: Global, goal: &Goal) -> Result<Reply, Refused>
         → IfOk result (λ r. Does (explain h f) c (reply_form r) c) }
     ensures wide { IsErrOf result Wide → ⊥ }
 {
-    normal_goals();
+    laws::normal_goals();
     Ok(Reply::Steps(plan(alloc, goal)?))
 }
