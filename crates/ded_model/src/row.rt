@@ -97,7 +97,7 @@ impl Coefs {
     /// The pairs of a slot and its coefficient. It does not allocate.
     pub fn list(&self) -> &[(Slot, i128)]
         ensures value { result.now ≡ self.now }
-        ensures kept { AreCoefs self.now }
+        ensures coefs { AreCoefs self.now }
     {
         let _ = &self.list; // for its invariant
         self.list.as_slice()

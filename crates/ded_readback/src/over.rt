@@ -79,7 +79,7 @@ fn is_row_over(columns: &[Column], row: &Row) -> bool
 /// The coefficients of a row.
 fn coefs_of(row: &Row) -> &[(Slot, i128)]
     ensures value { result.now ≡ row.now.coefs }
-    ensures kept { AreCoefs row.now.coefs }
+    ensures coefs { AreCoefs row.now.coefs }
     ensures short { IsShort row.now.constant }
 {
     let _ = row.constant;

@@ -116,7 +116,7 @@ pub(crate) fn row<'a>(
     ensures read { IfOk result (λ x. row_at columns.now first bytes.now ≡ Some (x.0, x.1.now)) }
     ensures unread { IfErr result (λ e. e ≡ NoAnswer → row_at columns.now first bytes.now ≡ None) }
     ensures normal { IfOk result (λ x. IsNormalRow x.0) }
-    ensures kept { IfOk result (λ x. AreCoefs x.0.coefs) }
+    ensures coefs { IfOk result (λ x. AreCoefs x.0.coefs) }
 {
     let (terms, rest) = terms(alloc, columns, first, bytes)?;
     let Some(((op, turned), rest)) = comparison(rest) else {

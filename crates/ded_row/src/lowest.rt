@@ -48,7 +48,7 @@ pub fn truth_row(coefs: Coefs, holds: bool) -> Row
 /// What a row with these numbers is divided by.
 fn divisor(op: RowOp, constant: i128, coefs: &[(Slot, i128)]) -> i128
     requires short { IsShort constant }
-    requires kept { AreCoefs coefs.now }
+    requires coefs { AreCoefs coefs.now }
     ensures { result ≡ divisor_of op constant coefs.now }
 {
     match coefs {
@@ -66,7 +66,7 @@ fn divisor(op: RowOp, constant: i128, coefs: &[(Slot, i128)]) -> i128
 /// The greatest common divisor of the constant and all coefficients.
 fn common_divisor(constant: i128, coefs: &[(Slot, i128)]) -> i128
     requires short { IsShort constant }
-    requires kept { AreCoefs coefs.now }
+    requires coefs { AreCoefs coefs.now }
     ensures value { result ≡ pos (gcd_all (constant ∷ map (λ c. c.1) coefs.now)) }
     ensures short { IsShort result }
 {

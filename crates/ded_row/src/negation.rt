@@ -36,7 +36,7 @@ pub fn negate(row: &Row) -> Result<Negated<Row>, NoMemory>
 /// The pieces of the negation of a row, by the op of the row.
 fn negation_of(row: &Row) -> Result<Negated<Row>, NoMemory>
     ensures value { IfOk result (λ n. n ≡ negated_row row.now) }
-    ensures kept { AreCoefs row.now.coefs }
+    ensures coefs { AreCoefs row.now.coefs }
 {
     if row.coefs.list().is_empty() {
         let none = Coefs::new(row.coefs.allocator());

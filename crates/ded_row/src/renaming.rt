@@ -43,7 +43,7 @@ pub fn rename(row: &Row, map: &[(Slot, Slot)]) -> Result<Row, NoMemory>
 fn renamed_coefs(row: &Row, map: &[(Slot, Slot)]) -> Result<Coefs, NoMemory>
     requires sorts { KeepsSorts map.now (row_mentions row.now) }
     ensures value { IfOk result (λ cs. cs ≡ renamed_onto map.now [] row.now.coefs) }
-    ensures kept { AreCoefs row.now.coefs }
+    ensures coefs { AreCoefs row.now.coefs }
 {
     let mut coefs = Coefs::new(row.coefs.allocator());
     for (slot, a) in row.coefs.list() {

@@ -58,7 +58,7 @@ fn add(tuple: &mut Tuple, atom: Atom) -> Result<(), NoMemory>
 /// Whether the row is one without coefficients that is no inequality below 0. A normal one holds everywhere.
 pub fn is_true(row: &Row) -> bool
     ensures value { result ≡ is_true_row row.now }
-    ensures kept { AreCoefs row.now.coefs }
+    ensures coefs { AreCoefs row.now.coefs }
 {
     row.coefs.list().is_empty() && row.op != RowOp::Below
 }

@@ -17,6 +17,6 @@ push-requires-clause-last c =
 
 pub returns : goal.returns
 returns c =
-    made_is c.args.slot _ c.sum.inside.over c.sum.inside.coefs c.in_ok-coefs.coefs c.divide.new.self c.push.new.self c.list.ensures.kept
+    made_is c.args.slot _ c.sum.inside.over c.sum.inside.coefs c.in_ok-coefs.coefs c.divide.new.self c.push.new.self c.list.ensures.coefs
     (subst (λ (t : SlotSum). above_coefs t.coefs ≤ c.args.slot.number) (sym c.sum.view_is) c.requires.above) c.sum.invariant.positive (short_in_code c.sum.inside.over c.sum.invariant.over) c.in_ok-coefs.ensures c.divide.ensures c.in_ok-push.ensures.ok
     ∙ ap (λ (t : SlotSum). put c.args.slot (pos (denominator t.over)) (put_all (negsuc 0) t.coefs [])) c.sum.view_is

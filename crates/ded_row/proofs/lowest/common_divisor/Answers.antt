@@ -5,5 +5,5 @@ use Rattle.ded_row.proofs.lowest.common_divisor.Goals as goal
 
 pub gcd-size-requires-in-loop-coef-clause-short_b : goal.gcd-size-requires-in-loop-coef-clause-short_b
 gcd-size-requires-in-loop-coef-clause-short_b c =
-    let h = short_at c.args.coefs.now c.loop-coef.coef-index _ c.requires.kept c.loop-coef-test.true in
+    let h = short_at c.args.coefs.now c.loop-coef.coef-index _ c.requires.coefs c.loop-coef-test.true in
     rw (to_z-of_z w128 _ (fits_signed_from_abs w128 _ h)) h

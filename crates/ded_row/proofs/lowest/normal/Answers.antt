@@ -36,7 +36,7 @@ returns-then-is_empty-clause-value c = value_then c
 pub returns-then-is_empty-clause-normal : goal.returns-then-is_empty-clause-normal
 returns-then-is_empty-clause-normal c =
     let r : LinearConstraint = record { coefs = c.row.inside.coefs; constant = c.row.inside.constant; op = c.row.inside.op } in
-    subst IsNormalRow (ap normal_row c.row.view_is ∙ sym (value_then c)) (normal_row-normal r (begins r.coefs c.list.ensures.kept))
+    subst IsNormalRow (ap normal_row c.row.view_is ∙ sym (value_then c)) (normal_row-normal r (begins r.coefs c.list.ensures.coefs))
 
 -- ---- a row with coefficients
 
@@ -44,7 +44,7 @@ pub divide-requires-clause-nonzero : goal.divide-requires-clause-nonzero
 divide-requires-clause-nonzero c =
     let fits : SFits w128 c.divisor-by.result = search rules in
     let is = by_is c.row.inside.op c.row.inside.constant c.divisor-by.result c.list-2.result.now c.row.inside.coefs fits c.row.invariant c.divisor-by.ensures c.list-2.ensures.value in
-    λ e. divisor-nonzero c.row.inside.op c.row.inside.constant c.row.inside.coefs c.list.ensures.kept (sym is ∙ e)
+    λ e. divisor-nonzero c.row.inside.op c.row.inside.constant c.row.inside.coefs c.list.ensures.coefs (sym is ∙ e)
 
 pub divide-requires-clause-whole : goal.divide-requires-clause-whole
 divide-requires-clause-whole c =
@@ -56,7 +56,7 @@ pub quotient-requires-clause-nonzero : goal.quotient-requires-clause-nonzero
 quotient-requires-clause-nonzero c =
     let fits : SFits w128 c.divisor-by.result = search rules in
     let is = by_is c.row.inside.op c.row.inside.constant c.divisor-by.result c.list-2.result.now c.row.inside.coefs fits c.row.invariant c.divisor-by.ensures c.list-2.ensures.value in
-    λ e. divisor-nonzero c.row.inside.op c.row.inside.constant c.row.inside.coefs c.list.ensures.kept (sym is ∙ e)
+    λ e. divisor-nonzero c.row.inside.op c.row.inside.constant c.row.inside.coefs c.list.ensures.coefs (sym is ∙ e)
 
 -- the divided row is the normal one
 value_else : (c : After-quotient) → ◌≡◌ {A = LinearConstraint} (record { coefs = c.divide.new.self; constant = to_z w128 (of_z w128 c.quotient.result); op = c.row.inside.op }) (normal_row c.args.row)
@@ -76,4 +76,4 @@ returns-clause-value c = value_else c
 pub returns-clause-normal : goal.returns-clause-normal
 returns-clause-normal c =
     let r : LinearConstraint = record { coefs = c.row.inside.coefs; constant = c.row.inside.constant; op = c.row.inside.op } in
-    subst IsNormalRow (ap normal_row c.row.view_is ∙ sym (value_else c)) (normal_row-normal r (begins r.coefs c.list.ensures.kept))
+    subst IsNormalRow (ap normal_row c.row.view_is ∙ sym (value_else c)) (normal_row-normal r (begins r.coefs c.list.ensures.coefs))

@@ -21,7 +21,7 @@ returns-clause-disjoint c =
 
 pub returns-clause-normal : goal.returns-clause-normal
 returns-clause-normal c =
-    IfOk-weaker _ (λ (n : Negated LinearConstraint). n ≡ negated_row c.args.row.now) _ (λ n e. subst (EachPiece IsNormalRow) (sym e) (pieces_normal c.args.row.now (begins c.args.row.now.coefs c.negation_of.ensures.kept) c.requires.normal)) c.negation_of.ensures.value
+    IfOk-weaker _ (λ (n : Negated LinearConstraint). n ≡ negated_row c.args.row.now) _ (λ n e. subst (EachPiece IsNormalRow) (sym e) (pieces_normal c.args.row.now (begins c.args.row.now.coefs c.negation_of.ensures.coefs) c.requires.normal)) c.negation_of.ensures.value
 
 pub returns-clause-mentions : goal.returns-clause-mentions
 returns-clause-mentions c =
@@ -29,4 +29,4 @@ returns-clause-mentions c =
 
 pub returns-clause-lines : goal.returns-clause-lines
 returns-clause-lines c =
-    IfOk-weaker _ (λ (n : Negated LinearConstraint). n ≡ negated_row c.args.row.now) _ (λ n e. subst (EachPiece (λ r. row_lines r ≡ row_lines c.args.row.now)) (sym e) (pieces_lines c.args.row.now (begins c.args.row.now.coefs c.negation_of.ensures.kept))) c.negation_of.ensures.value
+    IfOk-weaker _ (λ (n : Negated LinearConstraint). n ≡ negated_row c.args.row.now) _ (λ n e. subst (EachPiece (λ r. row_lines r ≡ row_lines c.args.row.now)) (sym e) (pieces_lines c.args.row.now (begins c.args.row.now.coefs c.negation_of.ensures.coefs))) c.negation_of.ensures.value

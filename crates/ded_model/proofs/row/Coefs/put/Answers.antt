@@ -27,12 +27,12 @@ returns-then-a-eq0-clause-ok c =
     c.remove.ensures.items
     ∙ ap (λ cs. remove cs c.find-place.result.at) c.self.view_is
     ∙ ap (λ p. remove c.args.self.now p) at
-    ∙ remove-place c.args.slot c.requires.rational c.args.a zero c.args.self.now c.list.ensures.kept taken
+    ∙ remove-place c.args.slot c.requires.rational c.args.a zero c.args.self.now c.list.ensures.coefs taken
 
 pub invariant_of-self : goal.invariant_of-self
 invariant_of-self c =
     subst AreCoefs (sym (returns-then-a-eq0-clause-ok c))
-    (AreCoefs-with_coef c.args.slot c.requires.rational c.args.a c.requires.short c.args.self.now c.list.ensures.kept)
+    (AreCoefs-with_coef c.args.slot c.requires.rational c.args.a c.requires.short c.args.self.now c.list.ensures.coefs)
 
 pub set_entry-requires : goal.set_entry-requires
 set_entry-requires c =
@@ -55,9 +55,9 @@ returns-else-a-eq0-clause-ok c =
     ∙ set
     ∙ ap (λ cs. slice_set cs c.find-place.result.at (c.args.slot, c.args.a)) c.self.view_is
     ∙ ap (λ p. slice_set c.args.self.now p (c.args.slot, c.args.a)) at
-    ∙ set-place c.args.slot c.requires.rational c.args.a nonzero c.args.self.now c.list.ensures.kept taken
+    ∙ set-place c.args.slot c.requires.rational c.args.a nonzero c.args.self.now c.list.ensures.coefs taken
 
 pub invariant_of-self-else-a-eq0 : goal.invariant_of-self-else-a-eq0
 invariant_of-self-else-a-eq0 c =
     subst AreCoefs (sym (returns-else-a-eq0-clause-ok c))
-    (AreCoefs-with_coef c.args.slot c.requires.rational c.args.a c.requires.short c.args.self.now c.list.ensures.kept)
+    (AreCoefs-with_coef c.args.slot c.requires.rational c.args.a c.requires.short c.args.self.now c.list.ensures.coefs)
