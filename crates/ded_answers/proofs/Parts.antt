@@ -12,7 +12,7 @@ use Rattle.ded_model.proofs.Rows.{or_left, or_right}
 use Rattle.ded_model.proofs.Members.{In-split, In-left, In-right, or_split}
 use Rattle.ded_theory.specs.Both.{by_kind}
 use Rattle.ded_theory.specs.Conjunctions.{conj_lines}
-use Rattle.ded_reduce.specs.Kept.{IsSublist}
+use Rattle.ded_reduce.specs.Reductions.{IsSublist}
 use Rattle.ded_reduce.proofs.Sublists.{sublist_refl, sublist_slots, sublist_lines}
 use Rattle.ded_atoms.proofs.Conjunctive.{atoms_lines-is}
 use Rattle.ded_answers.specs.Kept.{ArePartsOf}

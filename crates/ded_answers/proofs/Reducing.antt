@@ -14,7 +14,7 @@ use Rattle.ded_model.proofs.Members.{or_split}
 use Rattle.ded_model.proofs.Rows.{or_left, or_right}
 use Rattle.ded_theory.specs.Verdicts.{HoldsNowhere}
 use Rattle.ded_theme.proofs.Lists.{all-append}
-use Rattle.ded_reduce.specs.Kept.{IsSublist}
+use Rattle.ded_reduce.specs.Reductions.{IsSublist}
 use Rattle.ded_answers.specs.Kept.{ArePartsOf, IsReducedTuple, IsReducedPart, AreReducedParts}
 use Rattle.ded_answers.proofs.Parts.{sublist_push, sublist_skip, parts_push, parts_skip, parts_after, parts_before}
 use Rattle.std.proofs.Math.Bool.{or-false}

@@ -6,7 +6,7 @@ ghost use Rattle.ded_model.specs.declared.slot.Slot.{Slot};
 ghost use Rattle.ded_model.specs.Point.{Point};
 ghost use Rattle.ded_model.specs.Row.{Atom, tuples_hold, tuples_mention};
 ghost use Rattle.ded_model.specs.Lines.{IsSubset, tuples_lines};
-ghost use Rattle.ded_reduce.specs.Kept.{IsSublist};
+ghost use Rattle.ded_reduce.specs.Reductions.{IsSublist};
 
 use ded_model::laws::sameness::equal_tuples;
 use ded_model::memory::NoMemory;

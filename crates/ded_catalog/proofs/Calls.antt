@@ -30,7 +30,7 @@ use Rattle.ded_catalog.specs.declared.stored.View.{View}
 use Rattle.ded_catalog.specs.declared.stored.Stored.{Stored}
 use Rattle.ded_catalog.specs.declared.stored.Stored.TheVariants as stored
 use Rattle.ded_catalog.specs.Changed.{ChangesRelation}
-use Rattle.ded_catalog.specs.Kept.{IsRight, AreKept, IsKept}
+use Rattle.ded_catalog.specs.Conditions.{IsRight, AreKept, IsKept}
 use Rattle.ded_catalog.specs.Mentions.{AreMentions}
 use Rattle.ded_catalog.specs.State.{Table, entry_form, entry_forms, catalogue_of, stored_known, known_with, relation_at, level_at, atom_level_in}
 use Rattle.ded_catalog.specs.Tuples.{AreUpTo, refusal_of, IsSame, Pushes, Removes}

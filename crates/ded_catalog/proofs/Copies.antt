@@ -14,7 +14,7 @@ use Rattle.ded_model.specs.Slotted.{goal_of}
 use Rattle.ded_catalog.specs.declared.stored.Stored.{Stored}
 use Rattle.ded_catalog.specs.declared.stored.Stored.TheVariants.{Relation, View}
 use Rattle.ded_catalog.specs.Copies.{IsCopy}
-use Rattle.ded_catalog.specs.Kept.{IsRight, AreKept, IsKept}
+use Rattle.ded_catalog.specs.Conditions.{IsRight, AreKept, IsKept}
 use Rattle.ded_catalog.specs.Mentions.{AreMentions}
 use Rattle.ded_catalog.specs.State.{entry_form, entry_forms}
 

@@ -9,7 +9,7 @@ use Rattle.ded_model.specs.Entries.{entry_uses}
 use Rattle.ded_catalog.specs.declared.stored.Stored.{Stored}
 use Rattle.ded_catalog.specs.declared.stored.Stored.TheVariants.{Relation, View}
 use Rattle.ded_catalog.specs.State.{Table, entry_form, entry_forms, catalogue_of}
-use Rattle.ded_catalog.specs.Kept.{IsRight, AreKept, IsKept}
+use Rattle.ded_catalog.specs.Conditions.{IsRight, AreKept, IsKept}
 use Rattle.ded_catalog.proofs.Agreeing.{Agrees, level-agree, accepted-agree}
 use Rattle.ded_catalog.proofs.Lookups.{same_names, named, forms-append, with_known-form, with_known-own, with_known-other}
 use Rattle.ded_model.proofs.Bools.{or_false_left, or_false_right, bytes_eq-refl}

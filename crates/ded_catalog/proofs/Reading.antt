@@ -15,7 +15,7 @@ use Rattle.ded_catalog.specs.declared.stored.Relation.{Relation}
 use Rattle.ded_catalog.specs.declared.stored.Stored.{Stored}
 use Rattle.ded_catalog.specs.declared.stored.View.{View}
 use Rattle.ded_catalog.specs.declared.stored.Stored.TheVariants as stored
-use Rattle.ded_catalog.specs.Kept.{IsKept, AreKept}
+use Rattle.ded_catalog.specs.Conditions.{IsKept, AreKept}
 use Rattle.ded_catalog.specs.Mentions.{AreMentions}
 use Rattle.ded_catalog.specs.State.{Table, entry_form, entry_forms, catalogue_of, known_with, relation_at, view_at, heading_at, stored_uses}
 use Rattle.ded_catalog.proofs.Calls.{is_known, at-kept}

@@ -1,8 +1,8 @@
 pub mod Changed
 pub mod Changing
+pub mod Conditions
 pub mod Copies
 pub mod Forms
-pub mod Kept
 pub mod Mentions
 pub mod Snapshots
 pub mod State

@@ -37,7 +37,7 @@ impl Model for Catalogue {
 
     ghost coded = { Prim.hlevel (stored.the_row.coded, codes) };
 
-    ghost use Rattle.ded_catalog.specs.Kept.{IsKept};
+    ghost use Rattle.ded_catalog.specs.Conditions.{IsKept};
 
     ghost view = { λ c. record { limit = c.limit; names = c.names.entries } };
 

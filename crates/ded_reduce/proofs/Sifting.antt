@@ -23,7 +23,7 @@ use Rattle.ded_theory.specs.Verdicts.{HoldsNowhere, IsVerdict}
 use Rattle.ded_theory.proofs.Conjunctions.{conj_holds-append, conj_mentions-append}
 use Rattle.ded_theory.proofs.Parted.{wide_more}
 use Rattle.ded_genrel.proofs.Laws.{conj_lines-append}
-use Rattle.ded_reduce.specs.Kept.{IsSublist, MayBeOpen, IsNeeded, IsImplied, IsSifted}
+use Rattle.ded_reduce.specs.Reductions.{IsSublist, MayBeOpen, IsNeeded, IsImplied, IsSifted}
 use Rattle.ded_reduce.proofs.Sublists.{sublist_refl, sublist_trans, sublist_without, length_without, sublist_all, parted_at, parted_others, parted_length}
 use Rattle.std.proofs.lemmas.Bool.{not-true}
 use Rattle.ded_model.proofs.Bools.{and_swap}

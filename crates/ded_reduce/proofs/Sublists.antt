@@ -6,7 +6,7 @@ use Rattle.ded_model.specs.Lines.{Line, In, IsSubset}
 use Rattle.ded_model.proofs.Rows.{or_left, or_right}
 use Rattle.ded_model.proofs.Members.{In-split, In-left, In-right, or_split}
 use Rattle.ded_theory.specs.Conjunctions.{conj_mentions, conj_lines}
-use Rattle.ded_reduce.specs.Kept.{IsSublist}
+use Rattle.ded_reduce.specs.Reductions.{IsSublist}
 
 module _ {A : Type 0} where
   pub sublist_refl : (xs : List A) → IsSublist xs xs

@@ -3,7 +3,7 @@ ghost use Rattle.std.specs.Prelude.{◌≡◌, ℕ, ◌<◌, true, false, not, �
 ghost use Rattle.std.specs.List.{AllByRecursion};
 ghost use Rattle.ded_model.specs.Cell.{conj_holds, HoldsSomewhere};
 ghost use Rattle.ded_theory.specs.Verdicts.{HoldsNowhere};
-ghost use Rattle.ded_reduce.specs.Kept.{MayBeOpen, IsNeeded, IsImplied, IsSifted};
+ghost use Rattle.ded_reduce.specs.Reductions.{MayBeOpen, IsNeeded, IsImplied, IsSifted};
 
 use ded_genrel::{both_conjs, copy_conj};
 use ded_model::memory::NoMemory;

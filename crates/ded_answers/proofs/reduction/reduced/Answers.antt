@@ -1,6 +1,6 @@
 use Rattle.std.proofs.lemmas.Result.{IfOk-weaker}
 use Rattle.ded_model.specs.Normal.{IsNormalTuple}
-use Rattle.ded_reduce.specs.Kept.{IsSublist}
+use Rattle.ded_reduce.specs.Reductions.{IsSublist}
 use Rattle.ded_reduce.proofs.Sublists.{sublist_all}
 use Rattle.ded_answers.specs.Kept.{IsReducedTuple}
 use Rattle.ded_answers.proofs.Parts.{parts_slots, parts_lines}

@@ -9,7 +9,7 @@ use Rattle.ded_theory.specs.Both.{by_kind, IsByKind}
 use Rattle.ded_theory.specs.Conjunctions.{IsWide}
 use Rattle.ded_theory.specs.Verdicts.{HoldsNowhere}
 use Rattle.ded_elimination.specs.LinearAtoms.{IsLinearAtom}
-use Rattle.ded_reduce.specs.Kept.{IsSublist, IfGone, IfKept}
+use Rattle.ded_reduce.specs.Reductions.{IsSublist, IfGone, IfKept}
 use Rattle.ded_atoms.proofs.Conjunctive.{normal-is}
 use Rattle.ded_answers.proofs.Parts.{normal_part}
 use Rattle.ded_answers.proofs.Sifted.{sifted_gone, sifted_kept}

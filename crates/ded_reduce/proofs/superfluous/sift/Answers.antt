@@ -1,5 +1,5 @@
 use Rattle.std.proofs.Common.{◌≤◌, ◌<◌, ◌++◌, length, take, drop, arith, add-one, ap, ◌∙◌, subst}
-use Rattle.ded_reduce.specs.Kept.{MayBeOpen, IsNeeded, IsImplied}
+use Rattle.ded_reduce.specs.Reductions.{MayBeOpen, IsNeeded, IsImplied}
 use Rattle.ded_reduce.proofs.Sifting.{sifting_none, sifting_removed, sifting_kept, sifting_all}
 use Rattle.ded_reduce.proofs.superfluous.sift.Goals as goal
 

@@ -1,7 +1,7 @@
 use Rattle.std.proofs.Common.{◌≡◌, None, sym, subst}
 use Rattle.ded_model.specs.Entries.{known}
 use Rattle.ded_model.specs.Known.{IsNewName}
-use Rattle.ded_catalog.specs.Kept.{IsKept}
+use Rattle.ded_catalog.specs.Conditions.{IsKept}
 use Rattle.ded_catalog.specs.State.{catalogue_of}
 use Rattle.ded_catalog.proofs.Calls.{new_name, kept-defined}
 use Rattle.ded_catalog.proofs.Results.{after}

@@ -2,7 +2,7 @@ use Rattle.std.proofs.Common.{◌≡◌, ◌≤◌, ◌+◌, None, sym, ap, ◌�
 use Rattle.ded_model.specs.Form.{form}
 use Rattle.ded_model.specs.Known.{IsAccepted, IsNewName, level_of}
 use Rattle.ded_model.specs.Entries.{known}
-use Rattle.ded_catalog.specs.Kept.{IsKept}
+use Rattle.ded_catalog.specs.Conditions.{IsKept}
 use Rattle.ded_catalog.specs.State.{catalogue_of}
 use Rattle.ded_catalog.proofs.Calls.{new_name, kept-viewed, level_there}
 use Rattle.ded_catalog.proofs.Results.{after}

@@ -1,4 +1,4 @@
--- What a catalogue of the program keeps of its entries.
+-- What holds of the entries of every catalogue of the program.
 use Rattle.std.specs.Prelude.{◌≡◌, ◌≤◌, ℕ, false, None, List, [], ◌∷◌, length}
 use Rattle.ded_model.specs.Form.{form}
 use Rattle.ded_model.specs.Goal.{goal_form}
