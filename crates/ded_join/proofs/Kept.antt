@@ -1,7 +1,7 @@
 -- What is left of pairs without those that no point satisfies.
 --
 -- It is an operation like the pairs themselves, and pairs that are near stay so when some of them are left out.
-use Rattle.std.proofs.Common.{◌≡◌, ℕ, zero, suc, ◌+◌, ◌-◌, ◌<◌, ◌^◌, Bool, ◌&&◌, ◌||◌, List, [], ◌∷◌, ◌++◌, Vec, Global, length, min, take, get_or, inl, inr, arith, refl, sym, ap, ◌∙◌, subst, append_assoc, append-nil}
+use Rattle.std.proofs.Common.{◌≡◌, ℕ, zero, suc, ◌+◌, ◌-◌, ◌<◌, ◌≤◌, ◌^◌, ◌⊎◌, Bool, ◌&&◌, ◌||◌, List, [], ◌∷◌, ◌++◌, Vec, Global, length, min, take, get_or, inl, inr, arith, refl, sym, ap, ◌∙◌, subst, append_assoc, append-nil}
 use Rattle.std.specs.List.{AllPairs, AllByRecursion}
 use Rattle.std.specs.List.Sorted.{IsStrictlyIncreasing}
 use Rattle.std.proofs.lemmas.List.Elements.{All-from_recursion, recursion_from_All}
@@ -17,7 +17,7 @@ use Rattle.ded_genrel.specs.Operations.{IsOperation, IsMeet, IsInhabitedPart}
 use Rattle.ded_genrel.proofs.Items.{pairs-push, pairs_with-append, conjs_to}
 use Rattle.ded_genrel.proofs.Laws.{meet_is}
 use Rattle.ded_genrel.proofs.Inhabited.{inhabited_none, inhabited_kept, inhabited_dropped}
-use Rattle.ded_join.specs.Near.{AreNear, ArePicked, AreNearPairs}
+use Rattle.ded_join.specs.Near.{AreNear, ArePicked, AreNearPairs, AreAllPairs}
 use Rattle.ded_join.specs.Picks.{picked}
 use Rattle.ded_join.specs.Kept.{AreKept, AreKeptAfter, IsCount, IsKeptMeet}
 use Rattle.ded_join.proofs.Joined.{IsPart, part_none, part-append, part_meets, picked_more}
@@ -53,6 +53,14 @@ count_picked c cs js old new e = e ∙ ap (λ n. min (old + n) (2 ^ 64 - 1)) (sy
     long : (js : List ℕ) → length (picked c cs js) ≡ length js
     long [] = refl
     long (j ∷ js) = ap suc (long js)
+
+-- slots are given, and the second list has few enough conjunctions
+pub no_whole : {A : Type 0} (ss : List Slot) (xs ys out : List (List A)) → 0 < length ss → length ys < 2 ^ 32 → AreAllPairs ss xs ys out
+no_whole ss xs ys out some few = λ h. absurd (neither (length ss) (length ys) some few h)
+  where
+    neither : (n k : ℕ) → 0 < n → k < 2 ^ 32 → (n ≡ 0) ⊎ (2 ^ 32 ≤ k) → ⊥
+    neither n k some few (inl e) = omega (arith, some, e)
+    neither n k some few (inr l) = omega (arith, few, l)
 
 module _ {A : Type 0} (h : A → Point → Bool) (m : A → Slot → Bool) (l : A → List Line) where
   -- what is kept of two lists
@@ -200,12 +208,12 @@ module _ {A : Type 0} (h : A → Point → Bool) (m : A → Slot → Bool) (l : 
     count = count-append r.met added old mid new r.count n;
   }
 
-  pub so_far_done : (ss : List Slot) (xs ys out : List (List A)) (old new : ℕ) → IsKeptSoFar ss xs ys out old new → IsKeptMeet h m l ss xs ys out old new
-  so_far_done ss xs ys out old new r = record { met = r.met; is = part_meets h m l xs ys r.met r.part; near = λ _ _. r.near; kept = r.kept; count = r.count }
+  pub so_far_done : (ss : List Slot) (xs ys out : List (List A)) (old new : ℕ) → 0 < length ss → length ys < 2 ^ 32 → IsKeptSoFar ss xs ys out old new → IsKeptMeet h m l ss xs ys out old new
+  so_far_done ss xs ys out old new some few r = record { met = r.met; is = part_meets h m l xs ys r.met r.part; near = λ _ _. r.near; whole = no_whole ss xs ys r.met some few; kept = r.kept; count = r.count }
 
   -- all pairs, where no slots are given or the list is too long
   pub all_kept : (ss : List Slot) (xs ys out : List (List A)) (old new : ℕ) → (0 < length ss → length ys < 2 ^ 32 → ⊥) → AreKept h m l (pairs xs ys) out → IsCount (pairs xs ys) old new → IsKeptMeet h m l ss xs ys out old new
-  all_kept ss xs ys out old new not_both k n = record { met = pairs xs ys; is = meet_is h m l xs ys (pairs xs ys) refl; near = λ s f. absurd (not_both s f); kept = k; count = n }
+  all_kept ss xs ys out old new not_both k n = record { met = pairs xs ys; is = meet_is h m l xs ys (pairs xs ys) refl; near = λ s f. absurd (not_both s f); whole = λ _. refl; kept = k; count = n }
 
   -- what is kept is a meet
   pub kept_is : (ss : List Slot) (xs ys out : List (List A)) (old new : ℕ) → IsKeptMeet h m l ss xs ys out old new → IsMeet h m l xs ys out

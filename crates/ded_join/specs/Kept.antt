@@ -7,7 +7,7 @@ use Rattle.ded_model.specs.Lines.{Line}
 use Rattle.ded_theory.specs.Conjunctions.{IsWide}
 use Rattle.ded_theory.specs.Verdicts.{HoldsNowhere}
 use Rattle.ded_genrel.specs.Operations.{IsMeet}
-use Rattle.ded_join.specs.Near.{AreNearPairs}
+use Rattle.ded_join.specs.Near.{AreNearPairs, AreAllPairs}
 
 -- the list without conjunctions that no point satisfies, in order: each that is kept is wide or holds somewhere
 abbrev pub AreKept : {A : Type 0} → (A → Point → Bool) → (A → Slot → Bool) → (A → List Line) → List (List A) → List (List A) → Type 0
@@ -26,10 +26,12 @@ pub record AreKeptAfter {A : Type 0} (holds : A → Point → Bool) (mentions : 
 abbrev pub IsCount : {A : Type 0} → List (List A) → ℕ → ℕ → Type 0
 IsCount cs old new = new ≡ min (old + length cs) (2 ^ 64 - 1)
 
--- the list is what is kept of a meet of the two, of pairs that are near where slots are given, and the count grows by its length
+-- the list is what is kept of a meet of the two, of pairs that are near where slots are given and of all pairs where none are,
+-- and the count grows by the length of the meet
 pub record IsKeptMeet {A : Type 0} (holds : A → Point → Bool) (mentions : A → Slot → Bool) (lines : A → List Line) (ss : List Slot) (xs ys out : List (List A)) (old new : ℕ) : Type 0 where
   pub met : List (List A)
   pub is : IsMeet holds mentions lines xs ys met
   pub near : 0 < length ss → length ys < 2 ^ 32 → AreNearPairs holds mentions lines ss xs ys met
+  pub whole : AreAllPairs ss xs ys met
   pub kept : AreKept holds mentions lines met out
   pub count : IsCount met old new

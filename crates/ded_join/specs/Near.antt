@@ -1,5 +1,5 @@
--- Pairs of conjunctions that are near.
-use Rattle.std.specs.Prelude.{◌≡◌, ◌<◌, ℕ, Bool, true, List, [], ◌∷◌, ◌++◌, length, slice_index_or}
+-- Pairs of conjunctions that are near, and where all pairs are taken.
+use Rattle.std.specs.Prelude.{◌≡◌, ◌⊎◌, ◌<◌, ◌≤◌, ◌^◌, ℕ, Bool, true, List, [], ◌∷◌, ◌++◌, length, slice_index_or}
 use Rattle.std.specs.List.{AllByRecursion}
 use Rattle.std.specs.List.Sorted.{IsStrictlyIncreasing}
 use Rattle.ded_model.specs.declared.slot.Slot.{Slot}
@@ -10,6 +10,7 @@ use Rattle.ded_model.specs.Bound.{Fraction}
 use Rattle.ded_model.specs.Lines.{Line}
 use Rattle.ded_theory.specs.Conjunctions.{IsWide}
 use Rattle.ded_box.specs.Intervals.{IsPositive, is_within}
+use Rattle.ded_genrel.specs.Lists.{pairs}
 use Rattle.ded_genrel.specs.Rounds.{AreExact}
 use Rattle.ded_join.specs.Picks.{picked}
 
@@ -43,3 +44,7 @@ abbrev pub AreNearPairs : {A : Type 0} → (A → Point → Bool) → (A → Slo
 AreNearPairs holds mentions lines ss [] cs out = out ≡ []
 AreNearPairs holds mentions lines ss (b ∷ bs) cs out =
     (front : List (List _)) × (rest : List (List _)) × (out ≡ front ++ rest) × ArePicked holds mentions lines ss b cs front × AreNearPairs holds mentions lines ss bs cs rest
+
+-- where no slots are given, or the second list has more conjunctions than an index has numbers for: the list is that of all pairs
+abbrev pub AreAllPairs : {A : Type 0} → List Slot → List (List A) → List (List A) → List (List A) → Type 0
+AreAllPairs ss xs ys out = (length ss ≡ 0) ⊎ (2 ^ 32 ≤ length ys) → out ≡ pairs xs ys

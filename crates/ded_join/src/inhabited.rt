@@ -18,9 +18,10 @@ use ded_model::slot::Slot;
 use ded_theory::{Theory, Verdict};
 use std::alloc::Global;
 
-/// The join without pairs that no point satisfies: each that is kept is wide or holds somewhere. It keeps no more in memory than
-/// what is left and, while it looks at one conjunction of the first list, the places of those that are near. `met` grows by the
-/// count of pairs that are met, those that are left out among them, up to the greatest `u64`.
+/// The join without pairs that no point satisfies: each that is kept is wide or holds somewhere. Where no slots are given, or the
+/// second list has 2^32 conjunctions or more, it is `GenRel::meet` without these. It keeps no more in memory than what is left
+/// and, while it looks at one conjunction of the first list, the places of those that are near. `met` grows by the count of pairs
+/// that are met, those that are left out among them, up to the greatest `u64`.
 ///
 /// # Errors
 /// Out of memory.

@@ -2,7 +2,7 @@
 ghost use Rattle.std.specs.Prelude.{◌≡◌, ◌+◌, ◌-◌, ◌<◌, ◌≤◌, ◌^◌, ◌++◌, min, length, IfOk};
 ghost use Rattle.std.specs.List.{AllByRecursion};
 ghost use Rattle.ded_genrel.specs.Operations.{IsMeet};
-ghost use Rattle.ded_join.specs.Near.{AreNearPairs};
+ghost use Rattle.ded_join.specs.Near.{AreNearPairs, AreAllPairs};
 ghost use Rattle.ded_genrel.specs.Rounds.{AreRational};
 ghost use Rattle.ded_join.specs.Picks.{picked};
 
@@ -31,6 +31,7 @@ pub fn join<T: Theory>(
     requires { AreRational slots.now }
     ensures is { IfOk result (λ r. IsMeet T.holds T.mentions T.lines a.now b.now r) }
     ensures near { IfOk result (λ r. 0 < length slots.now → length b.now < 2 ^ 32 → AreNearPairs T.holds T.mentions T.lines slots.now a.now b.now r) }
+    ensures whole { IfOk result (λ r. AreAllPairs slots.now a.now b.now r) }
 {
     if slots.is_empty() || b.list().len() >= TOO_MANY {
         a.meet(b)
@@ -54,6 +55,7 @@ pub fn join_counted<T: Theory>(
     requires { AreRational slots.now }
     ensures is { IfOk result (λ r. IsMeet T.holds T.mentions T.lines a.now b.now r) }
     ensures near { IfOk result (λ r. 0 < length slots.now → length b.now < 2 ^ 32 → AreNearPairs T.holds T.mentions T.lines slots.now a.now b.now r) }
+    ensures whole { IfOk result (λ r. AreAllPairs slots.now a.now b.now r) }
     ensures met { IfOk result (λ r. met.new ≡ min (met.old + length r) (2 ^ 64 - 1)) }
 {
     let joined = join(alloc, a, b, slots)?;

@@ -48,5 +48,5 @@ loop-conj-preserved g c =
 
 pub returns : goal.returns
 returns g c =
-    so_far_done g.T.Theory.holds g.T.Theory.mentions g.T.Theory.lines c.args.slots.now c.args.a.now c.args.b.now c.loop-conj.out c.args.met.now c.loop-conj.count
+    so_far_done g.T.Theory.holds g.T.Theory.mentions g.T.Theory.lines c.args.slots.now c.args.a.now c.args.b.now c.loop-conj.out c.args.met.now c.loop-conj.count c.requires.some c.requires.few
     (subst (λ xs. IsKeptSoFar g.T.Theory.holds g.T.Theory.mentions g.T.Theory.lines c.args.slots.now xs c.args.b.now c.loop-conj.out c.args.met.now c.loop-conj.count) (conjs_done c.list-conj-items.result.now c.loop-conj.conj-index c.loop-conj-test.false ∙ c.list-conj-items.ensures.list) c.loop-conj.invariant)
