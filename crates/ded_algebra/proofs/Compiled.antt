@@ -12,7 +12,7 @@ use Rattle.ded_model.specs.NormalGoal.{IsNormalGoalAtom, IsNormalGoal}
 use Rattle.ded_algebra.specs.Compiled.{HasByteTexts, IsOfBytes, IsCompiled}
 use Rattle.ded_algebra.proofs.PlanMeanings.{means}
 use Rattle.ded_algebra.proofs.PlanLines.{plan_of-length, plan_of-rank, plan_of-lines, plan_of-clashes}
-use Rattle.ded_algebra.proofs.PlanShapes.{plan_slots, plan_scans, conjunctive_plan}
+use Rattle.ded_algebra.proofs.PlanShapes.{plan_slots, plan_atoms, conjunctive_plan}
 
 pub plan_compiled : (g : GoalForm) → IsNormalGoal g → IsOfBytes g → IsCompiled g (plan_of g)
 plan_compiled g n b = record {
@@ -22,7 +22,7 @@ plan_compiled g n b = record {
   rank = λ M. plan_of-rank M g;
   lines = λ M. plan_of-lines M g;
   clashes = λ M h. plan_of-clashes M g h;
-  scans = plan_scans g g (λ n ss h. h);
+  atoms = plan_atoms g g (λ a h. h);
   conjunctive = λ h. conjunctive_plan g h;
 }
 

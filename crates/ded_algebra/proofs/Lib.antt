@@ -2,6 +2,7 @@ pub mod SamePoints
 pub mod EqualValues
 pub mod Ties
 pub mod Projections
+pub mod SameRows
 pub mod Scans
 pub mod PlanMeanings
 pub mod PlanLines

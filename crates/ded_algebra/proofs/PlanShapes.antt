@@ -22,7 +22,8 @@ use Rattle.ded_model.specs.Row.{Atom, row_mentions, theme_mentions, atom_mention
 use Rattle.ded_model.specs.Normal.{is_true_row}
 use Rattle.ded_model.specs.Logic.{atom, always, never, negation, every_of, some_of, implies, minus, exists, forall, Logics, none, also, logics, any_mentions, some_atom, some_atom_of, AllAtoms, AllAtomsOf, count_atoms, count_atoms_of, as_count, conjunctive, all_conjunctive}
 use Rattle.ded_model.specs.Goal.{GoalAtom, linear, theme, member, GoalForm, place_mentions, in_goal_atom, goal_mentions}
-use Rattle.ded_model.specs.PlanForm.{scan, PlanForm, in_plan_atom, plan_mentions}
+use Rattle.ded_model.specs.PlanForm.{PlanAtom, scan, rows, PlanForm, in_plan_atom, plan_mentions}
+use Rattle.ded_model.specs.Slotted.{goal_atoms}
 use Rattle.ded_model.specs.Scanned.{Scanned, kept, fresh, argument_row, of_slot, same_atom, scanned, scanned_slots, tied_atoms, fresh_slots, first_free}
 use Rattle.ded_model.proofs.Points.{and_left, and_right}
 use Rattle.ded_model.proofs.Rows.{or_left, or_right}
@@ -31,9 +32,10 @@ use Rattle.ded_model.proofs.Monotone.{or-grows}
 use Rattle.ded_model.proofs.LineSlots.{has_slot, put_slots, put_all_slots}
 use Rattle.ded_row.proofs.Forms.{row_mentions-normal}
 use Rattle.ded_algebra.specs.Compile.{row_plan, joined, projected, plan_of, plans_of, atom_plan}
-use Rattle.ded_algebra.specs.Compiled.{place_sort, same_sorts, is_scanned_by, IsScanIn, is_member_of, is_scan_of, IsConjunctivePlan}
+use Rattle.ded_algebra.specs.Compiled.{place_sort, same_sorts, same_rows, comes_from, ComesFrom, is_member_of, is_scan_of, IsConjunctivePlan}
 use Rattle.ded_algebra.proofs.Ties.{tie}
 use Rattle.ded_algebra.proofs.Projections.{other_slot, fails_left, fails_right}
+use Rattle.ded_algebra.proofs.SameRows.{same_rows_refl}
 use Rattle.ded_algebra.proofs.Scans.{IsScannedAs, AreScannedAs, scanned-are}
 
 -- ---- what is mentioned
@@ -219,51 +221,53 @@ scanned_sorts (t ∷ ts) [] h = absurd h
 scanned_sorts (t ∷ ts) (kept u ∷ gs) h = and_both _ _ (one_sort t (kept u) u (inl refl) h.0) (scanned_sorts ts gs h.1)
 scanned_sorts (t ∷ ts) (fresh u a ∷ gs) h = and_both _ _ (one_sort t (fresh u a) u (inr (a, refl)) h.0) (scanned_sorts ts gs h.1)
 
--- each scan is of an atom of the whole goal
+-- each scan and each list of rows comes from an atom of the whole goal
 module _ (whole : GoalForm) where
-  -- the atoms of a part are atoms of the whole
+  -- what comes from a part comes from the whole
   abbrev IsPart : GoalForm → Type 0
-  IsPart f = (n : List ℕ) (ss : List Slot) → some_atom (is_scanned_by n ss) f ≡ true → some_atom (is_scanned_by n ss) whole ≡ true
+  IsPart f = (a : PlanAtom) → ComesFrom f a → ComesFrom whole a
 
   abbrev ArePart : Logics GoalAtom → Type 0
-  ArePart fs = (n : List ℕ) (ss : List Slot) → some_atom_of (is_scanned_by n ss) fs ≡ true → some_atom (is_scanned_by n ss) whole ≡ true
+  ArePart fs = (a : PlanAtom) → some_atom_of (comes_from a) fs ≡ true → ComesFrom whole a
 
-  projected_scans : (ss : List Slot) (f : PlanForm) → AllAtoms (IsScanIn whole) f → AllAtoms (IsScanIn whole) (projected ss f)
-  projected_scans [] f h = h
-  projected_scans (s ∷ ss) f h = projected_scans ss (exists s.sort (slot s) f) h
+  projected_atoms : (ss : List Slot) (f : PlanForm) → AllAtoms (ComesFrom whole) f → AllAtoms (ComesFrom whole) (projected ss f)
+  projected_atoms [] f h = h
+  projected_atoms (s ∷ ss) f h = projected_atoms ss (exists s.sort (slot s) f) h
 
-  rows_scans : (atoms : List Atom) → AllAtomsOf (IsScanIn whole) (logics (map row_plan atoms))
-  rows_scans [] = tt
-  rows_scans (a ∷ atoms) = (tt, rows_scans atoms)
+  -- where a list of rows with one of the atoms comes from the whole
+  ties_atoms : (atoms : List Atom) → ((t : List Atom) → list_any (λ a. same_rows t (a ∷ [])) atoms ≡ true → ComesFrom whole (rows t)) → AllAtomsOf (ComesFrom whole) (logics (map row_plan atoms))
+  ties_atoms [] k = tt
+  ties_atoms (a ∷ atoms) k = (k (a ∷ []) (or_left _ _ (same_rows_refl (a ∷ []))), ties_atoms atoms (λ t e. k t (or_right (same_rows t (a ∷ [])) _ e)))
 
-  base_scans : (n : List ℕ) (ss : List Slot) (atoms : List Atom) → IsScanIn whole (scan n ss) → AllAtoms (IsScanIn whole) (joined (atom (scan n ss)) (map row_plan atoms))
-  base_scans n ss [] h = h
-  base_scans n ss (a ∷ atoms) h = (h, rows_scans (a ∷ atoms))
+  base_atoms : (n : List ℕ) (ss : List Slot) (atoms : List Atom) → ComesFrom whole (scan n ss) → AllAtomsOf (ComesFrom whole) (logics (map row_plan atoms)) → AllAtoms (ComesFrom whole) (joined (atom (scan n ss)) (map row_plan atoms))
+  base_atoms n ss [] h k = h
+  base_atoms n ss (a ∷ atoms) h k = (h, k)
 
-  atom_scans : (a : GoalAtom) → IsPart (atom a) → AllAtoms (IsScanIn whole) (atom_plan a)
-  atom_scans (linear r) p = tt
-  atom_scans (theme a) p = tt
-  atom_scans (member n ts) p =
+  atom_atoms : (a : GoalAtom) → IsPart (atom a) → AllAtoms (ComesFrom whole) (atom_plan a)
+  atom_atoms (linear r) p = p (rows (goal_atoms (atom (linear r)))) (same_rows_refl (goal_atoms (atom (linear r))))
+  atom_atoms (theme a) p = p (rows (Second a ∷ [])) (same_rows_refl (Second a ∷ []))
+  atom_atoms (member n ts) p =
       let gs = scanned ts in
-      projected_scans (fresh_slots gs) _ (base_scans n (scanned_slots gs) (tied_atoms gs)
-      (p n (scanned_slots gs) (and_both _ _ ((bytes_eq-Decides n n).1 refl) (scanned_sorts ts gs (scanned-are [] (first_free ts) ts)))))
+      projected_atoms (fresh_slots gs) _ (base_atoms n (scanned_slots gs) (tied_atoms gs)
+      (p (scan n (scanned_slots gs)) (and_both _ _ ((bytes_eq-Decides n n).1 refl) (scanned_sorts ts gs (scanned-are [] (first_free ts) ts))))
+      (ties_atoms (tied_atoms gs) (λ t e. p (rows t) e)))
 
   mutual
-    pub plan_scans : (f : GoalForm) → IsPart f → AllAtoms (IsScanIn whole) (plan_of f)
-    plan_scans (atom a) p = atom_scans a p
-    plan_scans always p = tt
-    plan_scans never p = tt
-    plan_scans (negation f) p = plan_scans f p
-    plan_scans (every_of fs) p = plans_scans fs p
-    plan_scans (some_of fs) p = plans_scans fs p
-    plan_scans (implies f g) p = (plan_scans f (λ n ss e. p n ss (or_left _ _ e)), (plan_scans g (λ n ss e. p n ss (or_right (some_atom (is_scanned_by n ss) f) _ e)), tt))
-    plan_scans (minus f g) p = (plan_scans f (λ n ss e. p n ss (or_left _ _ e)), plan_scans g (λ n ss e. p n ss (or_right (some_atom (is_scanned_by n ss) f) _ e)))
-    plan_scans (exists s k f) p = plan_scans f p
-    plan_scans (forall s k f) p = plan_scans f p
+    pub plan_atoms : (f : GoalForm) → IsPart f → AllAtoms (ComesFrom whole) (plan_of f)
+    plan_atoms (atom a) p = atom_atoms a p
+    plan_atoms always p = tt
+    plan_atoms never p = tt
+    plan_atoms (negation f) p = plan_atoms f p
+    plan_atoms (every_of fs) p = plans_atoms fs p
+    plan_atoms (some_of fs) p = plans_atoms fs p
+    plan_atoms (implies f g) p = (plan_atoms f (λ a e. p a (or_left _ _ e)), (plan_atoms g (λ a e. p a (or_right (some_atom (comes_from a) f) _ e)), tt))
+    plan_atoms (minus f g) p = (plan_atoms f (λ a e. p a (or_left _ _ e)), plan_atoms g (λ a e. p a (or_right (some_atom (comes_from a) f) _ e)))
+    plan_atoms (exists s k f) p = plan_atoms f p
+    plan_atoms (forall s k f) p = plan_atoms f p
 
-    plans_scans : (fs : Logics GoalAtom) → ArePart fs → AllAtomsOf (IsScanIn whole) (plans_of fs)
-    plans_scans none p = tt
-    plans_scans (also f fs) p = (plan_scans f (λ n ss e. p n ss (or_left _ _ e)), plans_scans fs (λ n ss e. p n ss (or_right (some_atom (is_scanned_by n ss) f) _ e)))
+    plans_atoms : (fs : Logics GoalAtom) → ArePart fs → AllAtomsOf (ComesFrom whole) (plans_of fs)
+    plans_atoms none p = tt
+    plans_atoms (also f fs) p = (plan_atoms f (λ a e. p a (or_left _ _ e)), plans_atoms fs (λ a e. p a (or_right (some_atom (comes_from a) f) _ e)))
 
 -- ---- conjunctive goals
 

@@ -1,13 +1,21 @@
 -- What is promised of the plan of a goal.
 use Rattle.std.specs.Prelude.{◌≡◌, ◌↔◌, ◌≤◌, ℕ, Bool, true, false, ◌&&◌, List, [], ◌∷◌, map}
 use Rattle.std.specs.Str.{bytes_eq}
+use Rattle.std.specs.List.{list_any}
+use Rattle.std.specs.Ordering.{eq_by_cmp}
+use Rattle.std.specs.Cmp.Lexicographic.{pointwise}
 use Rattle.ded_model.specs.declared.slot.Slot.{Slot}
 use Rattle.ded_model.specs.declared.slot.Sort.{Sort}
 use Rattle.ded_model.specs.declared.slot.Sort.TheVariants.{Rat, Text}
 use Rattle.ded_model.specs.declared.goal.Place.{Place}
 use Rattle.ded_model.specs.declared.goal.Place.TheVariants.{At, Value, Quoted}
 use Rattle.ded_model.specs.Point.{Key, AllBytes, Point, IsPoint, same_sort}
-use Rattle.ded_model.specs.Logic.{some_atom, count_atoms, conjunctive, AllAtoms}
+use Rattle.ded_model.specs.declared.tuple.BothAtom.TheVariants.{Second}
+use Rattle.ded_model.specs.Row.{Atom}
+use Rattle.ded_model.specs.Normal.{atom_order}
+use Rattle.ded_model.specs.Scanned.{scanned, tied_atoms}
+use Rattle.ded_model.specs.Slotted.{goal_atoms}
+use Rattle.ded_model.specs.Logic.{atom, some_atom, count_atoms, conjunctive, AllAtoms}
 use Rattle.ded_model.specs.Goal.{GoalAtom, linear, theme, member, GoalForm, goal_mentions}
 use Rattle.ded_model.specs.PlanForm.{PlanAtom, scan, rows, PlanForm, plan_mentions}
 use Rattle.ded_model.specs.Catalogue.{Catalogue, GoalHolds, PlanHolds}
@@ -54,10 +62,30 @@ is_scanned_by n ss (linear r) = false
 is_scanned_by n ss (theme a) = false
 is_scanned_by n ss (member m ts) = bytes_eq n m && same_sorts (map place_sort ts) (map (λ s. s.sort) ss)
 
--- each scan is of an atom of the goal
-abbrev pub IsScanIn : GoalForm → PlanAtom → Type 0
-IsScanIn g (scan n ss) = some_atom (is_scanned_by n ss) g ≡ true
-IsScanIn g (rows t) = Unit {0}
+-- ---- rows
+
+-- the same atoms, one after another: of normal atoms their order tells any two apart
+abbrev pub same_rows : List Atom → List Atom → Bool
+same_rows t u = pointwise (eq_by_cmp atom_order) t u
+
+-- the goal's atom is these rows, no row where it is true everywhere, or one of its arguments is tied by them
+abbrev pub has_rows : List Atom → GoalAtom → Bool
+has_rows t (linear r) = same_rows t (goal_atoms (atom (linear r)))
+has_rows t (theme a) = same_rows t (Second a ∷ [])
+has_rows t (member n ts) = list_any (λ a. same_rows t (a ∷ [])) (tied_atoms (scanned ts))
+
+-- ---- atoms
+
+-- the scan or the rows are what the goal's atom is compiled to, or among it
+abbrev pub comes_from : PlanAtom → GoalAtom → Bool
+comes_from (scan n ss) = is_scanned_by n ss
+comes_from (rows t) = has_rows t
+
+-- of some atom of the goal
+abbrev pub ComesFrom : GoalForm → PlanAtom → Type 0
+ComesFrom g a = some_atom (comes_from a) g ≡ true
+
+-- ---- conjunctive plans
 
 abbrev pub is_member_of : List ℕ → GoalAtom → Bool
 is_member_of n (linear r) = false
@@ -76,7 +104,7 @@ pub record IsConjunctivePlan (g : GoalForm) (f : PlanForm) : Type 0 where
 -- ---- the plan of a goal
 
 -- it holds where the goal does over every catalogue, mentions freely only what the goal does, has lengths and a rank of at most
--- the goal's, lines among the goal's, and clashes only where the goal does
+-- the goal's, lines among the goal's, and clashes only where the goal does; each of its atoms comes from one of the goal's
 pub record IsCompiled (g : GoalForm) (f : PlanForm) : Type 0 where
   pub holds : (c : Catalogue) (p : Point) → IsPoint p → GoalHolds c g p ↔ PlanHolds c f p
   pub slots : (k : Key) → plan_mentions f k ≡ true → goal_mentions g k ≡ true
@@ -84,5 +112,5 @@ pub record IsCompiled (g : GoalForm) (f : PlanForm) : Type 0 where
   pub rank : (M : Measures) → plan_rank M f ≤ goal_rank M g
   pub lines : (M : Measures) → IsSubset (plan_lines M f) (goal_lines M g)
   pub clashes : (M : Measures) → plan_clashes M f ≡ true → goal_clashes M g ≡ true
-  pub scans : AllAtoms (IsScanIn g) f
+  pub atoms : AllAtoms (ComesFrom g) f
   pub conjunctive : conjunctive g ≡ true → IsConjunctivePlan g f

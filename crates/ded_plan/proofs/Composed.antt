@@ -4,13 +4,12 @@ use Rattle.std.specs.Prelude.{◌↔◌}
 use Rattle.ded_model.specs.declared.slot.Slot.{Slot}
 use Rattle.ded_model.specs.Catalogue.{Catalogue, GoalHolds, PlanHolds}
 use Rattle.ded_model.specs.Goal.{GoalForm}
-use Rattle.ded_model.specs.Logic.{atom, always, never, negation, every_of, some_of, implies, minus, exists, forall, Logic, Logics, none, also, count_atoms, count_atoms_of}
+use Rattle.ded_model.specs.Logic.{atom, always, never, negation, every_of, some_of, implies, minus, exists, forall, Logic, Logics, none, also, some_atom, count_atoms, count_atoms_of}
 use Rattle.ded_model.specs.Measure.{goal_b, goal_rank, plan_b, plan_rank}
 use Rattle.ded_model.specs.PlanForm.{PlanAtom, scan, rows, PlanForm}
 use Rattle.ded_model.specs.Point.{Point, IsPoint}
-use Rattle.ded_algebra.specs.Compiled.{IsScanIn, is_scan_of, IsConjunctivePlan, IsCompiled}
+use Rattle.ded_algebra.specs.Compiled.{comes_from, is_scan_of, IsConjunctivePlan, IsCompiled}
 use Rattle.ded_plan.specs.Rewritten.{is_scan_with, IsRewritten}
-use Rattle.ded_plan.proofs.ScansStay.{scans_stay}
 use Rattle.ded_plan.specs.Planned.{IsPlanned}
 
 -- ---- counts
@@ -73,7 +72,8 @@ planned g f p k r = record {
   rank = λ M. at_most (plan_rank M p) (plan_rank M f) (goal_rank M g) (r.rank M) (k.rank M);
   lines = λ M l h. k.lines M l (r.lines M l h);
   clashes = λ M h. k.clashes M (r.clashes M h);
-  scans = scans_stay (IsScanIn g) (λ t. tt) f p r k.scans;
+  atoms = r.atoms (λ a. some_atom (comes_from a) g) k.atoms;
   conjunctive = λ h. conjunctive_stays g f p r (k.conjunctive h);
   pushed = r.pushed;
+  tidy = r.tidy;
 }

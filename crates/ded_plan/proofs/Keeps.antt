@@ -1,15 +1,15 @@
 -- What a plan keeps of another one: the law of one step of a rewriting, and that steps may stand inside of plans and one after
 -- another.
 --
--- What is said of lines and clashes holds of well sorted plans, as every plan of the program is; so a step also says that its
--- plan is well sorted again.
+-- What is said of lines and clashes holds of tidy plans, as every plan of the program is; so a step also says that its plan is
+-- tidy again.
 use Rattle.std.proofs.Common.{◌≡◌, ℕ, ◌+◌, ◌<◌, ◌≤◌, Bool, true, false, not, ◌&&◌, List, inl, inr, refl, ap₂, ◌∙◌, arith, ⊎_elim}
 use Rattle.std.specs.Prelude.{◌↔◌, max}
 use Rattle.ded_model.specs.declared.slot.Slot.{Slot}
 use Rattle.ded_model.specs.declared.slot.Sort.{Sort}
 use Rattle.ded_model.specs.declared.slot.Sort.TheVariants.{Rat, Text}
 use Rattle.ded_model.specs.Point.{Key, Point, same_key}
-use Rattle.ded_model.specs.Logic.{negation, every_of, some_of, minus, exists, Logics, also, any_mentions, greatest, rank, one_more, count_atoms}
+use Rattle.ded_model.specs.Logic.{negation, every_of, some_of, minus, exists, Logics, also, any_mentions, greatest, rank, one_more, AllAtoms, count_atoms}
 use Rattle.ded_model.specs.PlanForm.{PlanAtom, PlanForm, in_plan_atom, plan_mentions}
 use Rattle.ded_model.specs.Catalogue.{Catalogue, PlanHolds}
 use Rattle.ded_model.specs.Lines.{Line, IsSubset, all_lines, any_clashes}
@@ -17,7 +17,7 @@ use Rattle.ded_model.specs.Measure.{Measures, plan_atom_lines, plan_atom_clash, 
 use Rattle.ded_model.proofs.Points.{positive-extension}
 use Rattle.ded_model.proofs.Members.{subset_append}
 use Rattle.ded_model.proofs.Monotone.{past-grows, clash_past-grows, or-grows}
-use Rattle.ded_plan.specs.Rewritten.{IsWellSorted, is_scan_with}
+use Rattle.ded_plan.specs.Rewritten.{IsTidyPlan, IsPassed, is_scan_with}
 
 -- what members mention, their lines, and whether one clashes
 abbrev pub any_mention : Logics PlanAtom → Key → Bool
@@ -34,10 +34,11 @@ pub record Keeps (f g : PlanForm) : Type 0 where
   pub slots : (k : Key) → plan_mentions g k ≡ true → plan_mentions f k ≡ true
   pub length : (of : PlanAtom → ℕ) → greatest of g ≤ greatest of f
   pub rank : (of : PlanAtom → ℕ) → rank of g ≤ rank of f
-  pub lines : IsWellSorted f → (M : Measures) → IsSubset (plan_lines M g) (plan_lines M f)
-  pub clashes : IsWellSorted f → (M : Measures) → plan_clashes M g ≡ true → plan_clashes M f ≡ true
+  pub lines : IsTidyPlan f → (M : Measures) → IsSubset (plan_lines M g) (plan_lines M f)
+  pub clashes : IsTidyPlan f → (M : Measures) → plan_clashes M g ≡ true → plan_clashes M f ≡ true
   pub scans : (test : List ℕ → List Slot → Bool) → count_atoms (is_scan_with test) g ≡ count_atoms (is_scan_with test) f
-  pub sorted : IsWellSorted f → IsWellSorted g
+  pub tidy : IsTidyPlan f → IsTidyPlan g
+  pub atoms : (test : PlanAtom → Bool) → AllAtoms (IsPassed test) f → AllAtoms (IsPassed test) g
 
 pub keeps_refl : (f : PlanForm) → Keeps f f
 keeps_refl f = record {
@@ -48,7 +49,8 @@ keeps_refl f = record {
   lines = λ t M l h. h;
   clashes = λ t M h. h;
   scans = λ test. refl;
-  sorted = λ h. h;
+  tidy = λ h. h;
+  atoms = λ test t. t;
 }
 
 pub keeps_trans : (f g h : PlanForm) → Keeps f g → Keeps g h → Keeps f h
@@ -57,10 +59,11 @@ keeps_trans f g h a b = record {
   slots = λ k x. a.slots k (b.slots k x);
   length = λ of. let m = a.length of in let n = b.length of in omega arith;
   rank = λ of. let m = a.rank of in let n = b.rank of in omega arith;
-  lines = λ t M l x. a.lines t M l (b.lines (a.sorted t) M l x);
-  clashes = λ t M x. a.clashes t M (b.clashes (a.sorted t) M x);
+  lines = λ t M l x. a.lines t M l (b.lines (a.tidy t) M l x);
+  clashes = λ t M x. a.clashes t M (b.clashes (a.tidy t) M x);
   scans = λ test. b.scans test ∙ a.scans test;
-  sorted = λ x. b.sorted (a.sorted x);
+  tidy = λ x. b.tidy (a.tidy x);
+  atoms = λ test x. b.atoms test (a.atoms test x);
 }
 
 -- ---- inside
@@ -85,7 +88,8 @@ keeps_negation f g a = record {
   lines = a.lines;
   clashes = a.clashes;
   scans = a.scans;
-  sorted = a.sorted;
+  tidy = a.tidy;
+  atoms = a.atoms;
 }
 
 pub keeps_exists : (s : Sort) (k : Key) (f g : PlanForm) → Keeps f g → Keeps (exists s k f) (exists s k g)
@@ -100,7 +104,8 @@ keeps_exists s k f g a = record {
   lines = λ t M. past-grows s k _ _ (a.lines (t.0.1, t.1) M);
   clashes = λ t M h. or-grows _ _ _ _ (a.clashes (t.0.1, t.1) M) (clash_past-grows s k _ _ (a.lines (t.0.1, t.1) M)) h;
   scans = a.scans;
-  sorted = λ t. let r = a.sorted (t.0.1, t.1) in ((t.0.0, r.0), r.1);
+  tidy = λ t. let r = a.tidy (t.0.1, t.1) in ((t.0.0, r.0), r.1);
+  atoms = a.atoms;
 }
 
 pub keeps_minus : (f f' g g' : PlanForm) → Keeps f f' → Keeps g g' → Keeps (minus f g) (minus f' g')
@@ -115,7 +120,8 @@ keeps_minus f f' g g' a b = record {
   lines = λ t M. subset_append _ _ _ _ (a.lines (t.0.0, t.1.0) M) (b.lines (t.0.1, t.1.1) M);
   clashes = λ t M h. or-grows _ _ _ _ (a.clashes (t.0.0, t.1.0) M) (b.clashes (t.0.1, t.1.1) M) h;
   scans = λ test. ap₂ (λ m n. m + n) (a.scans test) (b.scans test);
-  sorted = λ t. let q = a.sorted (t.0.0, t.1.0) in let r = b.sorted (t.0.1, t.1.1) in ((q.0, r.0), (q.1, r.1));
+  tidy = λ t. let q = a.tidy (t.0.0, t.1.0) in let r = b.tidy (t.0.1, t.1.1) in ((q.0, r.0), (q.1, r.1));
+  atoms = λ test t. (a.atoms test t.0, b.atoms test t.1);
 }
 
 -- a member and the others of a join
@@ -128,7 +134,8 @@ keeps_member f g fs gs a b = record {
   lines = λ t M. subset_append _ _ _ _ (a.lines (t.0.0, t.1.0) M) (b.lines (t.0.1, t.1.1) M);
   clashes = λ t M h. or-grows _ _ _ _ (a.clashes (t.0.0, t.1.0) M) (b.clashes (t.0.1, t.1.1) M) h;
   scans = λ test. ap₂ (λ m n. m + n) (a.scans test) (b.scans test);
-  sorted = λ t. let q = a.sorted (t.0.0, t.1.0) in let r = b.sorted (t.0.1, t.1.1) in ((q.0, r.0), (q.1, r.1));
+  tidy = λ t. let q = a.tidy (t.0.0, t.1.0) in let r = b.tidy (t.0.1, t.1.1) in ((q.0, r.0), (q.1, r.1));
+  atoms = λ test t. (a.atoms test t.0, b.atoms test t.1);
 }
 
 -- a part and the others of a union
@@ -144,5 +151,6 @@ keeps_part f g fs gs a b = record {
   lines = λ t M. subset_append _ _ _ _ (a.lines (t.0.0, t.1.0) M) (b.lines (t.0.1, t.1.1) M);
   clashes = λ t M h. or-grows _ _ _ _ (a.clashes (t.0.0, t.1.0) M) (b.clashes (t.0.1, t.1.1) M) h;
   scans = λ test. ap₂ (λ m n. m + n) (a.scans test) (b.scans test);
-  sorted = λ t. let q = a.sorted (t.0.0, t.1.0) in let r = b.sorted (t.0.1, t.1.1) in ((q.0, r.0), (q.1, r.1));
+  tidy = λ t. let q = a.tidy (t.0.0, t.1.0) in let r = b.tidy (t.0.1, t.1.1) in ((q.0, r.0), (q.1, r.1));
+  atoms = λ test t. (a.atoms test t.0, b.atoms test t.1);
 }

@@ -13,6 +13,5 @@ pub mod PushedPlans
 pub mod Rewritten
 pub mod RowLists
 pub mod ScannedNames
-pub mod ScansStay
 pub mod Steps
-pub mod WellSorted
+pub mod TidyPlans

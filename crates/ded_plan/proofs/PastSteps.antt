@@ -21,10 +21,11 @@ use Rattle.ded_model.proofs.Points.{same_key_is}
 use Rattle.ded_model.proofs.Rows.{or_left}
 use Rattle.ded_model.proofs.Sats.{plan_respects}
 use Rattle.ded_model.proofs.Unused.{extension, unused}
-use Rattle.ded_plan.specs.Rewritten.{IsWellSorted}
+use Rattle.ded_plan.specs.Rewritten.{IsTidyPlan}
 use Rattle.ded_plan.proofs.BothTests.{and_true}
 use Rattle.ded_plan.proofs.Keeps.{Keeps, any_mention, member_lines, any_clash}
 use Rattle.ded_plan.proofs.Steps.{none_append}
+use Rattle.ded_plan.proofs.TidyPlans.{sorted_plan, rational_plan}
 
 -- ---- a key that isn't mentioned
 
@@ -41,11 +42,11 @@ one_more-above Rat n = omega arith
 one_more-above Text n = omega arith
 
 -- its lines stay past the quantifier
-lines_stay : (s : Sort) (k : Key) (f : PlanForm) (M : Measures) → IsWellSorted f → plan_mentions f k ≡ false → IsSubset (plan_lines M f) (elim_past s k (plan_lines M f))
+lines_stay : (s : Sort) (k : Key) (f : PlanForm) (M : Measures) → IsTidyPlan f → plan_mentions f k ≡ false → IsSubset (plan_lines M f) (elim_past s k (plan_lines M f))
 lines_stay Rat (slot u) f M t n l h = go (row_mentions l u) refl
   where
     go : (b : Bool) → row_mentions l u ≡ b → In l (elim_past Rat (slot u) (plan_lines M f))
-    go true e = absurd (true≢false (sym (plan_lines-over M f t.0 t.1 l u h e).0 ∙ n))
+    go true e = absurd (true≢false (sym (plan_lines-over M f (sorted_plan f t.0) (rational_plan f t.1) l u h e).0 ∙ n))
     go false e = In-elim-kept u (plan_lines M f) l h e
 lines_stay Rat (name x) f M t n l h = h
 lines_stay Text k f M t n l h = h
@@ -59,7 +60,8 @@ past_other s k f n = record {
   lines = λ t M. lines_stay s k f M (t.0.1, t.1) n;
   clashes = λ t M h. or_left (plan_clashes M f) _ h;
   scans = λ test. refl;
-  sorted = λ t. (t.0.1, t.1);
+  tidy = λ t. (t.0.1, t.1);
+  atoms = λ test t. t;
 }
 
 -- ---- unions
@@ -73,7 +75,8 @@ past_nothing s k = record {
   lines = λ t M. subset_none _;
   clashes = λ t M h. absurd (true≢false (sym h));
   scans = λ test. refl;
-  sorted = λ t. (tt, tt);
+  tidy = λ t. (tt, tt);
+  atoms = λ test t. tt;
 }
 
 and_parts : (n a b : Bool) → ((n && a) || ((n && b) || false)) ≡ true → (n && (a || b)) ≡ true
@@ -119,7 +122,8 @@ past_union s k f fs = record {
       or_clash (plan_clashes M f) (any_clash M fs) (clash_past s k (plan_lines M f)) (clash_past s k (member_lines M fs)) _ (first_clash s k (plan_lines M f) (member_lines M fs))
       (second_clash s k (plan_lines M f) (member_lines M fs)) h;
   scans = λ test. omega arith;
-  sorted = λ t. (((t.0.0, t.0.1.0), ((t.0.0, t.0.1.1), tt)), (t.1.0, (t.1.1, tt)));
+  tidy = λ t. (((t.0.0, t.0.1.0), ((t.0.0, t.0.1.1), tt)), (t.1.0, (t.1.1, tt)));
+  atoms = λ test t. (t.0, (t.1, tt));
 }
 
 -- ---- joins
@@ -159,5 +163,6 @@ past_member s k f fs n = record {
   lines = λ t M. other_past s k (plan_lines M f) (member_lines M fs) (lines_stay s k f M (t.0.1.0, t.1.0) n);
   clashes = λ t M h. or_other (plan_clashes M f) (any_clash M fs) (clash_past s k (member_lines M fs)) _ (second_clash s k (plan_lines M f) (member_lines M fs)) h;
   scans = λ test. omega arith;
-  sorted = λ t. ((t.0.1.0, ((t.0.0, t.0.1.1), tt)), (t.1.0, (t.1.1, tt)));
+  tidy = λ t. ((t.0.1.0, ((t.0.0, t.0.1.1), tt)), (t.1.0, (t.1.1, tt)));
+  atoms = λ test t. (t.0, (t.1, tt));
 }

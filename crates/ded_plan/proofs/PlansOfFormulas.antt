@@ -9,49 +9,30 @@ use Rattle.ded_model.specs.Catalogue.{Catalogue, argument_coordinate, at_slots, 
 use Rattle.ded_model.specs.Entries.{known}
 use Rattle.ded_model.specs.Form.{Form}
 use Rattle.ded_model.specs.Known.{IsAccepted, heading_slots}
-use Rattle.ded_model.specs.Logic.{Logic, atom, always, never, negation, every_of, some_of, implies, minus, exists, forall, Logics, none, also, AllAtoms, AllAtomsOf}
+use Rattle.ded_model.specs.Logic.{AllAtoms}
 use Rattle.ded_model.specs.Measure.{measures}
 use Rattle.ded_model.specs.PlanForm.{PlanAtom, scan, rows, PlanForm, plan_mentions}
 use Rattle.ded_model.specs.Point.{slot, AllBytes, IsValue, AreValues, IsPoint, stands_in}
 use Rattle.ded_model.specs.Slotted.{goal_of}
 use Rattle.ded_model.specs.Value.{Argument}
-use Rattle.ded_algebra.specs.Compiled.{IsScanIn}
+use Rattle.ded_algebra.specs.Compiled.{ComesFrom}
 use Rattle.ded_sorts.proofs.Headings.{goals_mean}
 use Rattle.ded_sorts.proofs.Frees.{goal_free}
 use Rattle.ded_plan.specs.Planned.{IsPlanned}
 use Rattle.ded_plan.specs.Plans.{AreArguments, IsScanOf, IsPlanOf}
 use Rattle.ded_plan.proofs.GoalScans.{goal_use}
+use Rattle.ded_plan.proofs.TidyPlans.{all_weaker}
 
 -- ---- scans
 
-module _ {L : Type 0} (P Q : L → Type 0) (weaker : (a : L) → P a → Q a) where
-  mutual
-    -- what follows of each atom follows of all
-    pub all_weaker : (f : Logic L) → AllAtoms P f → AllAtoms Q f
-    all_weaker (atom a) h = weaker a h
-    all_weaker always h = tt
-    all_weaker never h = tt
-    all_weaker (negation f) h = all_weaker f h
-    all_weaker (every_of fs) h = all_weaker_of fs h
-    all_weaker (some_of fs) h = all_weaker_of fs h
-    all_weaker (implies f g) h = (all_weaker f h.0, all_weaker g h.1)
-    all_weaker (minus f g) h = (all_weaker f h.0, all_weaker g h.1)
-    all_weaker (exists s k f) h = all_weaker f h
-    all_weaker (forall s k f) h = all_weaker f h
-
-    -- of a list
-    all_weaker_of : (fs : Logics L) → AllAtomsOf P fs → AllAtomsOf Q fs
-    all_weaker_of none h = tt
-    all_weaker_of (also f fs) h = (all_weaker f h.0, all_weaker_of fs h.1)
-
 -- a scan of the goal of an accepted formula is of a name that the formula uses
-atom_scans : (c : Catalogue) (h : List Column) (f : Form) → IsAccepted (known c) h f → (a : PlanAtom) → IsScanIn (goal_of h f) a → IsScanOf c f a
+atom_scans : (c : Catalogue) (h : List Column) (f : Form) → IsAccepted (known c) h f → (a : PlanAtom) → ComesFrom (goal_of h f) a → IsScanOf c f a
 atom_scans c h f e (scan n ss) i = goal_use (known c) h f e n ss i
 atom_scans c h f e (rows t) i = tt
 
 -- so are all scans of its plan
 pub plan_scans : (c : Catalogue) (h : List Column) (f : Form) (plan : PlanForm) → IsAccepted (known c) h f → IsPlanned (goal_of h f) plan → AllAtoms (IsScanOf c f) plan
-plan_scans c h f plan e p = all_weaker (IsScanIn (goal_of h f)) (IsScanOf c f) (atom_scans c h f e) plan p.scans
+plan_scans c h f plan e p = all_weaker (ComesFrom (goal_of h f)) (IsScanOf c f) (atom_scans c h f e) plan p.atoms
 
 -- ---- points
 
@@ -81,17 +62,22 @@ plan_holds c h f plan e p d den xs i a =
     let by_names = goals_mean (meaning d) (known c) h f e.once e.bound e.sorted den xs i in
     (λ x. by_names.1 (by_goal.1 x), λ x. by_goal.0 (by_names.0 x))
 
+-- it mentions freely only the heading's slots
+plan_slots : (c : Catalogue) (h : List Column) (f : Form) (plan : PlanForm) → IsAccepted (known c) h f → IsPlanned (goal_of h f) plan
+    → (s : Slot) → plan_mentions plan (slot s) ≡ true → stands_in (heading_slots 0 h) s ≡ true
+plan_slots c h f plan e p s m = goal_free h f e.bound (slot s) (p.slots (slot s) m)
+
 -- it is a plan of the formula
 pub plan_of-formula : (c : Catalogue) (h : List Column) (f : Form) (plan : PlanForm) → IsAccepted (known c) h f → IsPlanned (goal_of h f) plan → IsPlanOf c h f plan
 plan_of-formula c h f plan e p = record {
   pushed = p.pushed;
   scans = plan_scans c h f plan e p;
+  tidy = p.tidy.1;
+  atoms = p.atoms;
+  projections = p.tidy.0;
+  slots = plan_slots c h f plan e p;
+  conjunctive = p.conjunctive;
   holds = λ d w s den xs i a. plan_holds c h f plan e p d den xs i a;
   lengths = λ d w s. p.length (measures d);
   rank = λ d w s. p.rank (measures d);
 }
-
--- and mentions freely only the heading's slots
-pub plan_slots : (h : List Column) (c : Catalogue) (f : Form) (plan : PlanForm) → IsAccepted (known c) h f → IsPlanned (goal_of h f) plan
-    → (s : Slot) → plan_mentions plan (slot s) ≡ true → stands_in (heading_slots 0 h) s ≡ true
-plan_slots h c f plan e p s m = goal_free h f e.bound (slot s) (p.slots (slot s) m)

@@ -2,12 +2,12 @@
 use Rattle.ded_model.specs.PlanForm.{PlanForm}
 use Rattle.ded_model.specs.Measure.{plan_atom_b, plan_atom_rank}
 use Rattle.ded_plan.specs.Rewrite.{rewritten}
-use Rattle.ded_plan.specs.Rewritten.{IsWellSorted, IsRewritten}
+use Rattle.ded_plan.specs.Rewritten.{IsTidyPlan, IsRewritten}
 use Rattle.ded_plan.proofs.Kept.{keeps_rewritten}
 use Rattle.ded_plan.proofs.PushedPlans.{pushed_rewritten}
 use Rattle.ded_plan.proofs.ConjunctivePlans.{conjunctive_rewritten}
 
-pub is_rewritten : (f : PlanForm) → IsWellSorted f → IsRewritten f (rewritten f)
+pub is_rewritten : (f : PlanForm) → IsTidyPlan f → IsRewritten f (rewritten f)
 is_rewritten f t =
     let k = keeps_rewritten f in
     record {
@@ -18,6 +18,8 @@ is_rewritten f t =
       lines = k.lines t;
       clashes = k.clashes t;
       scans = k.scans;
+      atoms = k.atoms;
       conjunctive = conjunctive_rewritten f;
       pushed = pushed_rewritten f;
+      tidy = k.tidy t;
     }

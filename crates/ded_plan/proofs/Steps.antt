@@ -65,7 +65,8 @@ member_alone f = record {
   lines = λ t M. append_none (plan_lines M f);
   clashes = λ t M h. or_none (plan_clashes M f) h;
   scans = λ test. omega arith;
-  sorted = λ t. (t.0.0, t.1.0);
+  tidy = λ t. (t.0.0, t.1.0);
+  atoms = λ test t. t.0;
 }
 
 pub alone_member : (f : PlanForm) → Keeps f (every_of (also f none))
@@ -77,7 +78,8 @@ alone_member f = record {
   lines = λ t M. none_append (plan_lines M f);
   clashes = λ t M h. none_or (plan_clashes M f) h;
   scans = λ test. omega arith;
-  sorted = λ t. ((t.0, tt), (t.1, tt));
+  tidy = λ t. ((t.0, tt), (t.1, tt));
+  atoms = λ test t. (t, tt);
 }
 
 -- the members of an empty join as a member
@@ -90,7 +92,8 @@ no_members fs = record {
   lines = λ t M l h. h;
   clashes = λ t M h. h;
   scans = λ test. omega arith;
-  sorted = λ t. (t.0.1, t.1.1);
+  tidy = λ t. (t.0.1, t.1.1);
+  atoms = λ test t. t.1;
 }
 
 -- the first member of a join as a member
@@ -103,7 +106,8 @@ first_member f gs fs = record {
   lines = λ t M. split (plan_lines M f) (member_lines M gs) (member_lines M fs);
   clashes = λ t M h. or_out (plan_clashes M f) (any_clash M gs) (any_clash M fs) h;
   scans = λ test. omega arith;
-  sorted = λ t. ((t.0.0.0, (t.0.0.1, t.0.1)), (t.1.0.0, (t.1.0.1, t.1.1)));
+  tidy = λ t. ((t.0.0.0, (t.0.0.1, t.0.1)), (t.1.0.0, (t.1.0.1, t.1.1)));
+  atoms = λ test t. (t.0.0, (t.0.1, t.1));
 }
 
 pub members_swapped : (f g : PlanForm) (fs : Logics PlanAtom) → Keeps (every_of (also f (also g fs))) (every_of (also g (also f fs)))
@@ -115,7 +119,8 @@ members_swapped f g fs = record {
   lines = λ t M. swapped (plan_lines M f) (plan_lines M g) (member_lines M fs);
   clashes = λ t M h. or_swap (plan_clashes M f) (plan_clashes M g) (any_clash M fs) h;
   scans = λ test. omega arith;
-  sorted = λ t. ((t.0.1.0, (t.0.0, t.0.1.1)), (t.1.1.0, (t.1.0, t.1.1.1)));
+  tidy = λ t. ((t.0.1.0, (t.0.0, t.0.1.1)), (t.1.1.0, (t.1.0, t.1.1.1)));
+  atoms = λ test t. (t.1.0, (t.0, t.1.1));
 }
 
 -- the first two as one
@@ -128,7 +133,8 @@ two_members f g fs = record {
   lines = λ t M. gathered (plan_lines M f) (plan_lines M g) (member_lines M fs);
   clashes = λ t M h. or_in (plan_clashes M f) (plan_clashes M g) (any_clash M fs) h;
   scans = λ test. omega arith;
-  sorted = λ t. (((t.0.0, (t.0.1.0, tt)), t.0.1.1), ((t.1.0, (t.1.1.0, tt)), t.1.1.1));
+  tidy = λ t. (((t.0.0, (t.0.1.0, tt)), t.0.1.1), ((t.1.0, (t.1.1.0, tt)), t.1.1.1));
+  atoms = λ test t. ((t.0, (t.1.0, tt)), t.1.1);
 }
 
 -- ---- unions
@@ -142,7 +148,8 @@ part_alone f = record {
   lines = λ t M. append_none (plan_lines M f);
   clashes = λ t M h. or_none (plan_clashes M f) h;
   scans = λ test. omega arith;
-  sorted = λ t. (t.0.0, t.1.0);
+  tidy = λ t. (t.0.0, t.1.0);
+  atoms = λ test t. t.0;
 }
 
 -- ---- rows beside a union
@@ -170,7 +177,8 @@ rows_beside_nothing a = record {
   lines = λ t M. subset_none _;
   clashes = λ t M h. absurd (true≢false (sym h));
   scans = λ test. refl;
-  sorted = λ t. (tt, tt);
+  tidy = λ t. (tt, tt);
+  atoms = λ test t. tt;
 }
 
 -- rows beside a union are rows beside its first part, or beside the union of the others
@@ -189,7 +197,8 @@ rows_beside_union a f fs = record {
   lines = λ t M. parts (plan_lines M (atom (rows a))) (plan_lines M f) (member_lines M fs);
   clashes = λ t M h. or_parts (plan_clashes M (atom (rows a))) (plan_clashes M f) (any_clash M fs) h;
   scans = λ test. omega arith;
-  sorted = λ t. (((tt, (t.0.1.0.0, tt)), ((tt, (t.0.1.0.1, tt)), tt)), ((t.1.0, (t.1.1.0.0, tt)), ((t.1.0, (t.1.1.0.1, tt)), tt)));
+  tidy = λ t. (((tt, (t.0.1.0.0, tt)), ((tt, (t.0.1.0.1, tt)), tt)), ((t.1.0, (t.1.1.0.0, tt)), ((t.1.0, (t.1.1.0.1, tt)), tt)));
+  atoms = λ test t. ((t.0, (t.1.0.0, tt)), ((t.0, (t.1.0.1, tt)), tt));
 }
 
 -- ---- complements
@@ -203,7 +212,8 @@ complement_twice f = record {
   lines = λ t M l h. h;
   clashes = λ t M h. h;
   scans = λ test. refl;
-  sorted = λ t. t;
+  tidy = λ t. t;
+  atoms = λ test t. t;
 }
 
 -- nothing is taken away
@@ -216,7 +226,8 @@ nothing_taken f = record {
   lines = λ t M. append_none _;
   clashes = λ t M h. or_none _ h;
   scans = λ test. omega arith;
-  sorted = λ t. (t.0.0, t.1.0);
+  tidy = λ t. (t.0.0, t.1.0);
+  atoms = λ test t. t.0;
 }
 
 pub taken_from_everything : Keeps (every_of none) (minus (every_of none) (some_of none))
@@ -228,7 +239,8 @@ taken_from_everything = record {
   lines = λ t M l h. h;
   clashes = λ t M h. h;
   scans = λ test. refl;
-  sorted = λ t. ((tt, tt), (tt, tt));
+  tidy = λ t. ((tt, tt), (tt, tt));
+  atoms = λ test t. (tt, tt);
 }
 
 pub everything_without : (f : PlanForm) → Keeps (minus (every_of none) f) (negation f)
@@ -240,7 +252,8 @@ everything_without f = record {
   lines = λ t M l h. h;
   clashes = λ t M h. h;
   scans = λ test. omega arith;
-  sorted = λ t. (t.0.1, t.1.1);
+  tidy = λ t. (t.0.1, t.1.1);
+  atoms = λ test t. t.1;
 }
 
 -- a complement beside another member is taken from it
@@ -253,7 +266,8 @@ member_without f g = record {
   lines = λ t M. beside_lines (plan_lines M f) (plan_lines M g);
   clashes = λ t M h. or_beside (plan_clashes M f) (plan_clashes M g) h;
   scans = λ test. omega arith;
-  sorted = λ t. ((t.0.0, t.0.1.0), (t.1.0, t.1.1.0));
+  tidy = λ t. ((t.0.0, t.0.1.0), (t.1.0, t.1.1.0));
+  atoms = λ test t. (t.0, t.1.0);
 }
   where
     or_beside : (a b : Bool) → (a || b) ≡ true → (a || (b || false)) ≡ true
@@ -285,7 +299,8 @@ complement_beside f g gs = record {
   lines = λ t M. taken_lines (plan_lines M g) (plan_lines M f) (member_lines M gs);
   clashes = λ t M h. or_taken (plan_clashes M g) (plan_clashes M f) (any_clash M gs) h;
   scans = λ test. omega arith;
-  sorted = λ t. ((t.0.1.0.0, (t.0.0, t.0.1.0.1)), (t.1.1.0.0, (t.1.0, t.1.1.0.1)));
+  tidy = λ t. ((t.0.1.0.0, (t.0.0, t.0.1.0.1)), (t.1.1.0.0, (t.1.0, t.1.1.0.1)));
+  atoms = λ test t. (t.1.0.0, (t.0, t.1.0.1));
 }
 
 or_kept : (a b d : Bool) → ((a || b) || d) ≡ true → (a || ((b || d) || false)) ≡ true
@@ -309,7 +324,8 @@ member_beside f g fs = record {
   lines = λ t M. kept_lines (plan_lines M f) (member_lines M fs) (plan_lines M g);
   clashes = λ t M h. or_kept (plan_clashes M f) (any_clash M fs) (plan_clashes M g) h;
   scans = λ test. omega arith;
-  sorted = λ t. (((t.0.0, t.0.1.0.0), t.0.1.0.1), ((t.1.0, t.1.1.0.0), t.1.1.0.1));
+  tidy = λ t. (((t.0.0, t.0.1.0.0), t.0.1.0.1), ((t.1.0, t.1.1.0.0), t.1.1.0.1));
+  atoms = λ test t. ((t.0, t.1.0.0), t.1.0.1);
 }
 
 -- ---- what is no plan
@@ -323,7 +339,8 @@ always_is = record {
   lines = λ t M l h. h;
   clashes = λ t M h. h;
   scans = λ test. refl;
-  sorted = λ t. t;
+  tidy = λ t. t;
+  atoms = λ test t. t;
 }
 
 pub never_is : Keeps never (some_of none)
@@ -335,7 +352,8 @@ never_is = record {
   lines = λ t M l h. h;
   clashes = λ t M h. h;
   scans = λ test. refl;
-  sorted = λ t. t;
+  tidy = λ t. t;
+  atoms = λ test t. t;
 }
 
 or_both : (a b : Bool) → (a || (b || false)) ≡ true → (a || b) ≡ true
@@ -358,7 +376,8 @@ implies_is f g = record {
   lines = λ t M. both_lines (plan_lines M f) (plan_lines M g);
   clashes = λ t M h. or_both (plan_clashes M f) (plan_clashes M g) h;
   scans = λ test. omega arith;
-  sorted = λ t. ((t.0.0, (t.0.1, tt)), (t.1.0, (t.1.1, tt)));
+  tidy = λ t. ((t.0.0, (t.0.1, tt)), (t.1.0, (t.1.1, tt)));
+  atoms = λ test t. (t.0, (t.1, tt));
 }
 
 pub forall_is : (s : Sort) (k : Key) (f : PlanForm) → Keeps (forall s k f) (negation (exists s k (negation f)))
@@ -370,5 +389,6 @@ forall_is s k f = record {
   lines = λ t M l h. h;
   clashes = λ t M h. h;
   scans = λ test. refl;
-  sorted = λ t. t;
+  tidy = λ t. t;
+  atoms = λ test t. t;
 }

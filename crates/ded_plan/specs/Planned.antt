@@ -8,10 +8,11 @@ use Rattle.ded_model.specs.Catalogue.{Catalogue, GoalHolds, PlanHolds}
 use Rattle.ded_model.specs.Lines.{IsSubset}
 use Rattle.ded_model.specs.Measure.{Measures, goal_b, goal_rank, goal_lines, goal_clashes, plan_b, plan_rank, plan_lines, plan_clashes}
 use Rattle.ded_model.specs.Pushed.{pushed}
-use Rattle.ded_algebra.specs.Compiled.{IsScanIn, IsConjunctivePlan}
+use Rattle.ded_algebra.specs.Compiled.{ComesFrom, IsConjunctivePlan}
+use Rattle.ded_plan.specs.Rewritten.{IsTidyPlan}
 
--- it is pushed and holds where the goal does over every catalogue, mentions freely only what the goal does, has lengths and a
--- rank of at most the goal's, lines among the goal's, and clashes only where the goal does; each of its scans is of an atom of the goal
+-- it is pushed and tidy and holds where the goal does over every catalogue, mentions freely only what the goal does, has lengths and a
+-- rank of at most the goal's, lines among the goal's, and clashes only where the goal does; each of its atoms comes from one of the goal's
 pub record IsPlanned (g : GoalForm) (f : PlanForm) : Type 0 where
   pub holds : (c : Catalogue) (p : Point) → IsPoint p → GoalHolds c g p ↔ PlanHolds c f p
   pub slots : (k : Key) → plan_mentions f k ≡ true → goal_mentions g k ≡ true
@@ -19,6 +20,7 @@ pub record IsPlanned (g : GoalForm) (f : PlanForm) : Type 0 where
   pub rank : (M : Measures) → plan_rank M f ≤ goal_rank M g
   pub lines : (M : Measures) → IsSubset (plan_lines M f) (goal_lines M g)
   pub clashes : (M : Measures) → plan_clashes M f ≡ true → goal_clashes M g ≡ true
-  pub scans : AllAtoms (IsScanIn g) f
+  pub atoms : AllAtoms (ComesFrom g) f
   pub conjunctive : conjunctive g ≡ true → IsConjunctivePlan g f
   pub pushed : pushed f ≡ true
+  pub tidy : IsTidyPlan f
