@@ -7,6 +7,7 @@ pub mod Evaluated
 pub mod Extending
 pub mod Found
 pub mod Names
+pub mod Once
 pub mod Pairs
 pub mod Parts
 pub mod Projected

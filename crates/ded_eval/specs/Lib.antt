@@ -1,6 +1,5 @@
 pub mod Given
 pub mod Joining
-pub mod Kept
 pub mod Laws
 pub mod Reading
 pub mod Scanning

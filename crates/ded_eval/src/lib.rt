@@ -8,8 +8,8 @@
 //! It stands on `ded_algebra` for what a plan is evaluated over and what an evaluation promises, on `ded_join`,
 //! `ded_complement` and `ded_genrel` for the operations, on `ded_theory`, `ded_linear`, `ded_theme` and `ded_atoms` for the atoms,
 //! on `ded_tuple` for stored tuples, and on `ded_box` for extents. The list that it gives holds exactly where the plan does, mentions only
-//! slots that the plan mentions freely, and has lines among the plan's; it gives up only where the plan clashes. That no two of
-//! its conjunctions are equal is a matter of speed and is promised nowhere.
+//! slots that the plan mentions freely, and has lines among the plan's; it gives up only where the plan clashes. Whether a
+//! conjunction stands twice in it is promised nowhere.
 #![tactic(auto)]
 
 mod atoms;
@@ -20,7 +20,6 @@ mod given;
 mod reading;
 mod repeated;
 mod rows;
-mod sameness;
 mod scanning;
 mod slots;
 
