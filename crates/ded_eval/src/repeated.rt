@@ -4,12 +4,16 @@ ghost use Rattle.std.specs.List.{AllPairs, IsDistinct};
 ghost use Rattle.indexmap.specs.IndexSet.{insert_all};
 ghost use Rattle.ded_model.specs.declared.slot.Slot.{Slot};
 ghost use Rattle.ded_model.specs.Point.{Point};
-ghost use Rattle.ded_model.specs.Lines.{IsSubset};
+ghost use Rattle.ded_model.specs.Row.{tuples_hold, tuples_mention};
+ghost use Rattle.ded_model.specs.Lines.{IsSubset, tuples_lines};
 ghost use Rattle.ded_genrel.specs.Lists.{conjs_hold, conjs_mention, conjs_lines};
+ghost use Rattle.ded_reduce.specs.Kept.{IsSublist};
 
 use crate::reading::OfTuples;
 use ded_genrel::GenRel;
+use ded_model::laws::sameness::equal_tuples;
 use ded_model::memory::NoMemory;
+use ded_model::tuple::Tuples;
 use indexmap::IndexSet;
 use std::alloc::Global;
 use std::hash::Hash;
@@ -27,6 +31,22 @@ pub(crate) fn distinct<T: OfTuples>(alloc: Global, list: GenRel<T>) -> Result<Ge
     T::equal_atoms();
     let conjs = once(alloc, list.conjs)?;
     Ok(GenRel { conjs })
+}
+
+/// The tuples in the same order, without those that are equal to an earlier one. No tuple stands twice.
+///
+/// # Errors
+/// Out of memory.
+pub fn distinct_tuples(alloc: Global, tuples: Tuples) -> Result<Tuples, NoMemory>
+    ensures holds { IfOk result (λ ts. (p : Point) → tuples_hold ts p ≡ tuples_hold tuples p) }
+    ensures kept { IfOk result (λ ts. IsSublist ts tuples) }
+    ensures once { IfOk result (λ ts. AllPairs (λ t u. t ≢ u) ts) }
+    ensures slots { IfOk result (λ ts. (s : Slot) → tuples_mention ts s ≡ true → tuples_mention tuples s ≡ true) }
+    ensures lines { IfOk result (λ ts. IsSubset (tuples_lines ts) (tuples_lines tuples)) }
+{
+    equal_tuples();
+    let list = once(alloc, tuples.list)?;
+    Ok(Tuples { list })
 }
 
 /// The elements in the same order, without those that are equal to an earlier one. No two of them are equal.

@@ -17,9 +17,8 @@ ghost use Rattle.ded_query.specs.Gathering.{IsGivenOf, IsGathered, IsFront, IsPo
 ghost use Rattle.ded_query.specs.Questions.{IsQuestion, IsAnswer};
 
 use crate::gathering::{evaluated, give_all};
-use ded_answers::{holds_everywhere, reduced};
 use ded_catalog::Snapshot;
-use ded_eval::Given;
+use ded_eval::{Given, holds_everywhere, reduced};
 use ded_model::goal::Goal;
 use ded_model::limits;
 use ded_model::memory::Refused;

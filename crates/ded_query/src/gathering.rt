@@ -14,9 +14,8 @@ ghost use Rattle.ded_eval.specs.Given.{has_name};
 ghost use Rattle.ded_query.specs.Gathering.{IsGivenOf, IsGathered, IsFront, IsPosed, IsEvaluated, IsViewGoal, IsViewOf, IsGivenAs};
 
 use ded_algebra::{Evaluate, Relations};
-use ded_answers::reduced;
 use ded_catalog::Snapshot;
-use ded_eval::{Engine, Given, GivenRelation};
+use ded_eval::{Engine, Given, GivenRelation, reduced};
 use ded_goals::laws::normal_goals;
 use ded_model::goal::Goal;
 use ded_model::memory::{NoMemory, Refused};
