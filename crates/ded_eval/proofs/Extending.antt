@@ -7,7 +7,7 @@ use Rattle.ded_model.specs.Cell.{conj_holds}
 use Rattle.ded_model.specs.Point.{Point}
 use Rattle.ded_model.specs.Row.{Atom, row_holds, theme_holds, tuple_holds, tuples_hold}
 use Rattle.ded_theory.specs.Both.{by_kind}
-use Rattle.ded_atoms.proofs.Conjunctive.{tuple_holds-is}
+use Rattle.ded_eval.proofs.Conjunctive.{tuple_holds-is}
 use Rattle.ded_box.specs.Extents.{IsBox, covering}
 use Rattle.ded_box.proofs.Extended.{box-same, box-either}
 use Rattle.ded_eval.proofs.TuplesRead.{tuples_hold-push}

@@ -1,5 +1,5 @@
 -- A tuple over a heading that is wide isn't narrow with all rational columns of the heading.
-use Rattle.std.proofs.Common.{◌≡◌, ℕ, zero, suc, ◌+◌, ◌*◌, ◌^◌, ◌<◌, ◌≤◌, Bool, true, false, cond, List, [], ◌∷◌, length, get_or, arith, refl, sym, ap, ◌∙◌, subst, true≢false, ⊎_elim}
+use Rattle.std.proofs.Common.{◌≡◌, ℕ, zero, suc, ◌+◌, ◌*◌, ◌^◌, ◌<◌, ◌≤◌, Bool, true, false, cond, List, [], ◌∷◌, length, get_or, arith, refl, sym, ◌∙◌, subst, true≢false, ⊎_elim}
 use Rattle.std.proofs.Math.Nat.{mul-le-mul_right}
 use Rattle.std.specs.List.{AllByRecursion}
 use Rattle.ded_model.specs.declared.name.Column.{Column}
@@ -12,12 +12,11 @@ use Rattle.ded_model.specs.Point.{same_sort, same_slot, stands_in}
 use Rattle.ded_model.specs.Row.{Atom, row_mentions, theme_mentions}
 use Rattle.ded_model.specs.Width.{tuple_length, tuples_length, rational_columns, IsBoxNarrow}
 use Rattle.ded_model.proofs.Members.{or_split}
-use Rattle.ded_model.proofs.Points.{same_slot_is}
 use Rattle.ded_model.proofs.Rows.{or_left, or_right}
 use Rattle.ded_theory.specs.Both.{by_kind}
 use Rattle.ded_theory.specs.Conjunctions.{IsWide}
-use Rattle.ded_atoms.proofs.Conjunctive.{tuple_mentions-is}
-use Rattle.ded_atoms.proofs.Narrowness.{lines_within}
+use Rattle.ded_eval.proofs.Conjunctive.{tuple_mentions-is, normal-is}
+use Rattle.ded_eval.proofs.Narrowness.{lines_within, not_rational}
 
 -- ---- the rational columns
 
@@ -36,16 +35,6 @@ count i (c ∷ cs) = by (same_sort c.sort Rat) (count (i + 1) cs)
     by true e = omega (arith, e)
     by false e = omega (arith, e)
 
-text_first : (t s : Slot) → t.sort ≡ Text → same_slot t s ≡ true → s.sort ≡ Rat → ⊥
-text_first t s x e r = apart (sym x ∙ ap (λ u. u.sort) (same_slot_is t s e) ∙ r)
-  where
-    is_text : Sort → Bool
-    is_text Rat = false
-    is_text Text = true
-
-    apart : Text ≡ Rat → ⊥
-    apart e = true≢false (ap is_text e)
-
 there : (i : ℕ) (cs : List Column) (s : Slot) → stands_in (heading_slots i cs) s ≡ true → s.sort ≡ Rat → stands_in (rational_heading i cs) s ≡ true
 unfolding rational_heading
 there i [] s h r = absurd (true≢false (sym h))
@@ -56,7 +45,7 @@ there i (c ∷ cs) s h r = ⊎_elim
   where
     first : (t : Sort) → same_slot (record { number = i; sort = t }) s ≡ true → stands_in (cond (same_sort t Rat) (record { number = i; sort = t } ∷ rational_heading (i + 1) cs) (rational_heading (i + 1) cs)) s ≡ true
     first Rat e = or_left (same_slot (record { number = i; sort = Rat }) s) (stands_in (rational_heading (i + 1) cs) s) e
-    first Text e = absurd (text_first (record { number = i; sort = Text }) s refl e r)
+    first Text e = absurd (not_rational (record { number = i; sort = Text }) s refl e r)
 
     later : (b : Bool) → stands_in (rational_heading (i + 1) cs) s ≡ true → stands_in (cond b (record { number = i; sort = c.sort } ∷ rational_heading (i + 1) cs) (rational_heading (i + 1) cs)) s ≡ true
     later true e = or_right (same_slot (record { number = i; sort = c.sort }) s) (stands_in (rational_heading (i + 1) cs) s) e
@@ -68,7 +57,7 @@ pub wide_tuple : (h : List Column) (t : List Atom) → IsTupleOver h t → IsWid
 unfolding IsBoxNarrow
 wide_tuple h t o w n =
     let b = tuples_length (t ∷ []) in
-    let above = w.above b (lines_within t b o.normal (omega arith)) (rational_heading 0 h) (λ s m r. there 0 h s (o.slots s (sym (tuple_mentions-is t s) ∙ m)) r) in
+    let above = w.above b (lines_within t b (normal-is t o.normal) (omega arith)) (rational_heading 0 h) (λ s m r. there 0 h s (o.slots s (sym (tuple_mentions-is t s) ∙ m)) r) in
     let more : 128 < (b + 1) * 2 ^ rational_columns h = subst (λ k. 128 < (b + 1) * 2 ^ k) (count 0 h) above in
     beyond ((b + 1) * 2 ^ rational_columns h) more n
   where

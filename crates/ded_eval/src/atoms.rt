@@ -7,8 +7,8 @@ ghost use Rattle.ded_genrel.specs.Lists.{conjs_hold, conjs_mention, conjs_lines}
 ghost use Rattle.ded_algebra.specs.Evaluation.{IsAnyAtom, IsEvaluable, IsEvaluation};
 
 use crate::evaluation::evaluate_counted;
+use crate::theories::Atoms;
 use ded_algebra::Relations;
-use ded_atoms::Atoms;
 use ded_genrel::GenRel;
 use ded_model::memory::Refused;
 use ded_model::plan::Plan;

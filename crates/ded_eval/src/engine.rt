@@ -6,8 +6,8 @@ ghost use Rattle.ded_eval.specs.Reading.{IsWrittenAs};
 ghost use Rattle.ded_genrel.specs.Lists.{conjs_of};
 
 use crate::atoms::eval;
+use crate::theories::Atoms;
 use ded_algebra::{Evaluate, Relations};
-use ded_atoms::Atoms;
 use ded_genrel::GenRel;
 use ded_model::memory::{NoMemory, Refused};
 use ded_model::plan::Plan;

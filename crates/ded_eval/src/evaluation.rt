@@ -68,7 +68,8 @@ pub fn evaluate_counted<T: OfTuples, R: Relations>(
 }
 
 /// The complement of the plan. Where the plan is a union of a complement and another plan, as `implies` makes it, that
-/// is what the other plan leaves of the complement's part: so nothing is complemented twice.
+/// is what the other plan leaves of the complement's part: so nothing is complemented twice, and where that part leaves nothing
+/// the other plan isn't evaluated.
 #[cycle(evaluate)]
 fn complemented<T: OfTuples, R: Relations>(
     alloc: Global,
@@ -85,6 +86,9 @@ fn complemented<T: OfTuples, R: Relations>(
         if let [first, other] = parts.as_slice() {
             if let Plan::Not(from) = first {
                 let from = evaluate_counted(alloc, from, relations, met)?;
+                if from.list().is_empty() {
+                    return Ok(from);
+                }
                 let other = evaluate_counted(alloc, other, relations, met)?;
                 return Ok(minus(alloc, &from, &other)?);
             }

@@ -8,7 +8,7 @@ ghost use Rattle.ded_model.specs.Cell.{conj_holds, HoldsSomewhere};
 ghost use Rattle.ded_model.specs.Interval.{IsExactBound};
 ghost use Rattle.ded_model.specs.Known.{IsTupleOver};
 ghost use Rattle.ded_model.specs.Point.{Point};
-ghost use Rattle.ded_model.specs.Row.{tuple_holds, tuples_hold};
+ghost use Rattle.ded_model.specs.Row.{tuple_holds};
 ghost use Rattle.ded_model.specs.Width.{IsBoxNarrow};
 ghost use Rattle.ded_theory.specs.Conjunctions.{IsWide};
 ghost use Rattle.ded_box.specs.Intervals.{IsInterval};
@@ -16,7 +16,7 @@ ghost use Rattle.ded_box.specs.Boxes.{hull, hulls};
 ghost use Rattle.ded_box.specs.Extents.{AreBounds, IsBox, covering};
 
 use crate::scanning::following;
-use ded_atoms::Atoms;
+use crate::theories::Atoms;
 use ded_box::{Side, checked, wider};
 use ded_model::bound::{Bound, BoxReply, Spans};
 use ded_model::memory::{NoMemory, Refused};
@@ -25,23 +25,6 @@ use ded_model::slot::{Slot, Sort};
 use ded_model::tuple::Tuple;
 use ded_theory::{Span, Theory, Verdict};
 use std::alloc::Global;
-
-/// The exact bounds of each rational column of the heading, over all points of the tuples: `Nowhere` where these have none, and
-/// else `NoRational` where no column is rational.
-///
-/// # Errors
-/// `Wide` only where the tuples aren't narrow with all rational columns of the heading, otherwise out of memory.
-pub fn extent(alloc: Global, heading: &Heading, tuples: &[Tuple]) -> Result<BoxReply, Refused>
-    requires { AllByRecursion (IsTupleOver heading.now) tuples.now }
-    ensures is { IfOk result (λ r. IsBox (tuples_hold tuples.now) heading.now r) }
-    ensures wide { IsErrOf result Wide → IsBoxNarrow heading.now tuples.now → ⊥ }
-{
-    let mut extent = BoxReply::Nowhere;
-    for tuple in tuples {
-        extent = extended(alloc, heading, extent, tuple)?;
-    }
-    Ok(extent)
-}
 
 /// The bounds over some points and all points of the tuple, from those over the points.
 ///

@@ -1,33 +1,51 @@
-//! Plans evaluated over given relations.
+//! Plans evaluated over given relations, and what is answered of an evaluation.
 //!
 //! The evaluation goes from the leaves of a plan to its root with the operations on lists of conjunctions: scans rename stored
 //! tuples, joins go through an index over boxes, differences and complements are cut piece by piece, and projections eliminate.
 //! Conjunctions that no point satisfies are dropped at once, and of equal ones that a union or a projection makes only the first
-//! is kept. It is written over any theory whose atoms stand for rows and text atoms ([`OfTuples`]).
+//! is kept. It is written over any theory whose atoms stand for rows and text atoms ([`OfTuples`]). The list that it gives holds
+//! exactly where the plan does, mentions only slots that the plan mentions freely, and has lines among the plan's; it gives up
+//! only where the plan clashes. Whether a conjunction stands twice in it is promised nowhere.
+//!
+//! [`Atoms`] is the theory that queries are evaluated over: rows and text atoms together. Its [`laws`] say that a tuple is a
+//! conjunction of this theory, read as `ded_model` reads it: it holds at the same points, mentions the same slots, has the same
+//! lines, and its atoms are normal where the tuple is. Atoms are wide only where they aren't narrow.
+//!
+//! [`reduced`] makes of the normal tuples of an evaluation what is answered: it drops tuples that hold nowhere, of equal tuples
+//! all but the first one, and of each tuple the atoms that its others imply. What is left holds at the same points, is in normal
+//! form, and has no new slots or lines; each tuple that is narrow holds somewhere, and without any one of its atoms it would hold
+//! at further points. No tuple stands twice. [`distinct_tuples`] drops equal tuples alone, and [`holds_everywhere`] reads the
+//! truth off tuples that mention no slot.
 //!
 //! It stands on `ded_algebra` for what a plan is evaluated over and what an evaluation promises, on `ded_join`,
-//! `ded_complement` and `ded_genrel` for the operations, on `ded_theory`, `ded_linear`, `ded_theme` and `ded_atoms` for the atoms,
-//! on `ded_tuple` for stored tuples, and on `ded_box` for extents. The list that it gives holds exactly where the plan does, mentions only
-//! slots that the plan mentions freely, and has lines among the plan's; it gives up only where the plan clashes. That no two of
-//! its conjunctions are equal is a matter of speed and is promised nowhere.
+//! `ded_complement` and `ded_genrel` for the operations, on `ded_reduce` for superfluous atoms, on `ded_theory`, `ded_linear` and
+//! `ded_theme` for the atoms, on `ded_tuple` for stored tuples, and on `ded_box` for extents.
 #![tactic(auto)]
 
 mod atoms;
+mod closed;
 mod engine;
 mod evaluation;
 mod extents;
 mod given;
+pub mod laws;
+mod own_slots;
 mod reading;
+mod reduction;
 mod repeated;
 mod rows;
-mod sameness;
 mod scanning;
 mod slots;
+mod theories;
 
 pub use atoms::{eval, eval_counted};
+pub use closed::holds_everywhere;
 pub use engine::{Engine, tuples};
 pub use evaluation::evaluate_counted;
-pub use extents::{extended, extent};
+pub use extents::extended;
 pub use given::{Given, GivenRelation};
 pub use reading::OfTuples;
+pub use reduction::reduced;
+pub use repeated::distinct_tuples;
 pub use rows::OfRows;
+pub use theories::Atoms;

@@ -9,9 +9,10 @@ use ded_model::memory::NoMemory;
 use ded_model::tuple::{Atom, Tuple};
 use ded_theory::Theory;
 use std::alloc::Global;
+use std::hash::Hash;
 
 /// A theory whose atoms stand for rows and text atoms.
-pub trait OfTuples: Theory {
+pub trait OfTuples: Theory<Atom: Eq + Hash> {
     ghost use Rattle.std.specs.Prelude.{◌≡◌, true, List};
     ghost use Rattle.ded_model.specs.Coefs.{AreCoefs};
     ghost use Rattle.ded_model.specs.Lines.{Line, In};
@@ -31,12 +32,9 @@ pub trait OfTuples: Theory {
         ensures stands { IfOk result (λ a. StandsFor Self.holds Self.mentions Self.lines a atom.now) }
         ensures normal { IfOk result Self.normal };
 
-    /// Whether the atoms are equal. It does not allocate.
-    fn is_same(a: &Self::Atom, b: &Self::Atom) -> bool
-        ensures { result ≡ true → a.now ≡ b.now };
-
-    /// A hash of the atom: equal atoms have the same one, on which nothing but speed rests. It does not allocate.
-    fn hash(atom: &Self::Atom) -> u64;
+    /// Atoms that `==` tells to be equal are the same. It does nothing.
+    fn equal_atoms()
+        ensures { (a b : Self.Atom) → Self.Atom.eq a b ≡ true → a ≡ b };
 
     /// The lines of an atom in normal form have rational slots in order.
     ghost line_coefs: { (a : Self.Atom) (l : Line) → Self.normal a → In l (Self.lines a) → AreCoefs l.coefs };

@@ -1,106 +1,63 @@
-//! Lists of conjunctions without repetitions.
-ghost use Rattle.std.specs.Prelude.{◌≡◌, true, IfOk, OnOk};
-ghost use Rattle.std.specs.List.{AllByRecursion, Contains};
+//! Lists without repetitions.
+ghost use Rattle.std.specs.Prelude.{◌≡◌, ◌≢◌, true, [], IfOk};
+ghost use Rattle.std.specs.List.{AllPairs, IsDistinct};
+ghost use Rattle.indexmap.specs.IndexSet.{insert_all};
 ghost use Rattle.ded_model.specs.declared.slot.Slot.{Slot};
 ghost use Rattle.ded_model.specs.Point.{Point};
-ghost use Rattle.ded_model.specs.Lines.{IsSubset};
+ghost use Rattle.ded_model.specs.Row.{tuples_hold, tuples_mention};
+ghost use Rattle.ded_model.specs.Lines.{IsSubset, tuples_lines};
 ghost use Rattle.ded_genrel.specs.Lists.{conjs_hold, conjs_mention, conjs_lines};
-ghost use Rattle.ded_eval.specs.Kept.{IsAdded};
+ghost use Rattle.ded_reduce.specs.Reductions.{IsSublist};
 
 use crate::reading::OfTuples;
 use ded_genrel::GenRel;
+use ded_model::laws::sameness::equal_tuples;
 use ded_model::memory::NoMemory;
+use ded_model::tuple::Tuples;
+use indexmap::IndexSet;
 use std::alloc::Global;
-use std::collections::BTreeSet;
-use std::hash::{DefaultHasher, Hasher};
+use std::hash::Hash;
 
-/// The conjunctions in the same order, without those that are equal to an earlier one.
+/// The conjunctions in the same order, without those that are equal to an earlier one. No conjunction stands twice.
 ///
 /// # Errors
 /// Out of memory.
 pub(crate) fn distinct<T: OfTuples>(alloc: Global, list: GenRel<T>) -> Result<GenRel<T>, NoMemory>
     ensures holds { IfOk result (λ r. (p : Point) → conjs_hold T.holds r p ≡ conjs_hold T.holds list p) }
+    ensures once { IfOk result (λ r. AllPairs (λ c d. c ≢ d) r) }
     ensures slots { IfOk result (λ r. (s : Slot) → conjs_mention T.mentions r s ≡ true → conjs_mention T.mentions list s ≡ true) }
     ensures lines { IfOk result (λ r. IsSubset (conjs_lines T.lines r) (conjs_lines T.lines list)) }
 {
-    if list.list().len() < 2 {
+    T::equal_atoms();
+    let conjs = once(alloc, list.conjs)?;
+    Ok(GenRel { conjs })
+}
+
+/// The tuples in the same order, without those that are equal to an earlier one. No tuple stands twice.
+///
+/// # Errors
+/// Out of memory.
+pub fn distinct_tuples(alloc: Global, tuples: Tuples) -> Result<Tuples, NoMemory>
+    ensures holds { IfOk result (λ ts. (p : Point) → tuples_hold ts p ≡ tuples_hold tuples p) }
+    ensures kept { IfOk result (λ ts. IsSublist ts tuples) }
+    ensures once { IfOk result (λ ts. AllPairs (λ t u. t ≢ u) ts) }
+    ensures slots { IfOk result (λ ts. (s : Slot) → tuples_mention ts s ≡ true → tuples_mention tuples s ≡ true) }
+    ensures lines { IfOk result (λ ts. IsSubset (tuples_lines ts) (tuples_lines tuples)) }
+{
+    equal_tuples();
+    let list = once(alloc, tuples.list)?;
+    Ok(Tuples { list })
+}
+
+/// The elements in the same order, without those that are equal to an earlier one. No two of them are equal.
+fn once<A: Eq + Hash + Drop>(alloc: Global, list: Vec<A>) -> Result<Vec<A>, NoMemory>
+    ensures kept { IfOk result (λ r. r.items ≡ insert_all A.eq [] list.items) }
+    ensures once { IfOk result (λ r. IsDistinct A.eq r.items) }
+{
+    if list.len() < 2 {
         return Ok(list);
     }
-    let mut seen = Seen {
-        list: GenRel::new(alloc),
-        places: BTreeSet::new(alloc),
-    };
-    for conj in list.conjs {
-        seen.add(conj)?;
-    }
-    Ok(seen.list)
-}
-
-/// Conjunctions that were seen, each once.
-#[derive(Drop)]
-struct Seen<T: OfTuples> {
-    list: GenRel<T>,
-    /// The hash of each, and where it stands.
-    places: BTreeSet<(u64, usize)>,
-}
-
-impl<T: OfTuples> Seen<T> {
-    /// Adds a conjunction, unless an equal one was seen.
-    fn add(&mut self, conj: Vec<T::Atom>) -> Result<(), NoMemory>
-        requires { AllByRecursion T.normal conj.items }
-        ensures { OnOk result (IsAdded conj.items self.old.list self.new.list) }
-    {
-        let hash = hash_of::<T>(&conj);
-        if !self.has(hash, &conj) {
-            let _ = self.places.insert((hash, self.list.list().len()))?;
-            self.list.push(conj)?;
-        }
-        Ok(())
-    }
-
-    /// Whether an equal conjunction, which has the same hash, was seen.
-    fn has(&self, hash: u64, conj: &[T::Atom]) -> bool
-        ensures { result ≡ true → Contains self.now.list conj.now }
-    {
-        for (_, place) in self.places.range((hash, 0)..=(hash, usize::MAX)) {
-            if stands_at::<T>(&self.list, *place, conj) {
-                return true;
-            }
-        }
-        false
-    }
-}
-
-/// Whether an equal conjunction stands at the place.
-fn stands_at<T: OfTuples>(list: &GenRel<T>, place: usize, conj: &[T::Atom]) -> bool
-    ensures { result ≡ true → Contains list.now conj.now }
-{
-    match list.list().get(place) {
-        Some(other) => are_same::<T>(other, conj),
-        None => false,
-    }
-}
-
-/// Whether the conjunctions are equal.
-fn are_same<T: OfTuples>(a: &[T::Atom], b: &[T::Atom]) -> bool
-    ensures { result ≡ true → a.now ≡ b.now }
-{
-    if a.len() != b.len() {
-        return false;
-    }
-    for i in 0..a.len() {
-        if !T::is_same(&a[i], &b[i]) {
-            return false;
-        }
-    }
-    true
-}
-
-/// A hash of the conjunction: equal conjunctions have the same one.
-fn hash_of<T: OfTuples>(conj: &[T::Atom]) -> u64 {
-    let mut state = DefaultHasher::new();
-    for atom in conj {
-        state.write_u64(T::hash(atom));
-    }
-    state.finish()
+    let once: IndexSet<A> = IndexSet::from_iter(alloc, list)?;
+    let list = Vec::from_iter(alloc, once)?;
+    Ok(list)
 }

@@ -5,16 +5,17 @@ ghost use Rattle.ded_eval.specs.Laws.{IsAnyRow, IsOfRows, line_in_order, kinds_i
 ghost use Rattle.ded_eval.specs.Reading.{StandsFor};
 
 use crate::reading::OfTuples;
-use crate::sameness::{is_same_row, is_same_theme, row_hash, theme_hash};
 use ded_linear::Linear;
+use ded_model::laws::sameness::{equal_parts, equal_tuples};
 use ded_model::memory::NoMemory;
 use ded_model::row::Row;
 use ded_model::tuple::{Atom, BothAtom};
 use ded_theme::Theme;
 use ded_theory::{Both, OfNumbers, Theory};
+use std::hash::Hash;
 
 /// A theory of numbers whose atoms stand for rows.
-pub trait OfRows: OfNumbers {
+pub trait OfRows: OfNumbers<Atom: Eq + Hash> {
     ghost use Rattle.ded_model.specs.declared.tuple.BothAtom.TheVariants.{First};
     ghost use Rattle.ded_model.specs.Coefs.{AreCoefs};
     ghost use Rattle.ded_model.specs.Constraint.{LinearConstraint};
@@ -33,12 +34,9 @@ pub trait OfRows: OfNumbers {
         ensures stands { IfOk result (λ a. StandsFor Self.holds Self.mentions Self.lines a (First row.now)) }
         ensures normal { IfOk result Self.normal };
 
-    /// Whether the atoms are equal. It does not allocate.
-    fn is_same(a: &Self::Atom, b: &Self::Atom) -> bool
-        ensures { result ≡ true → a.now ≡ b.now };
-
-    /// A hash of the atom: equal atoms have the same one, on which nothing but speed rests. It does not allocate.
-    fn hash(atom: &Self::Atom) -> u64;
+    /// Atoms that `==` tells to be equal are the same. It does nothing.
+    fn equal_atoms()
+        ensures { (a b : Self.Atom) → Self.Atom.eq a b ≡ true → a ≡ b };
 
     /// The lines of an atom in normal form have rational slots in order.
     ghost lines_in_order: { (a : Self.Atom) (l : Line) → Self.normal a → In l (Self.lines a) → AreCoefs l.coefs };
@@ -51,12 +49,8 @@ impl OfRows for Linear {
         row.copy()
     }
 
-    fn is_same(a: &Row, b: &Row) -> bool {
-        is_same_row(a, b)
-    }
-
-    fn hash(row: &Row) -> u64 {
-        row_hash(row)
+    fn equal_atoms() {
+        equal_tuples();
     }
 
     ghost lines_in_order = { line_in_order };
@@ -72,22 +66,9 @@ impl<N: OfRows> OfTuples for Both<N, Theme> {
         }
     }
 
-    fn is_same(
-        a: &BothAtom<N::Atom, <Theme as Theory>::Atom>,
-        b: &BothAtom<N::Atom, <Theme as Theory>::Atom>,
-    ) -> bool {
-        match (a, b) {
-            (BothAtom::First(a), BothAtom::First(b)) => N::is_same(a, b),
-            (BothAtom::Second(a), BothAtom::Second(b)) => is_same_theme(a, b),
-            _ => false,
-        }
-    }
-
-    fn hash(atom: &BothAtom<N::Atom, <Theme as Theory>::Atom>) -> u64 {
-        match atom {
-            BothAtom::First(row) => N::hash(row),
-            BothAtom::Second(theme) => theme_hash(theme),
-        }
+    fn equal_atoms() {
+        N::equal_atoms();
+        equal_parts();
     }
 
     ghost line_coefs = { kinds_in_order N.normal N.lines N.lines_in_order };

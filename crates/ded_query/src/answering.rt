@@ -19,9 +19,8 @@ ghost use Rattle.ded_query.specs.Gathering.{IsGivenOf, IsGathered, IsFront, IsPo
 ghost use Rattle.ded_query.specs.Questions.{IsQuestion, IsAnswer};
 
 use crate::gathering::{evaluated_by, give_all};
-use ded_answers::{holds_everywhere, reduced};
 use ded_catalog::Snapshot;
-use ded_eval::Given;
+use ded_eval::{Given, holds_everywhere, reduced};
 use ded_goals::laws;
 use ded_model::goal::Goal;
 use ded_model::limits;

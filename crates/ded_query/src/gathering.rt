@@ -16,9 +16,8 @@ ghost use Rattle.ded_plan.specs.Planned.{IsPlanned};
 ghost use Rattle.ded_query.specs.Gathering.{IsGivenOf, IsGathered, IsFront, IsPosed, IsPosedPlan, IsEvaluated, IsViewGoal, IsViewOf, IsGivenAs};
 
 use ded_algebra::{Evaluate, Relations};
-use ded_answers::reduced;
 use ded_catalog::Snapshot;
-use ded_eval::{Engine, Given, GivenRelation};
+use ded_eval::{Engine, Given, GivenRelation, reduced};
 use ded_goals::laws;
 use ded_model::goal::Goal;
 use ded_model::memory::{NoMemory, Refused};

@@ -1,5 +1,5 @@
 mod AtomOrders
-mod Chains
+pub mod Chains
 mod Halving
 pub mod Ordered
 mod Places

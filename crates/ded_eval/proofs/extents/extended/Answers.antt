@@ -8,7 +8,7 @@ use Rattle.ded_model.specs.Row.{Atom, row_holds, theme_holds, row_mentions, them
 use Rattle.ded_theory.specs.Both.{by_kind, IsByKind}
 use Rattle.ded_theory.specs.Conjunctions.{IsWide}
 use Rattle.ded_elimination.specs.LinearAtoms.{IsLinearAtom}
-use Rattle.ded_atoms.proofs.Conjunctive.{normal-is}
+use Rattle.ded_eval.proofs.Conjunctive.{normal-is}
 use Rattle.ded_box.specs.Extents.{IsBox}
 use Rattle.ded_eval.proofs.Extending.{extent_either}
 use Rattle.ded_eval.proofs.WideTuples.{wide_tuple}

@@ -1,2 +1,0 @@
-pub mod Conjunctive
-pub mod Narrowness

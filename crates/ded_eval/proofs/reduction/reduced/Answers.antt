@@ -1,0 +1,33 @@
+use Rattle.std.proofs.lemmas.Result.{IfOk-weaker}
+use Rattle.ded_model.specs.Normal.{IsNormalTuple}
+use Rattle.ded_reduce.specs.Reductions.{IsSublist}
+use Rattle.ded_reduce.proofs.Sublists.{sublist_all}
+use Rattle.ded_eval.specs.Kept.{IsReducedTuple}
+use Rattle.ded_eval.proofs.TupleParts.{parts_slots, parts_lines}
+use Rattle.ded_eval.proofs.Reducing.{parts_distinct}
+use Rattle.ded_eval.proofs.reduction.reduced.Goals as goal
+
+pub returns-clause-kept : goal.returns-clause-kept
+returns-clause-kept c =
+    IfOk-weaker c.distinct_tuples-2.result (λ ts. IsSublist ts c.in_ok-each_reduced.field-0) _
+    (λ ts z. parts_distinct c.args.tuples c.in_ok-first.first c.in_ok-each_reduced.field-0 ts c.in_ok-first.ensures.kept c.in_ok-each_reduced.ensures.parts z) c.distinct_tuples-2.ensures.kept
+
+pub returns-clause-slots : goal.returns-clause-slots
+returns-clause-slots c =
+    IfOk-weaker c.distinct_tuples-2.result (λ ts. IsSublist ts c.in_ok-each_reduced.field-0) _
+    (λ ts z. parts_slots ts c.args.tuples (parts_distinct c.args.tuples c.in_ok-first.first c.in_ok-each_reduced.field-0 ts c.in_ok-first.ensures.kept c.in_ok-each_reduced.ensures.parts z)) c.distinct_tuples-2.ensures.kept
+
+pub returns-clause-lines : goal.returns-clause-lines
+returns-clause-lines c =
+    IfOk-weaker c.distinct_tuples-2.result (λ ts. IsSublist ts c.in_ok-each_reduced.field-0) _
+    (λ ts z. parts_lines ts c.args.tuples (parts_distinct c.args.tuples c.in_ok-first.first c.in_ok-each_reduced.field-0 ts c.in_ok-first.ensures.kept c.in_ok-each_reduced.ensures.parts z)) c.distinct_tuples-2.ensures.kept
+
+pub returns-clause-normal : goal.returns-clause-normal
+returns-clause-normal c =
+    IfOk-weaker c.distinct_tuples-2.result (λ ts. IsSublist ts c.in_ok-each_reduced.field-0) _
+    (λ ts z. sublist_all IsNormalTuple ts c.in_ok-each_reduced.field-0 z c.in_ok-each_reduced.ensures.normal) c.distinct_tuples-2.ensures.kept
+
+pub returns-clause-reduced : goal.returns-clause-reduced
+returns-clause-reduced c =
+    IfOk-weaker c.distinct_tuples-2.result (λ ts. IsSublist ts c.in_ok-each_reduced.field-0) _
+    (λ ts z. sublist_all IsReducedTuple ts c.in_ok-each_reduced.field-0 z c.in_ok-each_reduced.ensures.reduced) c.distinct_tuples-2.ensures.kept

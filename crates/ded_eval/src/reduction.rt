@@ -1,0 +1,73 @@
+//! Tuples without superfluous atoms.
+ghost use Rattle.std.specs.Prelude.{◌≡◌, ◌≢◌, true, IfOk};
+ghost use Rattle.std.specs.List.{AllByRecursion, AllPairs};
+ghost use Rattle.ded_model.specs.declared.slot.Slot.{Slot};
+ghost use Rattle.ded_model.specs.Point.{Point, IsPoint};
+ghost use Rattle.ded_model.specs.Row.{atom_holds, tuples_hold, tuples_mention};
+ghost use Rattle.ded_model.specs.Cell.{IsReduced};
+ghost use Rattle.ded_model.specs.Lines.{IsSubset, tuples_lines};
+ghost use Rattle.ded_model.specs.Normal.{IsNormalTuple};
+ghost use Rattle.ded_model.specs.Width.{IsNarrowList};
+ghost use Rattle.ded_eval.specs.Kept.{ArePartsOf, IsReducedPart, AreReducedParts};
+
+use crate::own_slots::have_own_slots;
+use crate::repeated::distinct_tuples;
+use crate::theories::Atoms;
+use ded_model::memory::NoMemory;
+use ded_model::tuple::{Tuple, Tuples};
+use ded_reduce::{Reduced, reduce};
+use std::alloc::Global;
+
+/// Tuples that hold at the same points, with nothing superfluous, in the same order: each is one of the tuples without the atoms
+/// that its others imply. Tuples that are found to hold nowhere are dropped, and of equal tuples the first one is kept, so that
+/// none stands twice. Each tuple that is narrow holds somewhere, and each of its atoms is needed: without it the others hold at a
+/// point at which it doesn't.
+///
+/// # Errors
+/// Out of memory.
+pub fn reduced(alloc: Global, tuples: Tuples) -> Result<Tuples, NoMemory>
+    ensures holds { IfOk result (λ ts. (p : Point) → IsPoint p → tuples_hold ts p ≡ tuples_hold tuples p) }
+    ensures kept { IfOk result (λ ts. ArePartsOf ts tuples) }
+    ensures once { IfOk result (λ ts. AllPairs (λ t u. t ≢ u) ts) }
+    ensures slots { IfOk result (λ ts. (s : Slot) → tuples_mention ts s ≡ true → tuples_mention tuples s ≡ true) }
+    ensures lines { IfOk result (λ ts. IsSubset (tuples_lines ts) (tuples_lines tuples)) }
+    ensures normal { IfOk result (λ ts. AllByRecursion IsNormalTuple ts) }
+    ensures reduced { IfOk result (λ ts. AllByRecursion (λ t. IsNarrowList t → IsReduced atom_holds t) ts) }
+{
+    let first = distinct_tuples(alloc, tuples)?;
+    distinct_tuples(alloc, each_reduced(alloc, first)?)
+}
+
+/// Each tuple without superfluous atoms, if it isn't found to hold nowhere.
+fn each_reduced(alloc: Global, tuples: Tuples) -> Result<Tuples, NoMemory>
+    ensures { IfOk result (λ ts. AreReducedParts ts tuples) }
+{
+    let mut list = Vec::with_capacity(alloc, tuples.list.len())?;
+    for tuple in tuples.list {
+        if let Some(reduced) = reduced_tuple(alloc, tuple)? {
+            list.push(reduced)?;
+        }
+    }
+    Ok(Tuples { list })
+}
+
+/// The tuple without superfluous atoms, or nothing where it is found to hold nowhere. One whose atoms have slots of their own
+/// stays as it is.
+fn reduced_tuple(alloc: Global, tuple: Tuple) -> Result<Option<Tuple>, NoMemory>
+    ensures { IfOk result (λ r. IsReducedPart tuple r) }
+{
+    if have_own_slots(&tuple.atoms) {
+        return Ok(Some(tuple));
+    }
+    sifted(alloc, &tuple)
+}
+
+/// The tuple without the atoms that its others imply, or nothing where it is found to hold nowhere.
+fn sifted(alloc: Global, tuple: &Tuple) -> Result<Option<Tuple>, NoMemory>
+    ensures { IfOk result (λ r. IsReducedPart tuple.now r) }
+{
+    match reduce::<Atoms>(alloc, &tuple.atoms)? {
+        Reduced::Gone => Ok(None),
+        Reduced::Kept(atoms) => Ok(Some(Tuple { atoms })),
+    }
+}
