@@ -18,7 +18,7 @@ use Rattle.ded_model.specs.Point.{slot}
 use Rattle.ded_model.specs.Row.{Atom}
 use Rattle.ded_print.specs.Boxes.{spans_text}
 use Rattle.ded_print.specs.Lines.{line_text, lines_text, number_reply_text}
-use Rattle.ded_print.specs.Numbers.{number_text, integer_text, fraction_text}
+use Rattle.ded_print.specs.Numbers.{number_text, count_text, integer_text, fraction_text}
 use Rattle.ded_print.specs.Plans.{plan_text}
 use Rattle.ded_print.specs.Tuples.{column_names, row_text, theme_text, tuple_text, answer_text, stored_text}
 
@@ -146,12 +146,12 @@ difference = First (row ((x, pos 1) ∷ (y, negsuc 0) ∷ []) (pos 0) Zero) ∷ 
 
 a_plan : plan_text (some_of (also (exists Rat (slot y) (atom (scan (codes "T") (x ∷ y ∷ [])))) (also (exists Rat (slot y) (atom (rows difference))) none)))
     ≡ lines_text (codes "plan 5" ∷ codes "union 2" ∷ codes "  project v1" ∷ codes "    scan T(v0, v1)" ∷ codes "  project v1" ∷ codes "    rows { v0 - v1 = 0 }" ∷ codes "end" ∷ [])
-unfolding number_text
+unfolding number_text count_text
 a_plan = refl
 
 another_plan : plan_text (exists Text (slot n) (minus (every_of (also (atom (scan (codes "N") (n ∷ []))) none)) (negation (atom (rows [])))))
     ≡ lines_text (codes "plan 6" ∷ codes "project v2 text" ∷ codes "  minus" ∷ codes "    join 1" ∷ codes "      scan N(v2)" ∷ codes "    not" ∷ codes "      rows { }" ∷ codes "end" ∷ [])
-unfolding number_text
+unfolding number_text count_text
 another_plan = refl
 
 -- ---- replies of one line

@@ -5,6 +5,7 @@ pub mod Decimals
 pub mod Examples
 pub mod Gathering
 pub mod LineReplies
+pub mod Numerals
 pub mod Plans
 pub mod QuotedLines
 pub mod QuotedTexts
