@@ -4,13 +4,15 @@ ghost use Rattle.std.specs.Str.Parse.{IsNumeral, digits_value};
 ghost use Rattle.ded_model.specs.declared.bound.Bound.{Bound};
 ghost use Rattle.ded_model.specs.declared.command.Refusal.{Refusal};
 ghost use Rattle.ded_model.specs.declared.name.Column.{Column};
+ghost use Rattle.ded_model.specs.declared.slot.Sort.{Sort};
 ghost use Rattle.ded_model.specs.PlanForm.{PlanForm};
 ghost use Rattle.ded_model.specs.Row.{Atom};
 ghost use Rattle.ded_print.specs.Boxes.{rational_names, spans_text};
 ghost use Rattle.ded_print.specs.Lines.{LineReply, line_text, refusal_text, reply_line, reply_text, is_one_line};
 ghost use Rattle.ded_print.specs.Numbers.{count_text, number_text};
-ghost use Rattle.ded_print.specs.Plans.{plan_text};
+ghost use Rattle.ded_print.specs.Plans.{node_lines, plan_text};
 ghost use Rattle.ded_print.specs.Quiet.{AreQuiet, IsQuietPlan};
+ghost use Rattle.ded_print.specs.Told.{IsToldPlan};
 ghost use Rattle.ded_print.specs.Tuples.{answer_text, stored_text};
 
 /// The text of a number is its digits, without leading zeros: read in decimal it is the number, however great. A count of
@@ -54,6 +56,15 @@ pub fn one_answer()
 pub fn one_plan()
     ensures { (f g : PlanForm) (xs ys : List ℕ) → IsQuietPlan f → IsQuietPlan g →
         plan_text f ++ xs ≡ plan_text g ++ ys → (plan_text f ≡ plan_text g) × (xs ≡ ys) }
+{}
+
+/// The lines of a plan tell the plan, and so does its text before any bytes, where names are plain, the slots of each scan
+/// have the sorts of its columns, and tuples are in normal form.
+pub fn plans_told()
+    ensures lines { (sorts : List ℕ → List Sort) (f g : PlanForm) → IsToldPlan sorts f → IsToldPlan sorts g →
+        node_lines 0 f ≡ node_lines 0 g → f ≡ g }
+    ensures texts { (sorts : List ℕ → List Sort) (f g : PlanForm) (xs ys : List ℕ) → IsToldPlan sorts f →
+        IsToldPlan sorts g → plan_text f ++ xs ≡ plan_text g ++ ys → (f ≡ g) × (xs ≡ ys) }
 {}
 
 /// Of two lists of bounds, as many in one as in the other, for the columns of one heading no text is a proper front of
