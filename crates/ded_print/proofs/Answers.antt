@@ -4,7 +4,6 @@ use Rattle.std.specs.Prelude.{codes}
 use Rattle.std.proofs.Math.ListN.{drop_of_length-le}
 use Rattle.ded_print.specs.Gathering.{Output, Puts}
 use Rattle.ded_print.specs.Lines.{counted_text, line_text, lines_text}
-use Rattle.ded_print.specs.Numbers.{number_text}
 use Rattle.ded_print.proofs.Gathering.{puts_both, puts_none}
 
 suc_is : (n : ℕ) → n + 1 ≡ suc n
@@ -28,12 +27,12 @@ last_line line start now all items i past goes =
     goes now (subst (λ z. Puts now now (lines_text (map line z))) (sym (drop_of_length-le items past)) (puts_none now))
 
 -- the word and the count, the lines, and the end
-pub counted : (a b : Output) (kind : List ℕ) (count : ℕ) (lines : List (List ℕ))
-    → Puts a b (kind ++ (32 ∷ (number_text count ++ ((10 ∷ []) ++ (lines_text lines ++ line_text (codes "end"))))))
+pub counted : (a b : Output) (kind : List ℕ) (count : List ℕ) (lines : List (List ℕ))
+    → Puts a b (kind ++ (32 ∷ (count ++ ((10 ∷ []) ++ (lines_text lines ++ line_text (codes "end"))))))
     → Puts a b (counted_text kind count lines)
 counted a b kind count lines h =
     let rest = lines_text lines ++ line_text (codes "end") in
-    subst (λ z. Puts a b z) (sym (append_assoc (kind ++ (32 ∷ number_text count)) (10 ∷ []) rest ∙ append_assoc kind (32 ∷ number_text count) ((10 ∷ []) ++ rest))) h
+    subst (λ z. Puts a b z) (sym (append_assoc (kind ++ (32 ∷ count)) (10 ∷ []) rest ∙ append_assoc kind (32 ∷ count) ((10 ∷ []) ++ rest))) h
 
 -- the parts of a numbered line
 pub numbered : (a b : Output) (number text : List ℕ) → Puts a b (number ++ ((32 ∷ []) ++ (text ++ (10 ∷ [])))) → Puts a b (line_text (number ++ (32 ∷ text)))

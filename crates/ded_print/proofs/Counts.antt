@@ -7,7 +7,8 @@ use Rattle.std.proofs.lemmas.Bool.{le-leb}
 use Rattle.std.proofs.lemmas.Bool.Decides.{eqb_tells, leb_tells}
 use Rattle.std.proofs.lemmas.List.{reverse-append}
 use Rattle.ded_print.specs.Counts.{added, carries, raised, raised_by}
-use Rattle.ded_print.specs.Numbers.{number_text}
+use Rattle.ded_print.specs.Numbers.{count_text}
+use Rattle.ded_print.proofs.Numerals.{glyph_is}
 
 pub raised_both : (m n : ℕ) (bs : List ℕ) → raised_by (m + n) bs ≡ raised_by n (raised_by m bs)
 raised_both zero n bs = ap (λ (k : ℕ). raised_by k bs) {x = 0 + n} {y = n} (omega arith)
@@ -39,9 +40,6 @@ written zero n acc = refl
 written (suc k) n acc =
     let d = digit_glyph false (n % 10) in
     onto (n / 10 == 0) d (little k (n / 10)) acc (digits_onto k 10 false (n / 10) (d ∷ acc)) (written k (n / 10) (d ∷ acc))
-
-glyph : (d : ℕ) → d < 10 → digit_glyph false d ≡ 48 + d
-glyph d h = rw (less d 10 h) refl
 
 -- one more, where there is room for this many digits
 more : ℕ → List ℕ → List ℕ
@@ -81,8 +79,8 @@ unfolding little more
 more_little zero n = refl
 more_little (suc k) n = ⊎_elim
     (λ h. let l = lower n (omega (arith, h.1)) in
-    low_step _ _ _ _ _ (subst (λ g. g < 57) (sym (glyph (n % 10) (omega arith))) (omega (arith, h.1)))
-    (ap (λ g. g + 1) (glyph (n % 10) (omega arith)) ∙ omega (arith, l.0) ∙ sym (glyph ((n + 1) % 10) (omega arith)))
+    low_step _ _ _ _ _ (subst (λ g. g < 57) (sym (glyph_is (n % 10) (omega arith))) (omega (arith, h.1)))
+    (ap (λ g. g + 1) (glyph_is (n % 10) (omega arith)) ∙ omega (arith, l.0) ∙ sym (glyph_is ((n + 1) % 10) (omega arith)))
     (ap (λ q. cond (q == 0) [] (little k q)) (sym l.1)))
     (λ h. let m : n % 10 ≡ 9 = omega (arith, h.1) in let l = nine n m in
     high_step _ _ _ _ _ (ap (digit_glyph false) m) (ap (digit_glyph false) l.0)
@@ -124,6 +122,6 @@ raised_little (suc n) m =
     ap (raised_by n) (raised_more 64 (little 64 m) (short 64 m) ∙ more_little 64 m) ∙ raised_little n (m + 1) ∙ ap (little 64) {x = m + 1 + n} {y = m + suc n} (omega arith)
 
 -- the digits of as many as were counted
-pub counted_text : (n : ℕ) → reverse (raised_by n (48 ∷ [])) ≡ number_text n
-unfolding little number_text
+pub counted_text : (n : ℕ) → reverse (raised_by n (48 ∷ [])) ≡ count_text n
+unfolding little count_text
 counted_text n = ap reverse (raised_little n 0 ∙ ap (little 64) {x = 0 + n} {y = n} (omega arith)) ∙ sym (append-nil (reverse (little 64 n))) ∙ sym (written 64 n [])

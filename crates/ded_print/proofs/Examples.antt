@@ -1,5 +1,5 @@
 -- The definitions on what is known of each text.
-use Rattle.std.proofs.Common.{◌≡◌, ℕ, List, [], ◌∷◌, refl}
+use Rattle.std.proofs.Common.{◌≡◌, ℕ, List, [], ◌∷◌, refl, arith}
 use Rattle.std.specs.Prelude.{ℤ, pos, negsuc, codes}
 use Rattle.ded_model.specs.declared.name.Column.{Column}
 use Rattle.ded_model.specs.declared.slot.Slot.{Slot}
@@ -12,14 +12,16 @@ use Rattle.ded_model.specs.declared.tuple.BothAtom.TheVariants.{First, Second}
 use Rattle.ded_num.specs.Gcd.{nat_gcd}
 use Rattle.ded_model.specs.Bound.{Fraction}
 use Rattle.ded_model.specs.Constraint.{LinearConstraint}
+use Rattle.ded_model.specs.Normal.{normal_row}
 use Rattle.ded_model.specs.Logic.{atom, some_of, exists, minus, negation, every_of, none, also}
 use Rattle.ded_model.specs.PlanForm.{scan, rows}
 use Rattle.ded_model.specs.Point.{slot}
 use Rattle.ded_model.specs.Row.{Atom}
 use Rattle.ded_print.specs.Boxes.{spans_text}
 use Rattle.ded_print.specs.Lines.{line_text, lines_text, number_reply_text}
-use Rattle.ded_print.specs.Numbers.{number_text, integer_text, fraction_text}
+use Rattle.ded_print.specs.Numbers.{number_text, count_text, integer_text, fraction_text}
 use Rattle.ded_print.specs.Plans.{plan_text}
+use Rattle.ded_print.specs.Told.{IsToldPlan}
 use Rattle.ded_print.specs.Tuples.{column_names, row_text, theme_text, tuple_text, answer_text, stored_text}
 
 -- ---- what the examples speak of
@@ -146,13 +148,24 @@ difference = First (row ((x, pos 1) ∷ (y, negsuc 0) ∷ []) (pos 0) Zero) ∷ 
 
 a_plan : plan_text (some_of (also (exists Rat (slot y) (atom (scan (codes "T") (x ∷ y ∷ [])))) (also (exists Rat (slot y) (atom (rows difference))) none)))
     ≡ lines_text (codes "plan 5" ∷ codes "union 2" ∷ codes "  project v1" ∷ codes "    scan T(v0, v1)" ∷ codes "  project v1" ∷ codes "    rows { v0 - v1 = 0 }" ∷ codes "end" ∷ [])
-unfolding number_text
+unfolding number_text count_text
 a_plan = refl
 
 another_plan : plan_text (exists Text (slot n) (minus (every_of (also (atom (scan (codes "N") (n ∷ []))) none)) (negation (atom (rows [])))))
     ≡ lines_text (codes "plan 6" ∷ codes "project v2 text" ∷ codes "  minus" ∷ codes "    join 1" ∷ codes "      scan N(v2)" ∷ codes "    not" ∷ codes "      rows { }" ∷ codes "end" ∷ [])
-unfolding number_text
+unfolding number_text count_text
 another_plan = refl
+
+one_is_some : pos 1 ≡ pos 0 → ⊥
+one_is_some e = cc
+
+minus_is_some : negsuc 0 ≡ pos 0 → ⊥
+minus_is_some e = cc
+
+-- such a plan is told by its lines
+a_told_plan : IsToldPlan (λ m. Rat ∷ Rat ∷ []) (some_of (also (exists Rat (slot y) (atom (scan (codes "T") (x ∷ y ∷ [])))) (also (exists Rat (slot y) (atom (rows difference))) none)))
+unfolding normal_row nat_gcd
+a_told_plan = ((refl, ((omega arith, tt), refl)), ((refl, (((refl, omega arith, one_is_some, (omega arith, tt), (refl, omega arith, minus_is_some, tt, tt)), record { normal = refl }, refl), tt, tt)), tt))
 
 -- ---- replies of one line
 

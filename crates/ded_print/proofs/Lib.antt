@@ -5,11 +5,17 @@ pub mod Decimals
 pub mod Examples
 pub mod Gathering
 pub mod LineReplies
+pub mod Numerals
 pub mod Plans
+pub mod PlansTold
 pub mod QuotedLines
 pub mod QuotedTexts
 pub mod Refusals
 pub mod RefusalsApart
+pub mod RowsTold
+pub mod Runs
+pub mod Signs
 pub mod SpanLines
 pub mod Telling
 pub mod Terms
+pub mod TuplesTold

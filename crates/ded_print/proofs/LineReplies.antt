@@ -1,5 +1,5 @@
 -- A reply's text ends at its one line feed.
-use Rattle.std.proofs.Common.{◌≡◌, ◌≢◌, ℕ, zero, suc, ◌+◌, ◌/◌, ◌%◌, ◌<◌, List, [], ◌∷◌, ◌++◌, refl, sym, ap, ◌∙◌, ⊎_elim, append_assoc, arith, Bool, true, false}
+use Rattle.std.proofs.Common.{◌≡◌, ◌≢◌, ℕ, zero, suc, ◌+◌, ◌/◌, ◌%◌, ◌^◌, ◌<◌, List, [], ◌∷◌, ◌++◌, refl, sym, ap, ◌∙◌, ⊎_elim, append_assoc, arith, Bool, true, false}
 use Rattle.std.specs.Prelude.{if◌then◌else◌, ◌==◌, nat_lt}
 use Rattle.std.specs.Fmt.{digit_glyph, digits_onto}
 use Rattle.std.proofs.lemmas.Bool.Decides.{eqb_tells}
@@ -33,7 +33,7 @@ digits_line (suc k) n acc line =
 
 pub number_line : (n : ℕ) → is_one_line (number_text n) ≡ true
 unfolding number_text
-number_line n = digits_line 64 n [] refl
+number_line n = digits_line (64 + n / 10 ^ 64) n [] refl
 
 refusal_lines : (r : Refusal) → is_one_line (refusal_line r) ≡ true
 unfolding number_text

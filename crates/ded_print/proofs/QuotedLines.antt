@@ -2,14 +2,14 @@
 --
 -- A quoted text may contain line feeds, but each quote in it stands twice. So behind a line that has its quotes in pairs the
 -- first line feed outside of quotes is its end, and two such lines that begin the same bytes are the same.
-use Rattle.std.proofs.Common.{◌≡◌, ℕ, zero, suc, ◌+◌, ◌<◌, ◌/◌, ◌%◌, List, [], ◌∷◌, ◌++◌, length, refl, sym, ap, ap₂, ◌∙◌, ⊎_elim, append_assoc, append-nil, arith, Bool, true, false, not, cond, subst}
+use Rattle.std.proofs.Common.{◌≡◌, ℕ, zero, suc, ◌+◌, ◌<◌, ◌/◌, ◌%◌, ◌^◌, List, [], ◌∷◌, ◌++◌, length, refl, sym, ap, ap₂, ◌∙◌, ⊎_elim, append_assoc, append-nil, arith, Bool, true, false, not, cond, subst}
 use Rattle.std.specs.Prelude.{Option, None, Some, if◌then◌else◌, ◌==◌, nat_lt, codes}
 use Rattle.std.specs.Fmt.{digit_glyph, digits_onto}
 use Rattle.std.specs.List.{AllByRecursion}
 use Rattle.std.proofs.lemmas.Bool.Decides.{eqb_tells}
 use Rattle.ded_model.specs.Quoting.{doubled, doubled_byte, quoted}
 use Rattle.ded_print.specs.Lines.{line_text, lines_text, counted_text}
-use Rattle.ded_print.specs.Numbers.{number_text}
+use Rattle.ded_print.specs.Numbers.{number_text, count_text}
 use Rattle.ded_print.specs.Quiet.{IsQuiet}
 
 -- whether the bytes end between quotes; None where a line feed stands outside of quotes
@@ -55,10 +55,14 @@ digits_quiet (suc k) n acc h =
 
 pub number_quiet : (n : ℕ) → IsQuiet (number_text n)
 unfolding number_text
-number_quiet n = digits_quiet 64 n [] tt
+number_quiet n = digits_quiet (64 + n / 10 ^ 64) n [] tt
 
 pub closed_number : (n : ℕ) → IsClosed (number_text n)
 closed_number n = closed_quiet (number_text n) (number_quiet n)
+
+pub closed_written : (n : ℕ) → IsClosed (count_text n)
+unfolding count_text
+closed_written n = closed_quiet (count_text n) (digits_quiet 64 n [] tt)
 
 -- ---- quoted texts
 
@@ -152,20 +156,26 @@ same_ended (l ∷ ls) (m ∷ ms) xs ys p q e =
     (ap₂ (λ x xs. x ∷ xs) one.0 more.0, more.1)
 
 -- the first line of a counted list, before what follows
-pub counted_first : (kind : List ℕ) (n : ℕ) (ls : List (List ℕ)) (xs : List ℕ) → counted_text kind n ls ++ xs ≡ line_text (kind ++ (32 ∷ number_text n)) ++ (lines_text ls ++ (line_text (codes "end") ++ xs))
+pub counted_first : (kind n : List ℕ) (ls : List (List ℕ)) (xs : List ℕ) → counted_text kind n ls ++ xs ≡ line_text (kind ++ (32 ∷ n)) ++ (lines_text ls ++ (line_text (codes "end") ++ xs))
 counted_first kind n ls xs =
-    append_assoc (line_text (kind ++ (32 ∷ number_text n))) (lines_text ls ++ line_text (codes "end")) xs
-    ∙ ap (λ z. line_text (kind ++ (32 ∷ number_text n)) ++ z) (append_assoc (lines_text ls) (line_text (codes "end")) xs)
+    append_assoc (line_text (kind ++ (32 ∷ n))) (lines_text ls ++ line_text (codes "end")) xs
+    ∙ ap (λ z. line_text (kind ++ (32 ∷ n)) ++ z) (append_assoc (lines_text ls) (line_text (codes "end")) xs)
 
-pub header_closed : (kind : List ℕ) (n : ℕ) → IsClosed kind → IsClosed (kind ++ (32 ∷ number_text n))
-header_closed kind n p = closed_both kind (32 ∷ number_text n) p (λ ys. closed_number n ys)
+pub header_closed : (kind n : List ℕ) → IsClosed kind → IsClosed n → IsClosed (kind ++ (32 ∷ n))
+header_closed kind n p q = closed_both kind (32 ∷ n) p (λ ys. q ys)
 
--- two counted lists that begin the same bytes are the same
-pub same_counted : (kind : List ℕ) (n m : ℕ) (ls ms : List (List ℕ)) (xs ys : List ℕ) → IsClosed kind → AreInner ls → AreInner ms
+-- two counted lists that begin the same bytes have the same lines
+pub counted_lines : (kind n m : List ℕ) (ls ms : List (List ℕ)) (xs ys : List ℕ) → IsClosed kind → IsClosed n → IsClosed m → AreInner ls → AreInner ms
+    → counted_text kind n ls ++ xs ≡ counted_text kind m ms ++ ys → (ls ≡ ms) × (xs ≡ ys)
+counted_lines kind n m ls ms xs ys k cn cm p q e =
+    same_ended ls ms xs ys p q (same_line (kind ++ (32 ∷ n)) (kind ++ (32 ∷ m)) _ _ (header_closed kind n k cn) (header_closed kind m k cm) (sym (counted_first kind n ls xs) ∙ e ∙ counted_first kind m ms ys)).1
+
+-- and are the same
+pub same_counted : (kind n m : List ℕ) (ls ms : List (List ℕ)) (xs ys : List ℕ) → IsClosed kind → IsClosed n → IsClosed m → AreInner ls → AreInner ms
     → counted_text kind n ls ++ xs ≡ counted_text kind m ms ++ ys → (counted_text kind n ls ≡ counted_text kind m ms) × (xs ≡ ys)
-same_counted kind n m ls ms xs ys k p q e =
-    let one = same_line (kind ++ (32 ∷ number_text n)) (kind ++ (32 ∷ number_text m)) _ _ (header_closed kind n k) (header_closed kind m k) (sym (counted_first kind n ls xs) ∙ e ∙ counted_first kind m ms ys) in
-    let more = same_ended ls ms xs ys p q one.1 in
+same_counted kind n m ls ms xs ys k cn cm p q e =
+    let one = same_line (kind ++ (32 ∷ n)) (kind ++ (32 ∷ m)) _ _ (header_closed kind n k cn) (header_closed kind m k cm) (sym (counted_first kind n ls xs) ∙ e ∙ counted_first kind m ms ys) in
+    let more = counted_lines kind n m ls ms xs ys k cn cm p q e in
     (ap₂ (λ h zs. line_text h ++ (lines_text zs ++ line_text (codes "end"))) one.0 more.0, more.1)
 
 -- as many lines

@@ -21,11 +21,11 @@ use Rattle.ded_model.specs.Quoting.{quoted}
 use Rattle.ded_model.specs.Row.{Atom}
 use Rattle.ded_print.specs.Boxes.{lower_text, upper_text, span_line, span_lines, rational_names, spans_text}
 use Rattle.ded_print.specs.Lines.{lines_text}
-use Rattle.ded_print.specs.Numbers.{number_text, integer_text, lowest_text, fraction_text, common_divisor}
+use Rattle.ded_print.specs.Numbers.{number_text, count_text, integer_text, lowest_text, fraction_text, common_divisor}
 use Rattle.ded_print.specs.Plans.{indent, later_slots_text, slots_text, plan_atom_text, key_text, sort_text, parts, node_lines, part_lines, plan_text}
 use Rattle.ded_print.specs.Quiet.{IsQuiet, AreQuiet, IsQuietAtom, IsQuietPlan, AreQuietPlans}
 use Rattle.ded_print.specs.Tuples.{Names, column_at, column_names, slot_names, term_text, sign_text, later_term_text, signed, later_terms_text, op_text, row_with_text, theme_text, atom_text, later_atoms_text, tuple_text, answer_text}
-use Rattle.ded_print.proofs.QuotedLines.{IsClosed, closed_both, closed_quiet, closed_number, closed_quoted, IsInner, AreInner, same_counted, same_many}
+use Rattle.ded_print.proofs.QuotedLines.{IsClosed, closed_both, closed_quiet, closed_number, closed_written, closed_quoted, IsInner, AreInner, same_counted, same_many}
 
 -- ---- numbers
 
@@ -122,7 +122,7 @@ pub one_answer : (columns : List Column) (ts us : List (List Atom)) (xs ys : Lis
     → answer_text columns ts ++ xs ≡ answer_text columns us ++ ys → (answer_text columns ts ≡ answer_text columns us) × (xs ≡ ys)
 one_answer columns ts us xs ys quiet e =
     let closed : (s : Slot) → IsClosed (column_names columns s) = λ s. closed_quiet (column_at columns s.number) (quiet_column columns s.number quiet) in
-    same_counted (codes "answer") (length ts) (length us) (map (tuple_text (column_names columns)) ts) (map (tuple_text (column_names columns)) us) xs ys (λ zs. refl) (inner_tuples (column_names columns) closed ts) (inner_tuples (column_names columns) closed us) e
+    same_counted (codes "answer") (number_text (length ts)) (number_text (length us)) (map (tuple_text (column_names columns)) ts) (map (tuple_text (column_names columns)) us) xs ys (λ zs. refl) (closed_number (length ts)) (closed_number (length us)) (inner_tuples (column_names columns) closed ts) (inner_tuples (column_names columns) closed us) e
 
 -- ---- plans
 
@@ -174,7 +174,7 @@ inner_both (l ∷ ls) ms p q = (p.0, inner_both ls ms p.1 q)
 mutual
   unfolding first
 
-  inner_nodes : (d : ℕ) (f : PlanForm) → IsQuietPlan f → AreInner (node_lines d f)
+  pub inner_nodes : (d : ℕ) (f : PlanForm) → IsQuietPlan f → AreInner (node_lines d f)
   inner_nodes d (atom a) h = (inner_node d (plan_atom_text a) (closed_plan_atom a h) (begins_plan_atom a), tt)
   inner_nodes d always h = tt
   inner_nodes d never h = tt
@@ -192,7 +192,7 @@ mutual
   inner_parts d (also f fs) h = inner_both (node_lines d f) (part_lines d fs) (inner_nodes d f h.0) (inner_parts d fs h.1)
 
 pub one_plan : (f g : PlanForm) (xs ys : List ℕ) → IsQuietPlan f → IsQuietPlan g → plan_text f ++ xs ≡ plan_text g ++ ys → (plan_text f ≡ plan_text g) × (xs ≡ ys)
-one_plan f g xs ys p q e = same_counted (codes "plan") (length (node_lines 0 f)) (length (node_lines 0 g)) (node_lines 0 f) (node_lines 0 g) xs ys (λ zs. refl) (inner_nodes 0 f p) (inner_nodes 0 g q) e
+one_plan f g xs ys p q e = same_counted (codes "plan") (count_text (length (node_lines 0 f))) (count_text (length (node_lines 0 g))) (node_lines 0 f) (node_lines 0 g) xs ys (λ zs. refl) (closed_written (length (node_lines 0 f))) (closed_written (length (node_lines 0 g))) (inner_nodes 0 f p) (inner_nodes 0 g q) e
 
 -- ---- boxes
 

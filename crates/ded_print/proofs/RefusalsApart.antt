@@ -14,11 +14,11 @@ use Rattle.ded_model.specs.Row.{Atom}
 use Rattle.ded_model.specs.Refusals.{refusal_number, refusal_word}
 use Rattle.ded_print.specs.Boxes.{span_line, span_lines, rational_names, spans_text}
 use Rattle.ded_print.specs.Lines.{line_text, lines_text, counted_text, refusal_line, refusal_text}
-use Rattle.ded_print.specs.Numbers.{number_text}
+use Rattle.ded_print.specs.Numbers.{number_text, count_text}
 use Rattle.ded_print.specs.Plans.{node_lines, plan_text}
 use Rattle.ded_print.specs.Quiet.{IsQuiet, AreQuiet}
 use Rattle.ded_print.specs.Tuples.{column_names, tuple_text, answer_text}
-use Rattle.ded_print.proofs.QuotedLines.{IsClosed, closed_both, closed_number, counted_first, header_closed, same_line}
+use Rattle.ded_print.proofs.QuotedLines.{IsClosed, closed_both, closed_number, counted_first, header_closed, same_line, closed_written}
 use Rattle.ded_print.proofs.QuotedTexts.{closed_span, quiet_names}
 
 closed_word : (r : Refusal) → IsClosed (refusal_word r)
@@ -53,19 +53,19 @@ first (b ∷ bs) = b
 
 -- ---- answers and plans
 
-no_counted : (kind : List ℕ) (n : ℕ) (ls : List (List ℕ)) (r : Refusal) (xs ys : List ℕ) → IsClosed kind → (first (kind ++ (32 ∷ number_text n)) ≡ 114 → ⊥)
+no_counted : (kind n : List ℕ) (ls : List (List ℕ)) (r : Refusal) (xs ys : List ℕ) → IsClosed kind → IsClosed n → (first (kind ++ (32 ∷ n)) ≡ 114 → ⊥)
     → counted_text kind n ls ++ xs ≡ refusal_text r ++ ys → ⊥
 unfolding first
-no_counted kind n ls r xs ys k other e =
-    other (ap first (same_line (kind ++ (32 ∷ number_text n)) (refusal_line r) _ ys (header_closed kind n k) (closed_refusal r) (sym (counted_first kind n ls xs) ∙ e)).0)
+no_counted kind n ls r xs ys k c other e =
+    other (ap first (same_line (kind ++ (32 ∷ n)) (refusal_line r) _ ys (header_closed kind n k c) (closed_refusal r) (sym (counted_first kind n ls xs) ∙ e)).0)
 
 pub no_answer : (columns : List Column) (ts : List (List Atom)) (r : Refusal) (xs ys : List ℕ) → answer_text columns ts ++ xs ≡ refusal_text r ++ ys → ⊥
 unfolding first
-no_answer columns ts r xs ys e = no_counted (codes "answer") (length ts) (map (tuple_text (column_names columns)) ts) r xs ys (λ zs. refl) (λ f. omega (arith, f)) e
+no_answer columns ts r xs ys e = no_counted (codes "answer") (number_text (length ts)) (map (tuple_text (column_names columns)) ts) r xs ys (λ zs. refl) (closed_number (length ts)) (λ f. omega (arith, f)) e
 
 pub no_plan : (f : PlanForm) (r : Refusal) (xs ys : List ℕ) → plan_text f ++ xs ≡ refusal_text r ++ ys → ⊥
 unfolding first
-no_plan f r xs ys e = no_counted (codes "plan") (length (node_lines 0 f)) (node_lines 0 f) r xs ys (λ zs. refl) (λ f. omega (arith, f)) e
+no_plan f r xs ys e = no_counted (codes "plan") (count_text (length (node_lines 0 f))) (node_lines 0 f) r xs ys (λ zs. refl) (closed_written (length (node_lines 0 f))) (λ f. omega (arith, f)) e
 
 -- ---- boxes
 

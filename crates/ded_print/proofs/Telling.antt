@@ -1,23 +1,17 @@
 -- Replies of one line that are written alike are the same.
-use Rattle.std.proofs.Common.{◌≡◌, ℕ, ◌<◌, ◌^◌, List, [], ◌∷◌, ◌++◌, length, map, refl, sym, ap, ◌∙◌, append_assoc, drop, arith, true, false}
+use Rattle.std.proofs.Common.{◌≡◌, ℕ, List, [], ◌∷◌, ◌++◌, length, map, refl, sym, ap, ◌∙◌, append_assoc, drop, arith, true, false}
 use Rattle.std.specs.Prelude.{Option, None, Some, if◌then◌else◌, codes}
 use Rattle.std.specs.Str.{bytes_eq}
-use Rattle.std.proofs.lemmas.Fmt.{decimal_injective}
 use Rattle.ded_model.specs.declared.command.Refusal.{Refusal}
 use Rattle.ded_model.specs.declared.command.Refusal.TheVariants.{LongStatement, Unfinished, Syntax, LongName, LongNumber, Deep, Many, Twice, Unknown, Taken, Kind, Arity, Unbound, WrongSort, Used, NoTuple, Full, Spent, Level, Wide, Memory}
-use Rattle.ded_print.specs.Lines.{LineReply, done, truth, numbered, refused, reply_line, reply_text, refusal_line, line_text, lines_text, IsPrintable}
+use Rattle.ded_print.specs.Lines.{LineReply, done, truth, numbered, refused, reply_line, reply_text, refusal_line, line_text, lines_text}
 use Rattle.ded_print.specs.Numbers.{number_text}
 use Rattle.ded_model.specs.declared.name.Column.{Column}
 use Rattle.ded_model.specs.Row.{Atom}
 use Rattle.ded_print.specs.Tuples.{column_names, stored_line, stored_text}
-use Rattle.ded_print.proofs.Decimals.{decimal_is}
 use Rattle.ded_print.proofs.LineReplies.{first_line, lines, number_line, same_line}
+use Rattle.ded_print.proofs.Numerals.{same_number}
 use Rattle.ded_print.proofs.Refusals.{written, as_written}
-
--- ---- numbers
-
-same_number : (k j : ℕ) → k < 2 ^ 64 → j < 2 ^ 64 → number_text k ≡ number_text j → k ≡ j
-same_number k j hk hj e = decimal_injective k j hk hj (decimal_is k ∙ e ∙ sym (decimal_is j))
 
 -- ---- refusals
 
@@ -67,38 +61,38 @@ first : List ℕ → ℕ
 first [] = 0
 first (b ∷ bs) = b
 
-same_reply : (r s : LineReply) → IsPrintable r → IsPrintable s → reply_line r ≡ reply_line s → r ≡ s
+same_reply : (r s : LineReply) → reply_line r ≡ reply_line s → r ≡ s
 unfolding first
-same_reply done done p q e = refl
-same_reply done (truth true) p q e = absurd (omega (arith, ap first e))
-same_reply done (truth false) p q e = absurd (omega (arith, ap first e))
-same_reply done (numbered j) p q e = absurd (omega (arith, ap first e))
-same_reply done (refused t) p q e = absurd (omega (arith, ap first e))
-same_reply (truth true) done p q e = absurd (omega (arith, ap first e))
-same_reply (truth true) (truth true) p q e = refl
-same_reply (truth true) (truth false) p q e = absurd (omega (arith, ap first e))
-same_reply (truth true) (numbered j) p q e = absurd (omega (arith, ap first e))
-same_reply (truth true) (refused t) p q e = absurd (omega (arith, ap first e))
-same_reply (truth false) done p q e = absurd (omega (arith, ap first e))
-same_reply (truth false) (truth true) p q e = absurd (omega (arith, ap first e))
-same_reply (truth false) (truth false) p q e = refl
-same_reply (truth false) (numbered j) p q e = absurd (omega (arith, ap first e))
-same_reply (truth false) (refused t) p q e = absurd (omega (arith, ap first e))
-same_reply (numbered k) done p q e = absurd (omega (arith, ap first e))
-same_reply (numbered k) (truth true) p q e = absurd (omega (arith, ap first e))
-same_reply (numbered k) (truth false) p q e = absurd (omega (arith, ap first e))
-same_reply (numbered k) (numbered j) p q e = ap numbered (same_number k j p q (ap (drop 6) e))
-same_reply (numbered k) (refused t) p q e = absurd (omega (arith, ap first e))
-same_reply (refused r) done p q e = absurd (omega (arith, ap first e))
-same_reply (refused r) (truth true) p q e = absurd (omega (arith, ap first e))
-same_reply (refused r) (truth false) p q e = absurd (omega (arith, ap first e))
-same_reply (refused r) (numbered j) p q e = absurd (omega (arith, ap first e))
-same_reply (refused r) (refused t) p q e = ap refused (same_refusal r t e)
+same_reply done done e = refl
+same_reply done (truth true) e = absurd (omega (arith, ap first e))
+same_reply done (truth false) e = absurd (omega (arith, ap first e))
+same_reply done (numbered j) e = absurd (omega (arith, ap first e))
+same_reply done (refused t) e = absurd (omega (arith, ap first e))
+same_reply (truth true) done e = absurd (omega (arith, ap first e))
+same_reply (truth true) (truth true) e = refl
+same_reply (truth true) (truth false) e = absurd (omega (arith, ap first e))
+same_reply (truth true) (numbered j) e = absurd (omega (arith, ap first e))
+same_reply (truth true) (refused t) e = absurd (omega (arith, ap first e))
+same_reply (truth false) done e = absurd (omega (arith, ap first e))
+same_reply (truth false) (truth true) e = absurd (omega (arith, ap first e))
+same_reply (truth false) (truth false) e = refl
+same_reply (truth false) (numbered j) e = absurd (omega (arith, ap first e))
+same_reply (truth false) (refused t) e = absurd (omega (arith, ap first e))
+same_reply (numbered k) done e = absurd (omega (arith, ap first e))
+same_reply (numbered k) (truth true) e = absurd (omega (arith, ap first e))
+same_reply (numbered k) (truth false) e = absurd (omega (arith, ap first e))
+same_reply (numbered k) (numbered j) e = ap numbered (same_number k j (ap (drop 6) e))
+same_reply (numbered k) (refused t) e = absurd (omega (arith, ap first e))
+same_reply (refused r) done e = absurd (omega (arith, ap first e))
+same_reply (refused r) (truth true) e = absurd (omega (arith, ap first e))
+same_reply (refused r) (truth false) e = absurd (omega (arith, ap first e))
+same_reply (refused r) (numbered j) e = absurd (omega (arith, ap first e))
+same_reply (refused r) (refused t) e = ap refused (same_refusal r t e)
 
-pub first_reply : (r s : LineReply) (xs ys : List ℕ) → IsPrintable r → IsPrintable s → reply_text r ++ xs ≡ reply_text s ++ ys → (r ≡ s) × (xs ≡ ys)
-first_reply r s xs ys p q e =
+pub first_reply : (r s : LineReply) (xs ys : List ℕ) → reply_text r ++ xs ≡ reply_text s ++ ys → (r ≡ s) × (xs ≡ ys)
+first_reply r s xs ys e =
     let both = first_line r s xs ys e in
-    (same_reply r s p q both.0, both.1)
+    (same_reply r s both.0, both.1)
 
 -- ---- stored tuples
 

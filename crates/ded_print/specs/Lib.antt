@@ -8,4 +8,5 @@ pub mod Nodes
 pub mod Numbers
 pub mod Plans
 pub mod Quiet
+pub mod Told
 pub mod Tuples

@@ -1,5 +1,5 @@
 -- Lines, and the replies that are one line.
-use Rattle.std.specs.Prelude.{ℕ, ◌<◌, ◌^◌, Bool, true, false, List, [], ◌∷◌, ◌++◌, codes, ◌==◌, if◌then◌else◌}
+use Rattle.std.specs.Prelude.{ℕ, Bool, true, false, List, [], ◌∷◌, ◌++◌, codes, ◌==◌, if◌then◌else◌}
 use Rattle.std.specs.List.{flat_map}
 use Rattle.ded_model.specs.declared.command.Refusal.{Refusal}
 use Rattle.ded_model.specs.Refusals.{refusal_number, refusal_word}
@@ -13,9 +13,9 @@ line_text bytes = bytes ++ 10 ∷ []
 abbrev pub lines_text : List (List ℕ) → List ℕ
 lines_text lines = flat_map line_text lines
 
--- a line of the kind of reply and the count of the lines after it, these lines, and `end`
-abbrev pub counted_text : List ℕ → ℕ → List (List ℕ) → List ℕ
-counted_text kind count lines = line_text (kind ++ (32 ∷ number_text count)) ++ (lines_text lines ++ line_text (codes "end"))
+-- a line of the kind of reply and, as a text, the count of the lines after it, these lines, and `end`
+abbrev pub counted_text : List ℕ → List ℕ → List (List ℕ) → List ℕ
+counted_text kind count lines = line_text (kind ++ (32 ∷ count)) ++ (lines_text lines ++ line_text (codes "end"))
 
 -- `ok`
 abbrev pub done_text : List ℕ
@@ -59,13 +59,6 @@ reply_line (refused r) = refusal_line r
 
 abbrev pub reply_text : LineReply → List ℕ
 reply_text reply = line_text (reply_line reply)
-
--- its number, where it has one, has at most 64 binary digits
-abbrev pub IsPrintable : LineReply → Type 0
-IsPrintable done = Unit {0}
-IsPrintable (truth b) = Unit {0}
-IsPrintable (numbered k) = k < 2 ^ 64
-IsPrintable (refused r) = Unit {0}
 
 -- no line feed stands in the bytes
 abbrev pub is_one_line : List ℕ → Bool

@@ -1,12 +1,16 @@
 -- How numbers are written.
-use Rattle.std.specs.Prelude.{ℕ, suc, ◌==◌, ℤ, pos, negsuc, int_div, unsigned_abs, false, List, [], ◌∷◌, ◌++◌, if◌then◌else◌}
+use Rattle.std.specs.Prelude.{ℕ, suc, ◌+◌, ◌/◌, ◌^◌, ◌==◌, ℤ, pos, negsuc, int_div, unsigned_abs, false, List, [], ◌∷◌, ◌++◌, if◌then◌else◌}
 use Rattle.std.specs.Fmt.{digits_onto}
 use Rattle.ded_num.specs.Gcd.{nat_gcd}
 use Rattle.ded_model.specs.Bound.{Fraction}
 
--- in decimal, without leading zeros, of a number of at most 64 digits: what `{}` writes
+-- in decimal, without leading zeros: what `{}` writes. A number has at most 64 digits and one more for each 10^64 in it
 unfoldable pub number_text : ℕ → List ℕ
-number_text n = digits_onto 64 10 false n []
+number_text n = digits_onto (64 + n / 10 ^ 64) 10 false n []
+
+-- in decimal as well, but of more than 64 digits the last 64
+unfoldable pub count_text : ℕ → List ℕ
+count_text n = digits_onto 64 10 false n []
 
 -- a negative one with `-` directly before its digits
 abbrev pub integer_text : ℤ → List ℕ

@@ -7,7 +7,7 @@ use Rattle.ded_model.specs.Logic.{atom, always, never, negation, every_of, some_
 use Rattle.ded_model.specs.PlanForm.{PlanAtom, scan, rows, PlanForm}
 use Rattle.ded_model.specs.Point.{Key, slot, name}
 use Rattle.ded_print.specs.Lines.{counted_text}
-use Rattle.ded_print.specs.Numbers.{number_text}
+use Rattle.ded_print.specs.Numbers.{number_text, count_text}
 use Rattle.ded_print.specs.Tuples.{slot_names, tuple_text}
 
 -- two blanks for each level of depth
@@ -63,6 +63,6 @@ abbrev mutual
   part_lines depth none = []
   part_lines depth (also f fs) = node_lines depth f ++ part_lines depth fs
 
--- `plan K`, K lines of one node each, `end`
+-- `plan K`, K lines of one node each, `end`; of a K of more than 64 digits the last 64 are written
 abbrev pub plan_text : PlanForm → List ℕ
-plan_text f = counted_text (codes "plan") (length (node_lines 0 f)) (node_lines 0 f)
+plan_text f = counted_text (codes "plan") (count_text (length (node_lines 0 f))) (node_lines 0 f)

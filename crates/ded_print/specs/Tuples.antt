@@ -107,7 +107,7 @@ tuple_text names (a ∷ atoms) = codes "{ " ++ (atom_text names a ++ (later_atom
 
 -- `answer K`, K lines of one tuple each, `end`
 abbrev pub answer_text : List Column → List (List Atom) → List ℕ
-answer_text columns tuples = counted_text (codes "answer") (length tuples) (map (tuple_text (column_names columns)) tuples)
+answer_text columns tuples = counted_text (codes "answer") (number_text (length tuples)) (map (tuple_text (column_names columns)) tuples)
 
 -- a tuple's number, a blank, and the tuple
 abbrev pub stored_line : Names → ℕ × List Atom → List ℕ
@@ -115,4 +115,4 @@ stored_line names t = number_text t.0 ++ (32 ∷ tuple_text names t.1)
 
 -- `tuples K`, K lines of one stored tuple each, `end`
 abbrev pub stored_text : List Column → List (ℕ × List Atom) → List ℕ
-stored_text columns stored = counted_text (codes "tuples") (length stored) (map (stored_line (column_names columns)) stored)
+stored_text columns stored = counted_text (codes "tuples") (number_text (length stored)) (map (stored_line (column_names columns)) stored)

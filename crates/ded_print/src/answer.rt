@@ -4,6 +4,7 @@ ghost use Rattle.ded_io.specs.Causes.{HasCause};
 ghost use Rattle.ded_io.specs.Devices.{AddsAll};
 ghost use Rattle.ded_print.specs.Gathering.{output, Puts};
 ghost use Rattle.ded_print.specs.Lines.{counted_text, line_text, lines_text};
+ghost use Rattle.ded_print.specs.Numbers.{number_text};
 ghost use Rattle.ded_print.specs.Tuples.{column_names, tuple_text, answer_text};
 
 use crate::gathered::Gathered;
@@ -46,7 +47,7 @@ fn put_answer<N: SlotNames, K: Sink>(
     ensures { Puts
         (output (K.held sink.old) (K.faults sink.old) gathered.old)
         (output (K.held sink.new) (K.faults sink.new) gathered.new)
-        (counted_text (codes "answer") (length tuples.now) (map (tuple_text (N.names names.now)) tuples.now)) }
+        (counted_text (codes "answer") (number_text (length tuples.now)) (map (tuple_text (N.names names.now)) tuples.now)) }
 {
     gathered.put(sink, b"answer ");
     put_natural(tuples.len() as u64, gathered, sink);

@@ -1,4 +1,4 @@
-//! Counts of any size.
+//! Counts of up to 64 digits.
 ghost use Rattle.std.specs.Prelude.{◌≡◌, [], ◌∷◌, reverse};
 ghost use Rattle.ded_print.specs.Counts.{added, carries, raised};
 ghost use Rattle.ded_print.specs.Gathering.{output, Puts};
@@ -7,8 +7,7 @@ use crate::gathered::Gathered;
 use arrayvec::ArrayVec;
 use ded_io::Sink;
 
-/// A count in decimal, the ones first. It has as many digits as are ever written of a number, so no plan is too large
-/// for it.
+/// A count in decimal, the ones first, of more than 64 digits the last 64.
 #[derive(Drop)]
 pub(crate) struct Count {
     digits: ArrayVec<u8, 64>,

@@ -1,15 +1,29 @@
 //! Laws on the texts of replies, as contracts of functions that do nothing.
-ghost use Rattle.std.specs.Prelude.{◌≡◌, ◌<◌, ◌++◌, codes, length, true, List, ℕ};
+ghost use Rattle.std.specs.Prelude.{◌≡◌, ◌<◌, ◌^◌, ◌++◌, codes, length, slice_index_or, true, List, ℕ};
+ghost use Rattle.std.specs.Str.Parse.{IsNumeral, digits_value};
 ghost use Rattle.ded_model.specs.declared.bound.Bound.{Bound};
 ghost use Rattle.ded_model.specs.declared.command.Refusal.{Refusal};
 ghost use Rattle.ded_model.specs.declared.name.Column.{Column};
+ghost use Rattle.ded_model.specs.declared.slot.Sort.{Sort};
 ghost use Rattle.ded_model.specs.PlanForm.{PlanForm};
 ghost use Rattle.ded_model.specs.Row.{Atom};
 ghost use Rattle.ded_print.specs.Boxes.{rational_names, spans_text};
-ghost use Rattle.ded_print.specs.Lines.{LineReply, IsPrintable, line_text, refusal_text, reply_line, reply_text, is_one_line};
-ghost use Rattle.ded_print.specs.Plans.{plan_text};
+ghost use Rattle.ded_print.specs.Lines.{LineReply, line_text, refusal_text, reply_line, reply_text, is_one_line};
+ghost use Rattle.ded_print.specs.Numbers.{count_text, number_text};
+ghost use Rattle.ded_print.specs.Plans.{node_lines, plan_text};
 ghost use Rattle.ded_print.specs.Quiet.{AreQuiet, IsQuietPlan};
+ghost use Rattle.ded_print.specs.Told.{IsToldPlan};
 ghost use Rattle.ded_print.specs.Tuples.{answer_text, stored_text};
+
+/// The text of a number is its digits, without leading zeros: read in decimal it is the number, however great. A count of
+/// at most 64 digits has the same text.
+pub fn one_number()
+    ensures value { (n : ℕ) → digits_value 10 (number_text n) ≡ n }
+    ensures digits { (n : ℕ) → IsNumeral 10 (number_text n) }
+    ensures leading { (n : ℕ) → 0 < n → 48 < slice_index_or (number_text n) 0 0 }
+    ensures zero { number_text 0 ≡ codes "0" }
+    ensures counts { (n : ℕ) → n < 10 ^ 64 → count_text n ≡ number_text n }
+{}
 
 /// The text of a reply of one line has no line feed before its end.
 pub fn one_line()
@@ -19,7 +33,7 @@ pub fn one_line()
 /// The bytes written tell replies of one line one after another: where the texts of two replies, each with any bytes
 /// behind it, are the same bytes, the replies are the same, and so are the bytes behind them.
 pub fn one_reply()
-    ensures { (reply other : LineReply) (xs ys : List ℕ) → IsPrintable reply → IsPrintable other →
+    ensures { (reply other : LineReply) (xs ys : List ℕ) →
         reply_text reply ++ xs ≡ reply_text other ++ ys →
         (reply ≡ other) × (xs ≡ ys) }
 {}
@@ -42,6 +56,15 @@ pub fn one_answer()
 pub fn one_plan()
     ensures { (f g : PlanForm) (xs ys : List ℕ) → IsQuietPlan f → IsQuietPlan g →
         plan_text f ++ xs ≡ plan_text g ++ ys → (plan_text f ≡ plan_text g) × (xs ≡ ys) }
+{}
+
+/// The lines of a plan tell the plan, and so does its text before any bytes, where names are plain, the slots of each scan
+/// have the sorts of its columns, and tuples are in normal form.
+pub fn plans_told()
+    ensures lines { (sorts : List ℕ → List Sort) (f g : PlanForm) → IsToldPlan sorts f → IsToldPlan sorts g →
+        node_lines 0 f ≡ node_lines 0 g → f ≡ g }
+    ensures texts { (sorts : List ℕ → List Sort) (f g : PlanForm) (xs ys : List ℕ) → IsToldPlan sorts f →
+        IsToldPlan sorts g → plan_text f ++ xs ≡ plan_text g ++ ys → (f ≡ g) × (xs ≡ ys) }
 {}
 
 /// Of two lists of bounds, as many in one as in the other, for the columns of one heading no text is a proper front of

@@ -7,7 +7,7 @@ ghost use Rattle.ded_print.specs.Counts.{raised_by};
 ghost use Rattle.ded_print.specs.Depths.{levels};
 ghost use Rattle.ded_print.specs.Gathering.{output, Puts};
 ghost use Rattle.ded_print.specs.Lines.{line_text, lines_text};
-ghost use Rattle.ded_print.specs.Numbers.{number_text};
+ghost use Rattle.ded_print.specs.Numbers.{count_text};
 ghost use Rattle.ded_print.specs.Nodes.{node_text, nodes, nodes_of};
 ghost use Rattle.ded_print.specs.Plans.{later_slots_text, node_lines, part_lines, plan_atom_text, plan_text, slots_text, sort_text};
 
@@ -49,12 +49,12 @@ fn put_plan<K: Sink>(plan: &Plan, gathered: &mut Gathered, sink: &mut K)
     gathered.put(sink, b"end\n");
 }
 
-/// Puts how many nodes the plan has.
+/// Puts how many nodes the plan has, of more than 64 digits the last 64.
 fn put_count<K: Sink>(plan: &Plan, gathered: &mut Gathered, sink: &mut K)
     ensures { Puts
         (output (K.held sink.old) (K.faults sink.old) gathered.old)
         (output (K.held sink.new) (K.faults sink.new) gathered.new)
-        (number_text (length (node_lines 0 (plan_form plan.now)))) }
+        (count_text (length (node_lines 0 (plan_form plan.now)))) }
 {
     let mut count = Count::new();
     count_nodes(plan, &mut count);

@@ -4,6 +4,7 @@ ghost use Rattle.ded_io.specs.Causes.{HasCause};
 ghost use Rattle.ded_io.specs.Devices.{AddsAll};
 ghost use Rattle.ded_print.specs.Gathering.{output, Puts};
 ghost use Rattle.ded_print.specs.Lines.{counted_text, line_text, lines_text};
+ghost use Rattle.ded_print.specs.Numbers.{number_text};
 ghost use Rattle.ded_print.specs.Tuples.{stored_line, stored_text};
 
 use crate::gathered::Gathered;
@@ -42,7 +43,7 @@ fn put_stored<N: SlotNames, K: Sink>(
     ensures { Puts
         (output (K.held sink.old) (K.faults sink.old) gathered.old)
         (output (K.held sink.new) (K.faults sink.new) gathered.new)
-        (counted_text (codes "tuples") (length stored.now) (map (stored_line (N.names names.now)) stored.now)) }
+        (counted_text (codes "tuples") (number_text (length stored.now)) (map (stored_line (N.names names.now)) stored.now)) }
 {
     gathered.put(sink, b"tuples ");
     put_natural(stored.len() as u64, gathered, sink);

@@ -13,7 +13,8 @@ use Rattle.ded_model.proofs.Atoms.{and_to}
 use Rattle.ded_model.proofs.CoefLemmas.{lesser_slot, not_zero}
 use Rattle.ded_print.specs.Tuples.{signed}
 use Rattle.ded_readback.specs.Reading.{◌>>=◌, is_short, with_term, coefs_from}
-use Rattle.ded_readback.proofs.Signs.{turned_abs, number_back}
+use Rattle.ded_print.proofs.Signs.{turned_abs}
+use Rattle.ded_readback.proofs.Signs.{number_back}
 use Rattle.ded_readback.proofs.TermsRead.{summand_of}
 
 -- ---- a coefficient behind all others

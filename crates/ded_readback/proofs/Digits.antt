@@ -1,20 +1,18 @@
 -- Numbers in decimal are read back.
-use Rattle.std.proofs.Common.{◌≡◌, ℕ, zero, suc, ◌+◌, ◌*◌, ◌/◌, ◌%◌, ◌^◌, ◌<◌, List, [], ◌∷◌, ◌++◌, refl, sym, ap, ◌∙◌, arith, Bool, true, false}
-use Rattle.std.specs.Prelude.{ℤ, pos, negsuc, unsigned_abs, int_lt, None, if◌then◌else◌, ◌==◌, nat_lt, codes}
+use Rattle.std.proofs.Common.{◌≡◌, ℕ, zero, suc, ◌+◌, ◌*◌, ◌/◌, ◌%◌, ◌^◌, ◌<◌, List, [], ◌∷◌, ◌++◌, refl, sym, ap, ◌∙◌, subst, arith, Bool, true, false}
+use Rattle.std.specs.Prelude.{ℤ, pos, negsuc, unsigned_abs, int_lt, None, if◌then◌else◌, ◌==◌, codes}
 use Rattle.std.specs.Fmt.{digit_glyph, digits_onto}
 use Rattle.std.proofs.lemmas.Bool.Decides.{nat_tests}
 use Rattle.std.proofs.lemmas.Bool.{eqb-true}
 use Rattle.ded_lex.specs.Lexemes.{digit_byte, BeginsWith, BeginsNot}
-use Rattle.ded_print.specs.Numbers.{number_text, integer_text}
+use Rattle.ded_print.specs.Numbers.{number_text, integer_text, count_text}
+use Rattle.ded_print.proofs.Numerals.{glyph_is, onto_append, steps, as_steps, count_is}
 use Rattle.ded_readback.specs.Reading.{behind, with_digit, digits_from, with_minus, integer_by, integer_at}
 
 -- ---- digits
 
 is_digit : (d : ℕ) → d < 10 → digit_byte (48 + d) ≡ true
 is_digit d h = grind (arith, nat_tests)
-
-glyph_is : (d : ℕ) → d < 10 → digit_glyph false d ≡ 48 + d
-glyph_is d h = let e : nat_lt d 10 ≡ true = grind (arith, nat_tests) in rw e refl
 
 below_10 : (n : ℕ) → n % 10 < 10
 below_10 n = omega arith
@@ -48,24 +46,16 @@ onto_read (suc k) n bs fits h =
     (λ e. ap (λ (m : ℕ). digits_from m more) (sym (eqb-true (n / 10) 0 e)) ∙ last_step n bs h)
     (onto_read k (n / 10) more fewer less ∙ last_step n bs h)
 
-onto_append : (k n : ℕ) (xs ys : List ℕ) → digits_onto k 10 false n xs ++ ys ≡ digits_onto k 10 false n (xs ++ ys)
-onto_append zero n xs ys = refl
-onto_append (suc k) n xs ys = either (n / 10 == 0) (digit_glyph false (n % 10) ∷ xs) _ _ (onto_append k (n / 10) (digit_glyph false (n % 10) ∷ xs) ys)
-  where
-    either : (t : Bool) (a b d : List ℕ) → b ++ ys ≡ d → (if t then a else b) ++ ys ≡ (if t then a ++ ys else d)
-    either true a b d e = refl
-    either false a b d e = e
-
 stopped : (n : ℕ) (rest : List ℕ) → BeginsNot digit_byte rest → digits_from n rest ≡ (n, rest)
 stopped n [] h = refl
 stopped n (b ∷ bs) h = rw h refl
 
 -- a number is read up to where its digits end
 pub number_read : (n : ℕ) (rest : List ℕ) → n < 2 ^ 127 → BeginsNot digit_byte rest → digits_from 0 (number_text n ++ rest) ≡ (n, rest)
-unfolding number_text
+unfolding count_text
 number_read n rest h stops =
     let wide : n < 10 ^ 64 = omega (arith, h) in
-    ap (digits_from 0) (onto_append 64 n [] rest) ∙ onto_read 64 n rest wide h ∙ stopped n rest stops
+    ap (λ l. digits_from 0 (l ++ rest)) (sym (count_is n wide)) ∙ ap (digits_from 0) (onto_append 64 n [] rest) ∙ onto_read 64 n rest wide h ∙ stopped n rest stops
 
 -- ---- what a number begins with
 
@@ -81,8 +71,7 @@ one_begins k n bs =
     chosen (BeginsWith digit_byte) (n / 10 == 0) _ _ (λ e. first) (onto_begins k (n / 10) (digit_glyph false (n % 10) ∷ bs) first)
 
 pub number_begins : (n : ℕ) → BeginsWith digit_byte (number_text n)
-unfolding number_text
-number_begins n = one_begins 63 n []
+number_begins n = subst (BeginsWith digit_byte) (sym (as_steps n)) (one_begins (steps n) n [])
 
 -- ---- signed numbers
 

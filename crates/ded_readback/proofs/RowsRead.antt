@@ -1,10 +1,9 @@
 -- Rows are read back.
-use Rattle.std.proofs.Common.{◌≡◌, ◌≢◌, ℕ, zero, suc, ◌^◌, ◌<◌, ◌≤◌, List, [], ◌∷◌, ◌++◌, length, map, refl, sym, ap, ◌∙◌, subst, arith, Bool, true, false, append_assoc, length-append}
-use Rattle.std.specs.Prelude.{ℤ, pos, negsuc, int_div, unsigned_abs, int_lt, Option, Some, None, codes, if◌then◌else◌}
+use Rattle.std.proofs.Common.{◌≡◌, ℕ, ◌^◌, ◌<◌, ◌≤◌, List, [], ◌∷◌, ◌++◌, length, map, refl, sym, ap, ◌∙◌, subst, arith, Bool, true, false, append_assoc, length-append}
+use Rattle.std.specs.Prelude.{ℤ, pos, unsigned_abs, int_lt, Option, Some, None, codes}
 use Rattle.std.specs.List.{AllByRecursion}
 use lib.IntN.{neg_ℤ}
 use Rattle.ded_num.specs.Length.{IsShort}
-use Rattle.ded_num.specs.Gcd.{gcd_all}
 use Rattle.ded_model.specs.declared.slot.Slot.{Slot}
 use Rattle.ded_model.specs.declared.slot.Sort.{Sort}
 use Rattle.ded_model.specs.declared.slot.Sort.TheVariants.{Rat, Text}
@@ -18,44 +17,19 @@ use Rattle.ded_model.specs.Point.{same_sort}
 use Rattle.ded_model.specs.Row.{Atom, sign_meets}
 use Rattle.ded_model.specs.Normal.{IsNormalRow, normal_row, constant_row, is_true_with}
 use Rattle.ded_model.proofs.Points.{cond_true, cond_false}
-use Rattle.ded_model.proofs.Divisors.{divisor-nonzero_first}
 use Rattle.ded_lex.specs.Lexemes.{letter_byte, digit_byte, word_byte, BeginsNot}
 use Rattle.ded_print.specs.Numbers.{integer_text}
 use Rattle.ded_print.specs.Tuples.{column_names, term_text, signed, later_terms_text, op_text, sides_text, row_with_text}
+use Rattle.ded_print.proofs.Signs.{turned_abs, turned_if}
 use Rattle.ded_readback.specs.declared.terms.Summand.{Summand}
 use Rattle.ded_readback.specs.Plain.{IsPlainHeading}
 use Rattle.ded_readback.specs.Reading.{◌>>=◌, with_rest, term_of, term_at, later_at, comparison_at, is_short, coefs_from, row_with, row_of, row_by, row_behind, row_at, atom_by, atom_at}
 use Rattle.ded_readback.proofs.Digits.{integer_read}
 use Rattle.ded_readback.proofs.Names.{IsNamed, no_column}
-use Rattle.ded_readback.proofs.Signs.{plus, turned_abs, constant_back, constant_abs, first_plus}
+use Rattle.ded_readback.proofs.Signs.{constant_back, constant_abs, first_plus}
 use Rattle.ded_readback.proofs.TermsRead.{summand, summand_of, IsFactor, term_read, later_begins, terms_read, terms_length}
 use Rattle.ded_readback.proofs.CoefsRead.{short_is, coefs_read}
 use Rattle.std.proofs.lemmas.Bool.{or_parts}
-
--- ---- the first coefficient of a normal equality
-
-differ : (m n : ℕ) → pos m ≡ negsuc n → ⊥
-differ m n e = cc
-
--- a number that stays when it is divided by one whose sign is its own isn't negative
-stays : (z : ℤ) (g : ℕ) → (if int_lt z (pos 0) then neg_ℤ (pos g) else pos g) ≢ pos 0 → int_div z (if int_lt z (pos 0) then neg_ℤ (pos g) else pos g) ≡ z → int_lt z (pos 0) ≡ false
-stays (pos n) g nonzero e = plus n
-stays (negsuc n) zero nonzero e = absurd (nonzero refl)
-stays (negsuc n) (suc g) nonzero e = absurd (differ _ n e)
-
-first_number : List (Slot × ℤ) → ℤ
-first_number [] = pos 0
-first_number (c ∷ cs) = c.1
-
-equality_plus : (m : ℤ) (c : Slot × ℤ) (cs : List (Slot × ℤ)) → c.1 ≢ pos 0 → IsNormalRow (record { coefs = c ∷ cs; constant = m; op = Zero }) → int_lt c.1 (pos 0) ≡ false
-unfolding normal_row first_number
-equality_plus m c cs n k =
-    stays c.1 (gcd_all (m ∷ map (λ d. d.1) (c ∷ cs))) (divisor-nonzero_first Zero m c cs n) (ap (λ (r : LinearConstraint). first_number r.coefs) k.normal)
-
-turned_if : (op : RowOp) (m : ℤ) (c : Slot × ℤ) (cs : List (Slot × ℤ)) → c.1 ≢ pos 0 → IsNormalRow (record { coefs = c ∷ cs; constant = m; op = op }) → op ≡ Zero → int_lt c.1 (pos 0) ≡ false
-turned_if Zero m c cs n k e = equality_plus m c cs n k
-turned_if AtMost m c cs n k e = absurd cc
-turned_if Below m c cs n k e = absurd cc
 
 -- ---- the op
 

@@ -1,14 +1,12 @@
 -- Signs that are printed and read back.
-use Rattle.std.proofs.Common.{◌≡◌, ℕ, zero, suc, Bool, true, false, not, refl, ap, ◌∙◌, arith}
+use Rattle.std.proofs.Common.{◌≡◌, zero, suc, Bool, true, false, not, refl, ap, ◌∙◌}
 use Rattle.std.specs.Prelude.{ℤ, pos, negsuc, int_lt, unsigned_abs}
 use lib.IntN.{neg_ℤ}
-use Rattle.std.proofs.lemmas.Bool.Decides.{nat_tests}
 use Rattle.ded_print.specs.Tuples.{signed}
+use Rattle.ded_print.proofs.Signs.{plus, neg_abs, turned_abs}
 use Rattle.ded_readback.specs.Reading.{number_of}
 use Rattle.std.proofs.Math.IntN.{neg_ℤ-neg_ℤ}
 
-pub plus : (n : ℕ) → int_lt (pos n) (pos 0) ≡ false
-plus n = grind (arith, nat_tests)
 
 turned_twice : (t : Bool) (z : ℤ) → signed t (signed t z) ≡ z
 turned_twice true z = neg_ℤ-neg_ℤ z
@@ -18,15 +16,6 @@ turned_twice false z = refl
 sign_back : (z : ℤ) → signed (int_lt z (pos 0)) (pos (unsigned_abs z)) ≡ z
 sign_back (pos n) = ap (λ (b : Bool). signed b (pos n)) (plus n)
 sign_back (negsuc n) = refl
-
-neg_abs : (z : ℤ) → unsigned_abs (neg_ℤ z) ≡ unsigned_abs z
-neg_abs (pos zero) = refl
-neg_abs (pos (suc n)) = refl
-neg_abs (negsuc n) = refl
-
-pub turned_abs : (t : Bool) (z : ℤ) → unsigned_abs (signed t z) ≡ unsigned_abs z
-turned_abs true z = neg_abs z
-turned_abs false z = refl
 
 pub number_back : (t : Bool) (z : ℤ) → number_of t (int_lt (signed t z) (pos 0)) (unsigned_abs (signed t z)) ≡ z
 number_back t z = ap (signed t) (sign_back (signed t z)) ∙ turned_twice t z

@@ -1,9 +1,8 @@
 -- The made script is cut into its statements, so that a run over it has a reply for each.
-use Rattle.std.proofs.Common.{◌≡◌, ◌<◌, ◌≤◌, ◌+◌, ◌*◌, ◌-◌, ◌%◌, ◌/◌, ℕ, zero, suc, List, [], ◌∷◌, ◌++◌, length, take, drop, refl, sym, ap, ◌∙◌, inl, inr, subst, arith, Bool, true, false, append_assoc, length-append}
-use Rattle.std.specs.Prelude.{Option, Some, None, map, codes, ◌==◌, nat_lt, if◌then◌else◌}
+use Rattle.std.proofs.Common.{◌≡◌, ◌<◌, ◌≤◌, ◌+◌, ◌*◌, ◌-◌, ◌%◌, ◌/◌, ◌^◌, ℕ, zero, suc, List, [], ◌∷◌, ◌++◌, length, take, drop, refl, sym, ap, ◌∙◌, inl, inr, subst, arith, Bool, true, false, append_assoc, length-append}
+use Rattle.std.specs.Prelude.{Option, Some, None, map, codes, ◌==◌, if◌then◌else◌}
 use Rattle.std.specs.Fmt.{digit_glyph, digits_onto}
 use Rattle.std.specs.List.{flat_map}
-use Rattle.std.proofs.lemmas.Bool.Decides.{nat_tests}
 use Rattle.std.proofs.lemmas.List.{append-nil, map-append, length-map, length-take-le, take-append-drop}
 use Rattle.std.proofs.lemmas.List.Concat.{flat_map-append}
 use Rattle.ded_lex.specs.declared.state.State.{State}
@@ -16,6 +15,7 @@ use Rattle.ded_lex.proofs.Feeding.{whole_fed, none_fed}
 use Rattle.ded_model.specs.declared.command.Language.{Language}
 use Rattle.ded_model.specs.Catalogue.{Catalogue}
 use Rattle.ded_print.specs.Numbers.{number_text}
+use Rattle.ded_print.proofs.Numerals.{glyph_is}
 use Rattle.ded_run.specs.Made.{below, joined, land_parts, land_insert, land_row, road_parts, corner_parts, other_corner_parts, corner_question, other_corner_question, road_insert, made_setup, made_questions, made_script, lines, Made, HalfMade}
 use Rattle.ded_run.specs.Outcome.{Concluded, Interrupted}
 use Rattle.ded_session.specs.Replies.{ReplyForm, some_refusal}
@@ -43,9 +43,6 @@ abbrev AreDigits : List ℕ → Type 0
 AreDigits [] = Unit {0}
 AreDigits (b ∷ bs) = (47 < b) × (b < 58) × AreDigits bs
 
-glyph_is : (d : ℕ) → d < 10 → digit_glyph false d ≡ 48 + d
-glyph_is d h = let e : nat_lt d 10 ≡ true = grind (arith, nat_tests) in rw e refl
-
 either_digits : (t : Bool) (a b : List ℕ) → AreDigits a → AreDigits b → AreDigits (if t then a else b)
 either_digits true a b p q = p
 either_digits false a b p q = q
@@ -62,7 +59,7 @@ onto_digits (suc k) n acc h =
 
 number_digits : (n : ℕ) → AreDigits (number_text n)
 unfolding number_text
-number_digits n = onto_digits 64 n [] tt
+number_digits n = onto_digits (64 + n / 10 ^ 64) n [] tt
 
 digit_plain : (b : ℕ) → 47 < b → b < 58 → turned Plain b ≡ Some Plain
 digit_plain b low high = rw (is_not b 39 (λ e. absurd (omega (arith, e))), is_not b 45 (λ e. absurd (omega (arith, e))), is_not b 59 (λ e. absurd (omega (arith, e)))) refl

@@ -8,5 +8,5 @@ use Rattle.ded_print.proofs.number.put_integer.Goals as goal
 
 pub returns : goal.returns
 returns g c =
-    let text = c.as_bytes.ensures.value ∙ c.format.ensures.text ∙ ap signed_decimal (to_z-of_z w128 c.args.number c.ranges.number) ∙ signed_is c.args.number in
+    let text = c.as_bytes.ensures.value ∙ c.format.ensures.text ∙ ap signed_decimal (to_z-of_z w128 c.args.number c.ranges.number) ∙ signed_is c.args.number c.ranges.number in
     rw text at c.put.ensures
