@@ -7,9 +7,9 @@ use Rattle.std.proofs.Common.{◌≡◌, ℕ, ◌*◌, ◌<◌, List, [], ◌∷
 use Rattle.std.specs.Prelude.{ℤ, pos, ◌*ℤ◌}
 use Rattle.ded_model.specs.Value.{OperandValue, Argument, argument_times, overs, arguments, Meaning, NameHolds}
 use Rattle.ded_num.proofs.Ring.{parts, ring, diff-pos, diff_same}
-use Rattle.ded_model.proofs.Values.{IsSameValue, AreSameArguments}
+use Rattle.ded_model.proofs.Values.{IsSameValue, AreSameArguments, swap_law}
 use Rattle.ded_model.proofs.Sats.{Respects}
-use Rattle.ded_algebra.proofs.SamePoints.{cancelled, swap_law}
+use Rattle.ded_algebra.proofs.SamePoints.{cancelled}
 
 -- equal over the denominators d and d' of two points
 pub record IsEqualValue (d d' : ℕ) (v w : OperandValue) : Type 0 where

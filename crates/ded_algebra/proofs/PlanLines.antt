@@ -20,13 +20,10 @@ use Rattle.ded_model.proofs.Members.{In-split, In-left, subset_refl, subset_tran
 use Rattle.ded_model.proofs.Monotone.{past-grows, clash_past-grows, or-grows}
 use Rattle.ded_model.proofs.Growth.{elim_past_all-grows, clash_past_all-grows}
 use Rattle.ded_algebra.specs.Compile.{row_plan, joined, projected, plan_of, plans_of, atom_plan}
+use Rattle.ded_algebra.proofs.PlanShapes.{or_one}
 
-drop_none : (xs : List Line) → IsSubset (xs ++ []) xs
+pub drop_none : (xs : List Line) → IsSubset (xs ++ []) xs
 drop_none xs l h = elim (In-split l xs [] h) [ inl a ↦ a | inr b ↦ absurd b ]
-
-or_none : (b : Bool) → (b || false) ≡ true → b ≡ true
-or_none true h = refl
-or_none false h = h
 
 -- ---- projections
 
@@ -73,7 +70,7 @@ module _ (M : Measures) where
 
   base-clashes : (n : List ℕ) (ss : List Slot) (atoms : List Atom) → plan_clashes M (joined (atom (scan n ss)) (map row_plan atoms)) ≡ true → (M n).clash ≡ true
   base-clashes n ss [] h = h
-  base-clashes n ss (a ∷ atoms) h = or_none (M n).clash (ap (λ b. (M n).clash || b) (sym (rows-clash (a ∷ atoms))) ∙ h)
+  base-clashes n ss (a ∷ atoms) h = or_one (M n).clash (ap (λ b. (M n).clash || b) (sym (rows-clash (a ∷ atoms))) ∙ h)
 
   row-lines : (r : LinearConstraint) (b : Bool) → IsSubset (atoms_lines (cond b [] (First r ∷ []))) (row_lines r)
   row-lines r true = subset_none (row_lines r)
@@ -124,7 +121,7 @@ module _ (M : Measures) where
     plan_of-clashes (negation f) h = plan_of-clashes f h
     plan_of-clashes (every_of fs) h = plans_of-clashes fs h
     plan_of-clashes (some_of fs) h = plans_of-clashes fs h
-    plan_of-clashes (implies f g) h = or-grows _ _ _ _ (plan_of-clashes f) (λ e. plan_of-clashes g (or_none _ e)) h
+    plan_of-clashes (implies f g) h = or-grows _ _ _ _ (plan_of-clashes f) (λ e. plan_of-clashes g (or_one _ e)) h
     plan_of-clashes (minus f g) h = or-grows _ _ _ _ (plan_of-clashes f) (plan_of-clashes g) h
     plan_of-clashes (exists s k f) h = or-grows _ _ _ _ (plan_of-clashes f) (clash_past-grows s k _ _ (plan_of-lines f)) h
     plan_of-clashes (forall s k f) h = or-grows _ _ _ _ (plan_of-clashes f) (clash_past-grows s k _ _ (plan_of-lines f)) h

@@ -25,7 +25,7 @@ use Rattle.ded_model.specs.Goal.{GoalAtom, linear, theme, member, GoalForm, plac
 use Rattle.ded_model.specs.PlanForm.{PlanAtom, scan, rows, PlanForm, in_plan_atom, plan_mentions}
 use Rattle.ded_model.specs.Slotted.{goal_atoms}
 use Rattle.ded_model.specs.Scanned.{Scanned, kept, fresh, argument_row, of_slot, same_atom, scanned, scanned_slots, tied_atoms, fresh_slots, first_free}
-use Rattle.ded_model.proofs.Points.{and_left, and_right}
+use Rattle.ded_model.proofs.Points.{and_left, and_right, same_sort_refl}
 use Rattle.ded_model.proofs.Rows.{or_left, or_right}
 use Rattle.ded_model.proofs.Members.{or_split}
 use Rattle.ded_model.proofs.Monotone.{or-grows}
@@ -34,9 +34,11 @@ use Rattle.ded_row.proofs.Forms.{row_mentions-normal}
 use Rattle.ded_algebra.specs.Compile.{row_plan, joined, projected, plan_of, plans_of, atom_plan}
 use Rattle.ded_algebra.specs.Compiled.{place_sort, same_sorts, same_rows, comes_from, ComesFrom, is_member_of, is_scan_of, IsConjunctivePlan}
 use Rattle.ded_algebra.proofs.Ties.{tie}
-use Rattle.ded_algebra.proofs.Projections.{other_slot, fails_left, fails_right}
+use Rattle.ded_algebra.proofs.Projections.{other_slot}
 use Rattle.ded_algebra.proofs.SameRows.{same_rows_refl}
 use Rattle.ded_algebra.proofs.Scans.{IsScannedAs, AreScannedAs, scanned-are}
+use Rattle.std.proofs.lemmas.Bool.{and_from}
+use Rattle.ded_model.proofs.Bools.{or_false_left, or_false_right}
 
 -- ---- what is mentioned
 
@@ -138,8 +140,8 @@ projected_slots (s ∷ ss) f k h =
 turned_slots : (ss : List Slot) (s : Slot) → list_any (λ t. same_key (slot s) (slot t)) ss ≡ false → stands_in ss s ≡ true → false ≡ true
 turned_slots [] s h k = k
 turned_slots (t ∷ ss) s h k = elim (or_split (same_slot t s) _ k) [
-  | inl e ↦ sym (other_slot s t (fails_left _ _ h)) ∙ e
-  | inr e ↦ turned_slots ss s (fails_right (same_slot s t) _ h) e
+  | inl e ↦ sym (other_slot s t (or_false_left _ _ h)) ∙ e
+  | inr e ↦ turned_slots ss s (or_false_right (same_slot s t) _ h) e
 ]
 
 member_slots : (n : List ℕ) (ts : List Place) (k : Key) → plan_mentions (atom_plan (member n ts)) k ≡ true → in_goal_atom (member n ts) k ≡ true
@@ -171,11 +173,11 @@ atom_slots (member n ts) k h = member_slots n ts k h
 
 -- ---- goals
 
-and_grows : (a b c : Bool) → (b ≡ true → c ≡ true) → (a && b) ≡ true → (a && c) ≡ true
+pub and_grows : (a b c : Bool) → (b ≡ true → c ≡ true) → (a && b) ≡ true → (a && c) ≡ true
 and_grows true b c f h = f h
 and_grows false b c f h = h
 
-or_one : (b : Bool) → (b || false) ≡ true → b ≡ true
+pub or_one : (b : Bool) → (b || false) ≡ true → b ≡ true
 or_one true h = refl
 or_one false h = h
 
@@ -198,28 +200,21 @@ mutual
 
 -- ---- scans
 
-same_self : (s : Sort) → same_sort s s ≡ true
-same_self Rat = refl
-same_self Text = refl
-
 one_sort : (t : Place) (g : Scanned) (s : Slot) → (g ≡ kept s) ⊎ ((a : Atom) × (g ≡ fresh s a)) → IsScannedAs t g → same_sort (place_sort t) s.sort ≡ true
 one_sort t g s (inl e) h = kept_sort t (subst (IsScannedAs t) e h)
   where
     kept_sort : (t : Place) → IsScannedAs t (kept s) → same_sort (place_sort t) s.sort ≡ true
-    kept_sort (At v) f = ap (λ (u : Slot). same_sort v.sort u.sort) f ∙ same_self v.sort
+    kept_sort (At v) f = ap (λ (u : Slot). same_sort v.sort u.sort) f ∙ same_sort_refl v.sort
     kept_sort (Value t) f = absurd f
     kept_sort (Quoted x) f = absurd f
-one_sort t g s (inr e) h = let k : IsScannedAs t (fresh s e.0) = subst (IsScannedAs t) e.1 h in ap (λ x. same_sort (place_sort t) x) k.0 ∙ same_self (place_sort t)
-
-and_both : (a b : Bool) → a ≡ true → b ≡ true → (a && b) ≡ true
-and_both a b h k = rw (h, k) refl
+one_sort t g s (inr e) h = let k : IsScannedAs t (fresh s e.0) = subst (IsScannedAs t) e.1 h in ap (λ x. same_sort (place_sort t) x) k.0 ∙ same_sort_refl (place_sort t)
 
 scanned_sorts : (ts : List Place) (gs : List Scanned) → AreScannedAs ts gs → same_sorts (map place_sort ts) (map (λ s. s.sort) (scanned_slots gs)) ≡ true
 scanned_sorts [] [] h = refl
 scanned_sorts [] (g ∷ gs) h = absurd h
 scanned_sorts (t ∷ ts) [] h = absurd h
-scanned_sorts (t ∷ ts) (kept u ∷ gs) h = and_both _ _ (one_sort t (kept u) u (inl refl) h.0) (scanned_sorts ts gs h.1)
-scanned_sorts (t ∷ ts) (fresh u a ∷ gs) h = and_both _ _ (one_sort t (fresh u a) u (inr (a, refl)) h.0) (scanned_sorts ts gs h.1)
+scanned_sorts (t ∷ ts) (kept u ∷ gs) h = and_from _ _ (one_sort t (kept u) u (inl refl) h.0) (scanned_sorts ts gs h.1)
+scanned_sorts (t ∷ ts) (fresh u a ∷ gs) h = and_from _ _ (one_sort t (fresh u a) u (inr (a, refl)) h.0) (scanned_sorts ts gs h.1)
 
 -- each scan and each list of rows comes from an atom of the whole goal
 module _ (whole : GoalForm) where
@@ -249,7 +244,7 @@ module _ (whole : GoalForm) where
   atom_atoms (member n ts) p =
       let gs = scanned ts in
       projected_atoms (fresh_slots gs) _ (base_atoms n (scanned_slots gs) (tied_atoms gs)
-      (p (scan n (scanned_slots gs)) (and_both _ _ ((bytes_eq-Decides n n).1 refl) (scanned_sorts ts gs (scanned-are [] (first_free ts) ts))))
+      (p (scan n (scanned_slots gs)) (and_from _ _ ((bytes_eq-Decides n n).1 refl) (scanned_sorts ts gs (scanned-are [] (first_free ts) ts))))
       (ties_atoms (tied_atoms gs) (λ t e. p (rows t) e)))
 
   mutual
@@ -305,7 +300,7 @@ mutual
 
   plans_conjunctive : (fs : Logics GoalAtom) → all_conjunctive fs ≡ true → all_conjunctive (plans_of fs) ≡ true
   plans_conjunctive none h = refl
-  plans_conjunctive (also f fs) h = and_both _ _ (plan_conjunctive f (and_left _ _ h)) (plans_conjunctive fs (and_right (conjunctive f) _ h))
+  plans_conjunctive (also f fs) h = and_from _ _ (plan_conjunctive f (and_left _ _ h)) (plans_conjunctive fs (and_right (conjunctive f) _ h))
 
 -- each name is scanned as often as the goal has it
 module _ (m : List ℕ) where

@@ -18,19 +18,9 @@ use Rattle.ded_algebra.specs.Compile.{projected}
 use Rattle.ded_algebra.proofs.SamePoints.{same_trans, same_self}
 use Rattle.ded_algebra.proofs.EqualValues.{IsEqualValue, same-equal, equal_trans}
 use Rattle.ded_algebra.proofs.Ties.{number_value, text_value, rational_slot, text_slot}
+use Rattle.ded_model.proofs.Bools.{or_false_left, or_false_right}
 
 -- ---- slots
-
-pub fails_left : (a b : Bool) → (a || b) ≡ false → a ≡ false
-fails_left false b h = refl
-fails_left true b h = h
-
-pub fails_right : (a b : Bool) → (a || b) ≡ false → b ≡ false
-fails_right false b h = h
-fails_right true b h = absurd (true_false h)
-  where
-    true_false : true ≡ false → ⊥
-    true_false e = cc
 
 -- another slot is another one the other way round
 pub other_slot : (s t : Slot) → same_slot s t ≡ false → same_slot t s ≡ false
@@ -104,8 +94,8 @@ module _ (H : PlanAtom → Point → Type 0) where
   kept_values d s q r [] i x n h = tt
   kept_values d s q r (v ∷ vs) i x n h = (
     equal_trans d q.den r.den v.1 (slot_value q v.0) (slot_value r v.0) i (slot_value-positive q v.0) h.0
-        (same-equal q.den r.den _ _ (slot_value-same v.0 q r (extension_same s.sort q r (slot s) (slot v.0) x (fails_left _ _ n)))),
-    kept_values d s q r vs i x (fails_right (same_slot v.0 s) _ n) h.1,
+        (same-equal q.den r.den _ _ (slot_value-same v.0 q r (extension_same s.sort q r (slot s) (slot v.0) x (or_false_left _ _ n)))),
+    kept_values d s q r vs i x (or_false_right (same_slot v.0 s) _ n) h.1,
   )
 
   -- such a point
@@ -119,8 +109,8 @@ module _ (H : PlanAtom → Point → Type 0) where
         record {
           positive = j;
           chain = λ f h. r.1.chain (exists v.0.sort (slot v.0) f) (y.0, y.1.extends, h);
-          same = λ t n. same_trans p r.0 y.0 (slot t) r.1.positive (r.1.same t (fails_right (same_slot v.0 t) _ n))
-              (extension_same v.0.sort r.0 y.0 (slot v.0) (slot t) y.1.extends (other_slot v.0 t (fails_left _ _ n)));
+          same = λ t n. same_trans p r.0 y.0 (slot t) r.1.positive (r.1.same t (or_false_right (same_slot v.0 t) _ n))
+              (extension_same v.0.sort r.0 y.0 (slot v.0) (slot t) y.1.extends (other_slot v.0 t (or_false_left _ _ n)));
           values = (y.1.value, kept_values p.den v.0 r.0 y.0 vs r.1.positive y.1.extends a.0 r.1.values);
         },
       )
@@ -139,8 +129,8 @@ module _ (H : PlanAtom → Point → Type 0) where
         x.0,
         record {
           positive = positive-extension s.sort r.0 (slot s) x.0 r.1.positive x.1;
-          same = λ t n. same_trans p r.0 x.0 (slot t) r.1.positive (r.1.same t (fails_right (same_slot s t) _ n))
-              (extension_same s.sort r.0 x.0 (slot s) (slot t) x.1 (other_slot s t (fails_left _ _ n)));
+          same = λ t n. same_trans p r.0 x.0 (slot t) r.1.positive (r.1.same t (or_false_right (same_slot s t) _ n))
+              (extension_same s.sort r.0 x.0 (slot s) (slot t) x.1 (other_slot s t (or_false_left _ _ n)));
           holds = x.2;
         },
       )

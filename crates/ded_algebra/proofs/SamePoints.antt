@@ -6,10 +6,7 @@ use Rattle.std.proofs.Math.IntN.{*ℤ_comm}
 use Rattle.ded_model.specs.Point.{Key, Point, IsSameAt, number_at}
 use Rattle.ded_num.proofs.Ring.{parts, ring, diff_same}
 use Rattle.ded_row.proofs.Scaling.{cancel_factor}
-
--- the factors of a product of three may be swapped
-pub swap_law : (n x y : ℤ) → (n *ℤ x) *ℤ y ≡ (n *ℤ y) *ℤ x
-swap_law n x y = rw (parts n, parts x, parts y) (simp ring (diff_same _ _ _ _ (omega arith)))
+use Rattle.ded_model.proofs.Values.{swap_law}
 
 -- a factor above 0 can be left out
 pub cancelled : (n : ℕ) (x y : ℤ) → 0 < n → x *ℤ pos n ≡ y *ℤ pos n → x ≡ y

@@ -13,6 +13,7 @@ use Rattle.ded_model.specs.Constraint.{LinearConstraint}
 use Rattle.ded_model.specs.Row.{Atom}
 use Rattle.ded_model.specs.Normal.{coefs_order, op_place, row_order, first_slot, kind_place, quoted_text, second_number, theme_order, atom_order}
 use Rattle.ded_algebra.specs.Compiled.{same_rows}
+use Rattle.std.proofs.lemmas.Bool.{and_from}
 
 same_nat : (n : ℕ) → nat_cmp n n ≡ Equal
 same_nat n = grind (arith, nat_tests)
@@ -40,9 +41,6 @@ same_atom : (a : Atom) → is_eq (atom_order a a) ≡ true
 same_atom (First r) = rw (same_row r) refl
 same_atom (Second a) = rw (same_theme a) refl
 
-and_both : (a b : Bool) → a ≡ true → b ≡ true → (a && b) ≡ true
-and_both a b h k = rw (h, k) refl
-
 pub same_rows_refl : (t : List Atom) → same_rows t t ≡ true
 same_rows_refl [] = refl
-same_rows_refl (a ∷ t) = and_both _ _ (same_atom a) (same_rows_refl t)
+same_rows_refl (a ∷ t) = and_from _ _ (same_atom a) (same_rows_refl t)

@@ -28,6 +28,7 @@ use Rattle.ded_database.proofs.Renewal.{tight_clash}
 use Rattle.ded_database.proofs.Under.{same_name, named_each, under_named, other_more, own_more, nameless, unnamed}
 use Rattle.ded_database.specs.Keeping.{IsMarkedWith, IsListedWith}
 use Rattle.ded_model.proofs.Bools.{bytes_eq-refl}
+use Rattle.ded_eval.proofs.Names.{tuples-unnumbered}
 
 -- what is held of a view holds exactly where the view's formula does
 pub list_of : (c : Catalogue) → IsWellFormed c → (r : GivenRelation) → IsHeld c r → IsListOf c r.name r.tuples
@@ -126,10 +127,6 @@ pub of_mapped : {A B : Type 0} (f : A → B) (o : Option A) (P : B → Type 0) �
 of_mapped f None P h = tt
 of_mapped f (Some x) P h = h
 
-numbered_again : (ts : List (List Atom)) → tuples_of (unnumbered ts) ≡ ts
-numbered_again [] = refl
-numbered_again (t ∷ ts) = ap (λ us. t ∷ us) (numbered_again ts)
-
 -- the tuples that are given under a name are those that are held
 pub given_held : (n : List ℕ) (rs : List GivenRelation) → given_tuples (given_catalogue rs) n ≡ held_under rs n
 given_held n [] = refl
@@ -137,5 +134,5 @@ given_held n (r ∷ rs) = by (bytes_eq n r.name) (given_held n rs)
   where
     by : (b : Bool) → given_tuples (given_catalogue rs) n ≡ held_under rs n
         → option_map tuples_of (relation_in (cond b (Some (given_entry r)) (entry_of (map given_entry rs) n))) ≡ option_map (λ (x : GivenRelation). x.tuples) (cond b (Some r) (given_under n rs))
-    by true next = ap Some (numbered_again r.tuples)
+    by true next = ap Some (tuples-unnumbered r.tuples)
     by false next = next

@@ -43,7 +43,7 @@ are_given [] k = tt
 are_given (r ∷ rs) k = (names_apart r.name rs k.0, are_given rs k.1)
 
 -- numbers don't count
-tuples-unnumbered : (ts : List (List Atom)) → tuples_of (unnumbered ts) ≡ ts
+pub tuples-unnumbered : (ts : List (List Atom)) → tuples_of (unnumbered ts) ≡ ts
 tuples-unnumbered [] = refl
 tuples-unnumbered (t ∷ ts) = ap (λ us. t ∷ us) (tuples-unnumbered ts)
 

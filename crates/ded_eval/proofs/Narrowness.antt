@@ -88,7 +88,7 @@ slots-kept [] ss s h = h
 slots-kept (First r ∷ t) ss s h = slots-kept t (with_slots r.coefs ss) s (with_slots-kept r.coefs ss s h)
 slots-kept (Second a ∷ t) ss s h = slots-kept t ss s h
 
-pub not_rational : (s t : Slot) → s.sort ≡ Text → same_slot s t ≡ true → t.sort ≡ Rat → ⊥
+not_rational : (s t : Slot) → s.sort ≡ Text → same_slot s t ≡ true → t.sort ≡ Rat → ⊥
 not_rational s t x e r = sorts_apart (sym x ∙ ap (λ u. u.sort) (same_slot_is s t e) ∙ r)
   where
     sorts_apart : Text ≡ Rat → ⊥

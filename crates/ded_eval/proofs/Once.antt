@@ -10,6 +10,7 @@ use Rattle.ded_model.proofs.Members.{or_split}
 use Rattle.std.proofs.Math.Bool.{or-false}
 use Rattle.ded_reduce.specs.Reductions.{IsSublist}
 use Rattle.ded_reduce.proofs.Sublists.{sublist_refl}
+use Rattle.ded_model.proofs.Bools.{or_known}
 
 -- ---- lists with one element more
 
@@ -30,12 +31,6 @@ module _ {A : Type 0} where
 pub record IsOnce {X : Type 0} (ks xs : List X) : Type 0 where
   pub kept : IsSublist ks xs
   pub some : (f : X → Bool) → list_any f ks ≡ list_any f xs
-
--- what is so of an element is so of one of the list
-or_known : (a b : Bool) → (b ≡ true → a ≡ true) → a ≡ (a || b)
-or_known true b h = refl
-or_known false true h = h refl
-or_known false false h = refl
 
 any-push : {X : Type 0} (f : X → Bool) (xs : List X) (x : X) → list_any f (xs ++ x ∷ []) ≡ (list_any f xs || f x)
 any-push f xs x = list_any-append f xs (x ∷ []) ∙ ap (λ b. list_any f xs || b) (or-false (f x))

@@ -37,6 +37,8 @@ use Rattle.ded_theme.proofs.Extending.{point-bytes, other-text, extended_by}
 use Rattle.std.proofs.lemmas.List.Folds.{list_any-append}
 use Rattle.ded_reduce.proofs.Sublists.{after_taken, parted_at, parted_others, parted_length}
 use Rattle.ded_eval.specs.Own.{last_slot, HasOwnSlot, HaveOwnSlots}
+use Rattle.ded_model.proofs.Bools.{or_false_right}
+use Rattle.std.proofs.lemmas.Bool.{and_from}
 
 -- ---- rows
 
@@ -204,13 +206,6 @@ others_hold : (t : List Atom) (s : Slot) (p q : Point) → IsPoint p → tuple_m
 unfolding tuple_holds tuple_mentions
 others_hold t s p q i free x = conj_holds-extended atom_holds atom_mentions atom_holds-same t s p q i.positive free x
 
-none_right : (a b : Bool) → (a || b) ≡ false → b ≡ false
-none_right true b e = absurd (true≢false e)
-none_right false b e = e
-
-both : (a b : Bool) → a ≡ true → b ≡ true → (a && b) ≡ true
-both a b e f = ap₂ (λ x y. x && y) e f
-
 -- they hold somewhere
 own_inhabited : (t : List Atom) → IsNormalTuple t → HaveOwnSlots t → HoldsSomewhere (tuple_holds t)
 unfolding tuple_holds tuple_mentions
@@ -218,10 +213,10 @@ own_inhabited [] n h = (record { den = 1; coords = [] }, record { positive = ome
 own_inhabited (a ∷ t) n h =
     let rest = own_inhabited t n.2 (λ before c after e.
     let w = h (a ∷ before) c after (ap (λ us. a ∷ us) e) in
-    (w.0, w.1, none_right (atom_mentions a w.0) (tuple_mentions (before ++ after) w.0) w.2)) in
+    (w.0, w.1, or_false_right (atom_mentions a w.0) (tuple_mentions (before ++ after) w.0) w.2)) in
     let own = h [] a t refl in
     let there = atom_moves a own.0 rest.0 true n.0 own.1 rest.1 in
-    (there.0, there.1, both (atom_holds a there.0) (tuple_holds t there.0) there.3 (sym (others_hold t own.0 rest.0 there.0 rest.1 own.2 there.2) ∙ rest.2))
+    (there.0, there.1, and_from (atom_holds a there.0) (tuple_holds t there.0) there.3 (sym (others_hold t own.0 rest.0 there.0 rest.1 own.2 there.2) ∙ rest.2))
 
 -- ---- each is needed
 
@@ -234,7 +229,7 @@ fewer_hold : (before : List Atom) (a : Atom) (after : List Atom) (p : Point) →
 unfolding tuple_holds
 fewer_hold [] a after p e = and_right (atom_holds a p) (tuple_holds after p) e
 fewer_hold (b ∷ before) a after p e =
-    both (atom_holds b p) (tuple_holds (before ++ after) p) (and_left (atom_holds b p) (tuple_holds (before ++ a ∷ after) p) e)
+    and_from (atom_holds b p) (tuple_holds (before ++ after) p) (and_left (atom_holds b p) (tuple_holds (before ++ a ∷ after) p) e)
     (fewer_hold before a after p (and_right (atom_holds b p) (tuple_holds (before ++ a ∷ after) p) e))
 
 pub own_reduced : (t : List Atom) → IsNormalTuple t → HaveOwnSlots t → IsReduced atom_holds t
@@ -304,7 +299,3 @@ own_row before a after r e w = (w.0, ap (λ c. atom_mentions c w.0) e ∙ w.1, w
 pub own_theme : (before : List Atom) (a : Atom) (after : List Atom) (t : ThemeAtom) → a ≡ Second t → (s : Slot) × (theme_mentions t s ≡ true) × (tuple_mentions (before ++ after) s ≡ false) → HasOwnSlot before a after
 unfolding atom_mentions
 own_theme before a after t e w = (w.0, ap (λ c. atom_mentions c w.0) e ∙ w.1, w.2)
-
-pub not_so : (b : Bool) → not b ≡ true → b ≡ false
-not_so true e = sym e
-not_so false e = refl

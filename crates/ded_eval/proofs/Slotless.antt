@@ -15,19 +15,12 @@ use Rattle.ded_model.proofs.Points.{same_slot_refl}
 use Rattle.ded_model.proofs.Rows.{or_left, or_right}
 use Rattle.ded_row.proofs.Normals.{constant_row-holds}
 use Rattle.ded_eval.proofs.TuplesRead.{tuples_hold-push}
+use Rattle.ded_model.proofs.Bools.{or_false_left, or_false_right}
 
 -- whether the tuple has no atoms
 abbrev pub has_no_atoms : List Atom → Bool
 has_no_atoms [] = true
 has_no_atoms (a ∷ atoms) = false
-
-none_left : (a b : Bool) → (a || b) ≡ false → a ≡ false
-none_left true b e = e
-none_left false b e = refl
-
-none_right : (a b : Bool) → (a || b) ≡ false → b ≡ false
-none_right true b e = absurd (true≢false e)
-none_right false b e = e
 
 -- a normal row without slots that isn't true holds nowhere
 closed_row : (r : LinearConstraint) (p : Point) → IsNormalRow r → is_true_row r ≡ false → ((s : Slot) → row_mentions r s ≡ false) → row_holds r p ≡ false
@@ -54,8 +47,8 @@ closed_theme (NeSlot s t) h = true≢false (sym (or_left (same_slot s s) (same_s
 pub closed_tuple : (t : List Atom) (p : Point) → IsNormalTuple t → ((s : Slot) → tuple_mentions t s ≡ false) → tuple_holds t p ≡ has_no_atoms t
 unfolding atom_holds tuple_holds atom_mentions tuple_mentions
 closed_tuple [] p n h = refl
-closed_tuple (First r ∷ t) p n h = ap (λ b. b && tuple_holds t p) (closed_row r p n.0.1 n.0.2 (λ s. none_left (row_mentions r s) (tuple_mentions t s) (h s)))
-closed_tuple (Second a ∷ t) p n h = absurd (closed_theme a (λ s. none_left (theme_mentions a s) (tuple_mentions t s) (h s)))
+closed_tuple (First r ∷ t) p n h = ap (λ b. b && tuple_holds t p) (closed_row r p n.0.1 n.0.2 (λ s. or_false_left (row_mentions r s) (tuple_mentions t s) (h s)))
+closed_tuple (Second a ∷ t) p n h = absurd (closed_theme a (λ s. or_false_left (theme_mentions a s) (tuple_mentions t s) (h s)))
 
 -- ---- lists of them
 
@@ -63,8 +56,8 @@ closed_tuple (Second a ∷ t) p n h = absurd (closed_theme a (λ s. none_left (t
 pub closed_at : (ts : List (List Atom)) (t : List Atom) → Contains ts t → ((s : Slot) → tuples_mention ts s ≡ false) → (s : Slot) → tuple_mentions t s ≡ false
 unfolding tuples_mention
 closed_at [] t k h s = absurd (omega (arith, k.1))
-closed_at (u ∷ ts) t (zero, l, i) h s = ap (λ v. tuple_mentions v s) (sym i) ∙ none_left (tuple_mentions u s) (tuples_mention ts s) (h s)
-closed_at (u ∷ ts) t (suc k, l, i) h s = closed_at ts t (k, omega (arith, l), i) (λ v. none_right (tuple_mentions u v) (tuples_mention ts v) (h v)) s
+closed_at (u ∷ ts) t (zero, l, i) h s = ap (λ v. tuple_mentions v s) (sym i) ∙ or_false_left (tuple_mentions u s) (tuples_mention ts s) (h s)
+closed_at (u ∷ ts) t (suc k, l, i) h s = closed_at ts t (k, omega (arith, l), i) (λ v. or_false_right (tuple_mentions u v) (tuples_mention ts v) (h v)) s
 
 -- no tuple holds, and one more that doesn't
 pub none_more : (ts new : List (List Atom)) (t : List Atom) (p : Point) → new ≡ ts ++ t ∷ [] → tuples_hold ts p ≡ false → tuple_holds t p ≡ false → tuples_hold new p ≡ false

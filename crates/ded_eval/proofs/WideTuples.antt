@@ -11,45 +11,11 @@ use Rattle.ded_model.specs.Lines.{row_lines}
 use Rattle.ded_model.specs.Point.{same_sort, same_slot, stands_in}
 use Rattle.ded_model.specs.Row.{Atom, row_mentions, theme_mentions}
 use Rattle.ded_model.specs.Width.{tuple_length, tuples_length, rational_columns, IsBoxNarrow}
-use Rattle.ded_model.proofs.Members.{or_split}
-use Rattle.ded_model.proofs.Rows.{or_left, or_right}
+use Rattle.ded_model.proofs.RationalColumns.{rational_heading, rational_heading-length, rational_heading-has}
 use Rattle.ded_theory.specs.Both.{by_kind}
 use Rattle.ded_theory.specs.Conjunctions.{IsWide}
 use Rattle.ded_eval.proofs.Conjunctive.{tuple_mentions-is, normal-is}
-use Rattle.ded_eval.proofs.Narrowness.{lines_within, not_rational}
-
--- ---- the rational columns
-
--- their slots, of the columns from slot i on
-rational_heading : ℕ → List Column → List Slot
-rational_heading i [] = []
-rational_heading i (c ∷ cs) = cond (same_sort c.sort Rat) (record { number = i; sort = c.sort } ∷ rational_heading (i + 1) cs) (rational_heading (i + 1) cs)
-
-count : (i : ℕ) (cs : List Column) → length (rational_heading i cs) ≡ rational_columns cs
-unfolding rational_heading
-count i [] = refl
-count i (c ∷ cs) = by (same_sort c.sort Rat) (count (i + 1) cs)
-  where
-    by : (b : Bool) → length (rational_heading (i + 1) cs) ≡ rational_columns cs
-        → length (cond b (record { number = i; sort = c.sort } ∷ rational_heading (i + 1) cs) (rational_heading (i + 1) cs)) ≡ cond b 1 0 + rational_columns cs
-    by true e = omega (arith, e)
-    by false e = omega (arith, e)
-
-there : (i : ℕ) (cs : List Column) (s : Slot) → stands_in (heading_slots i cs) s ≡ true → s.sort ≡ Rat → stands_in (rational_heading i cs) s ≡ true
-unfolding rational_heading
-there i [] s h r = absurd (true≢false (sym h))
-there i (c ∷ cs) s h r = ⊎_elim
-    (λ (e : same_slot (record { number = i; sort = c.sort }) s ≡ true). first c.sort e)
-    (λ e. later (same_sort c.sort Rat) (there (i + 1) cs s e r))
-    (or_split (same_slot (record { number = i; sort = c.sort }) s) (stands_in (heading_slots (i + 1) cs) s) h)
-  where
-    first : (t : Sort) → same_slot (record { number = i; sort = t }) s ≡ true → stands_in (cond (same_sort t Rat) (record { number = i; sort = t } ∷ rational_heading (i + 1) cs) (rational_heading (i + 1) cs)) s ≡ true
-    first Rat e = or_left (same_slot (record { number = i; sort = Rat }) s) (stands_in (rational_heading (i + 1) cs) s) e
-    first Text e = absurd (not_rational (record { number = i; sort = Text }) s refl e r)
-
-    later : (b : Bool) → stands_in (rational_heading (i + 1) cs) s ≡ true → stands_in (cond b (record { number = i; sort = c.sort } ∷ rational_heading (i + 1) cs) (rational_heading (i + 1) cs)) s ≡ true
-    later true e = or_right (same_slot (record { number = i; sort = c.sort }) s) (stands_in (rational_heading (i + 1) cs) s) e
-    later false e = e
+use Rattle.ded_eval.proofs.Narrowness.{lines_within}
 
 -- ---- one tuple
 
@@ -57,8 +23,8 @@ pub wide_tuple : (h : List Column) (t : List Atom) → IsTupleOver h t → IsWid
 unfolding IsBoxNarrow
 wide_tuple h t o w n =
     let b = tuples_length (t ∷ []) in
-    let above = w.above b (lines_within t b (normal-is t o.normal) (omega arith)) (rational_heading 0 h) (λ s m r. there 0 h s (o.slots s (sym (tuple_mentions-is t s) ∙ m)) r) in
-    let more : 128 < (b + 1) * 2 ^ rational_columns h = subst (λ k. 128 < (b + 1) * 2 ^ k) (count 0 h) above in
+    let above = w.above b (lines_within t b (normal-is t o.normal) (omega arith)) (rational_heading 0 h) (λ s m r. rational_heading-has 0 h s (o.slots s (sym (tuple_mentions-is t s) ∙ m)) r) in
+    let more : 128 < (b + 1) * 2 ^ rational_columns h = subst (λ k. 128 < (b + 1) * 2 ^ k) (rational_heading-length 0 h) above in
     beyond ((b + 1) * 2 ^ rational_columns h) more n
   where
     beyond : (n : ℕ) → 128 < n → n ≤ 128 → ⊥

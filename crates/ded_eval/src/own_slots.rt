@@ -1,13 +1,13 @@
 //! Atoms with slots of their own.
 ghost use Rattle.std.specs.Prelude.{◌≡◌, ◌++◌, true, false};
 ghost use Rattle.ded_model.specs.declared.slot.Slot.{Slot};
-ghost use Rattle.ded_model.specs.Row.{row_mentions, theme_mentions, atom_mentions, tuple_mentions};
+ghost use Rattle.ded_model.specs.Row.{row_mentions, theme_mentions, tuple_mentions};
 ghost use Rattle.ded_model.specs.Normal.{first_slot};
 ghost use Rattle.ded_eval.specs.Own.{last_slot, HasOwnSlot, HaveOwnSlots};
 
 use ded_model::row::Row;
 use ded_model::slot::Slot;
-use ded_model::tuple::{Atom, BothAtom, ThemeAtom};
+use ded_model::tuple::{Atom, BothAtom, ThemeAtom, mention};
 
 /// Whether each atom mentions a slot that no other one does. Then normal atoms hold somewhere, and each of them is needed.
 pub(crate) fn have_own_slots(atoms: &[Atom]) -> bool
@@ -79,36 +79,4 @@ fn is_free(before: &[Atom], slot: Slot, after: &[Atom]) -> bool
     ensures { result ≡ true → tuple_mentions (before.now ++ after.now) slot ≡ false }
 {
     !mention(before, slot) && !mention(after, slot)
-}
-
-/// Whether some atom mentions the slot.
-#[tactic(auto, unfolding(ded_model::specs::Row::tuple_mentions))]
-fn mention(atoms: &[Atom], slot: Slot) -> bool
-    ensures { result ≡ tuple_mentions atoms.now slot }
-{
-    atoms.iter().any(|atom| mentions(atom, slot))
-}
-
-/// Whether the atom mentions the slot.
-#[tactic(auto, unfolding(ded_model::specs::Row::atom_mentions, ded_model::specs::Row::theme_mentions))]
-fn mentions(atom: &Atom, slot: Slot) -> bool
-    ensures { result ≡ atom_mentions atom.now slot }
-{
-    match atom {
-        BothAtom::First(row) => row_mentions(row, slot),
-        BothAtom::Second(ThemeAtom::EqText(own, _) | ThemeAtom::NeText(own, _)) => {
-            own.is_same(slot)
-        }
-        BothAtom::Second(ThemeAtom::EqSlot(one, other) | ThemeAtom::NeSlot(one, other)) => {
-            one.is_same(slot) || other.is_same(slot)
-        }
-    }
-}
-
-/// Whether the row mentions the slot.
-#[tactic(auto, unfolding(ded_model::specs::Row::row_mentions))]
-fn row_mentions(row: &Row, slot: Slot) -> bool
-    ensures { result ≡ row_mentions row.now slot }
-{
-    row.coefs.list().iter().any(|entry| entry.0.is_same(slot))
 }

@@ -10,20 +10,20 @@ use Rattle.ded_model.specs.PlanForm.{PlanAtom, PlanForm, plan_mentions}
 use Rattle.ded_model.specs.Pushed.{is_union, is_not, is_rows, some_member, is_one}
 use Rattle.ded_model.proofs.Points.{and_left, and_right}
 use Rattle.ded_plan.specs.Rewrite.{appended, is_none, filtered, join_of, also_all_rows, rows_of, no_rows_of, distributed, members_of, flattened, part_of, kept, taken, difference_of, joined, inside, outside, projected_join, projected_down, each_projected, projected, rewritten, each_rewritten}
-use Rattle.ded_plan.proofs.BothTests.{or_false, and_true}
+use Rattle.std.proofs.lemmas.Bool.{or_from, and_from}
 
 -- ---- members
 
 conjunctive_appended : (fs gs : Logics PlanAtom) → all_conjunctive fs ≡ true → all_conjunctive gs ≡ true → all_conjunctive (appended fs gs) ≡ true
 conjunctive_appended none gs h k = k
-conjunctive_appended (also f fs) gs h k = and_true _ _ (and_left (conjunctive f) _ h) (conjunctive_appended fs gs (and_right (conjunctive f) _ h) k)
+conjunctive_appended (also f fs) gs h k = and_from _ _ (and_left (conjunctive f) _ h) (conjunctive_appended fs gs (and_right (conjunctive f) _ h) k)
 
 conjunctive_filtered : (keep : PlanForm → Bool) (fs : Logics PlanAtom) → all_conjunctive fs ≡ true → all_conjunctive (filtered keep fs) ≡ true
 conjunctive_filtered keep none h = h
 conjunctive_filtered keep (also f fs) h = go (keep f) (conjunctive_filtered keep fs (and_right (conjunctive f) _ h))
   where
     go : (b : Bool) → all_conjunctive (filtered keep fs) ≡ true → all_conjunctive (cond b (also f (filtered keep fs)) (filtered keep fs)) ≡ true
-    go true e = and_true _ _ (and_left (conjunctive f) _ h) e
+    go true e = and_from _ _ (and_left (conjunctive f) _ h) e
     go false e = e
 
 conjunctive_join_of : (fs : Logics PlanAtom) → all_conjunctive fs ≡ true → conjunctive (join_of fs) ≡ true
@@ -34,15 +34,15 @@ conjunctive_join_of (also f (also g gs)) h = h
 -- ---- joins
 
 conjunctive_members : (f : PlanForm) → conjunctive f ≡ true → all_conjunctive (members_of f) ≡ true
-conjunctive_members (atom a) h = and_true _ _ h refl
-conjunctive_members always h = and_true _ _ h refl
+conjunctive_members (atom a) h = and_from _ _ h refl
+conjunctive_members always h = and_from _ _ h refl
 conjunctive_members never h = absurd (true≢false (sym h))
 conjunctive_members (negation f) h = absurd (true≢false (sym h))
 conjunctive_members (every_of fs) h = h
 conjunctive_members (some_of fs) h = absurd (true≢false (sym h))
 conjunctive_members (implies f g) h = absurd (true≢false (sym h))
 conjunctive_members (minus f g) h = absurd (true≢false (sym h))
-conjunctive_members (exists s k f) h = and_true _ _ h refl
+conjunctive_members (exists s k f) h = and_from _ _ h refl
 conjunctive_members (forall s k f) h = absurd (true≢false (sym h))
 
 conjunctive_flattened : (fs : Logics PlanAtom) → all_conjunctive fs ≡ true → all_conjunctive (flattened fs) ≡ true
@@ -84,7 +84,7 @@ nothing_taken (also f fs) h = go (is_not f) (no_complement f (and_left (conjunct
 
 no_unions : (fs : Logics PlanAtom) → all_conjunctive fs ≡ true → some_member is_union fs ≡ false
 no_unions none h = refl
-no_unions (also f fs) h = or_false _ _ (no_union f (and_left (conjunctive f) _ h)) (no_unions fs (and_right (conjunctive f) _ h))
+no_unions (also f fs) h = or_from _ _ (no_union f (and_left (conjunctive f) _ h)) (no_unions fs (and_right (conjunctive f) _ h))
 
 conjunctive_distributed : (fs : Logics PlanAtom) → all_conjunctive fs ≡ true → all_conjunctive (distributed fs) ≡ true
 conjunctive_distributed fs h = go (some_member is_rows fs) (some_member is_union fs) (no_unions fs h)
@@ -115,7 +115,7 @@ conjunctive_projected_join s k fs one h i = go (is_none (outside k fs)) (is_one 
     go false true = i
     go false false =
         conjunctive_appended (outside k fs) (also (exists s k (every_of (inside k fs))) none) (conjunctive_filtered (λ f. not (plan_mentions f k)) fs h)
-        (and_true _ _ (conjunctive_filtered (λ f. plan_mentions f k) fs h) refl)
+        (and_from _ _ (conjunctive_filtered (λ f. plan_mentions f k) fs h) refl)
 
 -- a plan that mentions the key, or not
 conjunctive_choice : (s : Sort) (k : Key) (f : PlanForm) (b : Bool) → conjunctive f ≡ true → conjunctive (projected_down s k f) ≡ true → conjunctive (cond b (projected_down s k f) f) ≡ true
@@ -139,7 +139,7 @@ mutual
   conjunctive_each_projected s k none h = refl
   conjunctive_each_projected s k (also f fs) h =
       let c = and_left (conjunctive f) _ h in
-      and_true _ _ (conjunctive_choice s k f (plan_mentions f k) c (conjunctive_projected_down s k f c)) (conjunctive_each_projected s k fs (and_right (conjunctive f) _ h))
+      and_from _ _ (conjunctive_choice s k f (plan_mentions f k) c (conjunctive_projected_down s k f c)) (conjunctive_each_projected s k fs (and_right (conjunctive f) _ h))
 
 conjunctive_projected : (s : Sort) (k : Key) (f : PlanForm) → conjunctive f ≡ true → conjunctive (projected s k f) ≡ true
 conjunctive_projected s k f h = conjunctive_choice s k f (plan_mentions f k) h (conjunctive_projected_down s k f h)
@@ -162,4 +162,4 @@ mutual
 
   conjunctive_each_rewritten : (fs : Logics PlanAtom) → all_conjunctive fs ≡ true → all_conjunctive (each_rewritten fs) ≡ true
   conjunctive_each_rewritten none h = refl
-  conjunctive_each_rewritten (also f fs) h = and_true _ _ (conjunctive_rewritten f (and_left (conjunctive f) _ h)) (conjunctive_each_rewritten fs (and_right (conjunctive f) _ h))
+  conjunctive_each_rewritten (also f fs) h = and_from _ _ (conjunctive_rewritten f (and_left (conjunctive f) _ h)) (conjunctive_each_rewritten fs (and_right (conjunctive f) _ h))

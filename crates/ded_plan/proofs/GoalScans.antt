@@ -22,7 +22,7 @@ use Rattle.ded_model.specs.Made.{base}
 use Rattle.ded_model.specs.Goal.{GoalForm, theme}
 use Rattle.ded_model.specs.Slotted.{SlotScope, slot_sum, sums_goal, TextSide, at, word, text_side, same_text_goal, other_text_goal, texts_goal, is_text_operand, compare_goal, place_of, atom_goal, goal_below, goals_below, goal_of, heading_scope}
 use Rattle.ded_model.specs.Known.{Known, KnownNames, is_unknown_atom, other_arity, is_arity_atom, operand_sort, arguments_differ, columns_with, is_missorted_atom, IsAccepted}
-use Rattle.ded_model.proofs.Points.{and_left, and_right}
+use Rattle.ded_model.proofs.Points.{and_left, and_right, same_sort_is}
 use Rattle.ded_model.proofs.Rows.{or_left, or_right}
 use Rattle.ded_model.proofs.Members.{or_split}
 use Rattle.ded_sorts.proofs.Scopes.{sorts_of, sort_in-slot}
@@ -31,6 +31,7 @@ use Rattle.ded_model.proofs.Comparisons.{comparison_has}
 use Rattle.ded_algebra.specs.Compiled.{place_sort, same_sorts, is_scanned_by}
 use Rattle.ded_algebra.specs.Evaluation.{HaveSorts}
 use Rattle.ded_model.proofs.Bools.{or_false_left, or_false_right}
+use Rattle.std.proofs.lemmas.Bool.{not-false}
 
 -- ---- comparisons
 
@@ -45,21 +46,9 @@ module _ (n : List ℕ) (ss : List Slot) where
 
 -- ---- atoms of names
 
--- what doesn't fail is true
-is_true : (b : Bool) → not b ≡ false → b ≡ true
-is_true true e = refl
-is_true false e = absurd (true≢false e)
-
 -- numbers that the test finds equal are
 same_count : (m n : ℕ) → (m == n) ≡ true → m ≡ n
 same_count m n e = grind (arith, nat_tests)
-
--- and sorts
-same_sort_is : (s t : Sort) → same_sort s t ≡ true → s ≡ t
-same_sort_is Rat Rat e = refl
-same_sort_is Rat Text e = absurd (true≢false (sym e))
-same_sort_is Text Rat e = absurd (true≢false (sym e))
-same_sort_is Text Text e = refl
 
 -- a place has the sort of its operand
 place_sort-operand : (slots : SlotScope) (t : Operand) → place_sort (place_of slots t) ≡ operand_sort (sorts_of slots) t
@@ -78,7 +67,7 @@ columns_fit slots (c ∷ cs) (t ∷ ts) [] e d h = absurd (true≢false (sym h))
 columns_fit slots (c ∷ cs) (t ∷ ts) (s ∷ ss) e d h =
     let here = place_sort (place_of slots t) in
     let fits = not (same_sort c.sort (operand_sort (sorts_of slots) t)) in
-    let column : c.sort ≡ operand_sort (sorts_of slots) t = same_sort_is c.sort _ (is_true _ (or_false_left fits _ d)) in
+    let column : c.sort ≡ operand_sort (sorts_of slots) t = same_sort_is c.sort _ (not-false _ (or_false_left fits _ d)) in
     let slot : here ≡ s.sort = same_sort_is here s.sort (and_left (same_sort here s.sort) _ h) in
     (column ∙ sym (place_sort-operand slots t) ∙ slot, columns_fit slots cs ts ss (omega arith) (or_false_right fits _ d) (and_right (same_sort here s.sort) _ h))
 
@@ -86,7 +75,7 @@ columns_fit slots (c ∷ cs) (t ∷ ts) (s ∷ ss) e d h =
 known_fits : (slots : SlotScope) (o : Option Known) (ts : List Operand) (ss : List Slot) → is_none o ≡ false → other_arity o ts ≡ false
     → arguments_differ (sorts_of slots) (columns_with o) ts ≡ false → same_sorts (map place_sort (map (place_of slots) ts)) (map (λ s. s.sort) ss) ≡ true → HaveSorts (columns_with o) ss
 known_fits slots None ts ss u a d h = absurd (true≢false u)
-known_fits slots (Some k) ts ss u a d h = columns_fit slots k.columns ts ss (same_count (length ts) (length k.columns) (is_true (length ts == length k.columns) a)) d h
+known_fits slots (Some k) ts ss u a d h = columns_fit slots k.columns ts ss (same_count (length ts) (length k.columns) (not-false (length ts == length k.columns) a)) d h
 
 -- ---- formulas
 

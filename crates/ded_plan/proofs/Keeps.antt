@@ -16,8 +16,9 @@ use Rattle.ded_model.specs.Lines.{Line, IsSubset, all_lines, any_clashes}
 use Rattle.ded_model.specs.Measure.{Measures, plan_atom_lines, plan_atom_clash, plan_lines, plan_clashes}
 use Rattle.ded_model.proofs.Points.{positive-extension}
 use Rattle.ded_model.proofs.Members.{subset_append}
-use Rattle.ded_model.proofs.Monotone.{past-grows, clash_past-grows, or-grows}
+use Rattle.ded_model.proofs.Monotone.{past-grows, clash_past-grows, or-grows, max-grows}
 use Rattle.ded_plan.specs.Rewritten.{IsTidyPlan, IsPassed, is_scan_with}
+use Rattle.ded_algebra.proofs.PlanShapes.{and_grows}
 
 -- what members mention, their lines, and whether one clashes
 abbrev pub any_mention : Logics PlanAtom → Key → Bool
@@ -68,13 +69,6 @@ keeps_trans f g h a b = record {
 
 -- ---- inside
 
-and-grows : (a b d : Bool) → (b ≡ true → d ≡ true) → (a && b) ≡ true → (a && d) ≡ true
-and-grows true b d f h = f h
-and-grows false b d f h = h
-
-max-grows : (a b c d : ℕ) → a ≤ c → b ≤ d → max a b ≤ max c d
-max-grows a b c d h k = omega arith
-
 one_more-grows : (s : Sort) (m n : ℕ) → m ≤ n → one_more s m ≤ one_more s n
 one_more-grows Rat m n h = omega arith
 one_more-grows Text m n h = h
@@ -98,7 +92,7 @@ keeps_exists s k f g a = record {
     λ w. (w.0, w.1, (a.holds c w.0 (positive-extension s p k w.0 i w.1)).0 w.2),
     λ w. (w.0, w.1, (a.holds c w.0 (positive-extension s p k w.0 i w.1)).1 w.2),
   );
-  slots = λ j h. and-grows (not (same_key j k)) _ _ (a.slots j) h;
+  slots = λ j h. and_grows (not (same_key j k)) _ _ (a.slots j) h;
   length = a.length;
   rank = λ of. one_more-grows s _ _ (a.rank of);
   lines = λ t M. past-grows s k _ _ (a.lines (t.0.1, t.1) M);

@@ -22,10 +22,10 @@ use Rattle.ded_model.proofs.Rows.{or_left}
 use Rattle.ded_model.proofs.Sats.{plan_respects}
 use Rattle.ded_model.proofs.Unused.{extension, unused}
 use Rattle.ded_plan.specs.Rewritten.{IsTidyPlan}
-use Rattle.ded_plan.proofs.BothTests.{and_true}
 use Rattle.ded_plan.proofs.Keeps.{Keeps, any_mention, member_lines, any_clash}
-use Rattle.ded_plan.proofs.Steps.{none_append}
 use Rattle.ded_plan.proofs.TidyPlans.{sorted_plan, rational_plan}
+use Rattle.std.proofs.lemmas.Bool.{and_from}
+use Rattle.ded_algebra.proofs.PlanLines.{drop_none}
 
 -- ---- a key that isn't mentioned
 
@@ -54,7 +54,7 @@ lines_stay Text k f M t n l h = h
 pub past_other : (s : Sort) (k : Key) (f : PlanForm) → plan_mentions f k ≡ false → Keeps (exists s k f) f
 past_other s k f n = record {
   holds = λ c p i. unused (PlanAtomHolds (meaning c)) in_plan_atom (plan_respects c) f s k p i n;
-  slots = λ j h. and_true (not (same_key j k)) (plan_mentions f j) (other_key f k j n h) h;
+  slots = λ j h. and_from (not (same_key j k)) (plan_mentions f j) (other_key f k j n h) h;
   length = λ of. omega arith;
   rank = λ of. one_more-above s _;
   lines = λ t M. lines_stay s k f M (t.0.1, t.1) n;
@@ -92,7 +92,7 @@ one_more-parts Text m n = omega arith
 parts_past : (s : Sort) (k : Key) (xs ys : List Line) → IsSubset (elim_past s k xs ++ (elim_past s k ys ++ [])) (elim_past s k (xs ++ ys))
 parts_past s k xs ys =
     subset_join (elim_past s k xs) (elim_past s k ys ++ []) _ (past-grows s k xs (xs ++ ys) (λ l h. In-left l xs ys h))
-    (λ l h. past-grows s k ys (xs ++ ys) (λ m i. In-right m xs ys i) l (none_append (elim_past s k ys) l h))
+    (λ l h. past-grows s k ys (xs ++ ys) (λ m i. In-right m xs ys i) l (drop_none (elim_past s k ys) l h))
 
 -- what clashes among some clashes among all
 first_clash : (s : Sort) (k : Key) (xs ys : List Line) → clash_past s k xs ≡ true → clash_past s k (xs ++ ys) ≡ true
@@ -142,7 +142,7 @@ one_more-other Text m n = omega arith
 other_past : (s : Sort) (k : Key) (xs ys : List Line) → IsSubset xs (elim_past s k xs) → IsSubset (xs ++ (elim_past s k ys ++ [])) (elim_past s k (xs ++ ys))
 other_past s k xs ys f =
     subset_join xs (elim_past s k ys ++ []) _ (λ l h. past-grows s k xs (xs ++ ys) (λ m i. In-left m xs ys i) l (f l h))
-    (λ l h. past-grows s k ys (xs ++ ys) (λ m i. In-right m xs ys i) l (none_append (elim_past s k ys) l h))
+    (λ l h. past-grows s k ys (xs ++ ys) (λ m i. In-right m xs ys i) l (drop_none (elim_past s k ys) l h))
 
 or_other : (a b y z : Bool) → (y ≡ true → z ≡ true) → (a || ((b || y) || false)) ≡ true → ((a || b) || z) ≡ true
 or_other true b y z g h = refl

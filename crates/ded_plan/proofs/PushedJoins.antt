@@ -10,18 +10,20 @@ use Rattle.ded_model.specs.PlanForm.{PlanAtom, scan, rows, PlanForm}
 use Rattle.ded_model.specs.Pushed.{is_union, is_join, is_not, is_rows, some_member, every_member, is_one, pushed, all_pushed}
 use Rattle.ded_model.proofs.Points.{and_left, and_right}
 use Rattle.ded_plan.specs.Rewrite.{appended, filtered, join_of, union_of, negated, with_rows, each_with_rows, also_rows, also_all_rows, rows_of, no_rows_of, distributed, members_of, flattened, part_of, kept, taken, difference_of, joined}
-use Rattle.ded_plan.proofs.BothTests.{or_false, or_false_left, or_false_right, or_more, and_true, apart_left, apart_right}
+use Rattle.ded_plan.proofs.BothTests.{or_more, apart_left, apart_right}
+use Rattle.std.proofs.lemmas.Bool.{or_from, and_from}
+use Rattle.ded_model.proofs.Bools.{or_false_left, or_false_right}
 
 -- ---- members
 
 -- one of the members of two lists
 pub some_appended : (test : PlanForm → Bool) (fs gs : Logics PlanAtom) → some_member test fs ≡ false → some_member test gs ≡ false → some_member test (appended fs gs) ≡ false
 some_appended test none gs h k = k
-some_appended test (also f fs) gs h k = or_false _ _ (or_false_left (test f) _ h) (some_appended test fs gs (or_false_right (test f) _ h) k)
+some_appended test (also f fs) gs h k = or_from _ _ (or_false_left (test f) _ h) (some_appended test fs gs (or_false_right (test f) _ h) k)
 
 pub pushed_appended : (fs gs : Logics PlanAtom) → all_pushed fs ≡ true → all_pushed gs ≡ true → all_pushed (appended fs gs) ≡ true
 pushed_appended none gs h k = k
-pushed_appended (also f fs) gs h k = and_true _ _ (and_left (pushed f) _ h) (pushed_appended fs gs (and_right (pushed f) _ h) k)
+pushed_appended (also f fs) gs h k = and_from _ _ (and_left (pushed f) _ h) (pushed_appended fs gs (and_right (pushed f) _ h) k)
 
 -- one of the members that pass a test
 pub some_filtered : (test keep : PlanForm → Bool) (fs : Logics PlanAtom) → some_member test fs ≡ false → some_member test (filtered keep fs) ≡ false
@@ -29,7 +31,7 @@ some_filtered test keep none h = h
 some_filtered test keep (also f fs) h = go (keep f) (some_filtered test keep fs (or_false_right (test f) _ h))
   where
     go : (b : Bool) → some_member test (filtered keep fs) ≡ false → some_member test (cond b (also f (filtered keep fs)) (filtered keep fs)) ≡ false
-    go true e = or_false _ _ (or_false_left (test f) _ h) e
+    go true e = or_from _ _ (or_false_left (test f) _ h) e
     go false e = e
 
 pub pushed_filtered : (keep : PlanForm → Bool) (fs : Logics PlanAtom) → all_pushed fs ≡ true → all_pushed (filtered keep fs) ≡ true
@@ -37,7 +39,7 @@ pushed_filtered keep none h = h
 pushed_filtered keep (also f fs) h = go (keep f) (pushed_filtered keep fs (and_right (pushed f) _ h))
   where
     go : (b : Bool) → all_pushed (filtered keep fs) ≡ true → all_pushed (cond b (also f (filtered keep fs)) (filtered keep fs)) ≡ true
-    go true e = and_true _ _ (and_left (pushed f) _ h) e
+    go true e = and_from _ _ (and_left (pushed f) _ h) e
     go false e = e
 
 -- all of them pass it
@@ -46,7 +48,7 @@ every_filtered keep none = refl
 every_filtered keep (also f fs) = go (keep f) refl (every_filtered keep fs)
   where
     go : (b : Bool) → keep f ≡ b → every_member keep (filtered keep fs) ≡ true → every_member keep (cond b (also f (filtered keep fs)) (filtered keep fs)) ≡ true
-    go true e h = and_true _ _ e h
+    go true e h = and_from _ _ e h
     go false e h = h
 
 -- and none of those that fail another one does
@@ -57,7 +59,7 @@ none_filtered test (also f fs) = go (test f) refl (none_filtered test fs)
     go : (b : Bool) → test f ≡ b → some_member test (filtered (λ g. not (test g)) fs) ≡ false
         → some_member test (cond (not b) (also f (filtered (λ g. not (test g)) fs)) (filtered (λ g. not (test g)) fs)) ≡ false
     go true e h = h
-    go false e h = or_false _ _ e h
+    go false e h = or_from _ _ e h
 
 -- one that is of another kind is still there
 some_kept : (test drop : PlanForm → Bool) → ((f : PlanForm) → test f ≡ true → drop f ≡ false) → (fs : Logics PlanAtom) → some_member test fs ≡ true → some_member test (filtered (λ f. not (drop f)) fs) ≡ true
@@ -200,10 +202,10 @@ rows_are_one_more t (also f fs) m =
     go : (b : Bool) → b ≡ false → AreWithoutUnion (also_rows t fs) → AreWithoutUnion (cond b (also (with_rows t f) fs) (also f (also_rows t fs)))
     go true e r = absurd (true≢false e)
     go false e r = record {
-      joins = or_false _ _ (or_false_left (is_join f) _ m.joins) r.joins;
-      unions = or_false _ _ (or_false_left (is_union f) _ m.unions) r.unions;
-      nots = or_false _ _ (or_false_left (is_not f) _ m.nots) r.nots;
-      pushed = and_true _ _ (and_left (pushed f) _ m.pushed) r.pushed;
+      joins = or_from _ _ (or_false_left (is_join f) _ m.joins) r.joins;
+      unions = or_from _ _ (or_false_left (is_union f) _ m.unions) r.unions;
+      nots = or_from _ _ (or_false_left (is_not f) _ m.nots) r.nots;
+      pushed = and_from _ _ (and_left (pushed f) _ m.pushed) r.pushed;
     }
 
 -- else a union takes them
@@ -212,11 +214,11 @@ union_takes_rows : (t : List Atom) (f : PlanForm) (fs : Logics PlanAtom) (b : Bo
 union_takes_rows t f fs true e m here rest =
     let u = union_with_rows t f e in
     record {
-      joins = or_false _ _ (union_is_no_join (with_rows t f) u) (or_false_right (is_join f) _ m.joins);
-      rows = or_false _ _ (union_is_no_rows (with_rows t f) u) (or_false_right (is_rows f) _ m.rows);
+      joins = or_from _ _ (union_is_no_join (with_rows t f) u) (or_false_right (is_join f) _ m.joins);
+      rows = or_from _ _ (union_is_no_rows (with_rows t f) u) (or_false_right (is_rows f) _ m.rows);
       unions = ap (λ x. x || some_member is_union fs) u;
-      nots = or_false _ _ (union_is_no_not (with_rows t f) u) (or_false_right (is_not f) _ m.nots);
-      pushed = and_true _ _ (here (and_left (pushed f) _ m.pushed)) (and_right (pushed f) _ m.pushed);
+      nots = or_from _ _ (union_is_no_not (with_rows t f) u) (or_false_right (is_not f) _ m.nots);
+      pushed = and_from _ _ (here (and_left (pushed f) _ m.pushed)) (and_right (pushed f) _ m.pushed);
     }
 union_takes_rows t f fs false e m here rest =
     let r = rest (record {
@@ -227,11 +229,11 @@ union_takes_rows t f fs false e m here rest =
       pushed = and_right (pushed f) _ m.pushed;
     }) in
     record {
-      joins = or_false _ _ (or_false_left (is_join f) _ m.joins) r.joins;
-      rows = or_false _ _ (or_false_left (is_rows f) _ m.rows) r.rows;
+      joins = or_from _ _ (or_false_left (is_join f) _ m.joins) r.joins;
+      rows = or_from _ _ (or_false_left (is_rows f) _ m.rows) r.rows;
       unions = ap (λ x. x || some_member is_union (also_rows t fs)) e ∙ r.unions;
-      nots = or_false _ _ (or_false_left (is_not f) _ m.nots) r.nots;
-      pushed = and_true _ _ (and_left (pushed f) _ m.pushed) r.pushed;
+      nots = or_from _ _ (or_false_left (is_not f) _ m.nots) r.nots;
+      pushed = and_from _ _ (and_left (pushed f) _ m.pushed) r.pushed;
     }
 
 -- rows among the members of a join
@@ -254,15 +256,15 @@ mutual
   pushed_with_rows t (negation f) h = and_right (not (is_not f)) _ h
   pushed_with_rows t (every_of fs) h = pushed_join_of (also_rows t fs) (pushed_also_rows t fs (some_member is_union fs) refl (pushed_members fs h) (rows_taken t fs))
   pushed_with_rows t (some_of fs) h =
-      and_true _ _ (ap not (one_with_rows t fs) ∙ and_left (not (is_one fs)) _ h) (pushed_each_with_rows t fs (and_right (not (is_one fs)) _ h))
+      and_from _ _ (ap not (one_with_rows t fs) ∙ and_left (not (is_one fs)) _ h) (pushed_each_with_rows t fs (and_right (not (is_one fs)) _ h))
   pushed_with_rows t (implies f g) h = absurd (true≢false (sym h))
-  pushed_with_rows t (minus f g) h = and_true (pushed (minus f g)) true h refl
-  pushed_with_rows t (exists s k f) h = and_true (pushed (exists s k f)) true h refl
+  pushed_with_rows t (minus f g) h = and_from (pushed (minus f g)) true h refl
+  pushed_with_rows t (exists s k f) h = and_from (pushed (exists s k f)) true h refl
   pushed_with_rows t (forall s k f) h = absurd (true≢false (sym h))
 
   pushed_each_with_rows : (t : List Atom) (fs : Logics PlanAtom) → all_pushed fs ≡ true → all_pushed (each_with_rows t fs) ≡ true
   pushed_each_with_rows t none h = refl
-  pushed_each_with_rows t (also f fs) h = and_true _ _ (pushed_with_rows t f (and_left (pushed f) _ h)) (pushed_each_with_rows t fs (and_right (pushed f) _ h))
+  pushed_each_with_rows t (also f fs) h = and_from _ _ (pushed_with_rows t f (and_left (pushed f) _ h)) (pushed_each_with_rows t fs (and_right (pushed f) _ h))
 
   rows_taken : (t : List Atom) (fs : Logics PlanAtom) → AreWithoutRows fs → AreWithoutRows (also_rows t fs)
   rows_taken t none m = absurd (true≢false (sym m.unions))
@@ -323,7 +325,7 @@ record AreFlat (fs : Logics PlanAtom) : Type 0 where
   pushed : all_pushed fs ≡ true
 
 one_flat : (f : PlanForm) → is_join f ≡ false → pushed f ≡ true → AreFlat (also f none)
-one_flat f e h = record { joins = or_false _ _ e refl; pushed = and_true _ _ h refl }
+one_flat f e h = record { joins = or_from _ _ e refl; pushed = and_from _ _ h refl }
 
 flat_members : (f : PlanForm) → pushed f ≡ true → AreFlat (members_of f)
 flat_members (atom a) h = one_flat (atom a) refl h
@@ -349,14 +351,14 @@ pushed_taken none h = refl
 pushed_taken (also f fs) h = go (is_not f) (pushed_taken fs (and_right (pushed f) _ h))
   where
     go : (b : Bool) → all_pushed (taken fs) ≡ true → all_pushed (cond b (also (part_of f) (taken fs)) (taken fs)) ≡ true
-    go true e = and_true _ _ (pushed_part f (and_left (pushed f) _ h)) e
+    go true e = and_from _ _ (pushed_part f (and_left (pushed f) _ h)) e
     go false e = e
 
 pushed_difference : (fs gs : Logics PlanAtom) → AreApart fs → all_pushed gs ≡ true → pushed (difference_of fs gs) ≡ true
 pushed_difference none none m h = refl
 pushed_difference (also f fs) none m h = pushed_join_of _ (pushed_distributed (also f fs) m)
 pushed_difference none (also g gs) m h = pushed_negated (union_of (also g gs)) (pushed_union_of (also g gs) h)
-pushed_difference (also f fs) (also g gs) m h = and_true _ _ (pushed_join_of _ (pushed_distributed (also f fs) m)) (pushed_union_of (also g gs) h)
+pushed_difference (also f fs) (also g gs) m h = and_from _ _ (pushed_join_of _ (pushed_distributed (also f fs) m)) (pushed_union_of (also g gs) h)
 
 pub pushed_joined : (fs : Logics PlanAtom) → all_pushed fs ≡ true → pushed (joined fs) ≡ true
 pushed_joined fs h =

@@ -11,8 +11,10 @@ use Rattle.ded_model.specs.Pushed.{is_union, is_join, is_not, is_rows, some_memb
 use Rattle.ded_model.proofs.Points.{and_left, and_right}
 use Rattle.ded_plan.specs.Rewrite.{appended, is_none, filtered, negated, inside, outside, projected_join, projected_down, each_projected, projected, rewritten, each_rewritten}
 use Rattle.ded_plan.proofs.Keeps.{any_mention}
-use Rattle.ded_plan.proofs.BothTests.{or_false, or_false_left, or_false_right, and_true, apart_still}
+use Rattle.ded_plan.proofs.BothTests.{apart_still}
 use Rattle.ded_plan.proofs.PushedJoins.{some_appended, pushed_appended, some_filtered, pushed_filtered, every_filtered, AreMembers, pushed_join, pushed_members, pushed_not_one, pushed_union_of, pushed_negated, pushed_joined}
+use Rattle.std.proofs.lemmas.Bool.{or_from, and_from}
+use Rattle.ded_model.proofs.Bools.{or_false_left, or_false_right}
 
 -- ---- members that are projected
 
@@ -74,7 +76,7 @@ none_becomes : (test : PlanForm → Bool) → ((s : Sort) (k : Key) (f : PlanFor
     → (s : Sort) (k : Key) (fs : Logics PlanAtom) → some_member is_join fs ≡ false → some_member test fs ≡ false → some_member test (each_projected s k fs) ≡ false
 none_becomes test stays s k none j h = refl
 none_becomes test stays s k (also f fs) j h =
-    or_false _ _ (go (plan_mentions f k)) (none_becomes test stays s k fs (or_false_right (is_join f) _ j) (or_false_right (test f) _ h))
+    or_from _ _ (go (plan_mentions f k)) (none_becomes test stays s k fs (or_false_right (is_join f) _ j) (or_false_right (test f) _ h))
   where
     go : (b : Bool) → test (cond b (projected_down s k f) f) ≡ false
     go true = stays s k f (or_false_left (is_join f) _ j) (or_false_left (test f) _ h)
@@ -94,7 +96,7 @@ none_outside k (also f fs) e = go (plan_mentions f k) refl e (none_outside k fs)
   where
     go : (b : Bool) → plan_mentions f k ≡ b → is_none (cond (not b) (also f (outside k fs)) (outside k fs)) ≡ true → (is_none (outside k fs) ≡ true → every_member (λ g. plan_mentions g k) fs ≡ true)
         → every_member (λ g. plan_mentions g k) (also f fs) ≡ true
-    go true m h rest = and_true _ _ m (rest h)
+    go true m h rest = and_from _ _ m (rest h)
     go false m h rest = absurd (true≢false (sym h))
 
 inside_mentions : (k : Key) (fs : Logics PlanAtom) → any_mention fs k ≡ true → any_mention (inside k fs) k ≡ true
@@ -125,7 +127,7 @@ projection_after os s k f e m h = pushed_join (appended os (also (exists s k f) 
   joins = some_appended is_join os (also (exists s k f) none) m.joins refl;
   apart = apart_still _ _ _ _ (λ e. some_appended is_rows os (also (exists s k f) none) e refl) (λ e. some_appended is_union os (also (exists s k f) none) e refl) m.apart;
   nots = some_appended is_not os (also (exists s k f) none) m.nots refl;
-  pushed = pushed_appended os (also (exists s k f) none) m.pushed (and_true _ _ h refl);
+  pushed = pushed_appended os (also (exists s k f) none) m.pushed (and_from _ _ h refl);
 })
 
 pushed_projected_join : (s : Sort) (k : Key) (fs : Logics PlanAtom) → pushed (every_of fs) ≡ true → plan_mentions (every_of fs) k ≡ true → all_pushed (each_projected s k fs) ≡ true → pushed (projected_join s k fs (each_projected s k fs)) ≡ true
@@ -136,7 +138,7 @@ pushed_projected_join s k fs h m each = go (is_none (outside k fs)) (is_one (ins
 
     go : (b d : Bool) → is_none (outside k fs) ≡ b → is_one (inside k fs) ≡ d
         → pushed (cond b (exists s k (every_of fs)) (cond d (every_of (each_projected s k fs)) (every_of (appended (outside k fs) (also (exists s k (every_of (inside k fs))) none))))) ≡ true
-    go true d e i = and_true _ _ (and_true _ _ m (none_outside k fs e)) h
+    go true d e i = and_from _ _ (and_from _ _ m (none_outside k fs e)) h
     go false true e i = pushed_join (each_projected s k fs) (one_projected s k fs ∙ pushed_not_one fs h) (record {
       joins = none_becomes is_join (λ s k f j e. down_no_join s k f j) s k fs are.joins are.joins;
       apart = apart_projected s k fs are.joins are.apart;
@@ -145,7 +147,7 @@ pushed_projected_join s k fs h m each = go (is_none (outside k fs)) (is_one (ins
     })
     go false false e i =
         projection_after (outside k fs) s k (every_of (inside k fs)) e (filtered_members (λ f. not (plan_mentions f k)) fs are)
-        (and_true _ _ (and_true _ _ (inside_mentions k fs m) (every_filtered (λ f. plan_mentions f k) fs)) (pushed_join (inside k fs) i (filtered_members (λ f. plan_mentions f k) fs are)))
+        (and_from _ _ (and_from _ _ (inside_mentions k fs m) (every_filtered (λ f. plan_mentions f k) fs)) (pushed_join (inside k fs) i (filtered_members (λ f. plan_mentions f k) fs are)))
 
 -- ---- projections
 
@@ -157,21 +159,21 @@ pushed_choice s k f false e h a = h
 
 mutual
   pushed_projected_down : (s : Sort) (k : Key) (f : PlanForm) → plan_mentions f k ≡ true → pushed f ≡ true → pushed (projected_down s k f) ≡ true
-  pushed_projected_down s k (atom a) m h = and_true _ _ m h
+  pushed_projected_down s k (atom a) m h = and_from _ _ m h
   pushed_projected_down s k always m h = absurd (true≢false (sym h))
   pushed_projected_down s k never m h = absurd (true≢false (sym h))
-  pushed_projected_down s k (negation f) m h = and_true _ _ m h
+  pushed_projected_down s k (negation f) m h = and_from _ _ m h
   pushed_projected_down s k (every_of fs) m h = pushed_projected_join s k fs h m (pushed_each_projected s k fs (pushed_members fs h).pushed)
-  pushed_projected_down s k (some_of fs) m h = and_true _ _ (ap not (one_projected s k fs) ∙ and_left (not (is_one fs)) _ h) (pushed_each_projected s k fs (and_right (not (is_one fs)) _ h))
+  pushed_projected_down s k (some_of fs) m h = and_from _ _ (ap not (one_projected s k fs) ∙ and_left (not (is_one fs)) _ h) (pushed_each_projected s k fs (and_right (not (is_one fs)) _ h))
   pushed_projected_down s k (implies f g) m h = absurd (true≢false (sym h))
-  pushed_projected_down s k (minus f g) m h = and_true _ _ m h
-  pushed_projected_down s k (exists t j f) m h = and_true _ _ m h
+  pushed_projected_down s k (minus f g) m h = and_from _ _ m h
+  pushed_projected_down s k (exists t j f) m h = and_from _ _ m h
   pushed_projected_down s k (forall t j f) m h = absurd (true≢false (sym h))
 
   pushed_each_projected : (s : Sort) (k : Key) (fs : Logics PlanAtom) → all_pushed fs ≡ true → all_pushed (each_projected s k fs) ≡ true
   pushed_each_projected s k none h = refl
   pushed_each_projected s k (also f fs) h =
-      and_true _ _ (pushed_choice s k f (plan_mentions f k) refl (and_left (pushed f) _ h) (pushed_projected_down s k f)) (pushed_each_projected s k fs (and_right (pushed f) _ h))
+      and_from _ _ (pushed_choice s k f (plan_mentions f k) refl (and_left (pushed f) _ h) (pushed_projected_down s k f)) (pushed_each_projected s k fs (and_right (pushed f) _ h))
 
 pushed_projected : (s : Sort) (k : Key) (f : PlanForm) → pushed f ≡ true → pushed (projected s k f) ≡ true
 pushed_projected s k f h = pushed_choice s k f (plan_mentions f k) refl h (pushed_projected_down s k f)
@@ -187,11 +189,11 @@ mutual
   pushed_rewritten (negation f) = pushed_negated (rewritten f) (pushed_rewritten f)
   pushed_rewritten (every_of fs) = pushed_joined (each_rewritten fs) (pushed_each_rewritten fs)
   pushed_rewritten (some_of fs) = pushed_union_of (each_rewritten fs) (pushed_each_rewritten fs)
-  pushed_rewritten (implies f g) = and_true _ _ (pushed_negated (rewritten f) (pushed_rewritten f)) (and_true _ _ (pushed_rewritten g) refl)
-  pushed_rewritten (minus f g) = and_true _ _ (pushed_rewritten f) (pushed_rewritten g)
+  pushed_rewritten (implies f g) = and_from _ _ (pushed_negated (rewritten f) (pushed_rewritten f)) (and_from _ _ (pushed_rewritten g) refl)
+  pushed_rewritten (minus f g) = and_from _ _ (pushed_rewritten f) (pushed_rewritten g)
   pushed_rewritten (exists s k f) = pushed_projected s k (rewritten f) (pushed_rewritten f)
   pushed_rewritten (forall s k f) = pushed_negated (projected s k (negated (rewritten f))) (pushed_projected s k (negated (rewritten f)) (pushed_negated (rewritten f) (pushed_rewritten f)))
 
   pushed_each_rewritten : (fs : Logics PlanAtom) → all_pushed (each_rewritten fs) ≡ true
   pushed_each_rewritten none = refl
-  pushed_each_rewritten (also f fs) = and_true _ _ (pushed_rewritten f) (pushed_each_rewritten fs)
+  pushed_each_rewritten (also f fs) = and_from _ _ (pushed_rewritten f) (pushed_each_rewritten fs)

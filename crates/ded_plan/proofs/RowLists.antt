@@ -6,8 +6,8 @@ use Rattle.ded_model.specs.Logic.{atom, Logics, none, also}
 use Rattle.ded_model.specs.PlanForm.{PlanAtom, rows, PlanForm, plan_form, plan_forms}
 use Rattle.ded_model.specs.Pushed.{is_union, is_rows, some_member}
 use Rattle.ded_plan.specs.Rewrite.{appended, with_rows, also_rows, also_all_rows, atoms_of, rows_of, no_rows_of, distributed}
-use Rattle.ded_plan.proofs.BothTests.{and_true}
 use Rattle.ded_plan.proofs.PlanLists.{appended_none, appended_last, map-id}
+use Rattle.std.proofs.lemmas.Bool.{and_from}
 
 -- ---- rows put into the first union
 
@@ -80,7 +80,7 @@ rows_still ts ps p e h = h ∙ sym (last ps)
 
 -- where there are rows and a union
 pub distributed_moves : (fs : Logics PlanAtom) → some_member is_rows fs ≡ true → some_member is_union fs ≡ true → also_all_rows (rows_of fs) (no_rows_of fs) ≡ distributed fs
-distributed_moves fs e d = ap (λ b. cond b (also_all_rows (rows_of fs) (no_rows_of fs)) fs) (sym (and_true (some_member is_rows fs) (some_member is_union fs) e d))
+distributed_moves fs e d = ap (λ b. cond b (also_all_rows (rows_of fs) (no_rows_of fs)) fs) (sym (and_from (some_member is_rows fs) (some_member is_union fs) e d))
 
 -- where there are none
 pub distributed_stays : (fs : Logics PlanAtom) → (some_member is_rows fs ≡ false) ⊎ (some_member is_union fs ≡ false) → fs ≡ distributed fs

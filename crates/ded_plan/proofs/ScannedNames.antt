@@ -10,6 +10,7 @@ use Rattle.ded_model.specs.Uses.{goal_atom_uses, goal_uses, plan_atom_uses, plan
 use Rattle.ded_sorts.proofs.Sides.{bytes_eq-sym}
 use Rattle.ded_plan.specs.ScannedNames.{with_name, with_some_name, with_names, with_all_names, scanned_name, used_name, AreDistinctNames}
 use Rattle.ded_model.proofs.Bools.{or_false_left, or_false_right}
+use Rattle.std.proofs.lemmas.Bool.{or_from}
 
 -- ---- one name more
 
@@ -81,15 +82,11 @@ names_of-goal g n = sym (names_more used_name (goal_atom_uses n) n tells g [])
 
 -- ---- each once
 
--- neither of two tests is passed
-neither : (a b : Bool) → a ≡ false → b ≡ false → (a || b) ≡ false
-neither a b e f = ap₂ (λ x y. x || y) e f
-
 -- a name that is not there
 distinct_more : (m : List ℕ) (ns : List (List ℕ)) → list_any (bytes_eq m) ns ≡ false → AreDistinctNames ns → AreDistinctNames (ns ++ m ∷ [])
 distinct_more m [] e d = (refl, tt)
 distinct_more m (k ∷ ns) e d =
-    (any_more k m ns ∙ neither _ _ d.0 (bytes_eq-sym k m ∙ or_false_left _ _ e), distinct_more m ns (or_false_right (bytes_eq m k) _ e) d.1)
+    (any_more k m ns ∙ or_from _ _ d.0 (bytes_eq-sym k m ∙ or_false_left _ _ e), distinct_more m ns (or_false_right (bytes_eq m k) _ e) d.1)
 
 -- or any name
 name_distinct : (m : List ℕ) (ns : List (List ℕ)) → AreDistinctNames ns → AreDistinctNames (with_name ns m)

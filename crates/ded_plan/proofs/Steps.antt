@@ -12,16 +12,14 @@ use Rattle.ded_model.specs.Measure.{plan_lines, plan_clashes}
 use Rattle.ded_model.proofs.Deciding.{plan_stable, plan_decided}
 use Rattle.ded_model.proofs.Members.{In-left, In-right, subset_refl, subset_none, subset_join}
 use Rattle.ded_plan.proofs.Keeps.{any_mention, member_lines, any_clash, Keeps}
+use Rattle.ded_algebra.proofs.PlanShapes.{or_one}
+use Rattle.ded_algebra.proofs.PlanLines.{drop_none}
 
 -- ---- two members, or three, in other places
 
 or_none : (a : Bool) → a ≡ true → (a || false) ≡ true
 or_none true h = h
 or_none false h = h
-
-none_or : (a : Bool) → (a || false) ≡ true → a ≡ true
-none_or true h = h
-none_or false h = h
 
 or_swap : (a b d : Bool) → (b || (a || d)) ≡ true → (a || (b || d)) ≡ true
 or_swap true b d h = refl
@@ -40,16 +38,13 @@ or_out false b d h = h
 append_none : (xs : List Line) → IsSubset xs (xs ++ [])
 append_none xs l h = In-left l xs [] h
 
-pub none_append : (xs : List Line) → IsSubset (xs ++ []) xs
-none_append xs = subset_join xs [] xs (subset_refl xs) (subset_none xs)
-
 swapped : (xs ys zs : List Line) → IsSubset (ys ++ (xs ++ zs)) (xs ++ (ys ++ zs))
 swapped xs ys zs =
     subset_join ys (xs ++ zs) _ (λ l h. In-right l xs _ (In-left l ys zs h)) (subset_join xs zs _ (λ l h. In-left l xs _ h) (λ l h. In-right l xs _ (In-right l ys zs h)))
 
 gathered : (xs ys zs : List Line) → IsSubset ((xs ++ (ys ++ [])) ++ zs) (xs ++ (ys ++ zs))
 gathered xs ys zs =
-    subset_join (xs ++ (ys ++ [])) zs _ (subset_join xs (ys ++ []) _ (λ l h. In-left l xs _ h) (λ l h. In-right l xs _ (In-left l ys zs (none_append ys l h)))) (λ l h. In-right l xs _ (In-right l ys zs h))
+    subset_join (xs ++ (ys ++ [])) zs _ (subset_join xs (ys ++ []) _ (λ l h. In-left l xs _ h) (λ l h. In-right l xs _ (In-left l ys zs (drop_none ys l h)))) (λ l h. In-right l xs _ (In-right l ys zs h))
 
 split : (xs ys zs : List Line) → IsSubset (xs ++ (ys ++ zs)) ((xs ++ ys) ++ zs)
 split xs ys zs = subset_join xs (ys ++ zs) _ (λ l h. In-left l (xs ++ ys) zs (In-left l xs ys h)) (subset_join ys zs _ (λ l h. In-left l (xs ++ ys) zs (In-right l xs ys h)) (λ l h. In-right l (xs ++ ys) zs h))
@@ -72,11 +67,11 @@ member_alone f = record {
 pub alone_member : (f : PlanForm) → Keeps f (every_of (also f none))
 alone_member f = record {
   holds = λ c p i. (λ x. (x, tt), λ x. x.0);
-  slots = λ k h. none_or (plan_mentions f k) h;
+  slots = λ k h. or_one (plan_mentions f k) h;
   length = λ of. omega arith;
   rank = λ of. omega arith;
-  lines = λ t M. none_append (plan_lines M f);
-  clashes = λ t M h. none_or (plan_clashes M f) h;
+  lines = λ t M. drop_none (plan_lines M f);
+  clashes = λ t M h. or_one (plan_clashes M f) h;
   scans = λ test. omega arith;
   tidy = λ t. ((t.0, tt), (t.1, tt));
   atoms = λ test t. (t, tt);
@@ -164,8 +159,8 @@ parts : (xs ys zs : List Line) → IsSubset ((xs ++ (ys ++ [])) ++ ((xs ++ (zs +
 parts xs ys zs =
     let first = λ (l : Line) (h : In l xs). In-left l xs ((ys ++ zs) ++ []) h in
     let rest = λ (l : Line) (h : In l (ys ++ zs)). In-right l xs ((ys ++ zs) ++ []) (In-left l (ys ++ zs) [] h) in
-    subset_join (xs ++ (ys ++ [])) ((xs ++ (zs ++ [])) ++ []) _ (subset_join xs (ys ++ []) _ first (λ l h. rest l (In-left l ys zs (none_append ys l h))))
-    (λ l h. subset_join xs (zs ++ []) _ first (λ m i. rest m (In-right m ys zs (none_append zs m i))) l (none_append (xs ++ (zs ++ [])) l h))
+    subset_join (xs ++ (ys ++ [])) ((xs ++ (zs ++ [])) ++ []) _ (subset_join xs (ys ++ []) _ first (λ l h. rest l (In-left l ys zs (drop_none ys l h))))
+    (λ l h. subset_join xs (zs ++ []) _ first (λ m i. rest m (In-right m ys zs (drop_none zs m i))) l (drop_none (xs ++ (zs ++ [])) l h))
 
 -- beside the union of no parts nothing holds
 pub rows_beside_nothing : (a : List Atom) → Keeps (every_of (also (atom (rows a)) (also (some_of none) none))) (some_of none)
@@ -362,7 +357,7 @@ or_both false true h = refl
 or_both false false h = h
 
 both_lines : (xs ys : List Line) → IsSubset (xs ++ (ys ++ [])) (xs ++ ys)
-both_lines xs ys = subset_join xs (ys ++ []) _ (λ l h. In-left l xs ys h) (λ l h. In-right l xs ys (none_append ys l h))
+both_lines xs ys = subset_join xs (ys ++ []) _ (λ l h. In-left l xs ys h) (λ l h. In-right l xs ys (drop_none ys l h))
 
 pub implies_is : (f g : PlanForm) → Keeps (implies f g) (some_of (also (negation f) (also g none)))
 implies_is f g = record {

@@ -13,6 +13,7 @@ use Rattle.ded_model.specs.Logic.{Logic, atom, always, never, negation, every_of
 use Rattle.ded_model.specs.PlanForm.{PlanAtom, scan, rows, PlanForm, plan_form, plan_forms}
 use Rattle.ded_model.specs.Point.{Key, slot, name}
 use Rattle.ded_plan.specs.Rewritten.{IsSlotOf, ProjectsSlots, EachProjectsSlots, IsTidyAtom, IsTidyPlan}
+use Rattle.ded_model.proofs.AtomSlots.{AreCoefs-rational}
 
 -- ---- all atoms
 
@@ -61,13 +62,9 @@ mutual
   sorted_plans none h = tt
   sorted_plans (also f fs) h = (sorted_plan f h.0, sorted_plans fs h.1)
 
-rational_coefs : (cs : List (Slot × ℤ)) → AreCoefs cs → AreRationalCoefs cs
-rational_coefs [] h = tt
-rational_coefs (c ∷ cs) h = (h.0, rational_coefs cs h.4)
-
 rational_atoms : (t : List Atom) → IsNormalTuple t → AreRationalAtoms t
 rational_atoms [] h = tt
-rational_atoms (First r ∷ t) h = (rational_coefs r.coefs h.0.0, rational_atoms t h.2)
+rational_atoms (First r ∷ t) h = (AreCoefs-rational r.coefs h.0.0, rational_atoms t h.2)
 rational_atoms (Second a ∷ t) h = rational_atoms t h.2
 
 rational_atom : (a : PlanAtom) → IsTidyAtom a → IsRationalPlanAtom a

@@ -5,9 +5,7 @@ use Rattle.std.proofs.Math.ListN.{drop_of_length-le}
 use Rattle.ded_print.specs.Gathering.{Output, Puts}
 use Rattle.ded_print.specs.Lines.{counted_text, line_text, lines_text}
 use Rattle.ded_print.proofs.Gathering.{puts_both, puts_none}
-
-suc_is : (n : ℕ) → n + 1 ≡ suc n
-suc_is n = omega arith
+use Rattle.ded_print.proofs.Terms.{suc_is}
 
 -- one more line, of things that each have a line
 pub next_line : {A : Type 0} (line : A → List ℕ) (start now next : Output) (all items : List A) (i : ℕ) (x : A) → i < length items → x ≡ get_or items i x

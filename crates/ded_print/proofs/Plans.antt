@@ -20,9 +20,7 @@ use Rattle.ded_print.specs.Gathering.{Output, Puts}
 use Rattle.ded_print.specs.Nodes.{node_text, nodes, nodes_of}
 use Rattle.ded_print.specs.Lines.{line_text, lines_text}
 use Rattle.ded_print.specs.Plans.{indent, later_slots_text, node_lines, part_lines, parts}
-
-suc_is : (n : ℕ) → n + 1 ≡ suc n
-suc_is n = omega arith
+use Rattle.ded_print.proofs.Terms.{suc_is}
 
 left_after : {A : Type 0} (xs : List A) (i : ℕ) (x : A) → i < length xs → x ≡ get_or xs i x → drop i xs ≡ x ∷ drop (i + 1) xs
 left_after xs i x there is =

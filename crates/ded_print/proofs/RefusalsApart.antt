@@ -20,6 +20,7 @@ use Rattle.ded_print.specs.Quiet.{IsQuiet, AreQuiet}
 use Rattle.ded_print.specs.Tuples.{column_names, tuple_text, answer_text}
 use Rattle.ded_print.proofs.QuotedLines.{IsClosed, closed_both, closed_number, counted_first, header_closed, same_line, closed_written}
 use Rattle.ded_print.proofs.QuotedTexts.{closed_span, quiet_names}
+use Rattle.ded_print.proofs.Runs.{tails}
 
 closed_word : (r : Refusal) → IsClosed (refusal_word r)
 closed_word LongStatement = λ ys. refl
@@ -80,9 +81,6 @@ no_nowhere r xs ys e = no_other_line (codes "empty") r xs ys (λ zs. refl) (λ f
 pub no_rational : (r : Refusal) (xs ys : List ℕ) → line_text (codes "no rational column") ++ xs ≡ refusal_text r ++ ys → ⊥
 unfolding first
 no_rational r xs ys e = no_other_line (codes "no rational column") r xs ys (λ zs. refl) (λ f. omega (arith, f)) e
-
-tails : {a b : ℕ} {p q : List ℕ} → a ∷ p ≡ b ∷ q → (a ≡ b) × (p ≡ q)
-tails e = (cc, cc)
 
 -- what stands behind the first blank
 behind_blank : (n m p q : List ℕ) → IsQuiet n → IsQuiet m → n ++ 32 ∷ p ≡ m ++ 32 ∷ q → p ≡ q

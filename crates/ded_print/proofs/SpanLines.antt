@@ -16,6 +16,7 @@ use Rattle.ded_print.specs.Gathering.{Output, Puts}
 use Rattle.ded_print.specs.Lines.{line_text, lines_text}
 use Rattle.ded_print.specs.Numbers.{integer_text, lowest_text}
 use Rattle.ded_print.proofs.Gathering.{puts_both}
+use Rattle.ded_print.proofs.Terms.{suc_is}
 
 -- ---- fractions
 
@@ -42,9 +43,6 @@ span_parts a b name s h = subst (λ z. Puts a b z) (sym
     ∙ ap (λ z. name ++ z) (append_assoc (codes " in ") (lower_text s.0 ++ (codes ", " ++ upper_text s.1)) (10 ∷ [])
     ∙ ap (λ z. codes " in " ++ z) (append_assoc (lower_text s.0) (codes ", " ++ upper_text s.1) (10 ∷ [])
     ∙ ap (λ z. lower_text s.0 ++ z) (append_assoc (codes ", ") (upper_text s.1) (10 ∷ [])))))) h
-
-suc_is : (n : ℕ) → n + 1 ≡ suc n
-suc_is n = omega arith
 
 left_after : {A : Type 0} (xs : List A) (i : ℕ) (x : A) → i < length xs → x ≡ get_or xs i x → drop i xs ≡ x ∷ drop (i + 1) xs
 left_after xs i x there is = let split : drop i xs ≡ get_or xs i x ∷ drop (i + 1) xs = rw (suc_is i) (drop-cons xs i x there) in

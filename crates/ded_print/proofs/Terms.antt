@@ -24,7 +24,7 @@ long_term a b names s z m is more h =
     subst (λ t. Puts a b t) (sym (other (unsigned_abs z) (names s) (number_text (unsigned_abs z) ++ (42 ∷ names s)) (λ e. more (is ∙ e))))
     (subst (λ k. Puts a b (number_text k ++ (42 ∷ names s))) is h)
 
-suc_is : (n : ℕ) → n + 1 ≡ suc n
+pub suc_is : (n : ℕ) → n + 1 ≡ suc n
 suc_is n = omega arith
 
 -- one more of the terms after the first

@@ -17,11 +17,7 @@ use Rattle.ded_eval.specs.declared.given.GivenRelation.{GivenRelation}
 use Rattle.ded_eval.specs.Given.{unnumbered, given_entry, given_catalogue, has_name}
 use Rattle.ded_views.specs.Same.{AreByteArguments, IsSameOf}
 use Rattle.ded_query.specs.Gathering.{IsGivenOf}
-
--- numbers don't count
-unnumbered-tuples : (ts : List (List Atom)) → tuples_of (unnumbered ts) ≡ ts
-unnumbered-tuples [] = refl
-unnumbered-tuples (t ∷ ts) = ap (λ us. t ∷ us) (unnumbered-tuples ts)
+use Rattle.ded_eval.proofs.Names.{tuples-unnumbered}
 
 same_name : (n m : List ℕ) → bytes_eq n m ≡ true → m ≡ n
 same_name n m e = sym ((bytes_eq-Decides n m).0 e)
@@ -33,7 +29,7 @@ module _ (c : Catalogue) (n : List ℕ) (d : ℕ) (xs : List Argument) (i : 0 < 
   own_means : (r : GivenRelation) → IsGivenOf c r → bytes_eq n r.name ≡ true → (I : Meaning) → meaning c n d xs ↔ with_entry I (given_entry r) n d xs
   own_means r g e I =
       subst (λ (b : Bool). meaning c n d xs ↔ MatchBool b (IsTrue (tuples_hold (tuples_of (unnumbered r.tuples)) (record { den = d; coords = at_slots 0 r.heading xs }))) (I n d xs)) (sym e)
-      (subst (λ (ts : List (List Atom)). meaning c n d xs ↔ IsTrue (tuples_hold ts (record { den = d; coords = at_slots 0 r.heading xs }))) (sym (unnumbered-tuples r.tuples))
+      (subst (λ (ts : List (List Atom)). meaning c n d xs ↔ IsTrue (tuples_hold ts (record { den = d; coords = at_slots 0 r.heading xs }))) (sym (tuples-unnumbered r.tuples))
       (subst (λ (m : List ℕ). meaning c m d xs ↔ IsTrue (tuples_hold r.tuples (record { den = d; coords = at_slots 0 r.heading xs }))) (same_name n r.name e) (g.means d xs i k (l ∙ ap (λ m. length (columns_in c (base m))) (sym (same_name n r.name e)) ∙ ap length g.columns))))
 
   -- of another name
@@ -66,7 +62,7 @@ module _ (c : Catalogue) (n : List ℕ) where
     where
       by : (b : Bool) → bytes_eq n r.name ≡ b → IsSubset (with_measure M (given_entry r) n).lines (measures c n).lines
       by true e =
-          rw e (subst (λ ts. IsSubset (tuples_lines ts) (measures c n).lines) (sym (unnumbered-tuples r.tuples)) (subst (λ (m : List ℕ). IsSubset (tuples_lines r.tuples) (measures c m).lines) (same_name n r.name e) g.lines))
+          rw e (subst (λ ts. IsSubset (tuples_lines ts) (measures c n).lines) (sym (tuples-unnumbered r.tuples)) (subst (λ (m : List ℕ). IsSubset (tuples_lines r.tuples) (measures c m).lines) (same_name n r.name e) g.lines))
       by false e = rw e h
 
   own_clash : (r : GivenRelation) (M : Measures) → (M n).clash ≡ false → (with_measure M (given_entry r) n).clash ≡ false

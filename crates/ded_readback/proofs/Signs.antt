@@ -7,7 +7,6 @@ use Rattle.ded_print.proofs.Signs.{plus, neg_abs, turned_abs}
 use Rattle.ded_readback.specs.Reading.{number_of}
 use Rattle.std.proofs.Math.IntN.{neg_ℤ-neg_ℤ}
 
-
 turned_twice : (t : Bool) (z : ℤ) → signed t (signed t z) ≡ z
 turned_twice true z = neg_ℤ-neg_ℤ z
 turned_twice false z = refl
