@@ -2,7 +2,8 @@
 --
 -- A sum is made by adding up the products one by one: a product with a name adds to the coefficient of that name where it
 -- has one, and else stands at the end. So no name comes twice.
-use Rattle.std.proofs.Common.{◌≡◌, ℕ, Bool, true, false, cond, List, [], ◌∷◌, map, refl, ap₂, ◌∙◌, subst, sym, true≢false, inl, inr, bytes_eq}
+use Rattle.std.proofs.Common.{arith, ◌≡◌, ℕ, Bool, true, false, cond, List, [], ◌∷◌, map, refl, ap₂, ◌∙◌, subst, sym, true≢false, inl, inr, bytes_eq}
+use Rattle.std.proofs.lemmas.Int.{ints}
 use Rattle.std.specs.Prelude.{ℤ, pos, ◌+ℤ◌, ◌||◌, Option, Some, None}
 use Rattle.std.specs.List.{list_any}
 use Rattle.ded_model.specs.declared.command.Language.{Language}
