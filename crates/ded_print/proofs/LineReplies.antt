@@ -7,6 +7,7 @@ use Rattle.ded_model.specs.declared.command.Refusal.{Refusal}
 use Rattle.ded_model.specs.declared.command.Refusal.TheVariants.{LongStatement, Unfinished, Syntax, LongName, LongNumber, Deep, Many, Twice, Unknown, Taken, Kind, Arity, Unbound, WrongSort, Used, NoTuple, Full, Spent, Level, Wide, Memory}
 use Rattle.ded_print.specs.Lines.{LineReply, done, truth, numbered, refused, reply_line, reply_text, refusal_line, is_one_line}
 use Rattle.ded_print.specs.Numbers.{number_text}
+use Rattle.ded_print.proofs.Runs.{tails}
 
 -- ---- what has no line feed
 
@@ -67,9 +68,6 @@ lines (numbered k) = number_line k
 lines (refused r) = refusal_lines r
 
 -- ---- where lines end
-
-tails : {a b : ℕ} {p q : List ℕ} → a ∷ p ≡ b ∷ q → (a ≡ b) × (p ≡ q)
-tails e = (cc, cc)
 
 differ : false ≡ true → ⊥
 differ e = cc

@@ -11,6 +11,7 @@ use Rattle.ded_model.specs.Quoting.{doubled, doubled_byte, quoted}
 use Rattle.ded_print.specs.Lines.{line_text, lines_text, counted_text}
 use Rattle.ded_print.specs.Numbers.{number_text, count_text}
 use Rattle.ded_print.specs.Quiet.{IsQuiet}
+use Rattle.ded_print.proofs.Runs.{tails}
 
 -- whether the bytes end between quotes; None where a line feed stands outside of quotes
 abbrev pub after : Bool → List ℕ → Option Bool
@@ -85,9 +86,6 @@ pub closed_quoted : (t : List ℕ) → IsClosed (quoted t)
 closed_quoted t ys = inside t ys
 
 -- ---- where lines end
-
-tails : {a b : ℕ} {p q : List ℕ} → a ∷ p ≡ b ∷ q → (a ≡ b) × (p ≡ q)
-tails e = (cc, cc)
 
 none_some : {A : Type 0} {x : A} → None ≡ Some x → ⊥
 none_some e = cc

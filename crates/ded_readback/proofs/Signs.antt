@@ -1,18 +1,14 @@
 -- Signs that are printed and read back.
-use Rattle.std.proofs.Common.{◌≡◌, zero, suc, Bool, true, false, not, refl, ap, ◌∙◌}
+use Rattle.std.proofs.Common.{◌≡◌, suc, Bool, true, false, not, refl, ap, ◌∙◌}
 use Rattle.std.specs.Prelude.{ℤ, pos, negsuc, int_lt, unsigned_abs}
 use lib.IntN.{neg_ℤ}
+use Rattle.std.proofs.Math.IntN.{neg_ℤ-neg_ℤ}
 use Rattle.ded_print.specs.Tuples.{signed}
 use Rattle.ded_print.proofs.Signs.{plus, neg_abs, turned_abs}
 use Rattle.ded_readback.specs.Reading.{number_of}
 
-neg_twice : (z : ℤ) → neg_ℤ (neg_ℤ z) ≡ z
-neg_twice (pos zero) = refl
-neg_twice (pos (suc n)) = refl
-neg_twice (negsuc n) = refl
-
 turned_twice : (t : Bool) (z : ℤ) → signed t (signed t z) ≡ z
-turned_twice true z = neg_twice z
+turned_twice true z = neg_ℤ-neg_ℤ z
 turned_twice false z = refl
 
 -- a number by its sign and its magnitude
@@ -24,8 +20,8 @@ pub number_back : (t : Bool) (z : ℤ) → number_of t (int_lt (signed t z) (pos
 number_back t z = ap (signed t) (sign_back (signed t z)) ∙ turned_twice t z
 
 back_over : (t : Bool) (z : ℤ) → signed (not t) (neg_ℤ (signed t z)) ≡ z
-back_over true z = neg_twice z
-back_over false z = neg_twice z
+back_over true z = neg_ℤ-neg_ℤ z
+back_over false z = neg_ℤ-neg_ℤ z
 
 pub constant_back : (t : Bool) (z : ℤ) → number_of (not t) (int_lt (neg_ℤ (signed t z)) (pos 0)) (unsigned_abs (neg_ℤ (signed t z))) ≡ z
 constant_back t z = ap (signed (not t)) (sign_back (neg_ℤ (signed t z))) ∙ back_over t z
