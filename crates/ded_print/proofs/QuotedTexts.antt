@@ -26,6 +26,7 @@ use Rattle.ded_print.specs.Plans.{indent, later_slots_text, slots_text, plan_ato
 use Rattle.ded_print.specs.Quiet.{IsQuiet, AreQuiet, IsQuietAtom, IsQuietPlan, AreQuietPlans}
 use Rattle.ded_print.specs.Tuples.{Names, column_at, column_names, slot_names, term_text, sign_text, later_term_text, signed, later_terms_text, op_text, row_with_text, theme_text, atom_text, later_atoms_text, tuple_text, answer_text}
 use Rattle.ded_print.proofs.QuotedLines.{IsClosed, closed_both, closed_quiet, closed_number, closed_written, closed_quoted, IsInner, AreInner, same_counted, same_many}
+use Rattle.ded_print.proofs.Runs.{first}
 
 -- ---- numbers
 
@@ -101,16 +102,10 @@ quiet_column [] n h = tt
 quiet_column (c ∷ cs) zero h = h.0
 quiet_column (c ∷ cs) (suc n) h = quiet_column cs n h.1
 
-first : List ℕ → ℕ
-first [] = 0
-first (b ∷ bs) = b
-
 other_first : (l : List ℕ) → (first l ≡ 101 → ⊥) → l ≡ codes "end" → ⊥
-unfolding first
 other_first l other e = other (ap first e)
 
 begins_tuple : (names : Names) (t : List Atom) → tuple_text names t ≡ codes "end" → ⊥
-unfolding first
 begins_tuple names [] e = absurd (omega (arith, ap first e))
 begins_tuple names (a ∷ rest) e = absurd (omega (arith, ap first e))
 
@@ -155,7 +150,6 @@ closed_count word n h = closed_both word (number_text n) h (closed_number n)
 
 -- a node's line is not `end`, whatever its first byte is but an e
 begins_node : (d : ℕ) (text : List ℕ) → (first text ≡ 101 → ⊥) → indent d ++ text ≡ codes "end" → ⊥
-unfolding first
 begins_node zero text other e = other (ap first e)
 begins_node (suc d) text other e = absurd (omega (arith, ap first e))
 
@@ -163,7 +157,6 @@ inner_node : (d : ℕ) (text : List ℕ) → IsClosed text → (first text ≡ 1
 inner_node d text closed other = record { closed = closed_both (indent d) text (closed_indent d) closed; other = begins_node d text other }
 
 begins_plan_atom : (a : PlanAtom) → first (plan_atom_text a) ≡ 101 → ⊥
-unfolding first
 begins_plan_atom (scan n ss) e = absurd (omega (arith, e))
 begins_plan_atom (rows t) e = absurd (omega (arith, e))
 
@@ -172,8 +165,6 @@ inner_both [] ms p q = q
 inner_both (l ∷ ls) ms p q = (p.0, inner_both ls ms p.1 q)
 
 mutual
-  unfolding first
-
   pub inner_nodes : (d : ℕ) (f : PlanForm) → IsQuietPlan f → AreInner (node_lines d f)
   inner_nodes d (atom a) h = (inner_node d (plan_atom_text a) (closed_plan_atom a h) (begins_plan_atom a), tt)
   inner_nodes d always h = tt

@@ -20,7 +20,7 @@ use Rattle.ded_print.specs.Quiet.{IsQuiet, AreQuiet}
 use Rattle.ded_print.specs.Tuples.{column_names, tuple_text, answer_text}
 use Rattle.ded_print.proofs.QuotedLines.{IsClosed, closed_both, closed_number, counted_first, header_closed, same_line, closed_written}
 use Rattle.ded_print.proofs.QuotedTexts.{closed_span, quiet_names}
-use Rattle.ded_print.proofs.Runs.{tails}
+use Rattle.ded_print.proofs.Runs.{tails, first}
 
 closed_word : (r : Refusal) → IsClosed (refusal_word r)
 closed_word LongStatement = λ ys. refl
@@ -48,38 +48,28 @@ closed_word Memory = λ ys. refl
 closed_refusal : (r : Refusal) → IsClosed (refusal_line r)
 closed_refusal r = closed_both (codes "refused ") (number_text (refusal_number r) ++ (32 ∷ refusal_word r)) (λ ys. refl) (closed_both (number_text (refusal_number r)) (32 ∷ refusal_word r) (closed_number (refusal_number r)) (closed_both (codes " ") (refusal_word r) (λ ys. refl) (closed_word r)))
 
-first : List ℕ → ℕ
-first [] = 0
-first (b ∷ bs) = b
-
 -- ---- answers and plans
 
 no_counted : (kind n : List ℕ) (ls : List (List ℕ)) (r : Refusal) (xs ys : List ℕ) → IsClosed kind → IsClosed n → (first (kind ++ (32 ∷ n)) ≡ 114 → ⊥)
     → counted_text kind n ls ++ xs ≡ refusal_text r ++ ys → ⊥
-unfolding first
 no_counted kind n ls r xs ys k c other e =
     other (ap first (same_line (kind ++ (32 ∷ n)) (refusal_line r) _ ys (header_closed kind n k c) (closed_refusal r) (sym (counted_first kind n ls xs) ∙ e)).0)
 
 pub no_answer : (columns : List Column) (ts : List (List Atom)) (r : Refusal) (xs ys : List ℕ) → answer_text columns ts ++ xs ≡ refusal_text r ++ ys → ⊥
-unfolding first
 no_answer columns ts r xs ys e = no_counted (codes "answer") (number_text (length ts)) (map (tuple_text (column_names columns)) ts) r xs ys (λ zs. refl) (closed_number (length ts)) (λ f. omega (arith, f)) e
 
 pub no_plan : (f : PlanForm) (r : Refusal) (xs ys : List ℕ) → plan_text f ++ xs ≡ refusal_text r ++ ys → ⊥
-unfolding first
 no_plan f r xs ys e = no_counted (codes "plan") (count_text (length (node_lines 0 f))) (node_lines 0 f) r xs ys (λ zs. refl) (closed_written (length (node_lines 0 f))) (λ f. omega (arith, f)) e
 
 -- ---- boxes
 
 no_other_line : (l : List ℕ) (r : Refusal) (xs ys : List ℕ) → IsClosed l → (first l ≡ 114 → ⊥) → line_text l ++ xs ≡ refusal_text r ++ ys → ⊥
-unfolding first
 no_other_line l r xs ys k other e = other (ap first (same_line l (refusal_line r) xs ys k (closed_refusal r) e).0)
 
 pub no_nowhere : (r : Refusal) (xs ys : List ℕ) → line_text (codes "empty") ++ xs ≡ refusal_text r ++ ys → ⊥
-unfolding first
 no_nowhere r xs ys e = no_other_line (codes "empty") r xs ys (λ zs. refl) (λ f. omega (arith, f)) e
 
 pub no_rational : (r : Refusal) (xs ys : List ℕ) → line_text (codes "no rational column") ++ xs ≡ refusal_text r ++ ys → ⊥
-unfolding first
 no_rational r xs ys e = no_other_line (codes "no rational column") r xs ys (λ zs. refl) (λ f. omega (arith, f)) e
 
 -- what stands behind the first blank
@@ -93,7 +83,7 @@ word_quiet : IsQuiet (codes "refused")
 word_quiet = (omega arith, (omega arith, (omega arith, (omega arith, (omega arith, (omega arith, (omega arith, tt)))))))
 
 numbered : (r : Refusal) (rest : List ℕ) → 105 ∷ rest ≡ number_text (refusal_number r) ++ (32 ∷ refusal_word r) → ⊥
-unfolding first number_text
+unfolding number_text
 numbered LongStatement rest e = absurd (omega (arith, ap first e))
 numbered Unfinished rest e = absurd (omega (arith, ap first e))
 numbered Syntax rest e = absurd (omega (arith, ap first e))

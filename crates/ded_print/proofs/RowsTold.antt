@@ -1,5 +1,5 @@
 -- Rows that are written alike, with slots under their numbers, are the same.
-use Rattle.std.proofs.Common.{◌≡◌, ℕ, ◌<◌, ◌⊎◌, List, [], ◌∷◌, ◌++◌, drop, inl, inr, refl, sym, ap, ap₂, ◌∙◌, subst, arith, append_assoc, Bool, true, false}
+use Rattle.std.proofs.Common.{◌≡◌, ℕ, ◌<◌, ◌⊎◌, List, [], ◌∷◌, ◌++◌, drop, inl, inr, refl, sym, ap, ap₂, ◌∙◌, subst, arith, append_assoc, Bool, true, false, true≢false}
 use Rattle.std.specs.Prelude.{ℤ, pos, int_lt, unsigned_abs, ◌==◌, codes, if◌then◌else◌}
 use lib.IntN.{neg_ℤ}
 use Rattle.std.proofs.lemmas.Bool.{eqb-true}
@@ -173,16 +173,13 @@ same_coefs p (c ∷ cs) [] h k e = absurd e
 same_coefs p (c ∷ cs) (d ∷ ds) h k e =
     ap₂ (λ (x : Slot × ℤ) (l : List (Slot × ℤ)). x ∷ l) (ap₂ (λ (s : Slot) (z : ℤ). (s, z)) (one_slot c.0 d.0 e.0 (h.0 ∙ sym k.0)) (same_turned p c.1 d.1 e.1)) (same_coefs p cs ds h.4 k.4 e.2)
 
-true_false : true ≡ false → ⊥
-true_false e = cc
-
 -- a row without coefficients that isn't true
 empty_row : (o : RowOp) (k : ℤ) → IsNormalRow (record { coefs = []; constant = k; op = o }) → is_true_row (record { coefs = []; constant = k; op = o }) ≡ false → record { coefs = []; constant = k; op = o } ≡ constant_row false
 unfolding normal_row
 empty_row o k n t = by (sign_meets o k) n.normal
   where
     by : (b : Bool) → constant_row b ≡ record { coefs = []; constant = k; op = o } → record { coefs = []; constant = k; op = o } ≡ constant_row false
-    by true e = absurd (true_false (ap is_true_row e ∙ t))
+    by true e = absurd (true≢false (ap is_true_row e ∙ t))
     by false e = sym e
 
 zero_no_term : (t : Bool) (n : ℕ) (s : Slot) (l m : List ℕ) → 48 ∷ 32 ∷ l ≡ (if t then slot_names s else (number_text n ++ (42 ∷ slot_names s))) ++ m → ⊥

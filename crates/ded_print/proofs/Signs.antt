@@ -1,5 +1,5 @@
 -- Signs of numbers that are printed, and of the first coefficient of a normal equality.
-use Rattle.std.proofs.Common.{◌≡◌, ◌≢◌, ℕ, zero, suc, List, [], ◌∷◌, map, refl, sym, ap, ◌∙◌, arith, Bool, true, false}
+use Rattle.std.proofs.Common.{◌≡◌, ◌≢◌, ℕ, zero, suc, List, [], ◌∷◌, map, refl, sym, ap, ◌∙◌, arith, Bool, true, false, true≢false}
 use Rattle.std.specs.Prelude.{ℤ, pos, negsuc, int_lt, int_div, unsigned_abs, if◌then◌else◌}
 use lib.IntN.{neg_ℤ}
 use Rattle.std.proofs.Math.IntN.{neg_ℤ-neg_ℤ}
@@ -16,14 +16,11 @@ use Rattle.ded_print.specs.Tuples.{signed}
 pub plus : (n : ℕ) → int_lt (pos n) (pos 0) ≡ false
 plus n = grind (arith, nat_tests)
 
-true_false : true ≡ false → ⊥
-true_false e = cc
-
 -- a number is told by its magnitude and its sign
 pub same_signed : (a b : ℤ) → unsigned_abs a ≡ unsigned_abs b → int_lt a (pos 0) ≡ int_lt b (pos 0) → a ≡ b
 same_signed (pos m) (pos n) e s = ap pos e
-same_signed (pos m) (negsuc n) e s = absurd (true_false (sym (sym (plus m) ∙ s)))
-same_signed (negsuc m) (pos n) e s = absurd (true_false (s ∙ plus n))
+same_signed (pos m) (negsuc n) e s = absurd (true≢false (sym (sym (plus m) ∙ s)))
+same_signed (negsuc m) (pos n) e s = absurd (true≢false (s ∙ plus n))
 same_signed (negsuc m) (negsuc n) e s = let k : m ≡ n = omega (arith, e) in ap negsuc k
 
 pub neg_abs : (z : ℤ) → unsigned_abs (neg_ℤ z) ≡ unsigned_abs z

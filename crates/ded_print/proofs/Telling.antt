@@ -12,6 +12,7 @@ use Rattle.ded_print.specs.Tuples.{column_names, stored_line, stored_text}
 use Rattle.ded_print.proofs.LineReplies.{first_line, lines, number_line, same_line}
 use Rattle.ded_print.proofs.Numerals.{same_number}
 use Rattle.ded_print.proofs.Refusals.{written, as_written}
+use Rattle.ded_print.proofs.Runs.{first}
 
 -- ---- refusals
 
@@ -57,12 +58,7 @@ same_refusal r q e =
 
 -- ---- replies
 
-first : List ℕ → ℕ
-first [] = 0
-first (b ∷ bs) = b
-
 same_reply : (r s : LineReply) → reply_line r ≡ reply_line s → r ≡ s
-unfolding first
 same_reply done done e = refl
 same_reply done (truth true) e = absurd (omega (arith, ap first e))
 same_reply done (truth false) e = absurd (omega (arith, ap first e))
@@ -101,7 +97,7 @@ tuples_line n = codes "tuples" ++ (32 ∷ number_text n)
 
 -- the first line counts tuples, which no reply of one line does
 counts_tuples : (n : ℕ) (reply : LineReply) → tuples_line n ≡ reply_line reply → ⊥
-unfolding first tuples_line
+unfolding tuples_line
 counts_tuples n done e = absurd (omega (arith, ap first e))
 counts_tuples n (truth true) e = absurd (omega (arith, ap first e))
 counts_tuples n (truth false) e = absurd (omega (arith, ap first e))

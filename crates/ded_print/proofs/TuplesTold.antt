@@ -1,5 +1,5 @@
 -- Tuples that are written alike, with slots under their numbers, are the same.
-use Rattle.std.proofs.Common.{◌≡◌, ℕ, ◌<◌, ◌⊎◌, List, [], ◌∷◌, ◌++◌, drop, inl, inr, refl, sym, ap, ap₂, ◌∙◌, subst, arith, append_assoc, Bool, true, false}
+use Rattle.std.proofs.Common.{◌≡◌, ℕ, ◌<◌, ◌⊎◌, List, [], ◌∷◌, ◌++◌, drop, inl, inr, refl, sym, ap, ap₂, ◌∙◌, subst, arith, append_assoc, Bool, true, false, true≢false}
 use Rattle.std.specs.Prelude.{ℤ, pos, int_lt, unsigned_abs, ◌==◌, codes, if◌then◌else◌}
 use lib.IntN.{neg_ℤ}
 use Rattle.std.proofs.lemmas.Bool.{eqb-true}
@@ -19,11 +19,8 @@ use Rattle.ded_print.proofs.RowsTold.{ends_blank, laters_blank, laters_sign, op_
 
 -- ---- quoted texts
 
-true_false : true ≡ false → ⊥
-true_false e = cc
-
 no_quote : (b : ℕ) → (b == 39) ≡ false → b ≡ 39 → ⊥
-no_quote b h e = true_false (sym (ap (λ n. n == 39) e) ∙ h)
+no_quote b h e = true≢false (sym (ap (λ n. n == 39) e) ∙ h)
 
 same_byte : (p q : Bool) (a b : ℕ) (l m : List ℕ) → (a == 39) ≡ p → (b == 39) ≡ q → (if p then 39 ∷ 39 ∷ [] else a ∷ []) ++ l ≡ (if q then 39 ∷ 39 ∷ [] else b ∷ []) ++ m → (a ≡ b) × (l ≡ m)
 same_byte true true a b l m ep eq e = (eqb-true a 39 ep ∙ sym (eqb-true b 39 eq), ap (drop 2) e)

@@ -1,11 +1,11 @@
 -- Signs that are printed and read back.
-use Rattle.std.proofs.Common.{◌≡◌, zero, suc, Bool, true, false, not, refl, ap, ◌∙◌}
+use Rattle.std.proofs.Common.{◌≡◌, suc, Bool, true, false, not, refl, ap, ◌∙◌}
 use Rattle.std.specs.Prelude.{ℤ, pos, negsuc, int_lt, unsigned_abs}
 use lib.IntN.{neg_ℤ}
+use Rattle.std.proofs.Math.IntN.{neg_ℤ-neg_ℤ}
 use Rattle.ded_print.specs.Tuples.{signed}
 use Rattle.ded_print.proofs.Signs.{plus, neg_abs, turned_abs}
 use Rattle.ded_readback.specs.Reading.{number_of}
-use Rattle.std.proofs.Math.IntN.{neg_ℤ-neg_ℤ}
 
 turned_twice : (t : Bool) (z : ℤ) → signed t (signed t z) ≡ z
 turned_twice true z = neg_ℤ-neg_ℤ z
