@@ -13,12 +13,13 @@ use Rattle.ded_model.specs.Form.{Form}
 use Rattle.ded_model.specs.Goal.{GoalForm, goal_mentions}
 use Rattle.ded_model.specs.Known.{Known, IsTupleOver, IsWellFormed, heading_slots, known_of, level_with, columns_with}
 use Rattle.ded_model.specs.Lines.{In}
-use Rattle.ded_model.specs.Made.{Reading, itself, closure_of, interior_of, reading, base_by, base, is_made_by, is_made}
+use Rattle.ded_model.specs.Made.{base}
 use Rattle.ded_model.specs.Measure.{Measure, measures, goal_lines, goal_clashes}
 use Rattle.ded_model.specs.Normal.{IsNormalTuple}
 use Rattle.ded_model.specs.Point.{slot, stands_in}
 use Rattle.ded_model.specs.Slotted.{goal_of}
 use Rattle.ded_model.specs.Value.{Argument}
+use Rattle.ded_model.proofs.Made.{plain_base}
 use Rattle.ded_model.proofs.Rows.{or_left, or_right}
 use Rattle.ded_sorts.proofs.Frees.{goal_free}
 use Rattle.ded_sorts.proofs.Headings.{goals_mean}

@@ -4,6 +4,7 @@ pub mod Digits
 pub mod Loops
 pub mod Names
 pub mod Overs
+pub mod Prefixes
 pub mod RowsRead
 pub mod Signs
 pub mod TermsRead
