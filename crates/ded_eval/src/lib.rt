@@ -14,8 +14,7 @@
 //! [`reduced`] makes of the normal tuples of an evaluation what is answered: it drops tuples that hold nowhere, of equal tuples
 //! all but the first one, and of each tuple the atoms that its others imply. What is left holds at the same points, is in normal
 //! form, and has no new slots or lines; each tuple that is narrow holds somewhere, and without any one of its atoms it would hold
-//! at further points. No tuple stands twice. [`distinct_tuples`] drops equal tuples alone, and [`holds_everywhere`] reads the
-//! truth off tuples that mention no slot.
+//! at further points. No tuple stands twice. [`holds_everywhere`] reads the truth off tuples that mention no slot.
 //!
 //! It stands on `ded_algebra` for what a plan is evaluated over and what an evaluation promises, on `ded_join`,
 //! `ded_complement` and `ded_genrel` for the operations, on `ded_reduce` for superfluous atoms, on `ded_theory`, `ded_linear` and
@@ -46,6 +45,5 @@ pub use extents::extended;
 pub use given::{Given, GivenRelation};
 pub use reading::OfTuples;
 pub use reduction::reduced;
-pub use repeated::distinct_tuples;
 pub use rows::OfRows;
 pub use theories::Atoms;

@@ -37,7 +37,7 @@ pub(crate) fn distinct<T: OfTuples>(alloc: Global, list: GenRel<T>) -> Result<Ge
 ///
 /// # Errors
 /// Out of memory.
-pub fn distinct_tuples(alloc: Global, tuples: Tuples) -> Result<Tuples, NoMemory>
+pub(crate) fn distinct_tuples(alloc: Global, tuples: Tuples) -> Result<Tuples, NoMemory>
     ensures holds { IfOk result (λ ts. (p : Point) → tuples_hold ts p ≡ tuples_hold tuples p) }
     ensures kept { IfOk result (λ ts. IsSublist ts tuples) }
     ensures once { IfOk result (λ ts. AllPairs (λ t u. t ≢ u) ts) }
