@@ -4,9 +4,12 @@
 //! the columns, and [`may_hold`] is false only where no values in the reach meet all limits.
 #![tactic(auto)]
 
+mod entry;
 mod limit;
 mod number;
 mod reach;
+mod tree;
 
+pub use entry::Entry;
 pub use limit::{Limit, may_hold};
 pub use reach::{Range, Reach, ceil_of, floor_of};
