@@ -4,7 +4,7 @@ use Rattle.ded_model.proofs.Lists.{flat}
 use Rattle.ded_hull.specs.declared.limit.Limit.{Limit}
 use Rattle.ded_hull.specs.declared.entry.Entry.{Entry}
 use Rattle.ded_hull.specs.declared.tree.Node.{Node}
-use Rattle.ded_hull.specs.Entries.{ids_in, Covers}
+use Rattle.ded_hull.specs.Entries.{ids_in, without, Covers}
 
 -- the entries of all nodes in order
 abbrev pub entries_of : List Node → List Entry
@@ -20,6 +20,16 @@ pub record IsRoot (n : Node) (ns : List Node) : Type 0 where
 abbrev pub IsTree : List Node → Type 0
 IsTree [] = Unit {0}
 IsTree (n ∷ ns) = IsRoot n ns × IsTree ns
+
+-- the second is the first without the entries that have the number
+pub record IsCleaned (i : ℕ) (old new : Node) : Type 0 where
+  pub hull : new.hull ≡ old.hull
+  pub below : new.below ≡ old.below
+  pub entries : new.entries.items ≡ without i old.entries.items
+
+-- the entries of all trees in order
+abbrev pub all_of : List (List Entry) → List Entry
+all_of ts = flat (λ es. es) ts
 
 -- from one place to a later one nothing else was found
 pub record IsStep (ls : List Limit) (ns : List Node) (from next : ℕ) (old new : List ℕ) : Type 0 where

@@ -1,7 +1,7 @@
 //! Entries, the hulls of lists of them, and how such lists are split.
 ghost use Rattle.std.specs.Prelude.{◌≡◌, ◌++◌, [], ◌∷◌, IfOk};
 ghost use Rattle.std.specs.List.Sorted.{IsPermutation};
-ghost use Rattle.ded_hull.specs.Entries.{ids_in, Covers};
+ghost use Rattle.ded_hull.specs.Entries.{ids_in, without, Covers};
 
 use crate::limit::{Limit, may_hold};
 use crate::reach::{Range, Reach};
@@ -129,4 +129,11 @@ fn middle(range: Range) -> i128 {
         (None, Some(high)) => high,
         (None, None) => 0,
     }
+}
+
+/// Takes out the entries with the number.
+pub(crate) fn drop_id(entries: &mut Vec<Entry>, id: u32)
+    ensures { entries.new.items ≡ without id entries.old.items }
+{
+    entries.retain(|entry| entry.id != id);
 }

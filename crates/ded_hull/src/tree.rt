@@ -2,14 +2,15 @@
 //! cannot hold is passed over with all that is below it.
 ghost use Rattle.std.specs.Prelude.{◌≡◌, ◌<◌, ◌+◌, ◌^◌, ◌++◌, length, IfOk};
 ghost use Rattle.std.specs.List.Sorted.{IsPermutation};
-ghost use Rattle.ded_hull.specs.Entries.{ids_in, Covers};
-ghost use Rattle.ded_hull.specs.Trees.{entries_of, IsTree, IsStep};
+ghost use Rattle.ded_hull.specs.Entries.{ids_in, without, Covers};
+ghost use Rattle.ded_hull.specs.Trees.{entries_of, IsTree, IsStep, IsCleaned};
 
-use crate::entry::{Entry, arrange, hull_of, push_passing};
+use crate::entry::{Entry, arrange, copy_all, drop_id, hull_of, push_passing};
 use crate::limit::{Limit, may_hold};
 use crate::reach::Reach;
 use ded_model::memory::NoMemory;
 use std::alloc::Global;
+use std::marker::Model;
 
 /// How many entries a node without others below it has at most.
 const LEAF: usize = 8;
@@ -20,6 +21,101 @@ pub(crate) struct Node {
     pub hull: Reach,
     pub below: usize,
     pub entries: Vec<Entry>,
+}
+
+/// A tree. Contracts see the list of its entries.
+#[derive(Drop)]
+pub(crate) struct Tree {
+    nodes: Vec<Node>,
+}
+
+impl Model for Tree {
+    ghost use Rattle.std.specs.Prelude.{List};
+    ghost use Rattle.ded_hull.specs.declared.entry.Entry.{Entry};
+    ghost use Rattle.ded_hull.specs.Trees.{entries_of, IsTree};
+
+    ghost Value = { List Entry };
+
+    ghost view = { λ t. entries_of t.nodes.items };
+
+    ghost invariant = { λ t. IsTree t.nodes.items };
+}
+
+impl Tree {
+    /// The tree of the entries.
+    ///
+    /// # Errors
+    /// Out of memory.
+    pub(crate) fn build(alloc: Global, entries: Vec<Entry>) -> Result<Tree, NoMemory>
+        ensures { IfOk result (λ t. IsPermutation entries.items t) }
+    {
+        Ok(Tree {
+            nodes: build(alloc, entries)?,
+        })
+    }
+
+    /// How many nodes it has.
+    pub(crate) fn size(&self) -> usize {
+        self.nodes.len()
+    }
+
+    /// Adds the numbers of the entries in whose reaches the limits may hold.
+    ///
+    /// # Errors
+    /// Out of memory.
+    pub(crate) fn find(&self, limits: &[Limit], found: &mut Vec<u32>) -> Result<(), NoMemory>
+        ensures { IfOk result (λ _. found.new.items ≡ found.old.items ++ ids_in limits.now self.now) }
+    {
+        visit_all(&self.nodes, limits, found)
+    }
+
+    /// Adds copies of the entries.
+    ///
+    /// # Errors
+    /// Out of memory.
+    pub(crate) fn copy_into(&self, to: &mut Vec<Entry>) -> Result<(), NoMemory>
+        ensures { IfOk result (λ _. to.new.items ≡ to.old.items ++ self.now) }
+    {
+        copy_nodes(&self.nodes, to)
+    }
+
+    /// Takes out the entries with the number.
+    pub(crate) fn remove(&mut self, id: u32)
+        ensures { self.new ≡ without id self.old }
+    {
+        remove_from(&mut self.nodes, id);
+    }
+}
+
+/// Adds copies of the entries of the nodes.
+///
+/// # Errors
+/// Out of memory.
+fn copy_nodes(nodes: &[Node], to: &mut Vec<Entry>) -> Result<(), NoMemory>
+    ensures { IfOk result (λ _. to.new.items ≡ to.old.items ++ entries_of nodes.now) }
+{
+    for i in 0..nodes.len() {
+        copy_all(&nodes[i].entries, to)?;
+    }
+    Ok(())
+}
+
+/// Takes the entries with the number out of the nodes, whose hulls stay.
+fn remove_from(nodes: &mut Vec<Node>, id: u32)
+    requires { IsTree nodes.old.items }
+    ensures tree { IsTree nodes.new.items }
+    ensures entries { entries_of nodes.new.items ≡ without id (entries_of nodes.old.items) }
+{
+    for i in 0..nodes.len() {
+        clean(&mut nodes[i], id);
+    }
+}
+
+/// Takes the entries with the number out of the node's own.
+fn clean(node: &mut Node, id: u32)
+    ensures { IsCleaned id node.old node.new }
+{
+    drop_id(&mut node.entries, id);
 }
 
 /// The tree of the entries: they are halved until few are left.
