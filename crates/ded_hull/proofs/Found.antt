@@ -1,5 +1,6 @@
 -- The numbers of the entries in whose reaches limits may hold, and hulls of lists of entries.
 use Rattle.std.proofs.Common.{◌≡◌, ℕ, zero, suc, ◌+◌, ◌<◌, ◌≤◌, Bool, true, false, not, nat_eq, cond, List, [], ◌∷◌, ◌++◌, take, length, get_or, ◌⊎◌, inl, inr, arith, refl, sym, ap, ◌∙◌, subst, add-one, append_assoc, true≢false}
+use Rattle.std.specs.Prelude.{ℤ}
 use lib.Dec.{eqb}
 use Rattle.std.proofs.Math.Seq.{take-suc}
 use Rattle.std.proofs.lemmas.Map.Keys.{IsStrictlyIncreasing-dedup}
@@ -8,14 +9,14 @@ use Rattle.std.proofs.lemmas.List.Sorted.{Contains-permutation, IsPermutation-sy
 use Rattle.std.specs.List.{Contains, dedup, filter}
 use Rattle.std.specs.List.Sorted.{IsPermutation, IsSorted, IsStrictlyIncreasing}
 use Rattle.std.specs.Ordering.{nat_cmp}
-use Rattle.ded_model.proofs.Lists.{Every, Some, every-append, every-left, every-right, every_all, all_every}
+use Rattle.ded_model.proofs.Lists.{Every, Some, every-append, every-left, every-right, some-right, every_all, all_every}
 use Rattle.ded_hull.specs.declared.reach.Range.{Range}
 use Rattle.ded_hull.specs.declared.limit.Limit.{Limit}
 use Rattle.ded_hull.specs.declared.entry.Entry.{Entry}
-use Rattle.ded_hull.specs.Reaches.{hull, IsWithin}
-use Rattle.ded_hull.specs.Limits.{may_hold}
-use Rattle.ded_hull.specs.Entries.{ids_in, without, IsPassing, AreFound, Covers}
-use Rattle.ded_hull.proofs.Sums.{may_hold_wider}
+use Rattle.ded_hull.specs.Reaches.{hull, Lies, IsWithin}
+use Rattle.ded_hull.specs.Limits.{are_met, may_hold}
+use Rattle.ded_hull.specs.Entries.{ids_in, without, IsPassing, AreFound, IsComplete, Covers}
+use Rattle.ded_hull.proofs.Sums.{may_hold_sound, may_hold_wider}
 use Rattle.ded_hull.proofs.Widened.{hull_first, hull_second, within_trans}
 
 -- ---- one entry more
@@ -109,3 +110,19 @@ answer ls es view v found sorted ids e p s is = record {
   where
     from : (i : ℕ) → Contains (ids_in ls es) i → Some (IsPassing ls i) es
     from i c = some_from ls es i (has_from (ids_in ls es) i c.0 c.1 c.2)
+
+-- ---- nothing is lost
+
+module _ (ls : List Limit) (all : List Entry) (ids : List ℕ) (found : AreFound ls all ids) (ns : List ℤ) (den : ℕ) (some : 0 < den) (met : are_met ns den ls ≡ true) where
+  one_found : (front : List Entry) (e : Entry) (es : List Entry) → front ++ e ∷ es ≡ all → Lies e.reach ns den → Contains ids e.id
+  one_found front e es h l = (found.exact e.id).1 (subst (Some (IsPassing ls e.id)) h (some-right (IsPassing ls e.id) front (e ∷ es) (inl (refl, may_hold_sound e.reach ns den ls some l met))))
+
+  rest_found : (front es : List Entry) → front ++ es ≡ all → Every (λ e. Lies e.reach ns den → Contains ids e.id) es
+  rest_found front [] h = tt
+  rest_found front (e ∷ es) h = (one_found front e es h, rest_found (front ++ e ∷ []) es (append_assoc front (e ∷ []) es ∙ h))
+
+  pub all_found : Every (λ e. Lies e.reach ns den → Contains ids e.id) all
+  all_found = rest_found [] all refl
+
+pub is_complete : (ls : List Limit) (all : List Entry) (ids : List ℕ) → AreFound ls all ids → IsComplete ls all ids
+is_complete ls all ids found ns den some met = all_found ls all ids found ns den some met

@@ -1,7 +1,7 @@
 //! The index: a few trees, and a list of what is new.
 ghost use Rattle.std.specs.Prelude.{◌≡◌, ◌≤◌, ◌++◌, ◌∷◌, [], length, drop, IfOk, OnErr};
 ghost use Rattle.std.specs.List.Sorted.{IsPermutation};
-ghost use Rattle.ded_hull.specs.Entries.{ids_in, without, AreFound};
+ghost use Rattle.ded_hull.specs.Entries.{ids_in, without, AreFound, IsComplete};
 ghost use Rattle.ded_hull.specs.Trees.{all_of};
 
 use crate::entry::{Entry, copy_all, drop_id, push_passing};
@@ -53,14 +53,14 @@ impl Hulls {
     ///
     /// # Errors
     /// Out of memory; nothing has changed then.
-    pub fn insert(&mut self, alloc: Global, id: u32, reach: Reach) -> Result<(), NoMemory>
+    pub fn insert(&mut self, id: u32, reach: Reach) -> Result<(), NoMemory>
         ensures inserted { IfOk result (λ _. IsPermutation (record { id = id; reach = reach } ∷ self.old) self.new) }
         ensures unchanged { OnErr result (self.new ≡ self.old) }
     {
         self.tail.push(Entry { id, reach })?;
         if FEW <= self.tail.len() {
             // without memory for a tree the list grows on
-            let _ = settle(alloc, &mut self.trees, &mut self.tail);
+            let _ = settle(&mut self.trees, &mut self.tail);
         }
         Ok(())
     }
@@ -78,7 +78,8 @@ impl Hulls {
     /// # Errors
     /// Out of memory.
     pub fn find(&self, alloc: Global, limits: &[Limit]) -> Result<Vec<u32>, NoMemory>
-        ensures { IfOk result (λ ids. AreFound limits.now self.now ids.items) }
+        ensures found { IfOk result (λ ids. AreFound limits.now self.now ids.items) }
+        ensures complete { IfOk result (λ ids. IsComplete limits.now self.now ids.items) }
     {
         let mut found = Vec::new(alloc);
         find_in(&self.trees, limits, &mut found)?;
@@ -115,9 +116,10 @@ fn remove_from(trees: &mut Vec<Tree>, id: u32)
 ///
 /// # Errors
 /// Out of memory; the entries stay then too.
-fn settle(alloc: Global, trees: &mut Vec<Tree>, tail: &mut Vec<Entry>) -> Result<(), NoMemory>
+fn settle(trees: &mut Vec<Tree>, tail: &mut Vec<Entry>) -> Result<(), NoMemory>
     ensures { IsPermutation (all_of trees.old.items ++ tail.old.items) (all_of trees.new.items ++ tail.new.items) }
 {
+    let alloc = *tail.allocator();
     let keep = kept(trees);
     let tree = merged(alloc, trees, tail, keep)?;
     trees.reserve(1)?;
