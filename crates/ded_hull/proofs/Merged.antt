@@ -1,5 +1,5 @@
 -- The entries of several trees: looked through, copied, and made one tree.
-use Rattle.std.proofs.Common.{◌≡◌, ℕ, zero, suc, ◌+◌, ◌<◌, ◌≤◌, List, [], ◌∷◌, ◌++◌, take, drop, length, get_or, arith, refl, sym, ap, ap₂, ◌∙◌, subst, add-one, append_assoc, append-nil}
+use Rattle.std.proofs.Common.{◌≡◌, ℕ, zero, suc, ◌+◌, ◌<◌, ◌≤◌, List, [], ◌∷◌, ◌++◌, take, drop, length, get_or, min, arith, refl, sym, ap, ap₂, ◌∙◌, subst, add-one, append_assoc, append-nil, length-append}
 use Rattle.std.proofs.Math.Seq.{drop-cons}
 use Rattle.std.proofs.lemmas.List.{take-append-drop}
 use Rattle.std.specs.List.Sorted.{IsPermutation}
@@ -19,14 +19,43 @@ all_of-append (t ∷ ts) us = ap (λ es. t ++ es) (all_of-append ts us) ∙ sym 
 
 -- ---- one more
 
+tree_more : (ts : List (List Entry)) (i : ℕ) (t : List Entry) → i < length ts → t ≡ get_or ts i t → all_of (take (i + 1) ts) ≡ all_of (take i ts) ++ t
+tree_more ts i t h is = ap all_of (taken_more ts i t h ∙ ap (λ x. take i ts ++ x ∷ []) (sym is)) ∙ all_of-append (take i ts) (t ∷ []) ∙ ap (λ es. all_of (take i ts) ++ es) (append-nil t)
+
+node_more : (ns : List Node) (i : ℕ) (n : Node) → i < length ns → n ≡ get_or ns i n → entries_of (take (i + 1) ns) ≡ entries_of (take i ns) ++ n.entries.items
+node_more ns i n h is = ap entries_of (taken_more ns i n h ∙ ap (λ x. take i ns ++ x ∷ []) (sym is)) ∙ entries_of-append (take i ns) (n ∷ []) ∙ ap (λ es. entries_of (take i ns) ++ es) (append-nil n.entries.items)
+
+-- counts, as far as m
+pub counted : (m a b c d : ℕ) → c ≡ min a m → d ≡ min (c + b) m → d ≡ min (a + b) m
+counted m a b c d e f = omega arith
+
+-- of one more
+pub counted_more : (m c b d : ℕ) (xs ys all : List Entry) → all ≡ xs ++ ys → c ≡ min (length xs) m → d ≡ min (c + b) m → b ≡ length ys → d ≡ min (length all) m
+counted_more m c b d xs ys all h e f g =
+    counted m (length xs) b c d e f ∙ ap (λ k. min k m) (ap (λ k. length xs + k) g ∙ sym (ap (λ (es : List Entry). length es) h ∙ length-append xs ys))
+
+-- of a tree whose own count goes as far
+pub counted_both : (m c b d : ℕ) (xs ys all : List Entry) → all ≡ xs ++ ys → c ≡ min (length xs) m → d ≡ min (c + b) m → b ≡ min (length ys) m → d ≡ min (length all) m
+counted_both m c b d xs ys all h e f g =
+    both m (length xs) (length ys) c b d e g f ∙ ap (λ k. min k m) (sym (ap (λ (es : List Entry). length es) h ∙ length-append xs ys))
+  where
+    both : (m x y c b d : ℕ) → c ≡ min x m → b ≡ min y m → d ≡ min (c + b) m → d ≡ min (x + y) m
+    both m x y c b d e g f = omega arith
+
+pub counted_node : (m c b d : ℕ) (ns : List Node) (i : ℕ) (n : Node) → i < length ns → n ≡ get_or ns i n → c ≡ min (length (entries_of (take i ns))) m → d ≡ min (c + b) m → b ≡ length n.entries.items → d ≡ min (length (entries_of (take (i + 1) ns))) m
+counted_node m c b d ns i n h is e f g = counted_more m c b d (entries_of (take i ns)) n.entries.items (entries_of (take (i + 1) ns)) (node_more ns i n h is) e f g
+
+pub counted_tree : (m c b d : ℕ) (ts : List (List Entry)) (i : ℕ) (t : List Entry) → i < length ts → t ≡ get_or ts i t → c ≡ min (length (all_of (take i ts))) m → d ≡ min (c + b) m → b ≡ min (length t) m → d ≡ min (length (all_of (take (i + 1) ts))) m
+counted_tree m c b d ts i t h is e f g = counted_both m c b d (all_of (take i ts)) t (all_of (take (i + 1) ts)) (tree_more ts i t h is) e f g
+
 pub found_tree : (ls : List Limit) (ts : List (List Entry)) (i : ℕ) (t : List Entry) (old found new : List ℕ) → i < length ts → t ≡ get_or ts i t → found ≡ old ++ ids_in ls (all_of (take i ts)) → new ≡ found ++ ids_in ls t → new ≡ old ++ ids_in ls (all_of (take (i + 1) ts))
 found_tree ls ts i t old found new h is f n =
-    let more : all_of (take (i + 1) ts) ≡ all_of (take i ts) ++ t = ap all_of (taken_more ts i t h ∙ ap (λ x. take i ts ++ x ∷ []) (sym is)) ∙ all_of-append (take i ts) (t ∷ []) ∙ ap (λ es. all_of (take i ts) ++ es) (append-nil t) in
+    let more = tree_more ts i t h is in
     n ∙ ap (λ xs. xs ++ ids_in ls t) f ∙ append_assoc old (ids_in ls (all_of (take i ts))) (ids_in ls t) ∙ ap (λ xs. old ++ xs) (sym (ap (ids_in ls) more ∙ ids_in-append ls (all_of (take i ts)) t))
 
 pub copied_node : (ns : List Node) (i : ℕ) (n : Node) (old found new : List Entry) → i < length ns → n ≡ get_or ns i n → found ≡ old ++ entries_of (take i ns) → new ≡ found ++ n.entries.items → new ≡ old ++ entries_of (take (i + 1) ns)
 copied_node ns i n old found new h is f e =
-    let more : entries_of (take (i + 1) ns) ≡ entries_of (take i ns) ++ n.entries.items = ap entries_of (taken_more ns i n h ∙ ap (λ x. take i ns ++ x ∷ []) (sym is)) ∙ entries_of-append (take i ns) (n ∷ []) ∙ ap (λ es. entries_of (take i ns) ++ es) (append-nil n.entries.items) in
+    let more = node_more ns i n h is in
     e ∙ ap (λ xs. xs ++ n.entries.items) f ∙ append_assoc old (entries_of (take i ns)) n.entries.items ∙ ap (λ xs. old ++ xs) (sym more)
 
 pub copied_tree : (ts : List (List Entry)) (i : ℕ) (t now new all : List Entry) → i < length ts → t ≡ get_or ts i t → now ++ all_of (drop i ts) ≡ all → new ≡ now ++ t → new ++ all_of (drop (i + 1) ts) ≡ all

@@ -1,5 +1,5 @@
 //! The index: a few trees, and a list of what is new.
-ghost use Rattle.std.specs.Prelude.{◌≡◌, ◌≤◌, ◌++◌, ◌∷◌, [], length, drop, IfOk, OnErr};
+ghost use Rattle.std.specs.Prelude.{◌≡◌, ◌≤◌, ◌-◌, ◌^◌, ◌++◌, ◌∷◌, [], min, length, drop, IfOk, OnErr};
 ghost use Rattle.std.specs.List.Sorted.{IsPermutation};
 ghost use Rattle.ded_hull.specs.Entries.{ids_in, without, AreFound, IsComplete};
 ghost use Rattle.ded_hull.specs.Trees.{all_of};
@@ -49,6 +49,13 @@ impl Hulls {
         }
     }
 
+    /// How many entries there are, as far as they can be counted.
+    pub fn count(&self) -> usize
+        ensures { result ≡ min (length self.now) (2 ^ 64 - 1) }
+    {
+        count_in(&self.trees).saturating_add(self.tail.len())
+    }
+
     /// Adds an entry.
     ///
     /// # Errors
@@ -88,6 +95,17 @@ impl Hulls {
         found.dedup();
         Ok(found)
     }
+}
+
+/// How many entries the trees have, as far as they can be counted.
+fn count_in(trees: &[Tree]) -> usize
+    ensures { result ≡ min (length (all_of trees.now)) (2 ^ 64 - 1) }
+{
+    let mut count: usize = 0;
+    for i in 0..trees.len() {
+        count = count.saturating_add(trees[i].count());
+    }
+    count
 }
 
 /// Adds the numbers of the entries of the trees in whose reaches the limits may hold.

@@ -1,6 +1,6 @@
 //! Trees of hulls in lists. Behind each node stand those below it, so a look-up is one pass, in which a node where the limits
 //! cannot hold is passed over with all that is below it.
-ghost use Rattle.std.specs.Prelude.{◌≡◌, ◌<◌, ◌+◌, ◌^◌, ◌++◌, length, IfOk};
+ghost use Rattle.std.specs.Prelude.{◌≡◌, ◌<◌, ◌+◌, ◌-◌, ◌^◌, ◌++◌, min, length, IfOk};
 ghost use Rattle.std.specs.List.Sorted.{IsPermutation};
 ghost use Rattle.ded_hull.specs.Entries.{ids_in, without, Covers};
 ghost use Rattle.ded_hull.specs.Trees.{entries_of, IsTree, IsStep, IsCleaned};
@@ -59,6 +59,13 @@ impl Tree {
         self.nodes.len()
     }
 
+    /// How many entries there are, as far as they can be counted.
+    pub(crate) fn count(&self) -> usize
+        ensures { result ≡ min (length self.now) (2 ^ 64 - 1) }
+    {
+        count_nodes(&self.nodes)
+    }
+
     /// Adds the numbers of the entries in whose reaches the limits may hold.
     ///
     /// # Errors
@@ -85,6 +92,17 @@ impl Tree {
     {
         remove_from(&mut self.nodes, id);
     }
+}
+
+/// How many entries the nodes have, as far as they can be counted.
+fn count_nodes(nodes: &[Node]) -> usize
+    ensures { result ≡ min (length (entries_of nodes.now)) (2 ^ 64 - 1) }
+{
+    let mut count: usize = 0;
+    for i in 0..nodes.len() {
+        count = count.saturating_add(nodes[i].entries.len());
+    }
+    count
 }
 
 /// Adds copies of the entries of the nodes.
