@@ -1,18 +1,18 @@
 -- Ends of reaches: rounded outward, and those that contain both.
-use Rattle.std.proofs.Common.{◌≡◌, ℕ, zero, suc, ◌+◌, ◌*◌, ◌<◌, ◌≤◌, Bool, true, false, cond, Option, Some, None, arith, refl, sym, ap, ◌∙◌, subst, SFits}
-use Rattle.std.specs.Prelude.{ℤ, pos, negsuc, ◌+ℤ◌, ◌-ℤ◌, ◌*ℤ◌, ◌≤ℤ◌, ◌<ℤ◌, int_lt, neg_ℤ, unsigned_abs}
+use Rattle.std.proofs.Common.{◌≡◌, ℕ, Bool, true, false, cond, Option, Some, None, arith, refl, sym, ap, ◌∙◌, subst, SFits}
+use Rattle.std.specs.Prelude.{ℤ, pos, ◌+ℤ◌, ◌-ℤ◌, ◌*ℤ◌, ◌≤ℤ◌, ◌<ℤ◌, int_lt, neg_ℤ, unsigned_abs}
 use Rattle.std.specs.Option.{IfSome, SomeIff}
 use Rattle.std.specs.Int.{w128, int_div_euclid, int_rem_euclid}
 use Rattle.std.proofs.lemmas.Int.{ints}
-use borrow.Author.Differences.{up, down}
-use Rattle.ded_num.proofs.Ring.{parts, diff, diff_same, ring}
+use borrow.Author.Differences.{up}
+use Rattle.ded_num.proofs.Ring.{parts, diff_same, ring}
 use Rattle.ded_num.proofs.Fractions.{whole_and_rest_is}
 use Rattle.ded_model.specs.declared.row.RowOp.TheVariants.{AtMost}
 use Rattle.ded_model.specs.declared.bound.Bound.TheVariants.{Included}
-use Rattle.ded_model.specs.Bound.{Fraction, lower, upper, is_outside}
+use Rattle.ded_model.specs.Bound.{Fraction}
 use Rattle.ded_model.proofs.Core.{Meets, meets_unscale}
 use Rattle.ded_hull.specs.declared.reach.Range.{Range}
-use Rattle.ded_hull.specs.Reaches.{fine, IsAbove, IsBelow, IsFloor, IsCeil, NotAbove, NotBelow, lower_of, higher_of, IsPart, joined, everywhere}
+use Rattle.ded_hull.specs.Reaches.{fine, IsFloor, IsCeil, NotAbove, NotBelow, lower_of, higher_of, IsPart, joined, everywhere}
 use Rattle.ded_hull.proofs.Numbers.{times_up, times_neg, le_self, of_lt_true, of_lt_false}
 
 -- ---- rounding

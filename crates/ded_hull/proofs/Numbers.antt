@@ -1,15 +1,15 @@
 -- Numbers that are kept as far as 127 binary digits go, and products with signs.
 use Rattle.std.proofs.Common.{◌≡◌, ℕ, zero, suc, ◌+◌, ◌*◌, ◌-◌, ◌^◌, ◌<◌, ◌≤◌, Bool, true, false, cond, Option, Some, None, arith, refl, sym, ap, ◌∙◌, subst, true≢false, ◌⊎◌, inl, inr, SFits}
-use Rattle.std.specs.Prelude.{ℤ, pos, negsuc, ◌+ℤ◌, ◌-ℤ◌, ◌*ℤ◌, ◌≤ℤ◌, ◌<ℤ◌, int_lt, int_le, neg_ℤ, unsigned_abs}
+use Rattle.std.specs.Prelude.{ℤ, pos, negsuc, ◌+ℤ◌, ◌*ℤ◌, ◌≤ℤ◌, ◌<ℤ◌, int_lt, int_le, neg_ℤ, unsigned_abs}
 use Rattle.std.specs.Int.{w128}
 use Rattle.std.specs.Option.{SomeIff}
 use Rattle.ded_num.specs.Length.{IsShort}
-use Rattle.std.proofs.lemmas.Int.{ints, by_lt_z}
+use Rattle.std.proofs.lemmas.Int.{ints}
 use Rattle.std.proofs.Math.Nat.{mul-le-mul_left}
 use Rattle.std.proofs.Math.IntN.{*ℤ-zero}
-use borrow.Author.Differences.{up, down, le_out, lt_out}
-use Rattle.ded_num.proofs.Ring.{parts, diff, diff_same, diff_le, of_diff_le, ring, ring_pos}
-use Rattle.ded_hull.specs.Reaches.{NotAbove, NotBelow}
+use borrow.Author.Differences.{up, down, le_out}
+use Rattle.ded_num.proofs.Ring.{parts, diff_same, diff_le, ring, ring_pos}
+use Rattle.ded_hull.specs.Reaches.{NotAbove}
 use Rattle.ded_hull.specs.Limits.{kept, turned, is_same_sign, beyond}
 
 -- ---- what is kept

@@ -1,12 +1,9 @@
 -- Entries taken out of nodes and of trees, in place.
-use Rattle.std.proofs.Common.{◌≡◌, ℕ, zero, suc, ◌+◌, ◌<◌, ◌≤◌, Bool, true, false, not, nat_eq, cond, List, [], ◌∷◌, ◌++◌, take, drop, length, get_or, set, arith, refl, sym, ap, ap₂, ◌∙◌, subst, add-one}
-use Rattle.std.specs.List.{filter}
+use Rattle.std.proofs.Common.{◌≡◌, ℕ, zero, suc, ◌<◌, ◌≤◌, Bool, true, false, not, nat_eq, cond, List, [], ◌∷◌, ◌++◌, take, length, get_or, set, arith, refl, sym, ap, ap₂, ◌∙◌, subst}
 use Rattle.std.proofs.lemmas.List.Elements.{filter-append}
-use Rattle.ded_model.proofs.Lists.{Every, flat}
 use Rattle.ded_hull.specs.declared.reach.Range.{Range}
 use Rattle.ded_hull.specs.declared.entry.Entry.{Entry}
 use Rattle.ded_hull.specs.declared.tree.Node.{Node}
-use Rattle.ded_hull.specs.Reaches.{IsWithin}
 use Rattle.ded_hull.specs.Entries.{without, Covers}
 use Rattle.ded_hull.specs.Trees.{entries_of, all_of, IsRoot, IsTree, IsCleaned}
 

@@ -1,19 +1,16 @@
 -- Trees in lists: joined, and looked through.
-use Rattle.std.proofs.Common.{◌≡◌, ℕ, zero, suc, ◌+◌, ◌-◌, ◌/◌, min, ◌<◌, ◌≤◌, Bool, true, false, List, [], ◌∷◌, ◌++◌, take, drop, length, get_or, arith, refl, sym, ap, ap₂, ◌∙◌, subst, add-one, append_assoc, append-nil, length-append}
+use Rattle.std.proofs.Common.{◌≡◌, ℕ, zero, suc, ◌+◌, ◌-◌, ◌/◌, min, ◌<◌, ◌≤◌, false, List, [], ◌∷◌, ◌++◌, take, drop, length, get_or, arith, refl, sym, ap, ap₂, ◌∙◌, subst, add-one, append_assoc, append-nil, length-append}
 use Rattle.std.proofs.Math.Seq.{drop-cons, take-length}
 use Rattle.std.proofs.lemmas.List.{take-append-le, take-append-drop, length-take, length-drop}
 use Rattle.std.specs.List.Sorted.{IsPermutation}
-use Rattle.std.proofs.lemmas.List.Sorted.{IsPermutation-trans, IsPermutation-sym, IsPermutation-append_left, IsPermutation-append_right}
-use Rattle.ded_model.proofs.Lists.{Every, flat, every-append, every-left, every-right}
-use Rattle.ded_hull.specs.declared.reach.Range.{Range}
+use Rattle.std.proofs.lemmas.List.Sorted.{IsPermutation-trans, IsPermutation-append_left, IsPermutation-append_right}
 use Rattle.ded_hull.specs.declared.limit.Limit.{Limit}
 use Rattle.ded_hull.specs.declared.entry.Entry.{Entry}
 use Rattle.ded_hull.specs.declared.tree.Node.{Node}
-use Rattle.ded_hull.specs.Reaches.{IsWithin}
 use Rattle.ded_hull.specs.Limits.{may_hold}
 use Rattle.ded_hull.specs.Entries.{ids_in, Covers}
 use Rattle.ded_hull.specs.Trees.{entries_of, IsRoot, IsTree, IsStep}
-use Rattle.ded_hull.proofs.Found.{ids_in-append, nothing_found, covers_moved}
+use Rattle.ded_hull.proofs.Found.{ids_in-append, nothing_found}
 
 pub entries_of-append : (ns ms : List Node) → entries_of (ns ++ ms) ≡ entries_of ns ++ entries_of ms
 entries_of-append [] ms = refl

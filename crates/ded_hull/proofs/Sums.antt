@@ -1,11 +1,9 @@
 -- The least sum of a limit in a reach: at most the sum at all values of the reach, and no higher in a wider reach.
-use Rattle.std.proofs.Common.{◌≡◌, ℕ, zero, suc, ◌+◌, ◌*◌, ◌<◌, ◌≤◌, Bool, true, false, cond, List, [], ◌∷◌, map, get_or, Option, Some, None, arith, refl, sym, ap, ap₂, ◌∙◌, subst, true≢false}
-use Rattle.std.specs.Prelude.{ℤ, pos, negsuc, ◌+ℤ◌, ◌*ℤ◌, ◌≤ℤ◌, ◌<ℤ◌, int_lt, int_le, neg_ℤ, ◌&&◌}
-use Rattle.std.specs.List.{list_all}
+use Rattle.std.proofs.Common.{◌≡◌, ℕ, zero, suc, ◌<◌, Bool, true, false, cond, List, [], ◌∷◌, get_or, Option, Some, None, arith, refl, sym, ap, subst, true≢false}
+use Rattle.std.specs.Prelude.{ℤ, pos, ◌+ℤ◌, ◌*ℤ◌, ◌≤ℤ◌, ◌<ℤ◌, int_lt, int_le, neg_ℤ, ◌&&◌}
 use Rattle.std.specs.Ordering.{int_eq}
 use Rattle.std.proofs.lemmas.Int.{ints}
-use borrow.Author.Differences.{up, down}
-use Rattle.ded_num.proofs.Ring.{parts, diff, diff_same, ring, ring_pos, add-mul_ℤ, mul_assoc_ℤ}
+use Rattle.ded_num.proofs.Ring.{parts, diff_same, ring, add-mul_ℤ, mul_assoc_ℤ}
 use Rattle.ded_model.specs.declared.row.RowOp.{RowOp}
 use Rattle.ded_model.specs.declared.row.RowOp.TheVariants.{Zero, AtMost, Below}
 use Rattle.ded_model.specs.Row.{sign_meets}

@@ -1,8 +1,8 @@
 -- Hulls, place by place: they contain both reaches, and are made in place.
-use Rattle.std.proofs.Common.{◌≡◌, ℕ, zero, suc, ◌+◌, ◌<◌, ◌≤◌, List, [], ◌∷◌, ◌++◌, take, drop, length, get_or, set, arith, refl, sym, ap, ◌∙◌, subst, add-one, Option, Some, None}
+use Rattle.std.proofs.Common.{◌≡◌, ℕ, zero, suc, ◌<◌, ◌≤◌, List, [], ◌∷◌, length, get_or, set, arith, refl, ap, ◌∙◌, Option, Some, None}
 use Rattle.std.specs.Prelude.{ℤ}
 use Rattle.ded_hull.specs.declared.reach.Range.{Range}
-use Rattle.ded_hull.specs.Reaches.{everywhere, range_at, lower_of, higher_of, joined, hull, IsPart, IsWithin}
+use Rattle.ded_hull.specs.Reaches.{everywhere, range_at, lower_of, higher_of, joined, hull, IsWithin}
 use Rattle.ded_hull.proofs.Ends.{part_first, part_second, part_trans, part_self, part_everywhere}
 
 pub range_at-here : (rs : List Range) (p : ℕ) (d : Range) → p < length rs → get_or rs p d ≡ range_at rs p

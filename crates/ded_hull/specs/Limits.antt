@@ -1,5 +1,5 @@
 -- Limits: rows over columns by their places, and whether they may hold in a reach.
-use Rattle.std.specs.Prelude.{◌≡◌, ◌<◌, ◌+◌, ◌-◌, ◌^◌, ◌+ℤ◌, ◌*ℤ◌, ℕ, ℤ, pos, Bool, true, false, ◌&&◌, int_lt, int_le, List, [], ◌∷◌, map, get_or, if◌then◌else◌, Option, Some, None}
+use Rattle.std.specs.Prelude.{◌≡◌, ◌<◌, ◌-◌, ◌^◌, ◌+ℤ◌, ◌*ℤ◌, ℕ, ℤ, pos, Bool, true, false, ◌&&◌, int_lt, int_le, List, [], ◌∷◌, map, get_or, if◌then◌else◌, Option, Some, None}
 use lib.IntN.{neg_ℤ}
 use Rattle.std.specs.List.{list_all}
 use Rattle.ded_model.specs.declared.row.RowOp.{RowOp}

@@ -1,5 +1,5 @@
 -- Reaches: for each column the values between two ends, and the least reach that contains two.
-use Rattle.std.specs.Prelude.{◌≡◌, ◌^◌, ◌≤ℤ◌, ◌<ℤ◌, ◌*ℤ◌, ℕ, zero, suc, ℤ, pos, Bool, false, int_lt, List, [], ◌∷◌, if◌then◌else◌, Option, Some, None}
+use Rattle.std.specs.Prelude.{◌≡◌, ◌^◌, ◌≤ℤ◌, ◌*ℤ◌, ℕ, zero, suc, ℤ, pos, false, int_lt, List, [], ◌∷◌, if◌then◌else◌, Option, Some, None}
 use Rattle.ded_model.specs.declared.bound.Bound.{Bound}
 use Rattle.ded_model.specs.declared.bound.Bound.TheVariants.{Infinite, Excluded, Included}
 use Rattle.ded_model.specs.Bound.{Fraction, End, lower, upper, is_outside}

@@ -1,5 +1,5 @@
 -- Trees in lists: behind each node stand those below it, and it has a hull of all their entries.
-use Rattle.std.specs.Prelude.{◌≡◌, ◌+◌, ◌≤◌, ◌<◌, ℕ, List, [], ◌∷◌, ◌++◌, take, drop, length}
+use Rattle.std.specs.Prelude.{◌≡◌, ◌≤◌, ◌<◌, ℕ, List, [], ◌∷◌, ◌++◌, take, drop, length}
 use Rattle.ded_model.proofs.Lists.{flat}
 use Rattle.ded_hull.specs.declared.limit.Limit.{Limit}
 use Rattle.ded_hull.specs.declared.entry.Entry.{Entry}

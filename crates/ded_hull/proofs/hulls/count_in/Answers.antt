@@ -1,4 +1,4 @@
-use Rattle.std.proofs.Common.{rules, ◌≡◌, ◌-◌, ◌^◌, ◌+◌, ◌<◌, min, length}
+use Rattle.std.proofs.Common.{rules, ◌-◌, ◌^◌, ◌<◌, length}
 use Rattle.ded_hull.proofs.Merged.{counted_tree}
 use Rattle.ded_hull.proofs.hulls.count_in.Goals as goal
 

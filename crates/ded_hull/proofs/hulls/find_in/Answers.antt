@@ -1,4 +1,4 @@
-use Rattle.std.proofs.Common.{rules, ◌≡◌, ◌∙◌, ◌<◌, length, sym}
+use Rattle.std.proofs.Common.{rules, ◌<◌, length}
 use Rattle.ded_hull.proofs.Merged.{found_tree}
 use Rattle.ded_hull.proofs.hulls.find_in.Goals as goal
 

@@ -1,6 +1,5 @@
-use Rattle.std.proofs.Common.{rules, ◌≡◌, ◌∷◌, ◌++◌, [], List, subst, take, drop}
+use Rattle.std.proofs.Common.{rules, ◌≡◌, ◌∷◌, ◌++◌, [], take, drop}
 use Rattle.std.specs.List.Sorted.{IsPermutation}
-use Rattle.ded_hull.specs.declared.entry.Entry.{Entry}
 use Rattle.ded_hull.specs.Trees.{all_of}
 use Rattle.ded_hull.proofs.Merged.{settled}
 use Rattle.ded_hull.proofs.hulls.settle.Goals as goal

@@ -1,8 +1,7 @@
-use Rattle.std.proofs.Common.{rules, ◌≡◌, ◌∙◌, ap, SFits, to_z, of_z, Some}
-use Rattle.std.specs.Prelude.{ℤ}
+use Rattle.std.proofs.Common.{rules, ◌∙◌, ap, SFits}
 use Rattle.std.specs.Int.{w128}
 use Rattle.std.proofs.lemmas.Int.{to_z-of_z}
-use Rattle.ded_hull.specs.Limits.{kept, turned, beyond}
+use Rattle.ded_hull.specs.Limits.{beyond}
 use Rattle.ded_hull.proofs.Numbers.{product_short, product_long}
 use Rattle.ded_hull.proofs.number.product.Goals as goal
 

@@ -1,8 +1,7 @@
-use Rattle.std.proofs.Common.{rules, ◌≡◌, ◌∙◌, SFits, to_z, of_z, Some}
-use Rattle.std.specs.Prelude.{ℤ, ◌+ℤ◌}
+use Rattle.std.proofs.Common.{rules, ◌∙◌, SFits}
+use Rattle.std.specs.Prelude.{◌+ℤ◌}
 use Rattle.std.specs.Int.{w128}
 use Rattle.std.proofs.lemmas.Int.{to_z-of_z}
-use Rattle.ded_hull.specs.Limits.{kept}
 use Rattle.ded_hull.proofs.Numbers.{sum_short, sum_long}
 use Rattle.ded_hull.proofs.number.sum.Goals as goal
 

@@ -1,12 +1,11 @@
-use Rattle.std.proofs.Common.{rules, ◌≡◌, ◌∙◌, SFits, to_z, of_z, Some, sym, ap, subst}
-use Rattle.std.specs.Prelude.{ℤ, pos, neg_ℤ, ◌≤ℤ◌, ◌*ℤ◌, ◌<ℤ◌}
+use Rattle.std.proofs.Common.{rules, SFits, subst}
+use Rattle.std.specs.Prelude.{neg_ℤ}
 use Rattle.std.specs.Int.{w128}
-use Rattle.std.specs.Option.{IfSome}
 use Rattle.std.proofs.lemmas.Int.{to_z-of_z, fits_signed_from_abs}
 use Rattle.ded_model.specs.Bound.{Fraction}
 use Rattle.ded_model.specs.declared.bound.Bound.TheVariants.{Included}
-use Rattle.ded_hull.specs.Reaches.{fine, IsFloor, IsCeil}
-use Rattle.ded_hull.proofs.Ends.{floor_is, ceil_is, units_are, quotient_at_most}
+use Rattle.ded_hull.specs.Reaches.{IsCeil}
+use Rattle.ded_hull.proofs.Ends.{ceil_is, units_are}
 use Rattle.ded_hull.proofs.reach.ceil.Goals as goal
 
 pub returns-in-Some : goal.returns-in-Some

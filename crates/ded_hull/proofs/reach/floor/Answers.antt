@@ -1,12 +1,10 @@
-use Rattle.std.proofs.Common.{rules, ◌≡◌, ◌∙◌, SFits, to_z, of_z, Some, sym, ap, subst}
-use Rattle.std.specs.Prelude.{ℤ, pos, neg_ℤ, ◌≤ℤ◌, ◌*ℤ◌, ◌<ℤ◌}
+use Rattle.std.proofs.Common.{SFits, subst}
 use Rattle.std.specs.Int.{w128}
-use Rattle.std.specs.Option.{IfSome}
 use Rattle.std.proofs.lemmas.Int.{to_z-of_z, fits_signed_from_abs}
 use Rattle.ded_model.specs.Bound.{Fraction}
 use Rattle.ded_model.specs.declared.bound.Bound.TheVariants.{Included}
-use Rattle.ded_hull.specs.Reaches.{fine, IsFloor, IsCeil}
-use Rattle.ded_hull.proofs.Ends.{floor_is, ceil_is, quotient_at_most}
+use Rattle.ded_hull.specs.Reaches.{IsFloor}
+use Rattle.ded_hull.proofs.Ends.{floor_is}
 use Rattle.ded_hull.proofs.reach.floor.Goals as goal
 
 pub returns : goal.returns

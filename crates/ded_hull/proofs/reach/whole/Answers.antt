@@ -1,12 +1,7 @@
-use Rattle.std.proofs.Common.{rules, ◌≡◌, ◌∙◌, SFits, to_z, of_z, Some, sym, ap, subst}
-use Rattle.std.specs.Prelude.{ℤ, pos, neg_ℤ, ◌≤ℤ◌, ◌*ℤ◌, ◌<ℤ◌}
+use Rattle.std.proofs.Common.{rules, SFits}
 use Rattle.std.specs.Int.{w128}
-use Rattle.std.specs.Option.{IfSome}
 use Rattle.std.proofs.lemmas.Int.{to_z-of_z}
-use Rattle.ded_model.specs.Bound.{Fraction}
-use Rattle.ded_model.specs.declared.bound.Bound.TheVariants.{Included}
-use Rattle.ded_hull.specs.Reaches.{fine, IsFloor, IsCeil}
-use Rattle.ded_hull.proofs.Ends.{floor_is, ceil_is, whole_is, quotient_at_most}
+use Rattle.ded_hull.proofs.Ends.{whole_is}
 use Rattle.ded_hull.proofs.reach.whole.Goals as goal
 
 pub returns-in-Some : goal.returns-in-Some

@@ -1,6 +1,6 @@
-use Rattle.std.proofs.Common.{rules, ◌≡◌, ◌∙◌, ◌+◌, ◌<◌, ◌≤◌, arith, sym, ap, subst, List, length, get_or, set, add-one, ap₂}
+use Rattle.std.proofs.Common.{rules, ◌≡◌, ◌∙◌, ◌<◌, sym, ap, List, length, get_or, set, add-one, ap₂}
 use Rattle.ded_hull.specs.declared.reach.Range.{Range}
-use Rattle.ded_hull.specs.Reaches.{range_at, joined, hull}
+use Rattle.ded_hull.specs.Reaches.{range_at, joined}
 use Rattle.ded_hull.proofs.Widened.{widened, widened_at, widened_more, widened_all, widened-length}
 use Rattle.ded_hull.proofs.reach.widen.Goals as goal
 

@@ -1,4 +1,4 @@
-use Rattle.std.proofs.Common.{rules, ◌≡◌, ◌-◌, ◌^◌, ◌+◌, ◌<◌, min, length}
+use Rattle.std.proofs.Common.{rules, ◌≡◌, ◌-◌, ◌^◌, ◌<◌, length}
 use Rattle.ded_hull.proofs.Merged.{counted_node}
 use Rattle.ded_hull.proofs.tree.count_nodes.Goals as goal
 

@@ -1,4 +1,4 @@
-use Rattle.std.proofs.Common.{rules, ◌≡◌, ◌+◌, ◌∷◌, ◌++◌, []}
+use Rattle.std.proofs.Common.{rules, ◌+◌}
 use Rattle.ded_hull.proofs.Rooted.{tree_joined}
 use Rattle.ded_hull.proofs.tree.joined.Goals as goal
 

@@ -1,4 +1,4 @@
-use Rattle.std.proofs.Common.{rules, ◌≡◌, ◌∙◌, ◌+◌, ◌<◌, List, ap, sym, subst, length, get_or, set, add-one}
+use Rattle.std.proofs.Common.{rules, ◌≡◌, ◌<◌, sym, subst, length, get_or, set, add-one}
 use Rattle.ded_hull.specs.declared.tree.Node.{Node}
 use Rattle.ded_hull.specs.Trees.{IsCleaned}
 use Rattle.ded_hull.proofs.Removed.{ArePartly, AreCleaned, partly-length, partly_more, partly_all, cleaned_entries, cleaned_tree}

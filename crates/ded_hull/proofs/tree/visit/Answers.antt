@@ -1,4 +1,4 @@
-use Rattle.std.proofs.Common.{rules, ◌≡◌, ◌∙◌, ◌+◌, ◌<◌, ◌≤◌, ◌++◌, false, arith, ap, sym, subst, length}
+use Rattle.std.proofs.Common.{rules, ◌≡◌, ◌∙◌, ◌++◌, false, ap, sym}
 use Rattle.ded_hull.specs.Limits.{may_hold}
 use Rattle.ded_hull.specs.Entries.{ids_in}
 use Rattle.ded_hull.proofs.Rooted.{root_at, past_inside, step_in, step_past}

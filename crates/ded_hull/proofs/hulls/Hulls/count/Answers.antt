@@ -1,5 +1,4 @@
-use Rattle.std.proofs.Common.{rules, ◌≡◌, ◌∙◌, ◌-◌, ◌^◌, ◌+◌, ◌++◌, min, length, List, ap, sym, refl}
-use Rattle.ded_hull.specs.declared.entry.Entry.{Entry}
+use Rattle.std.proofs.Common.{rules, ◌≡◌, ◌-◌, ◌^◌, min, length, sym}
 use Rattle.ded_hull.specs.Trees.{all_of}
 use Rattle.ded_hull.proofs.Merged.{counted_more}
 use Rattle.ded_hull.proofs.hulls.Hulls.count.Goals as goal

@@ -1,6 +1,5 @@
-use Rattle.std.proofs.Common.{rules, ◌≡◌, ◌∙◌, ◌++◌, List, ap, ap₂, sym, subst, append-nil}
+use Rattle.std.proofs.Common.{rules, ◌≡◌, ◌∙◌, ◌++◌, ap, sym}
 use Rattle.std.proofs.lemmas.List.Filters.{dedup_is}
-use Rattle.ded_hull.specs.declared.entry.Entry.{Entry}
 use Rattle.ded_hull.specs.Entries.{ids_in, AreFound}
 use Rattle.ded_hull.specs.Trees.{all_of}
 use Rattle.ded_hull.proofs.Found.{answer, is_complete, ids_in-append}

@@ -1,4 +1,4 @@
-use Rattle.std.proofs.Common.{rules, ◌≡◌, ◌∙◌, ◌++◌, List, ap, ap₂, sym}
+use Rattle.std.proofs.Common.{◌∙◌, ◌++◌, List, ap, ap₂, sym}
 use Rattle.ded_hull.specs.declared.entry.Entry.{Entry}
 use Rattle.ded_hull.specs.Entries.{without}
 use Rattle.ded_hull.specs.Trees.{all_of}

@@ -1,6 +1,4 @@
-use Rattle.std.proofs.Common.{rules, ◌≡◌, ◌∙◌, ◌<◌, ◌≤◌, arith, sym, ap, subst, List, length, get_or}
-use Rattle.ded_hull.specs.declared.reach.Range.{Range}
-use Rattle.ded_hull.specs.Reaches.{everywhere, range_at}
+use Rattle.std.proofs.Common.{rules, ◌≡◌, ◌∙◌, ◌<◌, ◌≤◌, length, get_or}
 use Rattle.ded_hull.proofs.Widened.{range_at-here, range_at-past}
 use Rattle.ded_hull.proofs.reach.Reach.at.Goals as goal
 

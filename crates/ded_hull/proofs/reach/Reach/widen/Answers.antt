@@ -1,4 +1,4 @@
-use Rattle.std.proofs.Common.{rules, ◌≡◌, ◌∙◌, sym, ap, subst}
+use Rattle.std.proofs.Common.{rules, ◌≡◌, subst}
 use Rattle.ded_hull.specs.Reaches.{IsWithin, hull}
 use Rattle.ded_hull.proofs.Widened.{hull_first, hull_second}
 use Rattle.ded_hull.proofs.reach.Reach.widen.Goals as goal
