@@ -37,10 +37,6 @@ found_more ls es i e old found new h is f n =
     let more : take (i + 1) es ≡ take i es ++ e ∷ [] = taken_more es i e h ∙ ap (λ x. take i es ++ x ∷ []) is in
     n ∙ ap (λ xs. xs ++ ids_in ls (e ∷ [])) f ∙ append_assoc old (ids_in ls (take i es)) (ids_in ls (e ∷ [])) ∙ ap (λ xs. old ++ xs) (sym (ap (ids_in ls) more ∙ ids_in-append ls (take i es) (e ∷ [])))
 
-pub copied_more : (es : List Entry) (i : ℕ) (e : Entry) (old found new : List Entry) → i < length es → get_or es i e ≡ e → found ≡ old ++ take i es → new ≡ found ++ e ∷ [] → new ≡ old ++ take (i + 1) es
-copied_more es i e old found new h is f n =
-    n ∙ ap (λ xs. xs ++ e ∷ []) f ∙ append_assoc old (take i es) (e ∷ []) ∙ ap (λ xs. old ++ xs) (sym (taken_more es i e h ∙ ap (λ x. take i es ++ x ∷ []) is))
-
 -- ---- hulls
 
 pub covers_wider : (h k : List Range) (es : List Entry) → IsWithin h k → Covers h es → Covers k es

@@ -52,25 +52,6 @@ found_tree ls ts i t old found new h is f n =
     let more = tree_more ts i t h is in
     n ∙ ap (λ xs. xs ++ ids_in ls t) f ∙ append_assoc old (ids_in ls (all_of (take i ts))) (ids_in ls t) ∙ ap (λ xs. old ++ xs) (sym (ap (ids_in ls) more ∙ ids_in-append ls (all_of (take i ts)) t))
 
-pub copied_node : (ns : List Node) (i : ℕ) (n : Node) (old found new : List Entry) → i < length ns → n ≡ get_or ns i n → found ≡ old ++ entries_of (take i ns) → new ≡ found ++ n.entries.items → new ≡ old ++ entries_of (take (i + 1) ns)
-copied_node ns i n old found new h is f e =
-    let more = node_more ns i n h is in
-    e ∙ ap (λ xs. xs ++ n.entries.items) f ∙ append_assoc old (entries_of (take i ns)) n.entries.items ∙ ap (λ xs. old ++ xs) (sym more)
-
-pub copied_tree : (ts : List (List Entry)) (i : ℕ) (t now new all : List Entry) → i < length ts → t ≡ get_or ts i t → now ++ all_of (drop i ts) ≡ all → new ≡ now ++ t → new ++ all_of (drop (i + 1) ts) ≡ all
-copied_tree ts i t now new all h is f e =
-    let split : drop i ts ≡ t ∷ drop (i + 1) ts = drop-cons ts i t h ∙ ap (λ x. x ∷ drop (suc i) ts) (sym is) ∙ ap (λ k. t ∷ drop k ts) (sym (add-one i)) in
-    ap (λ es. es ++ all_of (drop (i + 1) ts)) e ∙ append_assoc now t (all_of (drop (i + 1) ts)) ∙ ap (λ es. now ++ all_of es) (sym split) ∙ f
-
-pub copied_all : (ts : List (List Entry)) (i : ℕ) (now all : List Entry) → length ts ≤ i → now ++ all_of (drop i ts) ≡ all → now ≡ all
-copied_all ts i now all h e = sym (append-nil now) ∙ ap (λ es. now ++ all_of es) (sym (nothing ts i h)) ∙ e
-  where
-    nothing : (ts : List (List Entry)) (i : ℕ) → length ts ≤ i → drop i ts ≡ []
-    nothing [] zero h = refl
-    nothing [] (suc i) h = refl
-    nothing (t ∷ ts) zero h = absurd (omega (arith, h))
-    nothing (t ∷ ts) (suc i) h = nothing ts i (omega (arith, h))
-
 -- ---- one tree of the last ones and the list
 
 pub settled : (ts new : List (List Entry)) (k : ℕ) (t tail none : List Entry) → new ≡ take k ts ++ t ∷ [] → none ≡ [] → IsPermutation (all_of (drop k ts) ++ tail) t → IsPermutation (all_of ts ++ tail) (all_of new ++ none)

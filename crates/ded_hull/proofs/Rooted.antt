@@ -48,9 +48,6 @@ tree_joined n ns ms all e b o t u c = subst IsTree (sym e) (root, tree-append ns
       all = subst (Covers n.hull) (sym (ap (λ k. entries_of (take k (ns ++ ms))) count ∙ ap entries_of (take-length (ns ++ ms)) ∙ entries_of-append ns ms)) c;
     }
 
-pub entries_joined : (n : Node) (ns ms all : List Node) → all ≡ n ∷ (ns ++ ms) → n.entries.items ≡ [] → entries_of all ≡ entries_of ns ++ entries_of ms
-entries_joined n ns ms all e o = ap entries_of e ∙ ap (λ es. es ++ entries_of (ns ++ ms)) o ∙ entries_of-append ns ms
-
 -- ---- halves
 
 pub halves : (old moved : List Entry) (k : ℕ) (xs ys : List Entry) → IsPermutation old moved → IsPermutation (take k moved) xs → IsPermutation (drop k moved) ys → IsPermutation old (xs ++ ys)
@@ -150,18 +147,6 @@ step_past ls ns i k n old h e t f g = record {
     whole : ids_in ls (entries_of (drop i ns)) ≡ ids_in ls (entries_of (drop k ns))
     whole = ap (λ xs. ids_in ls (entries_of xs)) (at_place ns i n h e) ∙ ids_in-append ls n.entries.items (entries_of rest)
         ∙ ap₂ (λ (xs ys : List ℕ). xs ++ ys) (nothing_found ls n.hull n.entries.items f root.own) (ap (ids_in ls) split ∙ ids_in-append ls (entries_of (take n.below rest)) (entries_of (drop k ns)) ∙ ap (λ xs. xs ++ ids_in ls (entries_of (drop k ns))) (nothing_found ls n.hull (entries_of (take n.below rest)) f root.all))
-
-pub step_on : (ls : List Limit) (ns : List Node) (i k : ℕ) (first old new : List ℕ) → old ++ ids_in ls (entries_of (drop i ns)) ≡ first → IsStep ls ns i k old new → new ++ ids_in ls (entries_of (drop k ns)) ≡ first
-step_on ls ns i k first old new e s = s.found ∙ e
-
-pub all_done : (ls : List Limit) (ns : List Node) (i : ℕ) (found old : List ℕ) → length ns ≤ i → found ++ ids_in ls (entries_of (drop i ns)) ≡ old ++ ids_in ls (entries_of ns) → found ≡ old ++ ids_in ls (entries_of ns)
-all_done ls ns i found old h e = sym (append-nil found) ∙ ap (λ xs. found ++ ids_in ls (entries_of xs)) (sym (nothing ns i h)) ∙ e
-  where
-    nothing : (ns : List Node) (i : ℕ) → length ns ≤ i → drop i ns ≡ []
-    nothing [] zero h = refl
-    nothing [] (suc i) h = refl
-    nothing (n ∷ ns) zero h = absurd (omega (arith, h))
-    nothing (n ∷ ns) (suc i) h = nothing ns i (omega (arith, h))
 
 -- ---- shorter
 

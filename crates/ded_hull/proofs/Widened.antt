@@ -29,9 +29,6 @@ hull_second (r ∷ rs) (s ∷ ss) zero = part_second r s
 hull_second (r ∷ rs) [] (suc p) = part_trans everywhere (range_at [] p) (range_at (hull rs []) p) (part_self everywhere) (hull_second rs [] p)
 hull_second (r ∷ rs) (s ∷ ss) (suc p) = hull_second rs ss p
 
-pub within_self : (rs : List Range) → IsWithin rs rs
-within_self rs p = part_self (range_at rs p)
-
 pub within_trans : (rs ss ts : List Range) → IsWithin rs ss → IsWithin ss ts → IsWithin rs ts
 within_trans rs ss ts h k p = part_trans (range_at rs p) (range_at ss p) (range_at ts p) (h p) (k p)
 
