@@ -1,6 +1,5 @@
 -- The entries of several trees: looked through, copied, and made one tree.
-use Rattle.std.proofs.Common.{◌≡◌, ℕ, zero, suc, ◌+◌, ◌<◌, ◌≤◌, List, [], ◌∷◌, ◌++◌, take, drop, length, get_or, min, arith, refl, sym, ap, ap₂, ◌∙◌, subst, add-one, append_assoc, append-nil, length-append}
-use Rattle.std.proofs.Math.Seq.{drop-cons}
+use Rattle.std.proofs.Common.{◌≡◌, ℕ, ◌+◌, ◌<◌, List, [], ◌∷◌, ◌++◌, take, drop, length, get_or, min, arith, refl, sym, ap, ap₂, ◌∙◌, subst, append_assoc, append-nil, length-append}
 use Rattle.std.proofs.lemmas.List.{take-append-drop}
 use Rattle.std.specs.List.Sorted.{IsPermutation}
 use Rattle.std.proofs.lemmas.List.Sorted.{IsPermutation-sym, IsPermutation-append_right, IsPermutation-middle}

@@ -1,5 +1,6 @@
 -- Entries taken out of nodes and of trees, in place.
-use Rattle.std.proofs.Common.{◌≡◌, ℕ, zero, suc, ◌<◌, ◌≤◌, Bool, true, false, not, nat_eq, cond, List, [], ◌∷◌, ◌++◌, take, length, get_or, set, arith, refl, sym, ap, ap₂, ◌∙◌, subst}
+use Rattle.std.proofs.Common.{◌≡◌, ℕ, zero, suc, ◌<◌, ◌≤◌, Bool, true, false, not, nat_eq, cond, List, [], ◌∷◌, ◌++◌, take, length, get_or, set, arith, refl, sym, ap, ap₂, ◌∙◌, subst, true≢false, ◌||◌}
+use Rattle.std.specs.List.{list_any}
 use Rattle.std.proofs.lemmas.List.Elements.{filter-append}
 use Rattle.ded_hull.specs.declared.reach.Range.{Range}
 use Rattle.ded_hull.specs.declared.entry.Entry.{Entry}
@@ -9,6 +10,15 @@ use Rattle.ded_hull.specs.Trees.{entries_of, all_of, IsRoot, IsTree, IsCleaned}
 
 pub without-append : (i : ℕ) (xs ys : List Entry) → without i (xs ++ ys) ≡ without i xs ++ without i ys
 without-append i xs ys = filter-append (λ e. not (nat_eq e.id i)) xs ys
+
+-- nothing is taken out where no entry has the number
+pub without_none : (i : ℕ) (es : List Entry) → list_any (λ e. nat_eq e.id i) es ≡ false → es ≡ without i es
+without_none i [] h = refl
+without_none i (e ∷ es) h = by (nat_eq e.id i) (list_any (λ e. nat_eq e.id i) es) h (without_none i es)
+  where
+    by : (a b : Bool) → (a || b) ≡ false → (b ≡ false → es ≡ without i es) → e ∷ es ≡ cond (not a) (e ∷ without i es) (without i es)
+    by true b h r = absurd (true≢false h)
+    by false b h r = ap (λ xs. e ∷ xs) (r h)
 
 covers_without : (i : ℕ) (h : List Range) (es : List Entry) → Covers h es → Covers h (without i es)
 covers_without i h [] c = tt

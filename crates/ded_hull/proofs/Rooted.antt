@@ -1,5 +1,5 @@
 -- Trees in lists: joined, and looked through.
-use Rattle.std.proofs.Common.{◌≡◌, ℕ, zero, suc, ◌+◌, ◌-◌, ◌/◌, min, ◌<◌, ◌≤◌, false, List, [], ◌∷◌, ◌++◌, take, drop, length, get_or, arith, refl, sym, ap, ap₂, ◌∙◌, subst, add-one, append_assoc, append-nil, length-append}
+use Rattle.std.proofs.Common.{◌≡◌, ℕ, zero, suc, ◌+◌, ◌-◌, ◌/◌, min, ◌<◌, ◌≤◌, false, List, [], ◌∷◌, ◌++◌, take, drop, length, get_or, arith, refl, sym, ap, ap₂, ◌∙◌, subst, add-one, append_assoc, length-append}
 use Rattle.std.proofs.Math.Seq.{drop-cons, take-length}
 use Rattle.std.proofs.lemmas.List.{take-append-le, take-append-drop, length-take, length-drop}
 use Rattle.std.specs.List.Sorted.{IsPermutation}

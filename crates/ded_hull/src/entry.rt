@@ -1,5 +1,6 @@
 //! Entries, the hulls of lists of them, and how such lists are split.
-ghost use Rattle.std.specs.Prelude.{◌≡◌, ◌++◌, [], ◌∷◌, IfOk};
+ghost use Rattle.std.specs.Prelude.{nat_eq, ◌≡◌, ◌++◌, [], ◌∷◌, IfOk};
+ghost use Rattle.std.specs.List.{list_any};
 ghost use Rattle.std.specs.List.Sorted.{IsPermutation};
 ghost use Rattle.ded_hull.specs.Entries.{ids_in, without, Covers};
 
@@ -135,5 +136,14 @@ fn middle(range: Range) -> i128 {
 pub(crate) fn drop_id(entries: &mut Vec<Entry>, id: u32)
     ensures { entries.new.items ≡ without id entries.old.items }
 {
-    entries.retain(|entry| entry.id != id);
+    if has_id(entries, id) {
+        entries.retain(|entry| entry.id != id);
+    }
+}
+
+/// Whether some entry has the number.
+fn has_id(entries: &[Entry], id: u32) -> bool
+    ensures { result ≡ list_any (λ e. nat_eq e.id id) entries.now }
+{
+    entries.iter().any(|entry| entry.id == id)
 }
