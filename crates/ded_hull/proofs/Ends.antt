@@ -1,0 +1,163 @@
+-- Ends of reaches: rounded outward, and those that contain both.
+use Rattle.std.proofs.Common.{◌≡◌, ℕ, Bool, true, false, cond, Option, Some, None, arith, refl, sym, ap, ◌∙◌, subst, SFits}
+use Rattle.std.specs.Prelude.{ℤ, pos, ◌+ℤ◌, ◌-ℤ◌, ◌*ℤ◌, ◌≤ℤ◌, ◌<ℤ◌, int_lt, neg_ℤ, unsigned_abs}
+use Rattle.std.specs.Option.{IfSome, SomeIff}
+use Rattle.std.specs.Int.{w128, int_div_euclid, int_rem_euclid}
+use Rattle.std.proofs.lemmas.Int.{ints}
+use borrow.Author.Differences.{up}
+use Rattle.ded_num.proofs.Ring.{parts, diff_same, ring}
+use Rattle.ded_num.proofs.Fractions.{whole_and_rest_is}
+use Rattle.ded_model.specs.declared.row.RowOp.TheVariants.{AtMost}
+use Rattle.ded_model.specs.declared.bound.Bound.TheVariants.{Included}
+use Rattle.ded_model.specs.Bound.{Fraction}
+use Rattle.ded_model.proofs.Core.{Meets, meets_unscale}
+use Rattle.ded_hull.specs.declared.reach.Range.{Range}
+use Rattle.ded_hull.specs.Reaches.{fine, IsFloor, IsCeil, NotAbove, NotBelow, lower_of, higher_of, IsPart, joined, everywhere}
+use Rattle.ded_hull.proofs.Numbers.{times_up, times_neg, le_self, of_lt_true, of_lt_false}
+
+-- ---- rounding
+
+-- the whole quotient, times the divisor
+pub quotient_at_most : (n d : ℤ) → pos 0 <ℤ d → (int_div_euclid n d *ℤ d) ≤ℤ n
+quotient_at_most n d h = less (int_div_euclid n d *ℤ d) n (unsigned_abs (int_rem_euclid n d)) (whole_and_rest_is n d h)
+  where
+    less : (q n : ℤ) (r : ℕ) → n ≡ q +ℤ pos r → q ≤ℤ n
+    less q n r e = omega (arith, ints)
+
+le_unscale : (d x y : ℤ) → pos 0 <ℤ d → (d *ℤ x) ≤ℤ (d *ℤ y) → x ≤ℤ y
+le_unscale d x y p h = at_most x y (meets_unscale AtMost d (x -ℤ y) p (subst (Meets AtMost) (law d x y) (difference (d *ℤ x) (d *ℤ y) h)))
+  where
+    law : (d x y : ℤ) → d *ℤ x -ℤ d *ℤ y ≡ d *ℤ (x -ℤ y)
+    law d x y = rw (parts d, parts x, parts y) (simp ring (diff_same _ _ _ _ (omega arith)))
+
+    difference : (a b : ℤ) → a ≤ℤ b → Meets AtMost (a -ℤ b)
+    difference a b h = omega (arith, ints)
+
+    at_most : (x y : ℤ) → Meets AtMost (x -ℤ y) → x ≤ℤ y
+    at_most x y h = omega (arith, ints)
+
+chain : (a b c d e f : ℤ) → a ≡ b → b ≤ℤ c → c ≡ d → d ≤ℤ e → e ≡ f → a ≤ℤ f
+chain a b c d e f p h q k r = omega (arith, ints)
+
+-- k is at most f, and f at most the value
+units_below : (u k fn fd n d : ℤ) → pos 0 ≤ℤ u → pos 0 <ℤ fd → pos 0 ≤ℤ d → (k *ℤ fd) ≤ℤ (fn *ℤ u) → (fn *ℤ d) ≤ℤ (n *ℤ fd) → (k *ℤ d) ≤ℤ (n *ℤ u)
+units_below u k fn fd n d up pf pd h l =
+    le_unscale fd (k *ℤ d) (n *ℤ u) pf
+    (chain (fd *ℤ (k *ℤ d)) (d *ℤ (k *ℤ fd)) (d *ℤ (fn *ℤ u)) (u *ℤ (fn *ℤ d)) (u *ℤ (n *ℤ fd)) (fd *ℤ (n *ℤ u)) (turn fd k d) (times_up d (k *ℤ fd) (fn *ℤ u) pd h) (turn d fn u) (times_up u (fn *ℤ d) (n *ℤ fd) up l) (turn u n fd))
+  where
+    turn : (a b c : ℤ) → a *ℤ (b *ℤ c) ≡ c *ℤ (b *ℤ a)
+    turn a b c = rw (parts a, parts b, parts c) (simp ring (diff_same _ _ _ _ (omega arith)))
+
+not_negative : (n : ℕ) → pos 0 ≤ℤ pos n
+not_negative n = omega (arith, ints)
+
+pub floor_is : (o : Option ℤ) (f : Fraction) → pos 0 <ℤ f.den → IfSome o (λ k. (k *ℤ f.den) ≤ℤ (f.num *ℤ pos fine)) → IsFloor (Included f) o
+floor_is None f p h = λ n d out. tt
+floor_is (Some k) f p h = λ n d out. units_below (pos fine) k f.num f.den n (pos d) (not_negative fine) p (not_negative d) h (of_lt_false (n *ℤ f.den) (f.num *ℤ pos d) out)
+
+ceil_at : (k u : ℤ) (f : Fraction) → pos 0 <ℤ f.den → (u *ℤ f.den) ≤ℤ (neg_ℤ f.num *ℤ pos fine) → k ≡ neg_ℤ u → IsCeil (Included f) (Some k)
+ceil_at k u f p h e = λ n d out.
+    let low : (u *ℤ pos d) ≤ℤ (neg_ℤ n *ℤ pos fine) = units_below (pos fine) u (neg_ℤ f.num) f.den (neg_ℤ n) (pos d) (not_negative fine) p (not_negative d) h
+    (negatives (f.num *ℤ pos d) (n *ℤ f.den) (neg_ℤ f.num *ℤ pos d) (neg_ℤ n *ℤ f.den) (times_neg f.num (pos d)) (times_neg n f.den) (of_lt_false (f.num *ℤ pos d) (n *ℤ f.den) out)) in
+    back (n *ℤ pos fine) (neg_ℤ n *ℤ pos fine) (u *ℤ pos d) (k *ℤ pos d) (times_neg n (pos fine)) (ap (λ x. x *ℤ pos d) e ∙ times_neg u (pos d)) low
+  where
+    negatives : (a b a' b' : ℤ) → a' ≡ neg_ℤ a → b' ≡ neg_ℤ b → b ≤ℤ a → a' ≤ℤ b'
+    negatives a b a' b' e f h = omega (arith, ints)
+
+    back : (a a' b b' : ℤ) → a' ≡ neg_ℤ a → b' ≡ neg_ℤ b → b ≤ℤ a' → a ≤ℤ b'
+    back a a' b b' e f h = omega (arith, ints)
+
+pub ceil_is : (o : Option ℤ) (u : ℤ) (f : Fraction) → pos 0 <ℤ f.den → (u *ℤ f.den) ≤ℤ (neg_ℤ f.num *ℤ pos fine) → IfSome o (λ k. k ≡ neg_ℤ u) → IsCeil (Included f) o
+ceil_is None u f p h e = λ n d out. tt
+ceil_is (Some k) u f p h e = ceil_at k u f p h e
+
+-- what the program computes
+pub whole_is : (u q n d : ℤ) (o : Option ℤ) → SomeIff o (SFits w128 (n *ℤ pos fine)) (n *ℤ pos fine) → o ≡ Some u → q ≡ int_div_euclid u d → pos 0 <ℤ d → (q *ℤ d) ≤ℤ (n *ℤ pos fine)
+whole_is u q n d o h e f p =
+    let s = subst (λ o. SomeIff o (SFits w128 (n *ℤ pos fine)) (n *ℤ pos fine)) e h in
+    subst (λ x. (x *ℤ d) ≤ℤ (n *ℤ pos fine)) (sym f) (subst (λ x. (int_div_euclid u d *ℤ d) ≤ℤ x) s.1 (quotient_at_most u d p))
+
+pub units_are : (o : Option ℤ) (u d r m : ℤ) → IfSome o (λ k. (k *ℤ d) ≤ℤ (r *ℤ pos fine)) → o ≡ Some u → r ≡ m → (u *ℤ d) ≤ℤ (m *ℤ pos fine)
+units_are o u d r m h e f = subst (λ x. (u *ℤ d) ≤ℤ (x *ℤ pos fine)) f (subst (λ o. IfSome o (λ k. (k *ℤ d) ≤ℤ (r *ℤ pos fine))) e h)
+
+-- ---- ends that contain both
+
+weak : (a b : ℤ) → a <ℤ b → a ≤ℤ b
+weak a b h = omega (arith, ints)
+
+lower_first : (o p : Option ℤ) → NotAbove (lower_of o p) o
+lower_first None p = tt
+lower_first (Some a) None = tt
+lower_first (Some a) (Some b) = by (int_lt b a) refl
+  where
+    by : (c : Bool) → int_lt b a ≡ c → NotAbove (cond c (Some b) (Some a)) (Some a)
+    by true e = weak b a (of_lt_true b a e)
+    by false e = le_self a
+
+lower_second : (o p : Option ℤ) → NotAbove (lower_of o p) p
+lower_second None p = tt
+lower_second (Some a) None = tt
+lower_second (Some a) (Some b) = by (int_lt b a) refl
+  where
+    by : (c : Bool) → int_lt b a ≡ c → NotAbove (cond c (Some b) (Some a)) (Some b)
+    by true e = le_self b
+    by false e = of_lt_false b a e
+
+higher_first : (o p : Option ℤ) → NotBelow (higher_of o p) o
+higher_first None p = tt
+higher_first (Some a) None = tt
+higher_first (Some a) (Some b) = by (int_lt a b) refl
+  where
+    by : (c : Bool) → int_lt a b ≡ c → NotBelow (cond c (Some b) (Some a)) (Some a)
+    by true e = weak a b (of_lt_true a b e)
+    by false e = le_self a
+
+higher_second : (o p : Option ℤ) → NotBelow (higher_of o p) p
+higher_second None p = tt
+higher_second (Some a) None = tt
+higher_second (Some a) (Some b) = by (int_lt a b) refl
+  where
+    by : (c : Bool) → int_lt a b ≡ c → NotBelow (cond c (Some b) (Some a)) (Some b)
+    by true e = le_self b
+    by false e = of_lt_false a b e
+
+pub part_first : (r s : Range) → IsPart r (joined r s)
+part_first r s = record { low = lower_first r.low s.low; high = higher_first r.high s.high }
+
+pub part_second : (r s : Range) → IsPart s (joined r s)
+part_second r s = record { low = lower_second r.low s.low; high = higher_second r.high s.high }
+
+above_trans : (o p q : Option ℤ) → NotAbove p o → NotAbove q p → NotAbove q o
+above_trans o p None h k = tt
+above_trans o None (Some c) h k = absurd k
+above_trans None (Some b) (Some c) h k = absurd h
+above_trans (Some a) (Some b) (Some c) h k = le_trans c b a k h
+  where
+    le_trans : (a b c : ℤ) → a ≤ℤ b → b ≤ℤ c → a ≤ℤ c
+    le_trans a b c h k = omega (arith, ints)
+
+below_trans : (o p q : Option ℤ) → NotBelow p o → NotBelow q p → NotBelow q o
+below_trans o p None h k = tt
+below_trans o None (Some c) h k = absurd k
+below_trans None (Some b) (Some c) h k = absurd h
+below_trans (Some a) (Some b) (Some c) h k = le_trans a b c h k
+  where
+    le_trans : (a b c : ℤ) → a ≤ℤ b → b ≤ℤ c → a ≤ℤ c
+    le_trans a b c h k = omega (arith, ints)
+
+pub part_trans : (r s t : Range) → IsPart r s → IsPart s t → IsPart r t
+part_trans r s t h k = record { low = above_trans r.low s.low t.low h.low k.low; high = below_trans r.high s.high t.high h.high k.high }
+
+above_self : (o : Option ℤ) → NotAbove o o
+above_self None = tt
+above_self (Some a) = le_self a
+
+below_self : (o : Option ℤ) → NotBelow o o
+below_self None = tt
+below_self (Some a) = le_self a
+
+pub part_self : (r : Range) → IsPart r r
+part_self r = record { low = above_self r.low; high = below_self r.high }
+
+pub part_everywhere : (r : Range) → IsPart r everywhere
+part_everywhere r = record { low = tt; high = tt }

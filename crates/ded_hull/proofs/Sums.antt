@@ -1,0 +1,266 @@
+-- The least sum of a limit in a reach: at most the sum at all values of the reach, and no higher in a wider reach.
+use Rattle.std.proofs.Common.{◌≡◌, ℕ, zero, suc, ◌<◌, Bool, true, false, cond, List, [], ◌∷◌, get_or, Option, Some, None, arith, refl, sym, ap, subst, true≢false}
+use Rattle.std.specs.Prelude.{ℤ, pos, ◌+ℤ◌, ◌*ℤ◌, ◌≤ℤ◌, ◌<ℤ◌, int_lt, int_le, neg_ℤ, ◌&&◌}
+use Rattle.std.specs.Ordering.{int_eq}
+use Rattle.std.proofs.lemmas.Int.{ints}
+use Rattle.ded_num.proofs.Ring.{parts, diff_same, ring, add-mul_ℤ, mul_assoc_ℤ}
+use Rattle.ded_model.specs.declared.row.RowOp.{RowOp}
+use Rattle.ded_model.specs.declared.row.RowOp.TheVariants.{Zero, AtMost, Below}
+use Rattle.ded_model.specs.Row.{sign_meets}
+use Rattle.ded_model.proofs.Core.{Meets, meets_scale, meets_unscale}
+use Rattle.ded_hull.specs.declared.reach.Range.{Range}
+use Rattle.ded_hull.specs.declared.limit.Limit.{Limit}
+use Rattle.ded_hull.specs.Reaches.{fine, IsAbove, IsBelow, IsIn, Lies, range_at, NotAbove, NotBelow, IsPart, IsWithin}
+use Rattle.ded_hull.specs.Limits.{Term, sum_of, is_met, are_met, kept, plus, times, least_end, least, turned, turn, least_of, at_most_zero, below_zero, may_stand, may_meet, may_hold}
+use Rattle.ded_hull.proofs.Numbers.{UpTo, kept_under, kept_mono, times_up, times_down, times_neg, lt_true, of_lt_true, of_lt_false, le_self}
+
+-- ---- sums at values
+
+-- at most z over the denominator
+abbrev Under : ℕ → Option ℤ → ℤ → Type 0
+Under d None z = Unit {0}
+Under d (Some k) z = (k *ℤ pos d) ≤ℤ z
+
+not_negative : (d : ℕ) → pos 0 ≤ℤ pos d
+not_negative d = omega (arith, ints)
+
+commute : (a b : ℤ) → a *ℤ b ≡ b *ℤ a
+commute a b = rw (parts a, parts b) (simp ring (diff_same _ _ _ _ (omega arith)))
+
+le_trans : (a b c : ℤ) → a ≤ℤ b → b ≤ℤ c → a ≤ℤ c
+le_trans a b c h k = omega (arith, ints)
+
+le_same : (a b c d : ℤ) → a ≡ b → c ≡ d → a ≤ℤ c → b ≤ℤ d
+le_same a b c d e f h = omega (arith, ints)
+
+le_plus : (a b c d : ℤ) → a ≤ℤ c → b ≤ℤ d → (a +ℤ b) ≤ℤ (c +ℤ d)
+le_plus a b c d h k = omega (arith, ints)
+
+-- what is kept of a number that is under is under
+kept_stays : (d : ℕ) (x z : ℤ) → (x *ℤ pos d) ≤ℤ z → Under d (kept x) z
+kept_stays d x z h = by (kept x) (kept_under x)
+  where
+    by : (o : Option ℤ) → UpTo o x → Under d o z
+    by None u = tt
+    by (Some k) u = le_trans (k *ℤ pos d) (x *ℤ pos d) z (le_same (pos d *ℤ k) (k *ℤ pos d) (pos d *ℤ x) (x *ℤ pos d) (commute (pos d) k) (commute (pos d) x) (times_up (pos d) k x (not_negative d) u)) h
+
+plus_under : (d : ℕ) (s t : Option ℤ) (y z : ℤ) → Under d s y → Under d t z → Under d (plus s t) (y +ℤ z)
+plus_under d None t y z h k = tt
+plus_under d (Some s) None y z h k = tt
+plus_under d (Some s) (Some t) y z h k = kept_stays d (s +ℤ t) (y +ℤ z) (le_same (s *ℤ pos d +ℤ t *ℤ pos d) ((s +ℤ t) *ℤ pos d) (y +ℤ z) (y +ℤ z) (sym (add-mul_ℤ s t (pos d))) refl (le_plus (s *ℤ pos d) (t *ℤ pos d) y z h k))
+
+-- a multiple of a value, at the end at which it is least
+times_under : (d : ℕ) (a n : ℤ) (r : Range) → IsIn r n d → Under d (times a (least_end a r)) ((a *ℤ n) *ℤ pos fine)
+times_under d a n r h = by (int_lt (pos 0) a) refl
+  where
+    low : (o : Option ℤ) → pos 0 <ℤ a → IsAbove o n d → Under d (times a o) ((a *ℤ n) *ℤ pos fine)
+    low None p k = tt
+    low (Some e) p k = kept_stays d (a *ℤ e) ((a *ℤ n) *ℤ pos fine) (le_same (a *ℤ (e *ℤ pos d)) ((a *ℤ e) *ℤ pos d) (a *ℤ (n *ℤ pos fine)) ((a *ℤ n) *ℤ pos fine) (sym (mul_assoc_ℤ a e (pos d))) (sym (mul_assoc_ℤ a n (pos fine))) (times_up a (e *ℤ pos d) (n *ℤ pos fine) (weak a p) k))
+      where
+        weak : (a : ℤ) → pos 0 <ℤ a → pos 0 ≤ℤ a
+        weak a p = omega (arith, ints)
+
+    high : (o : Option ℤ) → a ≤ℤ pos 0 → IsBelow o n d → Under d (times a o) ((a *ℤ n) *ℤ pos fine)
+    high None p k = tt
+    high (Some e) p k = kept_stays d (a *ℤ e) ((a *ℤ n) *ℤ pos fine) (le_same (a *ℤ (e *ℤ pos d)) ((a *ℤ e) *ℤ pos d) (a *ℤ (n *ℤ pos fine)) ((a *ℤ n) *ℤ pos fine) (sym (mul_assoc_ℤ a e (pos d))) (sym (mul_assoc_ℤ a n (pos fine))) (times_down a (n *ℤ pos fine) (e *ℤ pos d) p k))
+
+    by : (b : Bool) → int_lt (pos 0) a ≡ b → Under d (times a (cond b r.low r.high)) ((a *ℤ n) *ℤ pos fine)
+    by true e = low r.low (of_lt_true (pos 0) a e) h.low
+    by false e = high r.high (of_lt_false (pos 0) a e) h.high
+
+-- the values at the places
+lies_at : (rs : List Range) (ns : List ℤ) (d : ℕ) (p : ℕ) → Lies rs ns d → IsIn (range_at rs p) (get_or ns p (pos 0)) d
+lies_at [] [] d p h = record { low = tt; high = tt }
+lies_at [] (n ∷ ns) d p h = absurd h
+lies_at (r ∷ rs) [] d p h = absurd h
+lies_at (r ∷ rs) (n ∷ ns) d zero h = h.0
+lies_at (r ∷ rs) (n ∷ ns) d (suc p) h = lies_at rs ns d p h.1
+
+zero_first : (z : ℤ) → z ≡ pos 0 +ℤ z
+zero_first z = omega (arith, ints)
+
+regroup : (a b c : ℤ) → b +ℤ (c +ℤ a) ≡ (a +ℤ b) +ℤ c
+regroup a b c = omega (arith, ints)
+
+least_under : (rs : List Range) (ns : List ℤ) (d : ℕ) → Lies rs ns d → (ts : List Term) (s : Option ℤ) (z : ℤ) → Under d s (z *ℤ pos fine) → Under d (least rs ts s) ((sum_of ts ns +ℤ z) *ℤ pos fine)
+least_under rs ns d l [] s z h = subst (λ y. Under d s (y *ℤ pos fine)) (zero_first z) h
+least_under rs ns d l (t ∷ ts) s z h =
+    let n : ℤ = get_or ns t.0 (pos 0) in
+    let step = plus_under d s (times t.1 (least_end t.1 (range_at rs t.0))) (z *ℤ pos fine) ((t.1 *ℤ n) *ℤ pos fine) h (times_under d t.1 n (range_at rs t.0) (lies_at rs ns d t.0 l)) in
+    subst (λ y. Under d (least rs ts (plus s (times t.1 (least_end t.1 (range_at rs t.0))))) (y *ℤ pos fine)) (regroup (t.1 *ℤ n) (sum_of ts ns) z)
+    (least_under rs ns d l ts (plus s (times t.1 (least_end t.1 (range_at rs t.0)))) (z +ℤ t.1 *ℤ n) (subst (λ y. Under d (plus s (times t.1 (least_end t.1 (range_at rs t.0)))) y) (sym (add-mul_ℤ z (t.1 *ℤ n) (pos fine))) step))
+
+-- ---- the limit and its negative
+
+turned_sum : (b : Bool) (ts : List Term) (ns : List ℤ) → sum_of (turn b ts) ns ≡ turned b (sum_of ts ns)
+turned_sum b [] ns = none b
+  where
+    none : (b : Bool) → pos 0 ≡ turned b (pos 0)
+    none true = refl
+    none false = refl
+turned_sum b (t ∷ ts) ns = more b t.1 (get_or ns t.0 (pos 0)) (sum_of ts ns) (sum_of (turn b ts) ns) (turned_sum b ts ns)
+  where
+    more_negative : (a n s s' : ℤ) → s' ≡ neg_ℤ s → neg_ℤ a *ℤ n ≡ neg_ℤ (a *ℤ n) → neg_ℤ a *ℤ n +ℤ s' ≡ neg_ℤ (a *ℤ n +ℤ s)
+    more_negative a n s s' e f = omega (arith, ints)
+
+    more : (b : Bool) (a n s s' : ℤ) → s' ≡ turned b s → turned b a *ℤ n +ℤ s' ≡ turned b (a *ℤ n +ℤ s)
+    more true a n s s' e = more_negative a n s s' e (times_neg a n)
+    more false a n s s' e = ap (λ x. a *ℤ n +ℤ x) e
+
+constant_under : (d : ℕ) (c : ℤ) → Under d (kept (c *ℤ pos fine)) ((c *ℤ pos d) *ℤ pos fine)
+constant_under d c = kept_stays d (c *ℤ pos fine) ((c *ℤ pos d) *ℤ pos fine) (same c (pos d) (pos fine))
+  where
+    swapped : (a b c : ℤ) → (a *ℤ c) *ℤ b ≡ (a *ℤ b) *ℤ c
+    swapped a b c = rw (parts a, parts b, parts c) (simp ring (diff_same _ _ _ _ (omega arith)))
+
+    le_of : (a b : ℤ) → a ≡ b → a ≤ℤ b
+    le_of a b e = omega (arith, ints)
+
+    same : (a b c : ℤ) → ((a *ℤ c) *ℤ b) ≤ℤ ((a *ℤ b) *ℤ c)
+    same a b c = le_of ((a *ℤ c) *ℤ b) ((a *ℤ b) *ℤ c) (swapped a b c)
+
+least_of_under : (rs : List Range) (ns : List ℤ) (d : ℕ) (l : Limit) (b : Bool) → Lies rs ns d → Under d (least_of rs l b) (turned b (sum_of l.terms.items ns +ℤ l.constant *ℤ pos d) *ℤ pos fine)
+least_of_under rs ns d l b h =
+    subst (λ y. Under d (least_of rs l b) (y *ℤ pos fine)) (whole b (sum_of l.terms.items ns) (sum_of (turn b l.terms.items) ns) l.constant (pos d) (turned_sum b l.terms.items ns))
+    (least_under rs ns d h (turn b l.terms.items) (kept (turned b l.constant *ℤ pos fine)) (turned b l.constant *ℤ pos d) (constant_under d (turned b l.constant)))
+  where
+    negative : (s s' c k : ℤ) → s' ≡ neg_ℤ s → c ≡ neg_ℤ k → s' +ℤ c ≡ neg_ℤ (s +ℤ k)
+    negative s s' c k e f = omega (arith, ints)
+
+    whole : (b : Bool) (s s' c d : ℤ) → s' ≡ turned b s → s' +ℤ turned b c *ℤ d ≡ turned b (s +ℤ c *ℤ d)
+    whole true s s' c d e = negative s s' (neg_ℤ c *ℤ d) (c *ℤ d) e (times_neg c d)
+    whole false s s' c d e = ap (λ x. x +ℤ c *ℤ d) e
+
+-- ---- no values are lost
+
+positive : (d : ℕ) → 0 < d → pos 0 <ℤ pos d
+positive d h = omega (arith, ints)
+
+fine_positive : pos 0 <ℤ pos fine
+fine_positive = positive fine (omega arith)
+
+le_zero_true : (k : ℤ) → k ≤ℤ pos 0 → int_le k (pos 0) ≡ true
+le_zero_true k h = grind (arith, ints)
+
+lt_le : (a b c : ℤ) → a ≤ℤ b → b <ℤ c → a <ℤ c
+lt_le a b c h k = omega (arith, ints)
+
+-- a sum that is at most 0 is seen so
+may_be_at_most : (d : ℕ) (o : Option ℤ) (z : ℤ) → 0 < d → Under d o (z *ℤ pos fine) → z ≤ℤ pos 0 → at_most_zero o ≡ true
+may_be_at_most d None z p u h = refl
+may_be_at_most d (Some k) z p u h =
+    let low : Meets AtMost (z *ℤ pos fine) = subst (Meets AtMost) (commute (pos fine) z) (meets_scale AtMost (pos fine) z fine_positive h) in
+    let own : Meets AtMost (pos d *ℤ k) = subst (Meets AtMost) (commute k (pos d)) (le_trans (k *ℤ pos d) (z *ℤ pos fine) (pos 0) u low) in
+    le_zero_true k (meets_unscale AtMost (pos d) k (positive d p) own)
+
+may_be_below : (d : ℕ) (o : Option ℤ) (z : ℤ) → 0 < d → Under d o (z *ℤ pos fine) → z <ℤ pos 0 → below_zero o ≡ true
+may_be_below d None z p u h = refl
+may_be_below d (Some k) z p u h =
+    let low : Meets Below (z *ℤ pos fine) = subst (Meets Below) (commute (pos fine) z) (meets_scale Below (pos fine) z fine_positive h) in
+    let own : Meets Below (pos d *ℤ k) = subst (Meets Below) (commute k (pos d)) (lt_le (k *ℤ pos d) (z *ℤ pos fine) (pos 0) u low) in
+    lt_true k (pos 0) (meets_unscale Below (pos d) k (positive d p) own)
+
+of_le_true : (a b : ℤ) → int_le a b ≡ true → a ≤ℤ b
+of_le_true a b h = grind (arith, ints)
+
+zero_from : (z : ℤ) → int_eq z (pos 0) ≡ true → z ≡ pos 0
+zero_from z e = grind (arith, ints)
+
+and_both : (a b : Bool) → a ≡ true → b ≡ true → (a && b) ≡ true
+and_both a b e f = rw (e, f) refl
+
+may_meet_sound : (rs : List Range) (ns : List ℤ) (d : ℕ) (l : Limit) → 0 < d → Lies rs ns d → is_met ns d l ≡ true → may_meet rs l ≡ true
+may_meet_sound rs ns d l p h m = by l.op (sum_of l.terms.items ns +ℤ l.constant *ℤ pos d) m (least_of rs l false) (least_of rs l true) (least_of_under rs ns d l false h) (least_of_under rs ns d l true h)
+  where
+    zero_is : (z : ℤ) → int_eq z (pos 0) ≡ true → z ≡ pos 0
+    zero_is z e = zero_from z e
+
+    le_is : (z : ℤ) → int_le z (pos 0) ≡ true → z ≤ℤ pos 0
+    le_is z e = of_le_true z (pos 0) e
+
+    zero_low : (z : ℤ) → z ≡ pos 0 → z ≤ℤ pos 0
+    zero_low z e = omega (arith, ints)
+
+    zero_turned : (z : ℤ) → z ≡ pos 0 → neg_ℤ z ≤ℤ pos 0
+    zero_turned z e = omega (arith, ints)
+
+    by : (op : RowOp) (z : ℤ) → sign_meets op z ≡ true → (o n : Option ℤ) → Under d o (z *ℤ pos fine) → Under d n (neg_ℤ z *ℤ pos fine) → may_stand op o n ≡ true
+    by Zero z m o n u v = and_both (at_most_zero o) (at_most_zero n) (may_be_at_most d o z p u (zero_low z (zero_is z m))) (may_be_at_most d n (neg_ℤ z) p v (zero_turned z (zero_is z m)))
+    by AtMost z m o n u v = may_be_at_most d o z p u (le_is z m)
+    by Below z m o n u v = may_be_below d o z p u (of_lt_true z (pos 0) m)
+
+and_first : (a b : Bool) → (a && b) ≡ true → a ≡ true
+and_first true b h = refl
+and_first false b h = h
+
+and_second : (a b : Bool) → (a && b) ≡ true → b ≡ true
+and_second true b h = h
+and_second false b h = absurd (true≢false (sym h))
+
+pub may_hold_sound : (rs : List Range) (ns : List ℤ) (d : ℕ) (ls : List Limit) → 0 < d → Lies rs ns d → are_met ns d ls ≡ true → may_hold rs ls ≡ true
+may_hold_sound rs ns d [] p h m = refl
+may_hold_sound rs ns d (l ∷ ls) p h m = and_both (may_meet rs l) (may_hold rs ls)
+    (may_meet_sound rs ns d l p h (and_first (is_met ns d l) (are_met ns d ls) m)) (may_hold_sound rs ns d ls p h (and_second (is_met ns d l) (are_met ns d ls) m))
+
+-- ---- a wider reach
+
+times_wider : (a : ℤ) (r s : Range) → IsPart r s → NotAbove (times a (least_end a s)) (times a (least_end a r))
+times_wider a r s h = by (int_lt (pos 0) a) refl
+  where
+    weak : (a : ℤ) → pos 0 <ℤ a → pos 0 ≤ℤ a
+    weak a p = omega (arith, ints)
+
+    low : (o p : Option ℤ) → pos 0 ≤ℤ a → NotAbove o p → NotAbove (times a o) (times a p)
+    low None p l n = tt
+    low (Some x) None l n = absurd n
+    low (Some x) (Some y) l n = kept_mono (a *ℤ x) (a *ℤ y) (times_up a x y l n)
+
+    high : (o p : Option ℤ) → a ≤ℤ pos 0 → NotBelow o p → NotAbove (times a o) (times a p)
+    high None p l n = tt
+    high (Some x) None l n = absurd n
+    high (Some x) (Some y) l n = kept_mono (a *ℤ x) (a *ℤ y) (times_down a y x l n)
+
+    by : (b : Bool) → int_lt (pos 0) a ≡ b → NotAbove (times a (cond b s.low s.high)) (times a (cond b r.low r.high))
+    by true e = low s.low r.low (weak a (of_lt_true (pos 0) a e)) h.low
+    by false e = high s.high r.high (of_lt_false (pos 0) a e) h.high
+
+plus_wider : (s s' t t' : Option ℤ) → NotAbove s' s → NotAbove t' t → NotAbove (plus s' t') (plus s t)
+plus_wider s None t t' h k = tt
+plus_wider s (Some x) t None h k = tt
+plus_wider None (Some x) t (Some y) h k = absurd h
+plus_wider (Some u) (Some x) None (Some y) h k = absurd k
+plus_wider (Some u) (Some x) (Some v) (Some y) h k = kept_mono (x +ℤ y) (u +ℤ v) (le_plus x y u v h k)
+
+least_wider : (rs ss : List Range) → IsWithin rs ss → (ts : List Term) (s s' : Option ℤ) → NotAbove s' s → NotAbove (least ss ts s') (least rs ts s)
+least_wider rs ss w [] s s' h = h
+least_wider rs ss w (t ∷ ts) s s' h = least_wider rs ss w ts (plus s (times t.1 (least_end t.1 (range_at rs t.0)))) (plus s' (times t.1 (least_end t.1 (range_at ss t.0))))
+    (plus_wider s s' (times t.1 (least_end t.1 (range_at rs t.0))) (times t.1 (least_end t.1 (range_at ss t.0))) h (times_wider t.1 (range_at rs t.0) (range_at ss t.0) (w t.0)))
+
+not_above_self : (o : Option ℤ) → NotAbove o o
+not_above_self None = tt
+not_above_self (Some k) = le_self k
+
+lower_at_most : (o n : Option ℤ) → NotAbove n o → at_most_zero o ≡ true → at_most_zero n ≡ true
+lower_at_most o None h e = refl
+lower_at_most None (Some k) h e = absurd h
+lower_at_most (Some j) (Some k) h e = le_zero_true k (le_trans k j (pos 0) h (of_le_true j (pos 0) e))
+
+lower_below : (o n : Option ℤ) → NotAbove n o → below_zero o ≡ true → below_zero n ≡ true
+lower_below o None h e = refl
+lower_below None (Some k) h e = absurd h
+lower_below (Some j) (Some k) h e = lt_true k (pos 0) (lt_le k j (pos 0) h (of_lt_true j (pos 0) e))
+
+may_stand_wider : (op : RowOp) (o n o' n' : Option ℤ) → NotAbove o' o → NotAbove n' n → may_stand op o n ≡ true → may_stand op o' n' ≡ true
+may_stand_wider Zero o n o' n' h k e = and_both (at_most_zero o') (at_most_zero n') (lower_at_most o o' h (and_first (at_most_zero o) (at_most_zero n) e)) (lower_at_most n n' k (and_second (at_most_zero o) (at_most_zero n) e))
+may_stand_wider AtMost o n o' n' h k e = lower_at_most o o' h e
+may_stand_wider Below o n o' n' h k e = lower_below o o' h e
+
+least_of_wider : (rs ss : List Range) (l : Limit) (b : Bool) → IsWithin rs ss → NotAbove (least_of ss l b) (least_of rs l b)
+least_of_wider rs ss l b w = least_wider rs ss w (turn b l.terms.items) (kept (turned b l.constant *ℤ pos fine)) (kept (turned b l.constant *ℤ pos fine)) (not_above_self (kept (turned b l.constant *ℤ pos fine)))
+
+-- what may hold in a reach may hold in a wider one
+pub may_hold_wider : (rs ss : List Range) (ls : List Limit) → IsWithin rs ss → may_hold rs ls ≡ true → may_hold ss ls ≡ true
+may_hold_wider rs ss [] w e = refl
+may_hold_wider rs ss (l ∷ ls) w e = and_both (may_meet ss l) (may_hold ss ls)
+    (may_stand_wider l.op (least_of rs l false) (least_of rs l true) (least_of ss l false) (least_of ss l true) (least_of_wider rs ss l false w) (least_of_wider rs ss l true w) (and_first (may_meet rs l) (may_hold rs ls) e))
+    (may_hold_wider rs ss ls w (and_second (may_meet rs l) (may_hold rs ls) e))

@@ -1,0 +1,36 @@
+-- Entries: reaches under numbers, and in which of them limits may hold.
+use Rattle.std.specs.Prelude.{◌≡◌, ◌↔◌, ◌<◌, ℕ, ℤ, nat_eq, not, true, List, [], ◌∷◌, if◌then◌else◌}
+use Rattle.std.specs.List.{Contains, filter}
+use Rattle.std.specs.List.Sorted.{IsStrictlyIncreasing}
+use Rattle.ded_model.proofs.Lists.{Every, Some}
+use Rattle.ded_hull.specs.declared.reach.Range.{Range}
+use Rattle.ded_hull.specs.declared.limit.Limit.{Limit}
+use Rattle.ded_hull.specs.declared.entry.Entry.{Entry}
+use Rattle.ded_hull.specs.Reaches.{Lies, IsWithin}
+use Rattle.ded_hull.specs.Limits.{are_met, may_hold}
+
+-- the numbers of the entries in whose reaches the limits may hold, in order
+abbrev pub ids_in : List Limit → List Entry → List ℕ
+ids_in ls [] = []
+ids_in ls (e ∷ es) = if may_hold e.reach ls then e.id ∷ ids_in ls es else ids_in ls es
+
+-- the entries that don't have the number, in order
+abbrev pub without : ℕ → List Entry → List Entry
+without i es = filter (λ e. not (nat_eq e.id i)) es
+
+-- the entry has the number, and the limits may hold in its reach
+abbrev pub IsPassing : List Limit → ℕ → Entry → Type 0
+IsPassing ls i e = (e.id ≡ i) × (may_hold e.reach ls ≡ true)
+
+-- the numbers of the entries in whose reaches the limits may hold, ascending
+pub record AreFound (ls : List Limit) (es : List Entry) (ids : List ℕ) : Type 0 where
+  pub ascending : IsStrictlyIncreasing ids
+  pub exact : (i : ℕ) → Contains ids i ↔ Some (IsPassing ls i) es
+
+-- no entry is lost in whose reach lie values that meet all limits
+abbrev pub IsComplete : List Limit → List Entry → List ℕ → Type 0
+IsComplete ls es ids = (ns : List ℤ) (den : ℕ) → 0 < den → are_met ns den ls ≡ true → Every (λ e. Lies e.reach ns den → Contains ids e.id) es
+
+-- the hull contains the reaches of all entries
+abbrev pub Covers : List Range → List Entry → Type 0
+Covers h es = Every (λ e. IsWithin e.reach h) es

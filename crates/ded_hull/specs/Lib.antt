@@ -1,0 +1,4 @@
+pub mod Entries
+pub mod Limits
+pub mod Reaches
+pub mod Trees

@@ -1,0 +1,105 @@
+-- Reaches: for each column the values between two ends, and the least reach that contains two.
+use Rattle.std.specs.Prelude.{◌≡◌, ◌^◌, ◌≤ℤ◌, ◌*ℤ◌, ℕ, zero, suc, ℤ, pos, false, int_lt, List, [], ◌∷◌, if◌then◌else◌, Option, Some, None}
+use Rattle.ded_model.specs.declared.bound.Bound.{Bound}
+use Rattle.ded_model.specs.declared.bound.Bound.TheVariants.{Infinite, Excluded, Included}
+use Rattle.ded_model.specs.Bound.{Fraction, End, lower, upper, is_outside}
+use Rattle.ded_hull.specs.declared.reach.Range.{Range}
+
+-- how many units are 1
+abbrev pub fine : ℕ
+fine = 2 ^ 32
+
+-- ---- ends
+
+-- the value num / den is at or above the low end, if there is one
+abbrev pub IsAbove : Option ℤ → ℤ → ℕ → Type 0
+IsAbove None num den = Unit {0}
+IsAbove (Some k) num den = (k *ℤ pos den) ≤ℤ (num *ℤ pos fine)
+
+-- the value num / den is at or below the high end, if there is one
+abbrev pub IsBelow : Option ℤ → ℤ → ℕ → Type 0
+IsBelow None num den = Unit {0}
+IsBelow (Some k) num den = (num *ℤ pos fine) ≤ℤ (k *ℤ pos den)
+
+-- the value v doesn't lie outside of the fraction of the bound, if it has one
+abbrev pub NotOutside : End → Bound → Fraction → Type 0
+NotOutside e Infinite v = Unit {0}
+NotOutside e (Excluded f) v = is_outside e v f ≡ false
+NotOutside e (Included f) v = is_outside e v f ≡ false
+
+-- every value that the lower bound lets through is at or above the end
+abbrev pub IsFloor : Bound → Option ℤ → Type 0
+IsFloor b o = (num : ℤ) (den : ℕ) → NotOutside lower b (record { num = num; den = pos den }) → IsAbove o num den
+
+-- every value that the upper bound lets through is at or below the end
+abbrev pub IsCeil : Bound → Option ℤ → Type 0
+IsCeil b o = (num : ℤ) (den : ℕ) → NotOutside upper b (record { num = num; den = pos den }) → IsBelow o num den
+
+-- ---- reaches
+
+-- the value num / den is between the ends
+pub record IsIn (r : Range) (num : ℤ) (den : ℕ) : Type 0 where
+  pub low : IsAbove r.low num den
+  pub high : IsBelow r.high num den
+
+-- the values with these numerators over one denominator, one for each column, lie in the reach
+abbrev pub Lies : List Range → List ℤ → ℕ → Type 0
+Lies [] [] den = Unit {0}
+Lies [] (n ∷ ns) den = ⊥
+Lies (r ∷ rs) [] den = ⊥
+Lies (r ∷ rs) (n ∷ ns) den = IsIn r n den × Lies rs ns den
+
+-- all values
+abbrev pub everywhere : Range
+everywhere = record { low = None; high = None }
+
+-- the range at a place, all values where there is none
+abbrev pub range_at : List Range → ℕ → Range
+range_at [] p = everywhere
+range_at (r ∷ rs) zero = r
+range_at (r ∷ rs) (suc p) = range_at rs p
+
+-- ---- hulls
+
+-- the lower of two low ends
+abbrev pub lower_of : Option ℤ → Option ℤ → Option ℤ
+lower_of None o = None
+lower_of (Some a) None = None
+lower_of (Some a) (Some b) = if int_lt b a then Some b else Some a
+
+-- the higher of two high ends
+abbrev pub higher_of : Option ℤ → Option ℤ → Option ℤ
+higher_of None o = None
+higher_of (Some a) None = None
+higher_of (Some a) (Some b) = if int_lt a b then Some b else Some a
+
+-- the least range that contains both
+abbrev pub joined : Range → Range → Range
+joined r s = record { low = lower_of r.low s.low; high = higher_of r.high s.high }
+
+-- the least reach that contains both, place by place
+abbrev pub hull : List Range → List Range → List Range
+hull [] ss = []
+hull (r ∷ rs) [] = everywhere ∷ hull rs []
+hull (r ∷ rs) (s ∷ ss) = joined r s ∷ hull rs ss
+
+-- o is no higher a low end than the other
+abbrev pub NotAbove : Option ℤ → Option ℤ → Type 0
+NotAbove None o = Unit {0}
+NotAbove (Some a) None = ⊥
+NotAbove (Some a) (Some b) = a ≤ℤ b
+
+-- o is no lower a high end than the other
+abbrev pub NotBelow : Option ℤ → Option ℤ → Type 0
+NotBelow None o = Unit {0}
+NotBelow (Some a) None = ⊥
+NotBelow (Some a) (Some b) = b ≤ℤ a
+
+-- the range is part of the other
+pub record IsPart (r s : Range) : Type 0 where
+  pub low : NotAbove s.low r.low
+  pub high : NotBelow s.high r.high
+
+-- the reach is part of the other
+abbrev pub IsWithin : List Range → List Range → Type 0
+IsWithin rs ss = (p : ℕ) → IsPart (range_at rs p) (range_at ss p)

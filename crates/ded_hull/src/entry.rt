@@ -1,0 +1,149 @@
+//! Entries, the hulls of lists of them, and how such lists are split.
+ghost use Rattle.std.specs.Prelude.{nat_eq, ◌≡◌, ◌++◌, [], ◌∷◌, IfOk};
+ghost use Rattle.std.specs.List.{list_any};
+ghost use Rattle.std.specs.List.Sorted.{IsPermutation};
+ghost use Rattle.ded_hull.specs.Entries.{ids_in, without, Covers};
+
+use crate::limit::{Limit, may_hold};
+use crate::reach::{Range, Reach};
+use ded_model::memory::NoMemory;
+use std::alloc::Global;
+
+/// A reach under a number.
+#[derive(Drop)]
+pub struct Entry {
+    pub id: u32,
+    pub reach: Reach,
+}
+
+/// A hull of the entries.
+///
+/// # Errors
+/// Out of memory.
+pub(crate) fn hull_of(alloc: Global, entries: &[Entry]) -> Result<Reach, NoMemory>
+    ensures { IfOk result (λ h. Covers h entries.now) }
+{
+    let mut hull = first_reach(alloc, entries)?;
+    cover(&mut hull, entries);
+    Ok(hull)
+}
+
+/// The reach of the first entry, if there is one.
+fn first_reach(alloc: Global, entries: &[Entry]) -> Result<Reach, NoMemory> {
+    match entries {
+        [first, ..] => first.reach.copy(),
+        [] => Ok(Reach::new(alloc)),
+    }
+}
+
+/// Widens the hull to one of the entries too.
+fn cover(hull: &mut Reach, entries: &[Entry])
+    ensures { Covers hull.new entries.now }
+{
+    for i in 0..entries.len() {
+        hull.widen(&entries[i].reach);
+    }
+}
+
+/// Adds the numbers of the entries in whose reaches the limits may hold.
+///
+/// # Errors
+/// Out of memory.
+pub(crate) fn push_passing(
+    entries: &[Entry],
+    limits: &[Limit],
+    found: &mut Vec<u32>,
+) -> Result<(), NoMemory>
+    ensures { IfOk result (λ _. found.new.items ≡ found.old.items ++ ids_in limits.now entries.now) }
+{
+    for i in 0..entries.len() {
+        push_if_passing(&entries[i], limits, found)?;
+    }
+    Ok(())
+}
+
+/// Adds the number of the entry where the limits may hold in its reach.
+fn push_if_passing(entry: &Entry, limits: &[Limit], found: &mut Vec<u32>) -> Result<(), NoMemory>
+    ensures { IfOk result (λ _. found.new.items ≡ found.old.items ++ ids_in limits.now (entry.now ∷ [])) }
+{
+    if may_hold(&entry.reach, limits) {
+        found.push(entry.id)?;
+    }
+    Ok(())
+}
+
+/// Adds copies of the entries.
+///
+/// # Errors
+/// Out of memory.
+pub(crate) fn copy_all(from: &[Entry], to: &mut Vec<Entry>) -> Result<(), NoMemory>
+    ensures { IfOk result (λ _. to.new.items ≡ to.old.items ++ from.now) }
+{
+    for i in 0..from.len() {
+        to.push(Entry {
+            id: from[i].id,
+            reach: from[i].reach.copy()?,
+        })?;
+    }
+    Ok(())
+}
+
+/// Sorts the entries by their middles in the column in which these lie farthest apart.
+pub(crate) fn arrange(entries: &mut Vec<Entry>, hull: &Reach)
+    ensures { IsPermutation entries.old.items entries.new.items }
+{
+    let place = widest(entries, hull.ranges().len());
+    entries.sort_unstable_by_key(|entry| middle(entry.reach.at(place)));
+}
+
+/// The column in which the middles of the entries lie farthest apart.
+fn widest(entries: &[Entry], width: usize) -> usize {
+    let mut best = 0;
+    let mut most = 0;
+    for place in 0..width {
+        let apart = spread(entries, place);
+        if most < apart {
+            most = apart;
+            best = place;
+        }
+    }
+    best
+}
+
+/// How far the middles of the entries lie apart in a column.
+fn spread(entries: &[Entry], place: usize) -> i128 {
+    let mut least = i128::MAX;
+    let mut greatest = i128::MIN;
+    for entry in entries {
+        let middle = middle(entry.reach.at(place));
+        least = least.min(middle);
+        greatest = greatest.max(middle);
+    }
+    greatest.saturating_sub(least)
+}
+
+/// The middle of a range, or its one end.
+fn middle(range: Range) -> i128 {
+    match (range.low, range.high) {
+        (Some(low), Some(high)) => low / 2 + high / 2,
+        (Some(low), None) => low,
+        (None, Some(high)) => high,
+        (None, None) => 0,
+    }
+}
+
+/// Takes out the entries with the number.
+pub(crate) fn drop_id(entries: &mut Vec<Entry>, id: u32)
+    ensures { entries.new.items ≡ without id entries.old.items }
+{
+    if has_id(entries, id) {
+        entries.retain(|entry| entry.id != id);
+    }
+}
+
+/// Whether some entry has the number.
+fn has_id(entries: &[Entry], id: u32) -> bool
+    ensures { result ≡ list_any (λ e. nat_eq e.id id) entries.now }
+{
+    entries.iter().any(|entry| entry.id == id)
+}
