@@ -1,10 +1,9 @@
 -- Lists of conjunctions in boxes.
-use Rattle.std.proofs.Common.{◌≡◌, ℕ, zero, suc, ◌+◌, ◌<◌, Bool, List, [], ◌∷◌, ◌++◌, Vec, Global, length, take, get_or, arith, refl, sym, ap, ◌∙◌, subst}
+use Rattle.std.proofs.Common.{◌≡◌, ℕ, zero, suc, ◌<◌, Bool, List, [], ◌∷◌, ◌++◌, Vec, Global, length, take, get_or, arith, refl, sym, ap, ◌∙◌, subst}
 use Rattle.std.specs.List.{AllByRecursion}
 use Rattle.ded_model.specs.declared.slot.Slot.{Slot}
 use Rattle.ded_model.specs.Point.{Point}
 use Rattle.ded_genrel.specs.Lists.{conjs_of, AreNormal}
-use Rattle.ded_genrel.proofs.Items.{done_to}
 use Rattle.ded_genrel.specs.Rounds.{IsRound}
 use Rattle.ded_complement.specs.declared.boxed.Boxed.{Boxed}
 use Rattle.ded_complement.specs.Boxed.{conjs_in, IsBoxed, AreBoxed}
@@ -13,10 +12,6 @@ module _ {A : Type 0} where
   pub conjs_in-append : (xs ys : List (Boxed A)) → conjs_in (xs ++ ys) ≡ conjs_in xs ++ conjs_in ys
   conjs_in-append [] ys = refl
   conjs_in-append (x ∷ xs) ys = ap (λ zs. x.conj.items ∷ zs) (conjs_in-append xs ys)
-
-  -- what is done ends with the conjunction
-  pub conjs_in-to : (xs : List (Boxed A)) (i : ℕ) (x : Boxed A) → i < length xs → x ≡ get_or xs i x → conjs_in (take (i + 1) xs) ≡ conjs_in (take i xs) ++ x.conj.items ∷ []
-  conjs_in-to xs i x lt e = ap conjs_in (done_to xs i x lt e) ∙ conjs_in-append (take i xs) (x ∷ [])
 
   pub normal_in : (h : A → Point → Bool) (n : A → Type 0) (ss : List Slot) (bs : List (Boxed A)) → AreBoxed h n ss bs → AreNormal n (conjs_in bs)
   normal_in h n ss [] k = tt

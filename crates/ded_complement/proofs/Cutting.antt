@@ -64,19 +64,19 @@ both_sum : (x a b c : Bool) → (a || b) ≡ c → (x && c) ≡ ((x && a) || (x 
 both_sum true a b c e = sym e
 both_sum false a b c e = refl
 
-less_sum : (t x c : Bool) → ((t || x) && not c) ≡ ((t && not c) || (x && not c))
+pub less_sum : (t x c : Bool) → ((t || x) && not c) ≡ ((t && not c) || (x && not c))
 less_sum true true true = refl
 less_sum true true false = refl
 less_sum true false true = refl
 less_sum true false false = refl
 less_sum false x c = refl
 
-less_apart : (t x c : Bool) → (t && x) ≡ false → ((t && not c) && (x && not c)) ≡ false
+pub less_apart : (t x c : Bool) → (t && x) ≡ false → ((t && not c) && (x && not c)) ≡ false
 less_apart true true c e = absurd (true≢false e)
 less_apart true false c e = and-false (not c)
 less_apart false x c e = refl
 
-not_or : (z x y : Bool) → ((z && not x) && not y) ≡ (z && not (x || y))
+pub not_or : (z x y : Bool) → ((z && not x) && not y) ≡ (z && not (x || y))
 not_or true true y = refl
 not_or true false y = refl
 not_or false x y = refl
@@ -84,7 +84,7 @@ not_or false x y = refl
 or_not : (x y t : Bool) → ((x && not t) || (y && not t)) ≡ ((x || y) && not t)
 or_not x y t = sym (less_sum x y t)
 
-passed : (x d c : Bool) → (x && c) ≡ false → (x && not (d || c)) ≡ (x && not d)
+pub passed : (x d c : Bool) → (x && c) ≡ false → (x && not (d || c)) ≡ (x && not d)
 passed true true c e = refl
 passed true false true e = sym e
 passed true false false e = refl
@@ -298,23 +298,9 @@ module _ {A : Type 0} (h : A → Point → Bool) (m : A → Slot → Bool) (l : 
         (λ p j. ap (λ z. conj_holds h piece p && not z) (conjs_push h m l cell done c p) ∙ sym (ap₂ (λ y z. y && not z) (a.holds p j) (ap (λ xs. conj_holds h xs p) f) ∙ not_or (conj_holds h piece p) (conjs_hold h done p) (conj_holds h c p)));
   })
 
-  -- a conjunction that shares no point with the piece is passed over
-  pub outside_passed : (piece : List A) (done next pieces : List (List A)) (c : List A) → next ≡ done ++ c ∷ [] → HoldsNowhere (λ p. conj_holds h piece p && conj_holds h c p) → Outside piece done pieces → Outside piece next pieces
-  outside_passed piece done next pieces c e z o = subst (λ xs. Outside piece xs pieces) (sym e) (record {
-    are = λ atoms g i.
-        let u = subst (AreAmong atoms) (all_atoms-push done c) i in
-        pieces_same h m l cell atoms (λ p. conj_holds h piece p && not (conjs_hold h done p)) (λ p. conj_holds h piece p && not (conjs_hold h (done ++ c ∷ []) p)) pieces
-        (o.are atoms g (all_left (λ y. IsAmong atoms y) (all_atoms done) c u))
-        (λ p j. ap (λ b. conj_holds h piece p && not b) (conjs_push h m l cell done c p) ∙ passed (conj_holds h piece p) (conjs_hold h done p) (conj_holds h c p) (z p j));
-  })
-
   -- the list is what of the piece is outside of the conjunctions
   abbrev pub AreOutside : List A → List (List A) → List (List A) → Type 0
   AreOutside piece taken out = (atoms : List A) → IsMadeOf h m l cell atoms piece → AreAmong atoms (all_atoms taken) → ArePieces h m l cell atoms (λ p. conj_holds h piece p && not (conjs_hold h taken p)) out
-
-  pub outside_end : (piece : List A) (done all pieces out : List (List A)) → done ≡ all → out ≡ pieces → Outside piece done pieces
-      → (atoms : List A) → IsMadeOf h m l cell atoms piece → AreAmong atoms (all_atoms all) → ArePieces h m l cell atoms (λ p. conj_holds h piece p && not (conjs_hold h all p)) out
-  outside_end piece done all pieces out e f o = (subst (λ xs. Outside piece xs out) e (subst (Outside piece done) (sym f) o)).are
 
   -- ---- the results
 

@@ -1,5 +1,6 @@
 pub mod Boxes
 pub mod Cells
 pub mod Cutting
+pub mod Halved
 pub mod Implied
 pub mod PieceLaws

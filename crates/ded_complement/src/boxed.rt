@@ -82,7 +82,10 @@ fn is_bounded(span: Span) -> bool {
 }
 
 /// The conjunction with a box around it on the slots.
-fn with_box<T: Theory>(
+///
+/// # Errors
+/// Out of memory.
+pub(crate) fn with_box<T: Theory>(
     alloc: Global,
     conj: Vec<T::Atom>,
     slots: &[Slot],

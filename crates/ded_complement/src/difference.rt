@@ -9,11 +9,10 @@ ghost use Rattle.ded_genrel.specs.Rounds.{AreRational};
 ghost use Rattle.ded_complement.specs.Boxed.{conjs_in, AreBoxed};
 ghost use Rattle.ded_complement.specs.Pieces.{all_atoms, AreDisjoint, IsListForEach, AreAmong, IsMadeOf, ArePieces};
 
-use crate::boxed::{Boxed, bounded_slots, boxed_list, unboxed};
-use crate::lessening::without;
-use crate::pieces::push_piece;
-use ded_box::meets;
-use ded_genrel::{GenRel, box_round, copy_conj};
+use crate::boxed::{Boxed, bounded_slots, boxed_list};
+use crate::carving::{DEEPEST, carve};
+use crate::parts::whole;
+use ded_genrel::{GenRel, copy_conj};
 use ded_model::memory::NoMemory;
 use ded_model::slot::Slot;
 use ded_theory::Theory;
@@ -71,14 +70,8 @@ fn outside<T: Theory>(
     requires boxed { AreBoxed T.holds T.normal slots.now taken.now }
     ensures { IfOk result (λ out. (atoms : List T.Atom) → IsMadeOf T.holds T.mentions T.lines T.cell atoms piece.items → AreAmong atoms (all_atoms (conjs_in taken.now)) → ArePieces T.holds T.mentions T.lines T.cell atoms (λ p. conj_holds T.holds piece.items p && not (conjs_hold T.holds (conjs_in taken.now) p)) out) }
 {
-    let bounds = box_round::<T>(alloc, &piece, slots)?;
-    let mut whole = GenRel::new(alloc);
-    push_piece(&mut whole, piece)?;
-    let mut pieces = boxed_list::<T>(alloc, &whole, slots)?;
-    for conj in taken {
-        if meets(&bounds, &conj.bounds) {
-            pieces = without::<T>(alloc, pieces, conj, slots)?;
-        }
-    }
-    unboxed::<T>(alloc, pieces)
+    let mut out = GenRel::new(alloc);
+    let part = whole::<T>(alloc, piece, taken, slots)?;
+    carve::<T>(&mut out, part, taken, slots, DEEPEST)?;
+    Ok(out)
 }

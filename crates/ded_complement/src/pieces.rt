@@ -80,13 +80,7 @@ fn push_with<T: Theory>(
 }
 
 /// Sets the piece at the end where it may hold somewhere. Returns whether it was set.
-///
-/// # Errors
-/// Out of memory.
-pub(crate) fn push_piece<T: Theory>(
-    out: &mut GenRel<T>,
-    piece: Vec<T::Atom>,
-) -> Result<bool, NoMemory>
+fn push_piece<T: Theory>(out: &mut GenRel<T>, piece: Vec<T::Atom>) -> Result<bool, NoMemory>
     requires normal { AllByRecursion T.normal piece.items }
     ensures more { IfOk result (λ _. IsMore T.holds T.mentions T.lines T.cell (λ atoms. IsMadeOf T.holds T.mentions T.lines T.cell atoms piece.items) (conj_holds T.holds piece.items) out.old out.new) }
     ensures dropped { IfOk result (λ kept. kept ≡ false → HoldsNowhere (conj_holds T.holds piece.items)) }

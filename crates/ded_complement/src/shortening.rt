@@ -34,7 +34,13 @@ pub(crate) fn with_last<T: Theory>(
 }
 
 /// The conjunction with one more atom, and without those that this one implies.
-fn shortened<T: Theory>(rest: Vec<T::Atom>, last: T::Atom) -> Result<Vec<T::Atom>, NoMemory>
+///
+/// # Errors
+/// Out of memory.
+pub(crate) fn shortened<T: Theory>(
+    rest: Vec<T::Atom>,
+    last: T::Atom,
+) -> Result<Vec<T::Atom>, NoMemory>
     requires normal { AllByRecursion T.normal rest.items }
     requires normal_last { T.normal last }
     ensures alike { IfOk result (λ v. IsAlike T.holds T.mentions T.lines (rest.items ++ last ∷ []) v.items) }
