@@ -24,7 +24,7 @@ quotient_at_most n d h = less (int_div_euclid n d *ℤ d) n (unsigned_abs (int_r
     less : (q n : ℤ) (r : ℕ) → n ≡ q +ℤ pos r → q ≤ℤ n
     less q n r e = omega (arith, ints)
 
-le_unscale : (d x y : ℤ) → pos 0 <ℤ d → (d *ℤ x) ≤ℤ (d *ℤ y) → x ≤ℤ y
+pub le_unscale : (d x y : ℤ) → pos 0 <ℤ d → (d *ℤ x) ≤ℤ (d *ℤ y) → x ≤ℤ y
 le_unscale d x y p h = at_most x y (meets_unscale AtMost d (x -ℤ y) p (subst (Meets AtMost) (law d x y) (difference (d *ℤ x) (d *ℤ y) h)))
   where
     law : (d x y : ℤ) → d *ℤ x -ℤ d *ℤ y ≡ d *ℤ (x -ℤ y)
@@ -48,7 +48,7 @@ units_below u k fn fd n d up pf pd h l =
     turn : (a b c : ℤ) → a *ℤ (b *ℤ c) ≡ c *ℤ (b *ℤ a)
     turn a b c = rw (parts a, parts b, parts c) (simp ring (diff_same _ _ _ _ (omega arith)))
 
-not_negative : (n : ℕ) → pos 0 ≤ℤ pos n
+pub not_negative : (n : ℕ) → pos 0 ≤ℤ pos n
 not_negative n = omega (arith, ints)
 
 pub floor_is : (o : Option ℤ) (f : Fraction) → pos 0 <ℤ f.den → IfSome o (λ k. (k *ℤ f.den) ≤ℤ (f.num *ℤ pos fine)) → IsFloor (Included f) o

@@ -62,11 +62,11 @@ nothing_found ls h (e ∷ es) f c = by (may_hold e.reach ls) refl (nothing_found
 -- ---- the answer
 
 -- the number is in the list
-abbrev Has : List ℕ → ℕ → Type 0
+abbrev pub Has : List ℕ → ℕ → Type 0
 Has [] i = ⊥
 Has (x ∷ xs) i = (x ≡ i) ⊎ Has xs i
 
-has_from : (xs : List ℕ) (i k : ℕ) → k < length xs → get_or xs k i ≡ i → Has xs i
+pub has_from : (xs : List ℕ) (i k : ℕ) → k < length xs → get_or xs k i ≡ i → Has xs i
 has_from [] i k h e = absurd (omega (arith, h))
 has_from (x ∷ xs) i zero h e = inl e
 has_from (x ∷ xs) i (suc k) h e = inr (has_from xs i k (omega (arith, h)) e)
@@ -109,16 +109,16 @@ answer ls es view v found sorted ids e p s is = record {
 
 -- ---- nothing is lost
 
-module _ (ls : List Limit) (all : List Entry) (ids : List ℕ) (found : AreFound ls all ids) (ns : List ℤ) (den : ℕ) (some : 0 < den) (met : are_met ns den ls ≡ true) where
-  one_found : (front : List Entry) (e : Entry) (es : List Entry) → front ++ e ∷ es ≡ all → Lies e.reach ns den → Contains ids e.id
-  one_found front e es h l = (found.exact e.id).1 (subst (Some (IsPassing ls e.id)) h (some-right (IsPassing ls e.id) front (e ∷ es) (inl (refl, may_hold_sound e.reach ns den ls some l met))))
+module _ (ls : List Limit) (all : List Entry) (ids : List ℕ) (found : AreFound ls all ids) (v : ℕ → ℤ) (den : ℕ) (some : 0 < den) (met : are_met v den ls ≡ true) where
+  one_found : (front : List Entry) (e : Entry) (es : List Entry) → front ++ e ∷ es ≡ all → Lies e.reach v den → Contains ids e.id
+  one_found front e es h l = (found.exact e.id).1 (subst (Some (IsPassing ls e.id)) h (some-right (IsPassing ls e.id) front (e ∷ es) (inl (refl, may_hold_sound e.reach v den ls some l met))))
 
-  rest_found : (front es : List Entry) → front ++ es ≡ all → Every (λ e. Lies e.reach ns den → Contains ids e.id) es
+  rest_found : (front es : List Entry) → front ++ es ≡ all → Every (λ e. Lies e.reach v den → Contains ids e.id) es
   rest_found front [] h = tt
   rest_found front (e ∷ es) h = (one_found front e es h, rest_found (front ++ e ∷ []) es (append_assoc front (e ∷ []) es ∙ h))
 
-  pub all_found : Every (λ e. Lies e.reach ns den → Contains ids e.id) all
+  pub all_found : Every (λ e. Lies e.reach v den → Contains ids e.id) all
   all_found = rest_found [] all refl
 
 pub is_complete : (ls : List Limit) (all : List Entry) (ids : List ℕ) → AreFound ls all ids → IsComplete ls all ids
-is_complete ls all ids found ns den some met = all_found ls all ids found ns den some met
+is_complete ls all ids found v den some met = all_found ls all ids found v den some met

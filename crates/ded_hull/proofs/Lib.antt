@@ -1,8 +1,11 @@
+pub mod Columns
 pub mod Ends
 pub mod Found
 pub mod Merged
+pub mod Near
 pub mod Numbers
 pub mod Removed
 pub mod Rooted
 pub mod Sums
+pub mod Terms
 pub mod Widened

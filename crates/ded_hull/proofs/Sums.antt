@@ -1,5 +1,5 @@
 -- The least sum of a limit in a reach: at most the sum at all values of the reach, and no higher in a wider reach.
-use Rattle.std.proofs.Common.{◌≡◌, ℕ, zero, suc, ◌<◌, Bool, true, false, cond, List, [], ◌∷◌, get_or, Option, Some, None, arith, refl, sym, ap, subst, true≢false}
+use Rattle.std.proofs.Common.{◌≡◌, ℕ, ◌<◌, Bool, true, false, cond, List, [], ◌∷◌, Option, Some, None, arith, refl, sym, ap, subst, true≢false}
 use Rattle.std.specs.Prelude.{ℤ, pos, ◌+ℤ◌, ◌*ℤ◌, ◌≤ℤ◌, ◌<ℤ◌, int_lt, int_le, neg_ℤ, ◌&&◌}
 use Rattle.std.specs.Ordering.{int_eq}
 use Rattle.std.proofs.lemmas.Int.{ints}
@@ -11,7 +11,7 @@ use Rattle.ded_model.proofs.Core.{Meets, meets_scale, meets_unscale}
 use Rattle.ded_hull.specs.declared.reach.Range.{Range}
 use Rattle.ded_hull.specs.declared.limit.Limit.{Limit}
 use Rattle.ded_hull.specs.Reaches.{fine, IsAbove, IsBelow, IsIn, Lies, range_at, NotAbove, NotBelow, IsPart, IsWithin}
-use Rattle.ded_hull.specs.Limits.{Term, sum_of, is_met, are_met, kept, plus, times, least_end, least, turned, turn, least_of, at_most_zero, below_zero, may_stand, may_meet, may_hold}
+use Rattle.ded_hull.specs.Limits.{Term, sum_of, is_met, are_met, kept, plus, times, least_end, least, turned, turn, least_of, at_most_zero, below_zero, may_stand, may_be, may_meet, may_hold}
 use Rattle.ded_hull.proofs.Numbers.{UpTo, kept_under, kept_mono, times_up, times_down, times_neg, lt_true, of_lt_true, of_lt_false, le_self}
 
 -- ---- sums at values
@@ -27,7 +27,7 @@ not_negative d = omega (arith, ints)
 commute : (a b : ℤ) → a *ℤ b ≡ b *ℤ a
 commute a b = rw (parts a, parts b) (simp ring (diff_same _ _ _ _ (omega arith)))
 
-le_trans : (a b c : ℤ) → a ≤ℤ b → b ≤ℤ c → a ≤ℤ c
+pub le_trans : (a b c : ℤ) → a ≤ℤ b → b ≤ℤ c → a ≤ℤ c
 le_trans a b c h k = omega (arith, ints)
 
 le_same : (a b c d : ℤ) → a ≡ b → c ≡ d → a ≤ℤ c → b ≤ℤ d
@@ -68,37 +68,29 @@ times_under d a n r h = by (int_lt (pos 0) a) refl
     by true e = low r.low (of_lt_true (pos 0) a e) h.low
     by false e = high r.high (of_lt_false (pos 0) a e) h.high
 
--- the values at the places
-lies_at : (rs : List Range) (ns : List ℤ) (d : ℕ) (p : ℕ) → Lies rs ns d → IsIn (range_at rs p) (get_or ns p (pos 0)) d
-lies_at [] [] d p h = record { low = tt; high = tt }
-lies_at [] (n ∷ ns) d p h = absurd h
-lies_at (r ∷ rs) [] d p h = absurd h
-lies_at (r ∷ rs) (n ∷ ns) d zero h = h.0
-lies_at (r ∷ rs) (n ∷ ns) d (suc p) h = lies_at rs ns d p h.1
-
 zero_first : (z : ℤ) → z ≡ pos 0 +ℤ z
 zero_first z = omega (arith, ints)
 
 regroup : (a b c : ℤ) → b +ℤ (c +ℤ a) ≡ (a +ℤ b) +ℤ c
 regroup a b c = omega (arith, ints)
 
-least_under : (rs : List Range) (ns : List ℤ) (d : ℕ) → Lies rs ns d → (ts : List Term) (s : Option ℤ) (z : ℤ) → Under d s (z *ℤ pos fine) → Under d (least rs ts s) ((sum_of ts ns +ℤ z) *ℤ pos fine)
-least_under rs ns d l [] s z h = subst (λ y. Under d s (y *ℤ pos fine)) (zero_first z) h
-least_under rs ns d l (t ∷ ts) s z h =
-    let n : ℤ = get_or ns t.0 (pos 0) in
-    let step = plus_under d s (times t.1 (least_end t.1 (range_at rs t.0))) (z *ℤ pos fine) ((t.1 *ℤ n) *ℤ pos fine) h (times_under d t.1 n (range_at rs t.0) (lies_at rs ns d t.0 l)) in
-    subst (λ y. Under d (least rs ts (plus s (times t.1 (least_end t.1 (range_at rs t.0))))) (y *ℤ pos fine)) (regroup (t.1 *ℤ n) (sum_of ts ns) z)
-    (least_under rs ns d l ts (plus s (times t.1 (least_end t.1 (range_at rs t.0)))) (z +ℤ t.1 *ℤ n) (subst (λ y. Under d (plus s (times t.1 (least_end t.1 (range_at rs t.0)))) y) (sym (add-mul_ℤ z (t.1 *ℤ n) (pos fine))) step))
+least_under : (rs : List Range) (v : ℕ → ℤ) (d : ℕ) → Lies rs v d → (ts : List Term) (s : Option ℤ) (z : ℤ) → Under d s (z *ℤ pos fine) → Under d (least rs ts s) ((sum_of ts v +ℤ z) *ℤ pos fine)
+least_under rs v d l [] s z h = subst (λ y. Under d s (y *ℤ pos fine)) (zero_first z) h
+least_under rs v d l (t ∷ ts) s z h =
+    let n : ℤ = v t.0 in
+    let step = plus_under d s (times t.1 (least_end t.1 (range_at rs t.0))) (z *ℤ pos fine) ((t.1 *ℤ n) *ℤ pos fine) h (times_under d t.1 n (range_at rs t.0) (l t.0)) in
+    subst (λ y. Under d (least rs ts (plus s (times t.1 (least_end t.1 (range_at rs t.0))))) (y *ℤ pos fine)) (regroup (t.1 *ℤ n) (sum_of ts v) z)
+    (least_under rs v d l ts (plus s (times t.1 (least_end t.1 (range_at rs t.0)))) (z +ℤ t.1 *ℤ n) (subst (λ y. Under d (plus s (times t.1 (least_end t.1 (range_at rs t.0)))) y) (sym (add-mul_ℤ z (t.1 *ℤ n) (pos fine))) step))
 
 -- ---- the limit and its negative
 
-turned_sum : (b : Bool) (ts : List Term) (ns : List ℤ) → sum_of (turn b ts) ns ≡ turned b (sum_of ts ns)
-turned_sum b [] ns = none b
+turned_sum : (b : Bool) (ts : List Term) (v : ℕ → ℤ) → sum_of (turn b ts) v ≡ turned b (sum_of ts v)
+turned_sum b [] v = none b
   where
     none : (b : Bool) → pos 0 ≡ turned b (pos 0)
     none true = refl
     none false = refl
-turned_sum b (t ∷ ts) ns = more b t.1 (get_or ns t.0 (pos 0)) (sum_of ts ns) (sum_of (turn b ts) ns) (turned_sum b ts ns)
+turned_sum b (t ∷ ts) v = more b t.1 (v t.0) (sum_of ts v) (sum_of (turn b ts) v) (turned_sum b ts v)
   where
     more_negative : (a n s s' : ℤ) → s' ≡ neg_ℤ s → neg_ℤ a *ℤ n ≡ neg_ℤ (a *ℤ n) → neg_ℤ a *ℤ n +ℤ s' ≡ neg_ℤ (a *ℤ n +ℤ s)
     more_negative a n s s' e f = omega (arith, ints)
@@ -119,10 +111,10 @@ constant_under d c = kept_stays d (c *ℤ pos fine) ((c *ℤ pos d) *ℤ pos fin
     same : (a b c : ℤ) → ((a *ℤ c) *ℤ b) ≤ℤ ((a *ℤ b) *ℤ c)
     same a b c = le_of ((a *ℤ c) *ℤ b) ((a *ℤ b) *ℤ c) (swapped a b c)
 
-least_of_under : (rs : List Range) (ns : List ℤ) (d : ℕ) (l : Limit) (b : Bool) → Lies rs ns d → Under d (least_of rs l b) (turned b (sum_of l.terms.items ns +ℤ l.constant *ℤ pos d) *ℤ pos fine)
-least_of_under rs ns d l b h =
-    subst (λ y. Under d (least_of rs l b) (y *ℤ pos fine)) (whole b (sum_of l.terms.items ns) (sum_of (turn b l.terms.items) ns) l.constant (pos d) (turned_sum b l.terms.items ns))
-    (least_under rs ns d h (turn b l.terms.items) (kept (turned b l.constant *ℤ pos fine)) (turned b l.constant *ℤ pos d) (constant_under d (turned b l.constant)))
+least_of_under : (rs : List Range) (v : ℕ → ℤ) (d : ℕ) (ts : List Term) (c : ℤ) (b : Bool) → Lies rs v d → Under d (least_of rs ts c b) (turned b (sum_of ts v +ℤ c *ℤ pos d) *ℤ pos fine)
+least_of_under rs v d ts c b h =
+    subst (λ y. Under d (least_of rs ts c b) (y *ℤ pos fine)) (whole b (sum_of ts v) (sum_of (turn b ts) v) c (pos d) (turned_sum b ts v))
+    (least_under rs v d h (turn b ts) (kept (turned b c *ℤ pos fine)) (turned b c *ℤ pos d) (constant_under d (turned b c)))
   where
     negative : (s s' c k : ℤ) → s' ≡ neg_ℤ s → c ≡ neg_ℤ k → s' +ℤ c ≡ neg_ℤ (s +ℤ k)
     negative s s' c k e f = omega (arith, ints)
@@ -142,7 +134,7 @@ fine_positive = positive fine (omega arith)
 le_zero_true : (k : ℤ) → k ≤ℤ pos 0 → int_le k (pos 0) ≡ true
 le_zero_true k h = grind (arith, ints)
 
-lt_le : (a b c : ℤ) → a ≤ℤ b → b <ℤ c → a <ℤ c
+pub lt_le : (a b c : ℤ) → a ≤ℤ b → b <ℤ c → a <ℤ c
 lt_le a b c h k = omega (arith, ints)
 
 -- a sum that is at most 0 is seen so
@@ -166,11 +158,12 @@ of_le_true a b h = grind (arith, ints)
 zero_from : (z : ℤ) → int_eq z (pos 0) ≡ true → z ≡ pos 0
 zero_from z e = grind (arith, ints)
 
-and_both : (a b : Bool) → a ≡ true → b ≡ true → (a && b) ≡ true
+pub and_both : (a b : Bool) → a ≡ true → b ≡ true → (a && b) ≡ true
 and_both a b e f = rw (e, f) refl
 
-may_meet_sound : (rs : List Range) (ns : List ℤ) (d : ℕ) (l : Limit) → 0 < d → Lies rs ns d → is_met ns d l ≡ true → may_meet rs l ≡ true
-may_meet_sound rs ns d l p h m = by l.op (sum_of l.terms.items ns +ℤ l.constant *ℤ pos d) m (least_of rs l false) (least_of rs l true) (least_of_under rs ns d l false h) (least_of_under rs ns d l true h)
+-- a sum that stands to 0 as the op says at values of the reach
+pub may_be_sound : (rs : List Range) (v : ℕ → ℤ) (d : ℕ) (ts : List Term) (c : ℤ) (op : RowOp) → 0 < d → Lies rs v d → sign_meets op (sum_of ts v +ℤ c *ℤ pos d) ≡ true → may_be rs ts c op ≡ true
+may_be_sound rs v d ts c op p h m = by op (sum_of ts v +ℤ c *ℤ pos d) m (least_of rs ts c false) (least_of rs ts c true) (least_of_under rs v d ts c false h) (least_of_under rs v d ts c true h)
   where
     zero_is : (z : ℤ) → int_eq z (pos 0) ≡ true → z ≡ pos 0
     zero_is z e = zero_from z e
@@ -189,18 +182,18 @@ may_meet_sound rs ns d l p h m = by l.op (sum_of l.terms.items ns +ℤ l.constan
     by AtMost z m o n u v = may_be_at_most d o z p u (le_is z m)
     by Below z m o n u v = may_be_below d o z p u (of_lt_true z (pos 0) m)
 
-and_first : (a b : Bool) → (a && b) ≡ true → a ≡ true
+pub and_first : (a b : Bool) → (a && b) ≡ true → a ≡ true
 and_first true b h = refl
 and_first false b h = h
 
-and_second : (a b : Bool) → (a && b) ≡ true → b ≡ true
+pub and_second : (a b : Bool) → (a && b) ≡ true → b ≡ true
 and_second true b h = h
 and_second false b h = absurd (true≢false (sym h))
 
-pub may_hold_sound : (rs : List Range) (ns : List ℤ) (d : ℕ) (ls : List Limit) → 0 < d → Lies rs ns d → are_met ns d ls ≡ true → may_hold rs ls ≡ true
-may_hold_sound rs ns d [] p h m = refl
-may_hold_sound rs ns d (l ∷ ls) p h m = and_both (may_meet rs l) (may_hold rs ls)
-    (may_meet_sound rs ns d l p h (and_first (is_met ns d l) (are_met ns d ls) m)) (may_hold_sound rs ns d ls p h (and_second (is_met ns d l) (are_met ns d ls) m))
+pub may_hold_sound : (rs : List Range) (v : ℕ → ℤ) (d : ℕ) (ls : List Limit) → 0 < d → Lies rs v d → are_met v d ls ≡ true → may_hold rs ls ≡ true
+may_hold_sound rs v d [] p h m = refl
+may_hold_sound rs v d (l ∷ ls) p h m = and_both (may_meet rs l) (may_hold rs ls)
+    (may_be_sound rs v d l.terms.items l.constant l.op p h (and_first (is_met v d l) (are_met v d ls) m)) (may_hold_sound rs v d ls p h (and_second (is_met v d l) (are_met v d ls) m))
 
 -- ---- a wider reach
 
@@ -255,12 +248,16 @@ may_stand_wider Zero o n o' n' h k e = and_both (at_most_zero o') (at_most_zero 
 may_stand_wider AtMost o n o' n' h k e = lower_at_most o o' h e
 may_stand_wider Below o n o' n' h k e = lower_below o o' h e
 
-least_of_wider : (rs ss : List Range) (l : Limit) (b : Bool) → IsWithin rs ss → NotAbove (least_of ss l b) (least_of rs l b)
-least_of_wider rs ss l b w = least_wider rs ss w (turn b l.terms.items) (kept (turned b l.constant *ℤ pos fine)) (kept (turned b l.constant *ℤ pos fine)) (not_above_self (kept (turned b l.constant *ℤ pos fine)))
+least_of_wider : (rs ss : List Range) (ts : List Term) (c : ℤ) (b : Bool) → IsWithin rs ss → NotAbove (least_of ss ts c b) (least_of rs ts c b)
+least_of_wider rs ss ts c b w = least_wider rs ss w (turn b ts) (kept (turned b c *ℤ pos fine)) (kept (turned b c *ℤ pos fine)) (not_above_self (kept (turned b c *ℤ pos fine)))
+
+may_meet_wider : (rs ss : List Range) (l : Limit) → IsWithin rs ss → may_meet rs l ≡ true → may_meet ss l ≡ true
+may_meet_wider rs ss l w e =
+    let ts = l.terms.items in
+    let c = l.constant in
+    may_stand_wider l.op (least_of rs ts c false) (least_of rs ts c true) (least_of ss ts c false) (least_of ss ts c true) (least_of_wider rs ss ts c false w) (least_of_wider rs ss ts c true w) e
 
 -- what may hold in a reach may hold in a wider one
 pub may_hold_wider : (rs ss : List Range) (ls : List Limit) → IsWithin rs ss → may_hold rs ls ≡ true → may_hold ss ls ≡ true
 may_hold_wider rs ss [] w e = refl
-may_hold_wider rs ss (l ∷ ls) w e = and_both (may_meet ss l) (may_hold ss ls)
-    (may_stand_wider l.op (least_of rs l false) (least_of rs l true) (least_of ss l false) (least_of ss l true) (least_of_wider rs ss l false w) (least_of_wider rs ss l true w) (and_first (may_meet rs l) (may_hold rs ls) e))
-    (may_hold_wider rs ss ls w (and_second (may_meet rs l) (may_hold rs ls) e))
+may_hold_wider rs ss (l ∷ ls) w e = and_both (may_meet ss l) (may_hold ss ls) (may_meet_wider rs ss l w (and_first (may_meet rs l) (may_hold rs ls) e)) (may_hold_wider rs ss ls w (and_second (may_meet rs l) (may_hold rs ls) e))

@@ -29,7 +29,7 @@ pub record AreFound (ls : List Limit) (es : List Entry) (ids : List ℕ) : Type 
 
 -- no entry is lost in whose reach lie values that meet all limits
 abbrev pub IsComplete : List Limit → List Entry → List ℕ → Type 0
-IsComplete ls es ids = (ns : List ℤ) (den : ℕ) → 0 < den → are_met ns den ls ≡ true → Every (λ e. Lies e.reach ns den → Contains ids e.id) es
+IsComplete ls es ids = (v : ℕ → ℤ) (den : ℕ) → 0 < den → are_met v den ls ≡ true → Every (λ e. Lies e.reach v den → Contains ids e.id) es
 
 -- the hull contains the reaches of all entries
 abbrev pub Covers : List Range → List Entry → Type 0

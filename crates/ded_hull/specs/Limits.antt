@@ -1,5 +1,5 @@
 -- Limits: rows over columns by their places, and whether they may hold in a reach.
-use Rattle.std.specs.Prelude.{◌≡◌, ◌<◌, ◌-◌, ◌^◌, ◌+ℤ◌, ◌*ℤ◌, ℕ, ℤ, pos, Bool, true, false, ◌&&◌, int_lt, int_le, List, [], ◌∷◌, map, get_or, if◌then◌else◌, Option, Some, None}
+use Rattle.std.specs.Prelude.{◌≡◌, ◌<◌, ◌-◌, ◌^◌, ◌+ℤ◌, ◌*ℤ◌, ℕ, ℤ, pos, Bool, true, false, ◌&&◌, int_lt, int_le, List, [], ◌∷◌, map, if◌then◌else◌, Option, Some, None}
 use lib.IntN.{neg_ℤ}
 use Rattle.std.specs.List.{list_all}
 use Rattle.ded_model.specs.declared.row.RowOp.{RowOp}
@@ -9,24 +9,24 @@ use Rattle.ded_hull.specs.declared.reach.Range.{Range}
 use Rattle.ded_hull.specs.declared.limit.Limit.{Limit}
 use Rattle.ded_hull.specs.Reaches.{fine, range_at, Lies}
 
--- ---- limits at values
+-- ---- limits at values: numerators at the places, over one denominator
 
 -- a term: a place and its coefficient
 abbrev pub Term : Type 0
 Term = ℕ × ℤ
 
 -- the sum of the terms over the denominator of the values
-abbrev pub sum_of : List Term → List ℤ → ℤ
-sum_of [] ns = pos 0
-sum_of (t ∷ ts) ns = t.1 *ℤ get_or ns t.0 (pos 0) +ℤ sum_of ts ns
+abbrev pub sum_of : List Term → (ℕ → ℤ) → ℤ
+sum_of [] v = pos 0
+sum_of (t ∷ ts) v = t.1 *ℤ v t.0 +ℤ sum_of ts v
 
 -- the limit's sum stands to 0 as its op says
-abbrev pub is_met : List ℤ → ℕ → Limit → Bool
-is_met ns den l = sign_meets l.op (sum_of l.terms.items ns +ℤ l.constant *ℤ pos den)
+abbrev pub is_met : (ℕ → ℤ) → ℕ → Limit → Bool
+is_met v den l = sign_meets l.op (sum_of l.terms.items v +ℤ l.constant *ℤ pos den)
 
 -- all limits are met
-abbrev pub are_met : List ℤ → ℕ → List Limit → Bool
-are_met ns den ls = list_all (is_met ns den) ls
+abbrev pub are_met : (ℕ → ℤ) → ℕ → List Limit → Bool
+are_met v den ls = list_all (is_met v den) ls
 
 -- ---- the least sum in a reach
 
@@ -70,9 +70,9 @@ turned b z = if b then neg_ℤ z else z
 abbrev pub turn : Bool → List Term → List Term
 turn b ts = map (λ t. (t.0, turned b t.1)) ts
 
--- that of the limit, or of its negative
-abbrev pub least_of : List Range → Limit → Bool → Option ℤ
-least_of rs l b = least rs (turn b l.terms.items) (kept (turned b l.constant *ℤ pos fine))
+-- that of the terms and a constant, or of its negative
+abbrev pub least_of : List Range → List Term → ℤ → Bool → Option ℤ
+least_of rs ts c b = least rs (turn b ts) (kept (turned b c *ℤ pos fine))
 
 -- ---- whether limits may hold
 
@@ -84,15 +84,19 @@ abbrev pub below_zero : Option ℤ → Bool
 below_zero None = true
 below_zero (Some s) = int_lt s (pos 0)
 
--- with the least sums of a limit and of its negative
+-- with the least sums of a row and of its negative
 abbrev pub may_stand : RowOp → Option ℤ → Option ℤ → Bool
 may_stand Zero o n = at_most_zero o && at_most_zero n
 may_stand AtMost o n = at_most_zero o
 may_stand Below o n = below_zero o
 
+-- the terms and the constant may stand to 0 as the op says in the reach
+abbrev pub may_be : List Range → List Term → ℤ → RowOp → Bool
+may_be rs ts c op = may_stand op (least_of rs ts c false) (least_of rs ts c true)
+
 -- the limit may be met in the reach
 abbrev pub may_meet : List Range → Limit → Bool
-may_meet rs l = may_stand l.op (least_of rs l false) (least_of rs l true)
+may_meet rs l = may_be rs l.terms.items l.constant l.op
 
 -- each of the limits may be met in the reach
 abbrev pub may_hold : List Range → List Limit → Bool
@@ -100,4 +104,4 @@ may_hold rs ls = list_all (may_meet rs) ls
 
 -- no values in the reach that meet all limits are lost
 abbrev pub IsSound : List Range → List Limit → Bool → Type 0
-IsSound rs ls answer = (ns : List ℤ) (den : ℕ) → 0 < den → Lies rs ns den → are_met ns den ls ≡ true → answer ≡ true
+IsSound rs ls answer = (v : ℕ → ℤ) (den : ℕ) → 0 < den → Lies rs v den → are_met v den ls ≡ true → answer ≡ true

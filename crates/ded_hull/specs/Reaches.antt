@@ -42,13 +42,6 @@ pub record IsIn (r : Range) (num : ℤ) (den : ℕ) : Type 0 where
   pub low : IsAbove r.low num den
   pub high : IsBelow r.high num den
 
--- the values with these numerators over one denominator, one for each column, lie in the reach
-abbrev pub Lies : List Range → List ℤ → ℕ → Type 0
-Lies [] [] den = Unit {0}
-Lies [] (n ∷ ns) den = ⊥
-Lies (r ∷ rs) [] den = ⊥
-Lies (r ∷ rs) (n ∷ ns) den = IsIn r n den × Lies rs ns den
-
 -- all values
 abbrev pub everywhere : Range
 everywhere = record { low = None; high = None }
@@ -58,6 +51,10 @@ abbrev pub range_at : List Range → ℕ → Range
 range_at [] p = everywhere
 range_at (r ∷ rs) zero = r
 range_at (r ∷ rs) (suc p) = range_at rs p
+
+-- the values with these numerators at the places, over one denominator, lie in the reach
+abbrev pub Lies : List Range → (ℕ → ℤ) → ℕ → Type 0
+Lies rs v den = (p : ℕ) → IsIn (range_at rs p) (v p) den
 
 -- ---- hulls
 
@@ -103,3 +100,32 @@ pub record IsPart (r s : Range) : Type 0 where
 -- the reach is part of the other
 abbrev pub IsWithin : List Range → List Range → Type 0
 IsWithin rs ss = (p : ℕ) → IsPart (range_at rs p) (range_at ss p)
+
+-- ---- narrower reaches
+
+-- the higher of two low ends
+abbrev pub both_low : Option ℤ → Option ℤ → Option ℤ
+both_low None o = o
+both_low (Some a) None = Some a
+both_low (Some a) (Some b) = if int_lt a b then Some b else Some a
+
+-- the lower of two high ends
+abbrev pub both_high : Option ℤ → Option ℤ → Option ℤ
+both_high None o = o
+both_high (Some a) None = Some a
+both_high (Some a) (Some b) = if int_lt b a then Some b else Some a
+
+-- the values that lie in both
+abbrev pub met : Range → Range → Range
+met r s = record { low = both_low r.low s.low; high = both_high r.high s.high }
+
+-- with the range at a place, if there is one, narrowed to what lies in another one too
+abbrev pub narrowed : List Range → ℕ → Range → List Range
+narrowed [] p s = []
+narrowed (r ∷ rs) zero s = met r s ∷ rs
+narrowed (r ∷ rs) (suc p) s = r ∷ narrowed rs p s
+
+-- so many ranges of all values
+abbrev pub all_values : ℕ → List Range
+all_values zero = []
+all_values (suc n) = everywhere ∷ all_values n

@@ -80,6 +80,21 @@ impl Hulls {
         drop_id(&mut self.tail, id);
     }
 
+    /// The same entries, in another order.
+    ///
+    /// # Errors
+    /// Out of memory.
+    pub fn copy(&self, alloc: Global) -> Result<Hulls, NoMemory>
+        ensures { IfOk result (λ h. IsPermutation self.now h) }
+    {
+        let mut trees = Vec::new(alloc);
+        trees.push(merged(alloc, &self.trees, &self.tail, 0)?)?;
+        Ok(Hulls {
+            trees,
+            tail: Vec::new(alloc),
+        })
+    }
+
     /// The numbers of the entries in whose reaches the limits may hold, ascending.
     ///
     /// # Errors

@@ -1,11 +1,12 @@
 //! Limits, and whether they may hold in a reach.
 ghost use Rattle.std.specs.Prelude.{◌≡◌, ◌*ℤ◌, false, true};
-ghost use Rattle.ded_hull.specs.Reaches.{range_at};
-ghost use Rattle.ded_hull.specs.Limits.{plus, times, turned, least_end, least_of, at_most_zero, below_zero, may_meet, may_hold, IsSound};
+ghost use Rattle.ded_hull.specs.Limits.{plus, times, turned, least_end, least_of, at_most_zero, below_zero, may_be, may_meet, may_hold, IsSound};
+ghost use Rattle.ded_hull.specs.Tuples.{terms_of};
 
 use crate::number::{product, sum};
-use crate::reach::{FINE, Reach};
-use ded_model::row::RowOp;
+use crate::reach::{FINE, Range, Reach};
+use ded_model::row::{Row, RowOp};
+use ded_model::slot::Slot;
 
 /// A row over columns by their places: the sum of the terms, which are places and coefficients, and the constant stands to 0 as
 /// the op says.
@@ -35,11 +36,27 @@ fn each_may_meet(reach: &Reach, limits: &[Limit]) -> bool
 fn may_meet(reach: &Reach, limit: &Limit) -> bool
     ensures { result ≡ may_meet reach.now limit.now }
 {
+    let terms = &limit.terms;
+    let constant = limit.constant;
     match limit.op {
-        RowOp::Zero => at_most_zero(least(reach, limit, false))
-            && at_most_zero(least(reach, limit, true)),
-        RowOp::AtMost => at_most_zero(least(reach, limit, false)),
-        RowOp::Below => below_zero(least(reach, limit, false)),
+        RowOp::Zero => at_most_zero(least(reach, terms, constant, false))
+            && at_most_zero(least(reach, terms, constant, true)),
+        RowOp::AtMost => at_most_zero(least(reach, terms, constant, false)),
+        RowOp::Below => below_zero(least(reach, terms, constant, false)),
+    }
+}
+
+/// Whether the row, over the columns of its slots' numbers, may hold in the reach.
+pub(crate) fn row_may_hold(reach: &Reach, row: &Row) -> bool
+    ensures { result ≡ may_be reach.now (terms_of row.now.coefs) row.now.constant row.now.op }
+{
+    let coefs = row.coefs.list();
+    let constant = row.constant;
+    match row.op {
+        RowOp::Zero => at_most_zero(least_at(reach, coefs, constant, false))
+            && at_most_zero(least_at(reach, coefs, constant, true)),
+        RowOp::AtMost => at_most_zero(least_at(reach, coefs, constant, false)),
+        RowOp::Below => below_zero(least_at(reach, coefs, constant, false)),
     }
 }
 
@@ -63,30 +80,37 @@ fn below_zero(least: Option<i128>) -> bool
     }
 }
 
-/// A number at most the limit's sum, or its negative, in units, at all values of the reach, if one is known.
-fn least(reach: &Reach, limit: &Limit, flipped: bool) -> Option<i128>
-    ensures { result ≡ least_of reach.now limit.now flipped }
+/// A number at most the sum of the terms and the constant, or its negative, in units, at all values of the reach, if one is known.
+fn least(reach: &Reach, terms: &[(usize, i128)], constant: i128, flipped: bool) -> Option<i128>
+    ensures { result ≡ least_of reach.now terms.now constant flipped }
 {
-    let mut sum = product(flipped, limit.constant, FINE);
-    for i in 0..limit.terms.len() {
-        sum = with_term(sum, reach, limit.terms[i], flipped);
+    let mut sum = product(flipped, constant, FINE);
+    for i in 0..terms.len() {
+        let (place, a) = terms[i];
+        sum = with_term(sum, reach.at(place), a, flipped);
     }
     sum
 }
 
-/// The number with that of a term more.
-fn with_term(
-    sum_before: Option<i128>,
-    reach: &Reach,
-    term: (usize, i128),
-    flipped: bool,
-) -> Option<i128>
-    ensures { result ≡ plus sum_before (times (turned flipped term.1) (least_end (turned flipped term.1) (range_at reach.now term.0))) }
+/// The same of coefficients, whose slots' numbers are the places.
+fn least_at(reach: &Reach, coefs: &[(Slot, i128)], constant: i128, flipped: bool) -> Option<i128>
+    ensures { result ≡ least_of reach.now (terms_of coefs.now) constant flipped }
 {
-    let range = reach.at(term.0);
-    let above = if flipped { term.1 < 0 } else { 0 < term.1 };
+    let mut sum = product(flipped, constant, FINE);
+    for i in 0..coefs.len() {
+        let (slot, a) = coefs[i];
+        sum = with_term(sum, reach.at(slot.number as usize), a, flipped);
+    }
+    sum
+}
+
+/// The number with that of a term more, at values of the range.
+fn with_term(sum_before: Option<i128>, range: Range, a: i128, flipped: bool) -> Option<i128>
+    ensures { result ≡ plus sum_before (times (turned flipped a) (least_end (turned flipped a) range)) }
+{
+    let above = if flipped { a < 0 } else { 0 < a };
     let end = if above { range.low } else { range.high };
-    added(sum_before, flipped, term.1, end)
+    added(sum_before, flipped, a, end)
 }
 
 /// The number with that of a coefficient times an end more.

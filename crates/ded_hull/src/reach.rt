@@ -1,7 +1,7 @@
 //! Reaches, and their ends from exact bounds.
-ghost use Rattle.std.specs.Prelude.{◌≡◌, ◌<ℤ◌, ◌≤ℤ◌, ◌*ℤ◌, pos, neg_ℤ, [], ◌++◌, ◌∷◌, IfOk, OnErr, IfSome};
+ghost use Rattle.std.specs.Prelude.{◌≡◌, ℕ, ℤ, ◌<ℤ◌, ◌≤ℤ◌, ◌*ℤ◌, pos, neg_ℤ, [], ◌++◌, ◌∷◌, IfOk, OnErr, IfSome};
 ghost use Rattle.ded_model.specs.declared.bound.Bound.TheVariants.{Included};
-ghost use Rattle.ded_hull.specs.Reaches.{fine, IsFloor, IsCeil, IsWithin, lower_of, higher_of, joined, range_at, hull};
+ghost use Rattle.ded_hull.specs.Reaches.{fine, IsFloor, IsCeil, IsWithin, lower_of, higher_of, joined, range_at, hull, IsIn, Lies, both_low, both_high, everywhere, met, narrowed, all_values};
 
 use crate::number::directed;
 use ded_model::bound::{Bound, Frac};
@@ -19,7 +19,7 @@ pub struct Range {
     pub high: Option<i128>,
 }
 
-/// A range for each rational column in order. Contracts see the list.
+/// A range for each column in order. Contracts see the list.
 #[derive(Drop)]
 pub struct Reach {
     ranges: Vec<Range>,
@@ -49,6 +49,20 @@ impl Reach {
         ensures { result.now ≡ self.now }
     {
         &self.ranges
+    }
+
+    /// The reach of all values of so many columns.
+    ///
+    /// # Errors
+    /// Out of memory.
+    pub fn everywhere(alloc: Global, width: usize) -> Result<Reach, NoMemory>
+        ensures { IfOk result (λ r. r ≡ all_values width) }
+    {
+        let mut ranges = Vec::with_capacity(alloc, width)?;
+        for _ in 0..width {
+            ranges.push(everywhere())?;
+        }
+        Ok(Reach { ranges })
     }
 
     /// Adds the range of a further column.
@@ -82,10 +96,17 @@ impl Reach {
         if place < self.ranges.len() {
             self.ranges[place]
         } else {
-            Range {
-                low: None,
-                high: None,
-            }
+            everywhere()
+        }
+    }
+
+    /// Narrows the range at a place, if there is one, to the values that lie in another one too.
+    pub fn narrow(&mut self, place: usize, range: Range)
+        ensures value { self.new ≡ narrowed self.old place range }
+        ensures lies { (v : ℕ → ℤ) (den : ℕ) → Lies self.old v den → IsIn range (v place) den → Lies self.new v den }
+    {
+        if place < self.ranges.len() {
+            self.ranges[place] = met(self.ranges[place], range);
         }
     }
 
@@ -115,6 +136,48 @@ fn joined(a: Range, b: Range) -> Range
     Range {
         low: lower_of(a.low, b.low),
         high: higher_of(a.high, b.high),
+    }
+}
+
+/// All values.
+pub(crate) fn everywhere() -> Range
+    ensures { result ≡ everywhere }
+{
+    Range {
+        low: None,
+        high: None,
+    }
+}
+
+/// The values that lie in both.
+pub(crate) fn met(a: Range, b: Range) -> Range
+    ensures { result ≡ met a b }
+{
+    Range {
+        low: both_low(a.low, b.low),
+        high: both_high(a.high, b.high),
+    }
+}
+
+/// The higher of two low ends.
+fn both_low(a: Option<i128>, b: Option<i128>) -> Option<i128>
+    ensures { result ≡ both_low a b }
+{
+    match (a, b) {
+        (Some(a), Some(b)) => Some(if a < b { b } else { a }),
+        (None, _) => b,
+        (_, None) => a,
+    }
+}
+
+/// The lower of two high ends.
+fn both_high(a: Option<i128>, b: Option<i128>) -> Option<i128>
+    ensures { result ≡ both_high a b }
+{
+    match (a, b) {
+        (Some(a), Some(b)) => Some(if b < a { b } else { a }),
+        (None, _) => b,
+        (_, None) => a,
     }
 }
 
@@ -178,14 +241,14 @@ fn ceil(f: Frac) -> Option<i128>
 }
 
 /// The negative, unless it is too long.
-fn negative(units: i128) -> Option<i128>
+pub(crate) fn negative(units: i128) -> Option<i128>
     ensures { IfSome result (λ k. k ≡ neg_ℤ units) }
 {
     units.checked_neg()
 }
 
 /// The greatest number of units that is at most the fraction, unless it is too long.
-fn whole(num: i128, den: i128) -> Option<i128>
+pub(crate) fn whole(num: i128, den: i128) -> Option<i128>
     requires { pos 0 <ℤ den }
     ensures { IfSome result (λ k. (k *ℤ den) ≤ℤ (num *ℤ pos fine)) }
 {

@@ -11,4 +11,4 @@ returns-then-place-len c =
 pub returns-else-place-len : goal.returns-else-place-len
 returns-else-place-len c =
     let past : length c.args.self.now ≤ c.args.place = search rules in
-    range_at-past c.args.self.now c.args.place past
+    c.everywhere.ensures ∙ range_at-past c.args.self.now c.args.place past

@@ -1,0 +1,20 @@
+use Rattle.std.proofs.Common.{rules, SFits}
+use Rattle.std.specs.Prelude.{pos, ◌<ℤ◌}
+use Rattle.std.specs.Int.{w128}
+use Rattle.std.proofs.lemmas.Int.{to_z-of_z}
+use Rattle.ded_hull.proofs.Terms.{high_is, low_is}
+use Rattle.ded_hull.proofs.term.at_most.Goals as goal
+
+pub returns-then-a-gt0 : goal.returns-then-a-gt0
+returns-then-a-gt0 c =
+    let a : SFits w128 c.args.a = c.ranges.a in
+    let k : SFits w128 c.args.constant = c.ranges.constant in
+    let above : pos 0 <ℤ c.args.a = search rules in
+    high_is c.high_end.result c.args.a c.args.constant above (simp to_z-of_z at c.high_end.ensures)
+
+pub returns-then-a-lt0 : goal.returns-then-a-lt0
+returns-then-a-lt0 c =
+    let a : SFits w128 c.args.a = c.ranges.a in
+    let k : SFits w128 c.args.constant = c.ranges.constant in
+    let below : c.args.a <ℤ pos 0 = search rules in
+    low_is c.low_end.result c.args.a c.args.constant below (simp to_z-of_z at c.low_end.ensures)

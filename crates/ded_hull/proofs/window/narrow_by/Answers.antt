@@ -1,0 +1,11 @@
+use Rattle.std.proofs.Common.{rules, ◌<◌, length, sym}
+use Rattle.ded_hull.specs.Limits.{is_met}
+use Rattle.ded_hull.proofs.Columns.{all_before}
+use Rattle.ded_hull.proofs.window.narrow_by.Goals as goal
+
+pub loop-i-preserved : goal.loop-i-preserved
+loop-i-preserved c =
+    let inside : c.loop-i.i < length c.args.limits.now = search rules in
+    λ v d l h.
+    let k = all_before (is_met v d) c.args.limits.now c.loop-i.i c.index-limits-i.result inside (sym c.index-limits-i.is) h in
+    c.narrow_by_limit.ensures v d (c.loop-i.invariant v d l k.0) k.1

@@ -1,0 +1,16 @@
+use Rattle.std.proofs.Common.{rules, ◌≡◌, ◌∙◌, ◌∷◌, [], length, sym, ap, SFits}
+use Rattle.std.specs.Int.{w128}
+use Rattle.std.proofs.lemmas.Int.{to_z-of_z}
+use Rattle.ded_hull.specs.Limits.{Term}
+use Rattle.ded_hull.proofs.Terms.{only, one_term}
+use Rattle.ded_hull.proofs.window.narrow_by_limit.Goals as goal
+
+pub returns-then-len-eq1 : goal.returns-then-len-eq1
+returns-then-len-eq1 c =
+    let k : SFits w128 c.args.limit.now.constant = search rules in
+    let a : SFits w128 c.index.result.now.1 = search rules in
+    let ts = c.args.limit.now.terms.items in
+    let count : length ts ≡ 1 = search rules in
+    let one : ts ≡ c.index.result.now ∷ [] = only ts c.index.result.now count ∙ ap (λ (t : Term). t ∷ []) (sym c.index.ensures) in
+    let own = simp to_z-of_z at c.narrow_to_term.ensures in
+    λ v d l h. own v d l (one_term ts c.index.result.now c.args.limit.now.constant c.args.limit.now.op v d one h)

@@ -1,0 +1,78 @@
+//! The values of a column at which a multiple of them and a constant stand to 0 in one way or another.
+ghost use Rattle.std.specs.Prelude.{◌≡◌, true, ◌+ℤ◌, ◌*ℤ◌, ◌<ℤ◌, ◌≤ℤ◌, ℕ, ℤ, pos, neg_ℤ, IfSome};
+ghost use Rattle.ded_model.specs.Row.{sign_meets};
+ghost use Rattle.ded_hull.specs.Reaches.{fine, IsIn, Lies};
+ghost use Rattle.ded_hull.specs.Tuples.{IsRangeOf};
+
+use crate::reach::{Range, Reach, everywhere, met, negative, whole};
+use ded_model::row::RowOp;
+
+/// Narrows the reach to the values at a place of which the multiple and the constant stand to 0 as the op says.
+pub(crate) fn narrow_to_term(reach: &mut Reach, place: usize, a: i128, constant: i128, op: RowOp)
+    ensures { (v : ℕ → ℤ) (den : ℕ) → Lies reach.old v den → sign_meets op (a *ℤ v place +ℤ constant *ℤ pos den) ≡ true → Lies reach.new v den }
+{
+    reach.narrow(place, range_of(a, constant, op));
+}
+
+/// The values of a column of which the multiple and the constant stand to 0 as the op says, rounded outward. Ends that would
+/// be too long are left out.
+fn range_of(a: i128, constant: i128, op: RowOp) -> Range
+    ensures { IsRangeOf result a constant op }
+{
+    match op {
+        RowOp::Zero => met(at_most(a, constant), at_least(a, constant)),
+        RowOp::AtMost => at_most(a, constant),
+        RowOp::Below => at_most(a, constant),
+    }
+}
+
+/// The values of which the multiple and the constant are at least 0 together.
+fn at_least(a: i128, constant: i128) -> Range
+    ensures { (num : ℤ) (den : ℕ) → pos 0 ≤ℤ (a *ℤ num +ℤ constant *ℤ pos den) → IsIn result num den }
+{
+    match (a.checked_neg(), constant.checked_neg()) {
+        (Some(a), Some(constant)) => at_most(a, constant),
+        _ => everywhere(),
+    }
+}
+
+/// The values of which the multiple and the constant are at most 0 together.
+fn at_most(a: i128, constant: i128) -> Range
+    ensures { (num : ℤ) (den : ℕ) → (a *ℤ num +ℤ constant *ℤ pos den) ≤ℤ pos 0 → IsIn result num den }
+{
+    if 0 < a {
+        Range {
+            low: None,
+            high: high_end(a, constant),
+        }
+    } else if a < 0 {
+        Range {
+            low: low_end(a, constant),
+            high: None,
+        }
+    } else {
+        everywhere()
+    }
+}
+
+/// An end at or above the values, whose coefficient is positive.
+fn high_end(a: i128, constant: i128) -> Option<i128>
+    requires { pos 0 <ℤ a }
+    ensures { IfSome result (λ k. (neg_ℤ k *ℤ a) ≤ℤ (constant *ℤ pos fine)) }
+{
+    match whole(constant, a) {
+        Some(units) => negative(units),
+        None => None,
+    }
+}
+
+/// An end at or below the values, whose coefficient is negative.
+fn low_end(a: i128, constant: i128) -> Option<i128>
+    requires { a <ℤ pos 0 }
+    ensures { IfSome result (λ k. (k *ℤ neg_ℤ a) ≤ℤ (constant *ℤ pos fine)) }
+{
+    match a.checked_neg() {
+        Some(divisor) => whole(constant, divisor),
+        None => None,
+    }
+}
