@@ -1,5 +1,5 @@
 -- What is known of a name that a formula doesn't speak of doesn't matter to it.
-use Rattle.std.proofs.Common.{◌≡◌, ℕ, suc, max, Bool, true, false, ◌||◌, List, ◌∷◌, refl, sym, ap, ◌∙◌, true≢false, bytes_eq, is_none}
+use Rattle.std.proofs.Common.{◌≡◌, ℕ, suc, max, Bool, false, ◌||◌, List, ◌∷◌, refl, sym, ap, ◌∙◌, bytes_eq, is_none}
 use Rattle.ded_model.specs.declared.name.Column.{Column}
 use Rattle.ded_model.specs.Form.{Form, FormAtom, compare, member, speaks_of, atom_speaks_of}
 use Rattle.ded_model.specs.Made.{base}

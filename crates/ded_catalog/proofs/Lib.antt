@@ -2,10 +2,13 @@ pub mod Agreeing
 pub mod Calls
 pub mod Copies
 pub mod Gathering
+pub mod Indexed
 pub mod Keeping
 pub mod Levels
 pub mod Lookups
+pub mod NearTuples
 pub mod Numbers
+pub mod Picked
 pub mod Reading
 pub mod Results
 pub mod Simplest

@@ -18,7 +18,6 @@ use Rattle.ded_catalog.specs.declared.stored.Relation.{Relation}
 use Rattle.ded_catalog.specs.Changed.{AreRelations, ChangesRelation}
 use Rattle.ded_catalog.specs.State.{entry_form, entry_forms, stored_known, known_with}
 use Rattle.ded_catalog.specs.Conditions.{IsRight, AreKept, IsKept}
-use Rattle.ded_model.proofs.Bools.{bytes_eq-refl}
 
 -- ---- names
 

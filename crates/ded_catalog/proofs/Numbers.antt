@@ -42,7 +42,7 @@ stored-upto h m k (t ∷ ts) s = (s.1, stored-upto h m t.0 ts s.4)
 -- ---- finding a number
 
 -- a key compares as the number where it is the number
-key_test : (k a : ℕ) → is_at (nat_cmp k) a ≡ (a == k)
+pub key_test : (k a : ℕ) → is_at (nat_cmp k) a ≡ (a == k)
 key_test k a = grind (arith, nat_tests)
 
 -- a key is found where a tuple has the number

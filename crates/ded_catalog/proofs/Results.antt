@@ -1,5 +1,5 @@
 -- From what one call answers to what the next one does.
-use Rattle.std.proofs.Common.{◌≡◌, Result, Ok, Err, IfOk, IfErr, false, sym, subst, true≢false}
+use Rattle.std.proofs.Common.{◌≡◌, Result, Ok, Err, IfOk, IfErr, true, false, sym, subst, true≢false}
 use Rattle.std.specs.Prelude.{OnErr, OnOk}
 use Rattle.std.specs.Result.{is_err}
 
@@ -46,3 +46,8 @@ either (Err e) P Q G ok err f g = g e err
 pub on_err : {A E : Type 0} (r : Result A E) (P : E → Type 0) (G : Type 0) → ((x : E) → P x → G) → IfErr r P → OnErr r G
 on_err (Ok x) P G f p = tt
 on_err (Err e) P G f p = f e p
+
+-- a fact of an error that is one
+pub an_err : {A E : Type 0} (r : Result A E) (G : Type 0) → is_err r ≡ true → OnErr r G → G
+an_err (Ok x) G h g = absurd (true≢false (sym h))
+an_err (Err e) G h g = g

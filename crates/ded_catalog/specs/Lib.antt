@@ -4,6 +4,8 @@ pub mod Conditions
 pub mod Copies
 pub mod Forms
 pub mod Mentions
+pub mod Nearby
+pub mod Relations
 pub mod Snapshots
 pub mod State
 pub mod Tuples

@@ -9,6 +9,7 @@ use crate::hashing::NameHashing;
 use crate::mentions::mentioned;
 use crate::stored::{Relation, Stored, View};
 use crate::table::{Table, add, delete_from, insert_into, level_in, take_out};
+use ded_hull::Hulls;
 use ded_model::command::Refusal;
 use ded_model::formula::Formula;
 use ded_model::goal::Goal;
@@ -112,11 +113,13 @@ impl Catalogue {
         ensures ok { OnOk result (AddsEntry (catalogue_of self.old) (catalogue_of self.new) (relation name heading inserts [])) }
         ensures err { OnErr result (catalogue_of self.new ≡ catalogue_of self.old) }
     {
-        let tuples = BTreeMap::new(*self.names.allocator());
+        let alloc = *self.names.allocator();
+        let tuples = BTreeMap::new(alloc);
         let relation = Stored::Relation(Relation {
             heading,
             inserts,
             tuples,
+            hulls: Hulls::new(alloc),
         });
         add(&mut self.names, name, relation)
     }

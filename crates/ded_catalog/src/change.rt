@@ -2,13 +2,14 @@
 ghost use Rattle.std.specs.Prelude.{◌≡◌, ◌++◌, IfOk};
 ghost use Rattle.std.specs.Option.{option_map};
 ghost use Rattle.ded_model.specs.Catalogue.{tuples_of};
+ghost use Rattle.ded_hull.specs.Windows.{lent};
+ghost use Rattle.ded_catalog.specs.Nearby.{numbered};
 ghost use Rattle.ded_catalog.specs.Changing.{inserted_in, deleted_in, is_left_out, without_number, with_last};
 
 use ded_model::memory::NoMemory;
 use ded_model::name::Name;
-use ded_model::tuple::{Tuple, Tuples};
+use ded_model::tuple::Tuple;
 use std::alloc::Global;
-use std::collections::BTreeMap;
 
 /// Nothing, one tuple more in the relation of the name, or the tuple of the number less.
 #[derive(Drop)]
@@ -54,21 +55,21 @@ impl<'a> Change<'a> {
     }
 }
 
-/// Copies of the tuples but that of the number, in order.
+/// The tuples but that of the number, in order.
 ///
 /// # Errors
 /// Out of memory.
-pub(crate) fn copies(
+pub(crate) fn left_of<'a>(
     alloc: Global,
-    stored: &BTreeMap<u32, Tuple>,
+    found: &Vec<(u32, &'a Tuple)>,
     left_out: Option<u64>,
-) -> Result<Vec<Tuple>, NoMemory>
-    ensures { IfOk result (λ ts. ts.items ≡ tuples_of (without_number left_out stored.now.entries)) }
+) -> Result<Vec<&'a Tuple>, NoMemory>
+    ensures { IfOk result (λ ts. lent ts.items ≡ tuples_of (without_number left_out (numbered found.entry.now.items))) }
 {
-    let mut left = Vec::with_capacity(alloc, stored.len())?;
-    for (number, tuple) in stored {
+    let mut left = Vec::with_capacity(alloc, found.len())?;
+    for (number, tuple) in found {
         if !is_left_out(left_out, *number) {
-            left.push(tuple.copy()?)?;
+            left.push(*tuple)?;
         }
     }
     Ok(left)
@@ -84,15 +85,18 @@ fn is_left_out(left_out: Option<u64>, number: u32) -> bool
     }
 }
 
-/// The tuples, and a copy of the last one at the end where there is one.
+/// The tuples, and the last one at the end where there is one.
 ///
 /// # Errors
 /// Out of memory.
-pub(crate) fn ended(mut list: Vec<Tuple>, last: Option<&Tuple>) -> Result<Tuples, NoMemory>
-    ensures { IfOk result (λ ts. ts ≡ with_last list.items (option_map (λ t. t.now) last.entry)) }
+pub(crate) fn with_inserted<'a>(
+    mut list: Vec<&'a Tuple>,
+    last: Option<&'a Tuple>,
+) -> Result<Vec<&'a Tuple>, NoMemory>
+    ensures { IfOk result (λ ts. lent ts.items ≡ with_last (lent list.entry.items) (option_map (λ t. t.now) last.entry)) }
 {
     if let Some(tuple) = last {
-        list.push(tuple.copy()?)?;
+        list.push(tuple)?;
     }
-    Ok(Tuples { list })
+    Ok(list)
 }

@@ -3,6 +3,7 @@ ghost use Rattle.std.specs.Prelude.{◌≡◌, IfOk};
 
 use crate::stored::{Relation, Stored, View};
 use ded_model::memory::NoMemory;
+use ded_model::name::Heading;
 use ded_model::tuple::Tuple;
 use std::alloc::{AllocError, Global};
 use std::collections::BTreeMap;
@@ -14,14 +15,7 @@ impl Clone for Stored {
 
     fn clone(&self) -> Result<Stored, AllocError> {
         match self {
-            Stored::Relation(relation) => {
-                let alloc = *relation.heading.columns.allocator();
-                Ok(Stored::Relation(Relation {
-                    heading: relation.heading.copy()?,
-                    inserts: relation.inserts,
-                    tuples: copy_tuples(alloc, &relation.tuples)?,
-                }))
-            }
+            Stored::Relation(relation) => Ok(Stored::Relation(copy_relation(relation)?)),
             Stored::View(view) => Ok(Stored::View(View {
                 heading: view.heading.copy()?,
                 formula: view.formula.copy()?,
@@ -31,6 +25,27 @@ impl Clone for Stored {
             })),
         }
     }
+}
+
+/// A relation with an equal heading, as many inserts and equal tuples.
+///
+/// # Errors
+/// Out of memory.
+fn copy_relation(relation: &Relation) -> Result<Relation, NoMemory>
+    ensures { IfOk result (λ r. r ≡ relation.now) }
+{
+    let alloc = allocator_of(&relation.heading);
+    Ok(Relation {
+        heading: relation.heading.copy()?,
+        inserts: relation.inserts,
+        tuples: copy_tuples(alloc, &relation.tuples)?,
+        hulls: relation.hulls.copy(alloc)?,
+    })
+}
+
+/// The allocator that the columns are kept by.
+fn allocator_of(heading: &Heading) -> Global {
+    *heading.columns.allocator()
 }
 
 /// Copies of the tuples, under the same numbers.

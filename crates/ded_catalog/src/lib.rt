@@ -10,12 +10,17 @@
 //! what depends on the relations can be made anew before the change is. It borrows the catalogue and copies nothing. Contracts
 //! see it as the catalogue that it stands for, which is well formed, and which is the one that the insert or the delete makes.
 //!
-//! It stands on `ded_sorts` for what is known of names and what changes them, and on `indexmap`.
+//! Beside its tuples a relation keeps an index of their reaches. So the tuples that may hold in a window are looked up and lent, where
+//! it has limits, and all others are passed over. Contracts don't see the index: they say that no tuple is lost that holds somewhere in
+//! the window.
+//!
+//! It stands on `ded_sorts` for what is known of names and what changes them, on `ded_hull` for the index, and on `indexmap`.
 #![tactic(auto)]
 
 mod catalogue;
 mod change;
 mod copying;
+mod finding;
 mod hashing;
 mod mentions;
 mod relation;

@@ -4,11 +4,12 @@ ghost use Rattle.std.specs.List.{list_any};
 ghost use Rattle.std.specs.Option.{option_map};
 
 use crate::catalogue::Catalogue;
-use crate::change::{Change, copies, ended};
+use crate::change::{Change, left_of, with_inserted};
+use ded_hull::Window;
 use ded_model::goal::Goal;
 use ded_model::memory::NoMemory;
 use ded_model::name::{Heading, Name};
-use ded_model::tuple::{Tuple, Tuples};
+use ded_model::tuple::Tuple;
 use std::alloc::Global;
 use std::marker::Model;
 
@@ -47,6 +48,7 @@ impl<'a> Snapshot<'a> {
     ghost use Rattle.ded_model.specs.Width.{tuple_length};
     ghost use Rattle.ded_sorts.specs.Causes.{insert_refusal, is_relation_with};
     ghost use Rattle.ded_sorts.specs.Changes.{Inserts, Deletes};
+    ghost use Rattle.ded_hull.specs.Windows.{AreLent, lent};
     ghost use Rattle.ded_catalog.specs.State.{catalogue_of};
     ghost use Rattle.ded_catalog.specs.Snapshots.{snapshot_of};
 
@@ -113,18 +115,24 @@ impl<'a> Snapshot<'a> {
         catalogue.goal(name)
     }
 
-    /// Copies of the tuples of a relation, in order of their numbers. None exactly where the name is no relation.
+    /// The tuples of a relation that may hold in the window, in order of their numbers. All that hold somewhere in it are among
+    /// them. None exactly where the name is no relation.
     ///
     /// # Errors
     /// Out of memory.
-    pub fn tuples(&self, alloc: Global, name: &Name) -> Result<Option<Tuples>, NoMemory>
-        ensures { IfOk result (λ ts. ts ≡ option_map tuples_of (relation_in (entry_of (snapshot_of self.now).entries name.now))) }
+    pub fn near(
+        &self,
+        alloc: Global,
+        name: &Name,
+        window: &Window,
+    ) -> Result<Option<Vec<&Tuple>>, NoMemory>
+        ensures { IfOk result (λ found. AreLent window.now (option_map (λ v. lent v.items) found) (option_map tuples_of (relation_in (entry_of (snapshot_of self.now).entries name.now)))) }
     {
         let catalogue = self.catalogue;
-        let Some(stored) = catalogue.stored(name) else {
+        let Some(found) = catalogue.near(alloc, name, window)? else {
             return Ok(None);
         };
-        let left = copies(alloc, stored, self.change.deleted(name))?;
-        Ok(Some(ended(left, self.change.inserted(name))?))
+        let left = left_of(alloc, &found, self.change.deleted(name))?;
+        Ok(Some(with_inserted(left, self.change.inserted(name))?))
     }
 }

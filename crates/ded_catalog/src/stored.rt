@@ -4,19 +4,33 @@ ghost use Rattle.std.specs.List.{list_any};
 ghost use Rattle.std.specs.Option.{unwrap_or};
 ghost use Rattle.ded_model.specs.declared.command.Refusal.TheVariants.{Memory};
 
+use ded_hull::Hulls;
 use ded_model::command::Refusal;
 use ded_model::formula::Formula;
 use ded_model::goal::Goal;
 use ded_model::name::{Heading, Name};
 use ded_model::tuple::Tuple;
 use std::collections::BTreeMap;
+use std::marker::Model;
 
-/// A relation: its heading, how many inserts it has accepted, and its tuples by their numbers.
+/// A relation: its heading, how many inserts it has accepted, its tuples by their numbers, and an index of the reaches of these.
+/// Contracts see all but the index, in which each tuple has an entry under its number.
 #[derive(Drop)]
 pub(crate) struct Relation {
     pub(crate) heading: Heading,
     pub(crate) inserts: u32,
     pub(crate) tuples: BTreeMap<u32, Tuple>,
+    pub(crate) hulls: Hulls,
+}
+
+impl Model for Relation {
+    ghost use Rattle.ded_catalog.specs.Relations.{Relation, IsIndex};
+
+    ghost Value = { Relation };
+
+    ghost view = { λ r. record { heading = r.heading; inserts = r.inserts; tuples = record { entries = r.tuples.entries } } };
+
+    ghost invariant = { λ r. IsIndex r.hulls r.tuples.entries };
 }
 
 /// A view: its heading, its formula as written, the goal of that, its level, and the names that the formula speaks of, each

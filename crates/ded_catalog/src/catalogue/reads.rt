@@ -1,15 +1,17 @@
-//! What a catalogue is asked. Only the copy allocates.
+//! What a catalogue is asked. Only look-ups in windows and copies allocate.
 ghost use Rattle.std.specs.Prelude.{◌≡◌, true, false, IfOk, IfSome, is_none, slice_get};
 ghost use Rattle.std.specs.Option.{option_map};
 
 use super::Catalogue;
 use crate::table::{heading_of, relation_of, view_of};
+use ded_hull::Window;
 use ded_model::command::Refusal;
 use ded_model::formula::Formula;
 use ded_model::goal::Goal;
 use ded_model::memory::NoMemory;
 use ded_model::name::{Heading, Name};
 use ded_model::tuple::Tuple;
+use std::alloc::Global;
 use std::collections::BTreeMap;
 
 impl Catalogue {
@@ -24,6 +26,7 @@ impl Catalogue {
     ghost use Rattle.ded_sorts.specs.Causes.{insert_refusal, is_relation_with};
     ghost use Rattle.ded_model.specs.Entries.{known, entry_of, relation_in, view_in};
     ghost use Rattle.ded_catalog.specs.Mentions.{AreMentions};
+    ghost use Rattle.ded_catalog.specs.Nearby.{numbered, AreFound};
     ghost use Rattle.ded_catalog.specs.State.{catalogue_of};
 
     /// Every catalogue is well formed: each entry has a new name, the tuples of a relation are normal, over its columns
@@ -48,6 +51,25 @@ impl Catalogue {
         match relation_of(&self.names, name) {
             Some(relation) => Some(&relation.tuples),
             None => None,
+        }
+    }
+
+    /// The tuples of a relation that may hold in the window, with their numbers, in ascending order of these. All that hold somewhere in
+    /// it are among them. None exactly where the name is no relation.
+    ///
+    /// # Errors
+    /// Out of memory.
+    pub fn near<'a>(
+        &'a self,
+        alloc: Global,
+        name: &Name,
+        window: &Window,
+    ) -> Result<Option<Vec<(u32, &'a Tuple)>>, NoMemory>
+        ensures { IfOk result (λ found. AreFound window.now (option_map (λ v. numbered v.items) found) (relation_in (entry_of (catalogue_of self.now).entries name.now))) }
+    {
+        match relation_of(&self.names, name) {
+            Some(relation) => Ok(Some(relation.near(alloc, window)?)),
+            None => Ok(None),
         }
     }
 

@@ -1,10 +1,26 @@
-use Rattle.std.proofs.Common.{refl, sym, ◌∙◌, true≢false, arith}
+use Rattle.std.proofs.Common.{◌≡◌, ◌==◌, List, sym, ap, ◌∙◌, subst, true≢false, arith}
+use Rattle.std.specs.BTreeMap.{is_at}
+use Rattle.std.specs.List.{list_any}
+use Rattle.std.specs.Map.{remove_entry}
+use Rattle.std.specs.Ordering.{nat_cmp}
+use Rattle.ded_hull.specs.declared.entry.Entry.{Entry}
+use Rattle.ded_catalog.specs.Relations.{Relation, IsIndex}
+use Rattle.ded_catalog.proofs.Indexed.{taken_out}
 use Rattle.ded_catalog.proofs.Numbers.{above_none, removes}
 use Rattle.ded_catalog.proofs.stored.Relation.remove.Goals as goal
 
 pub prove-unreachable-requires : goal.prove-unreachable-requires
 prove-unreachable-requires c =
-    true≢false (sym c.requires.present ∙ above_none c.args.self.now.inserts c.args.number c.args.self.now.tuples.entries (omega (arith, c.if-prove.true, c.from.ensures)) c.requires.numbers)
+    let inserts : c.self.inside.inserts ≡ c.args.self.now.inserts = ap (λ (r : Relation). r.inserts) c.self.view_is in
+    true≢false (sym c.requires.present ∙ above_none c.args.self.now.inserts c.args.number c.args.self.now.tuples.entries (omega (arith, c.if-prove.true, c.from.ensures, inserts)) c.requires.numbers)
+
+pub invariant_of-self : goal.invariant_of-self
+invariant_of-self c =
+    subst (λ (es : List Entry). IsIndex es c.remove.new.self.entries) (sym c.remove-2.ensures)
+    (taken_out c.args.number c.self.inside.hulls c.self.inside.tuples.entries c.remove.new.self.entries (ap (λ (r : Relation). list_any (λ t. t.0 == c.args.number) r.tuples.entries) c.self.view_is ∙ c.requires.present)
+    c.remove.ensures.entries c.remove.ensures.updates.1 c.self.invariant)
 
 pub returns : goal.returns
-returns c = removes c.args.self.now _ c.args.number c.requires.present refl refl c.remove.ensures.entries
+returns c =
+    removes c.args.self.now _ c.args.number c.requires.present (ap (λ (r : Relation). r.heading) c.self.view_is) (ap (λ (r : Relation). r.inserts) c.self.view_is)
+    (c.remove.ensures.entries ∙ ap (λ (r : Relation). remove_entry (is_at (nat_cmp c.args.number)) r.tuples.entries) c.self.view_is)

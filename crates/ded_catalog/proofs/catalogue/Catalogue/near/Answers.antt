@@ -1,0 +1,21 @@
+use Rattle.std.proofs.Common.{None, Some, ap, ◌∙◌, subst}
+use Rattle.std.specs.Option.{option_map}
+use Rattle.ded_model.specs.Entries.{entry_of, relation_in}
+use Rattle.ded_catalog.specs.Nearby.{numbered, AreFound}
+use Rattle.ded_catalog.specs.State.{catalogue_of}
+use Rattle.ded_catalog.proofs.Reading.{tuples_there}
+use Rattle.ded_catalog.proofs.catalogue.Catalogue.near.Goals as goal
+
+pub returns-in_ok-near-in-Some : goal.returns-in_ok-near-in-Some
+returns-in_ok-near-in-Some c =
+    subst (AreFound c.args.window.now (Some (numbered c.in_ok-near-in-Some.field-0.items)))
+    (ap (option_map (λ r. r.tuples.entries)) c.in-Some.ensures ∙ tuples_there c.self.inside.limit c.self.inside.names.entries c.args.name.now c.self.invariant
+    ∙ ap (λ t. relation_in (entry_of (catalogue_of t).entries c.args.name.now)) c.self.view_is)
+    c.in_ok-near-in-Some.ensures
+
+pub returns-in-None : goal.returns-in-None
+returns-in-None c =
+    subst (AreFound c.args.window.now None)
+    (ap (option_map (λ r. r.tuples.entries)) c.in-None.ensures ∙ tuples_there c.self.inside.limit c.self.inside.names.entries c.args.name.now c.self.invariant
+    ∙ ap (λ t. relation_in (entry_of (catalogue_of t).entries c.args.name.now)) c.self.view_is)
+    tt

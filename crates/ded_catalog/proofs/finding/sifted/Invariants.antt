@@ -1,0 +1,7 @@
+use Rattle.std.proofs.Common.{List, ◌++◌, ℕ}
+use Rattle.ded_model.specs.Row.{Atom}
+use Rattle.ded_catalog.specs.Nearby.{numbered, AreNear}
+use Rattle.ded_catalog.proofs.finding.sifted.Given as goal
+
+abbrev pub invariant-loop-number : goal.invariant-loop-number
+invariant-loop-number l = (rest : List (ℕ × List Atom)) → AreNear l.sieve rest l.number-iterator → AreNear l.sieve (numbered l.found.items ++ rest) l.tuples.entries

@@ -1,0 +1,83 @@
+//! The tuples of a relation that may hold in a window.
+ghost use Rattle.std.specs.Prelude.{◌≡◌, ◌∷◌, [], IfOk};
+ghost use Rattle.std.specs.Option.{option_map};
+ghost use Rattle.ded_catalog.specs.Nearby.{numbered, AreNear, AddsNear, with_number, picked};
+
+use ded_hull::Sieve;
+use ded_model::memory::NoMemory;
+use ded_model::tuple::Tuple;
+use std::alloc::Global;
+use std::collections::BTreeMap;
+
+/// The tuples that may hold in the window of the sieve, with their numbers, in order.
+///
+/// # Errors
+/// Out of memory.
+pub(crate) fn sifted<'a>(
+    alloc: Global,
+    tuples: &'a BTreeMap<u32, Tuple>,
+    sieve: &Sieve,
+) -> Result<Vec<(u32, &'a Tuple)>, NoMemory>
+    ensures { IfOk result (λ found. AreNear sieve.now (numbered found.items) tuples.now.entries) }
+{
+    let mut found = Vec::new(alloc);
+    for (number, tuple) in tuples {
+        push_if_near(sieve, *number, tuple, &mut found)?;
+    }
+    Ok(found)
+}
+
+/// The tuples of the numbers that may hold in the window of the sieve, with the numbers, in the order of these.
+///
+/// # Errors
+/// Out of memory.
+pub(crate) fn looked_up<'a>(
+    alloc: Global,
+    tuples: &'a BTreeMap<u32, Tuple>,
+    numbers: &[u32],
+    sieve: &Sieve,
+) -> Result<Vec<(u32, &'a Tuple)>, NoMemory>
+    ensures { IfOk result (λ found. AreNear sieve.now (numbered found.items) (picked numbers.now tuples.now.entries)) }
+{
+    let mut found = Vec::new(alloc);
+    for number in numbers {
+        push_if_there(sieve, *number, tuples.get(number), &mut found)?;
+    }
+    Ok(found)
+}
+
+/// Adds the tuple under its number, if there is one and it may hold in the window of the sieve.
+///
+/// # Errors
+/// Out of memory.
+fn push_if_there<'a>(
+    sieve: &Sieve,
+    number: u32,
+    tuple: Option<&'a Tuple>,
+    found: &mut Vec<(u32, &'a Tuple)>,
+) -> Result<(), NoMemory>
+    ensures { IfOk result (λ _. AddsNear sieve.now (with_number number (option_map (λ t. t.now) tuple.entry)) (numbered found.old.items) (numbered found.new.items)) }
+{
+    match tuple {
+        Some(tuple) => push_if_near(sieve, number, tuple, found),
+        None => Ok(()),
+    }
+}
+
+/// Adds the tuple under its number where it may hold in the window of the sieve.
+///
+/// # Errors
+/// Out of memory.
+fn push_if_near<'a>(
+    sieve: &Sieve,
+    number: u32,
+    tuple: &'a Tuple,
+    found: &mut Vec<(u32, &'a Tuple)>,
+) -> Result<(), NoMemory>
+    ensures { IfOk result (λ _. AddsNear sieve.now ((number, tuple.now) ∷ []) (numbered found.old.items) (numbered found.new.items)) }
+{
+    if sieve.may_hold(tuple) {
+        found.push((number, tuple))?;
+    }
+    Ok(())
+}
