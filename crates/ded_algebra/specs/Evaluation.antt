@@ -62,3 +62,9 @@ pub record IsEvaluation (c : Catalogue) (f : PlanForm) (test : Point → Bool) (
   pub holds : (p : Point) → IsPoint p → IsTrue (test p) ↔ GivenHolds c f p
   pub slots : (s : Slot) → used s ≡ true → plan_mentions f (slot s) ≡ true
   pub lines : IsSubset ls (plan_lines (stored_measures c) f)
+
+-- the same, but what it holds at is said of points inside alone
+pub record IsEvaluationWithin (c : Catalogue) (f : PlanForm) (inside : Point → Bool) (test : Point → Bool) (used : Slot → Bool) (ls : List Line) : Type 0 where
+  pub holds : (p : Point) → IsPoint p → inside p ≡ true → IsTrue (test p) ↔ GivenHolds c f p
+  pub slots : (s : Slot) → used s ≡ true → plan_mentions f (slot s) ≡ true
+  pub lines : IsSubset ls (plan_lines (stored_measures c) f)

@@ -7,9 +7,11 @@ ghost use Rattle.ded_model.specs.PlanForm.{plan_form};
 ghost use Rattle.ded_model.specs.Row.{tuples_hold, tuples_mention};
 ghost use Rattle.ded_model.specs.Lines.{tuples_lines};
 ghost use Rattle.ded_model.specs.Measure.{stored_measures, plan_clashes};
+ghost use Rattle.ded_hull.specs.Windows.{AreLent, lent};
 ghost use Rattle.ded_algebra.specs.Evaluation.{AreGiven, given_tuples, IsAnyAtom, IsEvaluable, IsEvaluation};
 
-use ded_model::memory::Refused;
+use ded_hull::Window;
+use ded_model::memory::{NoMemory, Refused};
 use ded_model::name::Name;
 use ded_model::plan::Plan;
 use ded_model::tuple::{Tuple, Tuples};
@@ -21,11 +23,25 @@ pub trait Relations {
     /// The catalogue that the value stands for.
     ghost catalogue: { Self → Catalogue };
 
-    /// The tuples of the name, none exactly where the name isn't given. Only relations are given, and their names are distinct. It
-    /// doesn't allocate.
-    fn tuples(&self, name: &Name) -> Option<&[Tuple]>
-        ensures tuples { option_map (λ ts. ts.now) result ≡ given_tuples (catalogue self.now) name.now }
-        ensures given { AreGiven (catalogue self.now).entries };
+    /// Only relations are given, and their names are distinct. It does nothing.
+    fn formed(&self)
+        ensures { AreGiven (catalogue self.now).entries };
+
+    /// Whether look-ups of the name go through an index, so that asking for few tuples doesn't read all of them. It does not allocate.
+    fn is_indexed(&self, name: &Name) -> bool;
+
+    /// The tuples of the name in order, maybe without some that hold nowhere in the window over its columns; none exactly where the
+    /// name isn't given.
+    ///
+    /// # Errors
+    /// Out of memory.
+    fn near(
+        &self,
+        alloc: Global,
+        name: &Name,
+        window: &Window,
+    ) -> Result<Option<Vec<&Tuple>>, NoMemory>
+        ensures { IfOk result (λ o. AreLent window.now (option_map (λ ts. lent ts.items) o) (given_tuples (catalogue self.now) name.now)) };
 }
 
 /// What evaluates plans.

@@ -1,17 +1,18 @@
 -- Points at which the columns of a relation have the values of the slots that they are read into.
-use Rattle.std.proofs.Common.{◌≡◌, ℕ, ◌+◌, ◌*◌, ◌<◌, Bool, true, cond, List, [], ◌∷◌, inl, inr, arith, refl, sym, ap, ap₂, ◌∙◌, map}
+use Rattle.std.proofs.Common.{◌≡◌, ℕ, ◌+◌, ◌*◌, ◌<◌, Bool, true, cond, List, [], ◌∷◌, inl, inr, arith, refl, sym, ap, ap₂, ◌∙◌, subst, map}
 use Rattle.std.specs.Prelude.{ℤ, pos, ◌*ℤ◌}
 use Rattle.std.proofs.Math.IntN.{*ℤ-one}
 use Rattle.ded_model.specs.declared.slot.Slot.{Slot}
 use Rattle.ded_model.specs.declared.slot.Sort.{Sort}
 use Rattle.ded_model.specs.declared.slot.Sort.TheVariants.{Rat, Text}
 use Rattle.ded_model.specs.declared.name.Column.{Column}
-use Rattle.ded_model.specs.Point.{slot, Value, Point, absent, last_from, as_number, as_text, number_at, text_at, same_slot, stands_in}
+use Rattle.ded_model.specs.Point.{slot, Value, Point, IsPoint, AllBytes, IsValue, AreValues, absent, last_from, as_number, as_text, number_at, text_at, same_slot, stands_in}
 use Rattle.ded_model.specs.Known.{heading_slots}
 use Rattle.ded_model.specs.Value.{sorted_value, slot_value, Argument, overs, argument_times, arguments}
 use Rattle.ded_model.specs.Catalogue.{argument_coordinate, at_slots}
 use Rattle.ded_model.specs.Renaming.{renamed, HaveOneValue, IsRenamedPoint}
 use Rattle.ded_model.proofs.Points.{same_slot_refl}
+use Rattle.ded_model.proofs.PointTexts.{point-bytes}
 use Rattle.ded_model.proofs.CoefLemmas.{lesser_slot}
 use Rattle.ded_algebra.specs.Evaluation.{HaveSorts}
 use Rattle.ded_eval.specs.Scanning.{column_pairs}
@@ -77,19 +78,19 @@ abbrev pub column_point : Point → List Column → List Slot → Point
 column_point q h ss = record { den = q.den * overs (map (slot_value q) ss); coords = at_slots 0 h (arguments (map (slot_value q) ss)) }
 
 -- the coordinate of a value, read at the slot's sort
-same_number : (q : Point) (u : Slot) (t : Sort) → u.sort ≡ t → (as_number (argument_coordinate t (slot_argument q u))) ≡ (sorted_value t (number_at q (slot u)) (text_at q (slot u))).number
+pub same_number : (q : Point) (u : Slot) (t : Sort) → u.sort ≡ t → (as_number (argument_coordinate t (slot_argument q u))) ≡ (sorted_value t (number_at q (slot u)) (text_at q (slot u))).number
 same_number q u Rat e = ap (λ x. (sorted_value x (number_at q (slot u)) (text_at q (slot u))).number) e
 same_number q u Text e = refl
 
-same_text : (q : Point) (u : Slot) (t : Sort) → u.sort ≡ t → (as_text (argument_coordinate t (slot_argument q u))) ≡ (sorted_value t (number_at q (slot u)) (text_at q (slot u))).text
+pub same_text : (q : Point) (u : Slot) (t : Sort) → u.sort ≡ t → (as_text (argument_coordinate t (slot_argument q u))) ≡ (sorted_value t (number_at q (slot u)) (text_at q (slot u))).text
 same_text q u Rat e = refl
 same_text q u Text e = ap (λ x. (sorted_value x (number_at q (slot u)) (text_at q (slot u))).text) e
 
-number_there : (q : Point) (h : List Column) (ss : List Slot) (s u : Slot) → IsRead 0 h ss s u → number_at (column_point q h ss) (slot s) ≡ as_number (argument_coordinate s.sort (slot_argument q u))
+pub number_there : (q : Point) (h : List Column) (ss : List Slot) (s u : Slot) → IsRead 0 h ss s u → number_at (column_point q h ss) (slot s) ≡ as_number (argument_coordinate s.sort (slot_argument q u))
 unfolding number_at
 number_there q h ss s u r = ap (λ xs. as_number (last_from absent (at_slots 0 h xs) (slot s))) (slot_arguments q ss) ∙ ap as_number (column_value q 0 h ss s u absent r)
 
-text_there : (q : Point) (h : List Column) (ss : List Slot) (s u : Slot) → IsRead 0 h ss s u → text_at (column_point q h ss) (slot s) ≡ as_text (argument_coordinate s.sort (slot_argument q u))
+pub text_there : (q : Point) (h : List Column) (ss : List Slot) (s u : Slot) → IsRead 0 h ss s u → text_at (column_point q h ss) (slot s) ≡ as_text (argument_coordinate s.sort (slot_argument q u))
 unfolding text_at
 text_there q h ss s u r = ap (λ xs. as_text (last_from absent (at_slots 0 h xs) (slot s))) (slot_arguments q ss) ∙ ap as_text (column_value q 0 h ss s u absent r)
 
@@ -102,4 +103,24 @@ pub columns_point : (q : Point) (h : List Column) (ss : List Slot) (test : Slot 
 columns_point q h ss test j o = record {
   den = sym (ap (λ m. q.den * m) (overs_one q ss) ∙ omega arith);
   value = λ s e. (let r = read 0 h ss s j (o s e) in one_value q h ss s (renamed (column_pairs 0 ss) s) s.sort refl (read_sort 0 h ss s (renamed (column_pairs 0 ss) s) j r) r);
+}
+
+-- it is a point
+column_values : (q : Point) → IsPoint q → (k : ℕ) (h : List Column) (ss : List Slot) → AreValues (at_slots k h (map (slot_argument q) ss))
+column_values q i k [] ss = tt
+column_values q i k (c ∷ h) [] = tt
+column_values q i k (c ∷ h) (s ∷ ss) = (of c.sort, column_values q i (k + 1) h ss)
+  where
+    bytes : (t : Sort) → AllBytes (sorted_value t (number_at q (slot s)) (text_at q (slot s))).text
+    bytes Rat = tt
+    bytes Text = point-bytes q (slot s) i
+
+    of : (t : Sort) → IsValue (argument_coordinate t (slot_argument q s))
+    of Rat = tt
+    of Text = bytes s.sort
+
+pub column_point_is : (q : Point) (h : List Column) (ss : List Slot) → IsPoint q → IsPoint (column_point q h ss)
+column_point_is q h ss i = record {
+  positive = subst (λ z. 0 < z) (sym (ap (λ z. q.den * z) (overs_one q ss) ∙ omega arith)) i.positive;
+  bytes = subst (λ xs. AreValues (at_slots 0 h xs)) (sym (slot_arguments q ss)) (column_values q i 0 h ss);
 }

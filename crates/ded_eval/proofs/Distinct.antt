@@ -55,10 +55,10 @@ module _ {A : Type 0} (h : A → Point → Bool) (m : A → Slot → Bool) (l : 
       }
 
   -- what a plan stands for, without repetitions
-  pub distinct_for : (c : Catalogue) (f : PlanForm) (xs out : List (List A)) → ((p : Point) → conjs_hold h out p ≡ conjs_hold h xs p)
-      → ((s : Slot) → conjs_mention m out s ≡ true → conjs_mention m xs s ≡ true) → IsSubset (conjs_lines l out) (conjs_lines l xs) → IsListFor h m l c f xs → IsListFor h m l c f out
-  distinct_for c f xs out e u z a = record {
-    holds = λ p i. (λ x. (a.holds p i).0 (sym (e p) ∙ x), λ x. e p ∙ (a.holds p i).1 x);
+  pub distinct_for : (inside : Point → Bool) (c : Catalogue) (f : PlanForm) (xs out : List (List A)) → ((p : Point) → conjs_hold h out p ≡ conjs_hold h xs p)
+      → ((s : Slot) → conjs_mention m out s ≡ true → conjs_mention m xs s ≡ true) → IsSubset (conjs_lines l out) (conjs_lines l xs) → IsListFor h m l inside c f xs → IsListFor h m l inside c f out
+  distinct_for inside c f xs out e u z a = record {
+    holds = λ p i w. (λ x. (a.holds p i w).0 (sym (e p) ∙ x), λ x. e p ∙ (a.holds p i w).1 x);
     slots = λ s x. a.slots s (u s x);
     lines = subset_trans (conjs_lines l out) (conjs_lines l xs) (plan_lines (stored_measures c) f) z a.lines;
   }

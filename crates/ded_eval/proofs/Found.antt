@@ -14,6 +14,10 @@ use Rattle.ded_model.specs.Lines.{Line, tuples_lines}
 use Rattle.ded_model.specs.Catalogue.{Entry, relation, view, Catalogue, entry_name, tuples_of, at_slots, with_entry, meaning_from, stored}
 use Rattle.ded_model.specs.Measure.{Measures, with_measure, measures_from, stored_measures}
 use Rattle.ded_model.specs.Entries.{entry_of, relation_in}
+use Rattle.ded_hull.specs.declared.window.Window.{Window}
+use Rattle.ded_hull.specs.Windows.{IsNear, AreLent}
+use Rattle.ded_hull.proofs.Near.{near_all}
+use Rattle.ded_genrel.proofs.Items.{all_weaker}
 use Rattle.ded_algebra.specs.Evaluation.{AreGiven, HaveSorts, IsScannedFrom, given_tuples}
 
 -- a name that no entry has
@@ -96,10 +100,36 @@ found Reads c n ss ts g s e = go (entry_of c.entries n) refl s e
         })
 
 -- a name that a plan scans is given
-pub not_given : (Reads : Atom → Type 0) (c : Catalogue) (n : List ℕ) (ss : List Slot) → IsScannedFrom Reads (entry_of c.entries n) ss → given_tuples c n ≡ None → ⊥
+not_given : (Reads : Atom → Type 0) (c : Catalogue) (n : List ℕ) (ss : List Slot) → IsScannedFrom Reads (entry_of c.entries n) ss → given_tuples c n ≡ None → ⊥
 not_given Reads c n ss s e = go (entry_of c.entries n) s e
   where
     go : (o : Option Entry) → IsScannedFrom Reads o ss → option_map tuples_of (relation_in o) ≡ None → ⊥
     go None k i = k
     go (Some (view m h x)) k i = k
     go (Some (relation m h j us)) k i = none-some (tuples_of us) (sym i)
+
+-- the tuples that are lent of the relation of a name are all but some that hold nowhere in the window
+pub record IsLent (Reads : Atom → Type 0) (c : Catalogue) (n : List ℕ) (ss : List Slot) (w : Window) (us : List (List Atom)) : Type 1 where
+  pub all : List (List Atom)
+  pub found : IsFound Reads c n ss all
+  pub near : IsNear w us all
+
+pub lent_found : (Reads : Atom → Type 0) (c : Catalogue) (n : List ℕ) (ss : List Slot) (w : Window) (us : List (List Atom)) (o : Option (List (List Atom))) → o ≡ Some us
+    → AreGiven c.entries → IsScannedFrom Reads (entry_of c.entries n) ss → AreLent w o (given_tuples c n) → IsLent Reads c n ss w us
+lent_found Reads c n ss w us o e g s a = go (given_tuples c n) refl (subst (λ (x : Option (List (List Atom))). AreLent w x (given_tuples c n)) e a)
+  where
+    go : (x : Option (List (List Atom))) → given_tuples c n ≡ x → AreLent w (Some us) x → IsLent Reads c n ss w us
+    go None f k = absurd k
+    go (Some ts) f k = record { all = ts; found = found Reads c n ss ts g s f; near = k }
+
+-- their atoms are read
+pub lent_reads : (Reads : Atom → Type 0) (c : Catalogue) (n : List ℕ) (ss : List Slot) (w : Window) (us : List (List Atom)) → IsLent Reads c n ss w us → AllByRecursion (λ t. AllByRecursion Reads t) us
+lent_reads Reads c n ss w us k = near_all w (λ t. AllByRecursion Reads t) us k.all k.near (all_weaker (λ t. IsTupleOver k.found.heading t × AllByRecursion Reads t) (λ t. AllByRecursion Reads t) k.all (λ t j. j.1) k.found.over)
+
+-- a name that a plan scans is lent
+pub not_lent : (Reads : Atom → Type 0) (c : Catalogue) (n : List ℕ) (ss : List Slot) (w : Window) (o : Option (List (List Atom))) → o ≡ None → IsScannedFrom Reads (entry_of c.entries n) ss → AreLent w o (given_tuples c n) → ⊥
+not_lent Reads c n ss w o e s a = go (given_tuples c n) refl (subst (λ (x : Option (List (List Atom))). AreLent w x (given_tuples c n)) e a)
+  where
+    go : (x : Option (List (List Atom))) → given_tuples c n ≡ x → AreLent w None x → ⊥
+    go None f k = not_given Reads c n ss s f
+    go (Some ts) f k = k

@@ -7,14 +7,17 @@ pub mod Distinct
 pub mod Evaluated
 pub mod Extending
 pub mod Found
+pub mod Joined
 pub mod Names
 pub mod Narrowness
 pub mod Once
 pub mod OwnSlots
 pub mod Pairs
 pub mod Parts
+pub mod Placed
 pub mod Projected
 pub mod Reducing
+pub mod RowsBeside
 pub mod RowsRead
 pub mod Scanned
 pub mod Sifted
@@ -24,3 +27,4 @@ pub mod TupleParts
 pub mod TuplesRead
 pub mod TuplesWritten
 pub mod WideTuples
+pub mod Windowed

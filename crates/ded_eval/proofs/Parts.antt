@@ -2,10 +2,15 @@
 use Rattle.std.proofs.Common.{◌≡◌, ℕ, zero, suc, ◌+◌, ◌<◌, ◌≤◌, Bool, true, List, [], ◌∷◌, ◌++◌, length, get_or, take, drop, map, arith, add-one, sym, ap, ◌∙◌, subst}
 use Rattle.std.proofs.lemmas.List.{map-append, take-append-drop}
 use Rattle.ded_model.specs.declared.plan.Plan.{Plan}
-use Rattle.ded_model.specs.Logic.{AllAtoms, AllAtomsOf}
-use Rattle.ded_model.specs.Lines.{Line, clashes, any_clashes}
-use Rattle.ded_model.specs.PlanForm.{PlanAtom, plan_form, plan_forms}
+use Rattle.ded_model.specs.Logic.{logics, any_mentions, AllAtoms, AllAtomsOf}
+use Rattle.ded_model.specs.Lines.{Line, In, IsSubset, all_lines, clashes, any_clashes}
+use Rattle.ded_model.specs.Measure.{Measures, plan_atom_lines, plan_lines}
+use Rattle.ded_model.specs.PlanForm.{PlanAtom, in_plan_atom, plan_form, plan_forms, plan_mentions}
+use Rattle.ded_model.specs.Point.{Key, Point}
+use Rattle.std.proofs.lemmas.Bool.{and_parts}
+use Rattle.ded_model.proofs.Members.{In-left, In-right}
 use Rattle.ded_model.proofs.Rows.{or_left, or_right}
+use Rattle.ded_eval.specs.Within.{all_rows_hold, rows_hold}
 use Rattle.ded_genrel.proofs.Items.{done_to}
 
 -- what is said of all atoms is said of those of a part
@@ -19,6 +24,22 @@ pub part_clashes : (of : PlanAtom → List Line) (test : PlanAtom → Bool) (ps 
 part_clashes of test [] i p l e c = absurd (omega (arith, l))
 part_clashes of test (q ∷ ps) zero p l e c = or_left _ _ (ap (λ x. clashes of test (plan_form x)) (sym e) ∙ c)
 part_clashes of test (q ∷ ps) (suc i) p l e c = or_right (clashes of test (plan_form q)) _ (part_clashes of test ps i p (omega (arith, l)) e c)
+
+-- what they mention, their lines, and what is so of the rows of all parts
+pub part_mentions : (ps : List Plan) (i : ℕ) (p : Plan) (k : Key) → i < length ps → p ≡ get_or ps i p → plan_mentions (plan_form p) k ≡ true → any_mentions in_plan_atom (logics (map plan_form ps)) k ≡ true
+part_mentions [] i p k l e c = absurd (omega (arith, l))
+part_mentions (q ∷ ps) zero p k l e c = or_left _ _ (ap (λ x. plan_mentions (plan_form x) k) (sym e) ∙ c)
+part_mentions (q ∷ ps) (suc i) p k l e c = or_right (plan_mentions (plan_form q) k) _ (part_mentions ps i p k (omega (arith, l)) e c)
+
+pub part_lines : (M : Measures) (ps : List Plan) (i : ℕ) (p : Plan) → i < length ps → p ≡ get_or ps i p → IsSubset (plan_lines M (plan_form p)) (all_lines (plan_atom_lines M) (logics (map plan_form ps)))
+part_lines M [] i p l e = absurd (omega (arith, l))
+part_lines M (q ∷ ps) zero p l e = λ x j. In-left x (plan_lines M (plan_form q)) (all_lines (plan_atom_lines M) (logics (map plan_form ps))) (subst (λ (r : Plan). In x (plan_lines M (plan_form r))) e j)
+part_lines M (q ∷ ps) (suc i) p l e = λ x j. In-right x (plan_lines M (plan_form q)) (all_lines (plan_atom_lines M) (logics (map plan_form ps))) (part_lines M ps i p (omega (arith, l)) e x j)
+
+pub part_rows : (ps : List Plan) (i : ℕ) (p : Plan) (q : Point) → i < length ps → p ≡ get_or ps i p → all_rows_hold (map plan_form ps) q ≡ true → rows_hold (plan_form p) q ≡ true
+part_rows [] i p q l e a = absurd (omega (arith, l))
+part_rows (r ∷ ps) zero p q l e a = ap (λ x. rows_hold (plan_form x) q) e ∙ (and_parts _ _ a).0
+part_rows (r ∷ ps) (suc i) p q l e a = part_rows ps i p q (omega (arith, l)) e (and_parts (rows_hold (plan_form r) q) _ a).1
 
 -- what is done ends with the part
 pub parts_to : (ps : List Plan) (i : ℕ) (p : Plan) → i < length ps → p ≡ get_or ps i p → map plan_form (take (i + 1) ps) ≡ map plan_form (take i ps) ++ plan_form p ∷ []

@@ -7,7 +7,7 @@ use Rattle.std.proofs.lemmas.Bool.{and_from}
 use Rattle.ded_model.specs.declared.slot.Slot.{Slot}
 use Rattle.ded_model.specs.declared.slot.Sort.{Sort}
 use Rattle.ded_model.specs.declared.slot.Sort.TheVariants.{Rat, Text}
-use Rattle.ded_model.specs.Point.{slot, same_slot, same_sort, Point}
+use Rattle.ded_model.specs.Point.{slot, same_slot, same_sort, Point, IsPoint, IsExtension}
 use Rattle.ded_model.specs.Row.{row_mentions}
 use Rattle.ded_model.specs.Coefs.{AreCoefs}
 use Rattle.ded_model.specs.Logic.{exists}
@@ -68,13 +68,13 @@ clash_at_past s xs ys k f c = go s.sort refl
     go Rat e = clash-grows s xs ys f c
     go Text e = absurd (no_clash s xs e k c)
 
-module _ {A : Type 0} (h : A → Point → Bool) (m : A → Slot → Bool) (l : A → List Line) where
-  -- a projection of the list of a plan
-  pub projection_for : (c : Catalogue) (f : PlanForm) (s : Slot) (xs out : List (List A)) → AreInOrder (conjs_lines l xs) → IsListFor h m l c f xs → IsProjection h m l xs s out → IsListFor h m l c (exists s.sort (slot s) f) out
-  projection_for c f s xs out k a o = record {
-    holds = λ p i. (
-      λ x. (let q = (o.holds p i).0 x in (q.0, q.1, (a.holds q.0 (extension-point s.sort p q.0 (slot s) i q.1)).0 q.2)),
-      λ x. (o.holds p i).1 (x.0, x.1, (a.holds x.0 (extension-point s.sort p x.0 (slot s) i x.1)).1 x.2),
+module _ {A : Type 0} (h : A → Point → Bool) (m : A → Slot → Bool) (l : A → List Line) (inside outside : Point → Bool) where
+  -- a projection of the list of a plan, whose window says nothing of the slot
+  pub projection_for : (c : Catalogue) (f : PlanForm) (s : Slot) (xs out : List (List A)) → AreInOrder (conjs_lines l xs) → ((p q : Point) → IsPoint p → IsExtension s.sort p (slot s) q → inside p ≡ true → outside q ≡ true) → IsListFor h m l outside c f xs → IsProjection h m l xs s out → IsListFor h m l inside c (exists s.sort (slot s) f) out
+  projection_for c f s xs out k stays a o = record {
+    holds = λ p i w. (
+      λ x. (let q = (o.holds p i).0 x in (q.0, q.1, (a.holds q.0 (extension-point s.sort p q.0 (slot s) i q.1) (stays p q.0 i q.1 w)).0 q.2)),
+      λ x. (o.holds p i).1 (x.0, x.1, (a.holds x.0 (extension-point s.sort p x.0 (slot s) i x.1) (stays p x.0 i x.1 w)).1 x.2),
     );
     slots = λ t u. (let r = o.slots t u in and_from (not (same_slot t s)) (plan_mentions f (slot t)) (ap not r.0) (a.slots t r.1));
     lines = subset_trans (conjs_lines l out) (elim_at s (conjs_lines l xs)) (elim_past s.sort (slot s) (plan_lines (stored_measures c) f))
@@ -83,5 +83,5 @@ module _ {A : Type 0} (h : A → Point → Bool) (m : A → Slot → Bool) (l : 
   }
 
   -- where its lines clash, the plan does
-  pub projection_clash : (c : Catalogue) (f : PlanForm) (s : Slot) (xs : List (List A)) → AreInOrder (conjs_lines l xs) → IsListFor h m l c f xs → conjs_clash l s xs ≡ true → clash_past s.sort (slot s) (plan_lines (stored_measures c) f) ≡ true
+  pub projection_clash : (c : Catalogue) (f : PlanForm) (s : Slot) (xs : List (List A)) → AreInOrder (conjs_lines l xs) → IsListFor h m l outside c f xs → conjs_clash l s xs ≡ true → clash_past s.sort (slot s) (plan_lines (stored_measures c) f) ≡ true
   projection_clash c f s xs k a e = clash_at_past s (conjs_lines l xs) (plan_lines (stored_measures c) f) k a.lines (conjs_clash-within l s xs e)

@@ -1,8 +1,9 @@
 -- Relations of distinct names without some of them.
 use Rattle.std.proofs.Common.{◌≡◌, ℕ, zero, suc, ◌+◌, ◌<◌, arith, length, get_or, take, Bool, true, false, Some, None, List, [], ◌∷◌, refl, sym, ap, ◌∙◌, subst, bytes_eq}
-use Rattle.std.specs.Prelude.{if◌then◌else◌, remove, slice_get}
+use Rattle.std.specs.Prelude.{if◌then◌else◌, remove, slice_get, is_some, Option}
 use Rattle.std.proofs.lemmas.Bool.{or_from, or_parts}
 use Rattle.std.proofs.lemmas.List.{take_more}
+use Rattle.std.proofs.lemmas.Option.{none-some}
 use Rattle.std.proofs.lemmas.Slice.Eq.{bytes_eq-Decides}
 use Rattle.ded_eval.specs.declared.given.GivenRelation.{GivenRelation}
 use Rattle.ded_eval.specs.Given.{has_name, AreNamedApart, given_under, without_name, IsPlace}
@@ -79,3 +80,17 @@ pub passed : (n : List ℕ) (rs : List GivenRelation) (i : ℕ) (r : GivenRelati
 passed n rs i r l is e h =
     subst (λ l. has_name n l ≡ false) (sym (take_more rs i r l))
     (has-push n (take i rs) (get_or rs i r) h (subst (λ (x : GivenRelation). bytes_eq n x.name ≡ false) is (other_way r.name n e)))
+
+-- there is a place exactly where one has the name
+pub place_named : (n : List ℕ) (rs : List GivenRelation) (o : Option ℕ) → IsPlace n rs o → is_some o ≡ has_name n rs
+place_named n rs None p = sym p
+place_named n rs (Some i) p = by (has_name n rs) refl
+  where
+    stands : (xs : List GivenRelation) (j : ℕ) → j < length xs → slice_get xs j ≡ None → ⊥
+    stands [] j l e = absurd (omega (arith, l))
+    stands (x ∷ xs) zero l e = none-some x (sym e)
+    stands (x ∷ xs) (suc j) l e = stands xs j (omega (arith, l)) e
+
+    by : (b : Bool) → has_name n rs ≡ b → true ≡ has_name n rs
+    by true h = sym h
+    by false h = absurd (stands rs i p.0 (sym p.1 ∙ none_under n rs h))

@@ -1,7 +1,21 @@
 -- Joins of one part after another.
-use Rattle.std.specs.Prelude.{Option, Some, None, List, [], ◌∷◌}
+use Rattle.std.specs.Prelude.{◌≡◌, ◌↔◌, ◌||◌, Bool, true, IsTrue, Option, Some, None, List, [], ◌∷◌, ◌++◌}
+use Rattle.ded_model.specs.declared.slot.Slot.{Slot}
+use Rattle.ded_model.specs.Catalogue.{Catalogue, GivenHolds}
+use Rattle.ded_model.specs.Lines.{Line, IsSubset}
+use Rattle.ded_model.specs.Measure.{stored_measures, plan_lines}
+use Rattle.ded_model.specs.PlanForm.{PlanForm, plan_mentions}
+use Rattle.ded_model.specs.Point.{slot, Point, IsPoint}
+use Rattle.ded_genrel.specs.Lists.{conjs_hold, conjs_mention, conjs_lines}
 
 -- the join of the parts so far; before the first one it is a conjunction without atoms, which holds everywhere
 abbrev pub begun : {A : Type 0} → Option (List (List A)) → List (List A)
 begun None = [] ∷ []
 begun (Some conjs) = conjs
+
+-- the list holds only where the first one does, and there, inside, exactly where the plan does; it has the slots and lines of both
+pub record IsJoinedWith {A : Type 0} (h : A → Point → Bool) (m : A → Slot → Bool) (l : A → List Line) (c : Catalogue) (inside : Point → Bool) (f : PlanForm) (xs out : List (List A)) : Type 0 where
+  pub within : (p : Point) → IsPoint p → conjs_hold h out p ≡ true → conjs_hold h xs p ≡ true
+  pub holds : (p : Point) → IsPoint p → inside p ≡ true → conjs_hold h xs p ≡ true → IsTrue (conjs_hold h out p) ↔ GivenHolds c f p
+  pub slots : (s : Slot) → conjs_mention m out s ≡ true → (conjs_mention m xs s || plan_mentions f (slot s)) ≡ true
+  pub lines : IsSubset (conjs_lines l out) (conjs_lines l xs ++ plan_lines (stored_measures c) f)

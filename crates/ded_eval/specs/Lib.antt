@@ -5,3 +5,4 @@ pub mod Laws
 pub mod Own
 pub mod Reading
 pub mod Scanning
+pub mod Within

@@ -7,6 +7,14 @@ use Rattle.ded_model.specs.Cell.{conj_holds}
 use Rattle.ded_model.specs.Lines.{Line, IsSubset, atoms_lines, tuples_lines}
 use Rattle.ded_theory.specs.Conjunctions.{conj_mentions, conj_lines}
 use Rattle.ded_genrel.specs.Lists.{conjs_hold, conjs_mention, conjs_lines}
+use Rattle.ded_model.specs.declared.tuple.BothAtom.TheVariants.{First, Second}
+use Rattle.ded_eval.specs.declared.reading.AtomRef.{AtomRef}
+use Rattle.ded_eval.specs.declared.reading.AtomRef.TheVariants.{Linear, Theme}
+
+-- the atom that is lent
+abbrev pub atom_of : AtomRef → Atom
+atom_of (Linear r) = First r.now
+atom_of (Theme a) = Second a.now
 
 module _ {A : Type 0} (h : A → Point → Bool) (m : A → Slot → Bool) (l : A → List Line) where
   -- the atom of the theory holds where the row or text atom does, mentions what it mentions and has its lines

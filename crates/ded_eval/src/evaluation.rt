@@ -8,18 +8,21 @@ ghost use Rattle.ded_model.specs.Lines.{any_clashes};
 ghost use Rattle.ded_model.specs.Measure.{stored_measures, plan_atom_lines, plan_atom_clash, plan_clashes};
 ghost use Rattle.ded_model.specs.PlanForm.{rows, plan_form, plan_forms};
 ghost use Rattle.ded_genrel.specs.Lists.{conjs_hold, conjs_mention, conjs_lines};
-ghost use Rattle.ded_genrel.specs.Operations.{IsMeet};
 ghost use Rattle.ded_genrel.specs.Rounds.{AreRational};
-ghost use Rattle.ded_algebra.specs.Evaluation.{IsScannable, IsEvaluable, IsEvaluation};
-ghost use Rattle.ded_eval.specs.Joining.{begun};
+ghost use Rattle.ded_model.specs.Cell.{conj_holds};
+ghost use Rattle.ded_algebra.specs.Evaluation.{IsScannable, IsEvaluable, IsEvaluation, IsEvaluationWithin};
+ghost use Rattle.ded_eval.specs.Joining.{begun, IsJoinedWith};
 
+use crate::beside::{alone, begun_with, is_rows, leaves_nothing, narrowed, rows_of_parts};
+use crate::lookups::is_lookup;
 use crate::reading::{OfTuples, conjunction};
 use crate::repeated::distinct;
 use crate::scanning::scanned;
-use crate::slots::{add_all, rational_slots, shared};
+use crate::slots::{add_all, rational_slots, shared, slots_of_rows};
+use crate::window::without_slot;
 use ded_algebra::Relations;
 use ded_complement::{complement, minus};
-use ded_genrel::GenRel;
+use ded_genrel::{GenRel, both_conjs};
 use ded_join::join_inhabited;
 use ded_model::memory::{NoMemory, Refused};
 use ded_model::plan::Plan;
@@ -34,7 +37,6 @@ use std::alloc::Global;
 ///
 /// # Errors
 /// `Wide` only where the plan clashes over the given relations, and never over a theory that decides; otherwise out of memory.
-#[cycle(evaluate)]
 pub fn evaluate_counted<T: OfTuples, R: Relations>(
     alloc: Global,
     plan: &Plan,
@@ -46,22 +48,47 @@ pub fn evaluate_counted<T: OfTuples, R: Relations>(
     ensures wide { IsErrOf result Wide → plan_clashes (stored_measures (R.catalogue relations.now)) (plan_form plan.now) ≡ true }
     ensures never_wide { T.decides → IsErrOf result Wide → ⊥ }
 {
+    let everywhere = Vec::new(alloc);
+    evaluate_within(alloc, plan, relations, &everywhere, met)
+}
+
+/// A list that holds exactly where the plan does over the given relations, at each point at which all atoms of the window hold. It
+/// mentions only slots that the plan mentions freely, and has lines among those of the plan, as [`evaluate_counted`] gives it. Tuples
+/// that hold nowhere in the window needn't be read.
+///
+/// # Errors
+/// `Wide` only where the plan clashes over the given relations, and never over a theory that decides; otherwise out of memory.
+#[cycle(evaluate)]
+pub fn evaluate_within<T: OfTuples, R: Relations>(
+    alloc: Global,
+    plan: &Plan,
+    relations: &R,
+    window: &[T::Atom],
+    met: &mut u64,
+) -> Result<GenRel<T>, Refused>
+    requires plan { IsEvaluable T.reads (R.catalogue relations.now) (plan_form plan.now) }
+    requires window { AllByRecursion T.normal window.now }
+    ensures is { IfOk result (λ r. IsEvaluationWithin (R.catalogue relations.now) (plan_form plan.now) (conj_holds T.holds window.now) (conjs_hold T.holds r) (conjs_mention T.mentions r) (conjs_lines T.lines r)) }
+    ensures wide { IsErrOf result Wide → plan_clashes (stored_measures (R.catalogue relations.now)) (plan_form plan.now) ≡ true }
+    ensures never_wide { T.decides → IsErrOf result Wide → ⊥ }
+{
     match plan {
-        Plan::Scan(name, slots) => Ok(scanned(alloc, name, slots, relations)?),
+        Plan::Scan(name, slots) => Ok(scanned(alloc, name, slots, relations, window)?),
         Plan::Rows(tuple) => Ok(rows(alloc, tuple)?),
-        Plan::Join(parts) => joined(alloc, parts, relations, met),
-        Plan::Union(parts) => united(alloc, parts, relations, met),
+        Plan::Join(parts) => joined(alloc, parts, relations, window, met),
+        Plan::Union(parts) => united(alloc, parts, relations, window, met),
         Plan::Minus(from, taken) => {
-            let from = evaluate_counted(alloc, from, relations, met)?;
+            let from = evaluate_within(alloc, from, relations, window, met)?;
             if from.list().is_empty() {
                 return Ok(from);
             }
-            let taken = evaluate_counted(alloc, taken, relations, met)?;
+            let taken = evaluate_within(alloc, taken, relations, window, met)?;
             Ok(minus(alloc, &from, &taken)?)
         }
-        Plan::Not(part) => complemented(alloc, part, relations, met),
+        Plan::Not(part) => complemented(alloc, part, relations, window, met),
         Plan::Project(slot, part) => {
-            let list = evaluate_counted(alloc, part, relations, met)?.project(*slot)?;
+            let outside = without_slot::<T>(alloc, window, *slot)?;
+            let list = evaluate_within(alloc, part, relations, &outside, met)?.project(*slot)?;
             Ok(distinct(alloc, list)?)
         }
     }
@@ -75,56 +102,141 @@ fn complemented<T: OfTuples, R: Relations>(
     alloc: Global,
     plan: &Plan,
     relations: &R,
+    window: &[T::Atom],
     met: &mut u64,
 ) -> Result<GenRel<T>, Refused>
-    requires { IsEvaluable T.reads (R.catalogue relations.now) (plan_form plan.now) }
-    ensures is { IfOk result (λ r. IsEvaluation (R.catalogue relations.now) (negation (plan_form plan.now)) (conjs_hold T.holds r) (conjs_mention T.mentions r) (conjs_lines T.lines r)) }
+    requires plan { IsEvaluable T.reads (R.catalogue relations.now) (plan_form plan.now) }
+    requires window { AllByRecursion T.normal window.now }
+    ensures is { IfOk result (λ r. IsEvaluationWithin (R.catalogue relations.now) (negation (plan_form plan.now)) (conj_holds T.holds window.now) (conjs_hold T.holds r) (conjs_mention T.mentions r) (conjs_lines T.lines r)) }
     ensures wide { IsErrOf result Wide → plan_clashes (stored_measures (R.catalogue relations.now)) (plan_form plan.now) ≡ true }
     ensures never_wide { T.decides → IsErrOf result Wide → ⊥ }
 {
     if let Plan::Union(parts) = plan {
         if let [first, other] = parts.as_slice() {
             if let Plan::Not(from) = first {
-                let from = evaluate_counted(alloc, from, relations, met)?;
+                let from = evaluate_within(alloc, from, relations, window, met)?;
                 if from.list().is_empty() {
                     return Ok(from);
                 }
-                let other = evaluate_counted(alloc, other, relations, met)?;
+                let other = evaluate_within(alloc, other, relations, window, met)?;
                 return Ok(minus(alloc, &from, &other)?);
             }
         }
     }
-    let list = evaluate_counted(alloc, plan, relations, met)?;
+    let list = evaluate_within(alloc, plan, relations, window, met)?;
     Ok(complement(alloc, &list)?)
 }
 
-/// The join of the parts, which ends at the first one that leaves nothing.
+/// The join of the parts, which ends at the first one that leaves nothing. Its rows and text atoms come first. Each other part is
+/// evaluated within the window and them, and where the parts so far leave one conjunction, within that.
 #[cycle(evaluate)]
 fn joined<T: OfTuples, R: Relations>(
     alloc: Global,
     parts: &Vec<Plan>,
     relations: &R,
+    window: &[T::Atom],
     met: &mut u64,
 ) -> Result<GenRel<T>, Refused>
-    requires { AllAtomsOf (IsScannable T.reads (R.catalogue relations.now)) (plan_forms parts.now.items) }
-    ensures is { IfOk result (λ r. IsEvaluation (R.catalogue relations.now) (every_of (plan_forms parts.now.items)) (conjs_hold T.holds r) (conjs_mention T.mentions r) (conjs_lines T.lines r)) }
+    requires parts { AllAtomsOf (IsScannable T.reads (R.catalogue relations.now)) (plan_forms parts.now.items) }
+    requires window { AllByRecursion T.normal window.now }
+    ensures is { IfOk result (λ r. IsEvaluationWithin (R.catalogue relations.now) (every_of (plan_forms parts.now.items)) (conj_holds T.holds window.now) (conjs_hold T.holds r) (conjs_mention T.mentions r) (conjs_lines T.lines r)) }
     ensures wide { IsErrOf result Wide → any_clashes (plan_atom_lines (stored_measures (R.catalogue relations.now))) (plan_atom_clash (stored_measures (R.catalogue relations.now))) (plan_forms parts.now.items) ≡ true }
     ensures never_wide { T.decides → IsErrOf result Wide → ⊥ }
 {
-    let mut list = None;
-    let mut slots = Vec::new(alloc);
+    let rows = rows_of_parts::<T>(alloc, parts)?;
+    let within = both_conjs::<T>(alloc, window, &rows)?;
+    let mut slots = slots_of_rows(alloc, parts)?;
+    let mut list = begun_with(alloc, rows)?;
     for part in parts {
+        if is_rows(part) {
+            continue;
+        }
+        if leaves_nothing(&list) {
+            return Ok(whole(alloc, list)?);
+        }
         let own = rational_slots(alloc, part)?;
         let near = shared(alloc, &own, &slots)?;
-        let next = evaluate_counted(alloc, part, relations, met)?;
-        let joined = joined_with(alloc, list, next, &near, met)?;
-        if joined.list().is_empty() {
-            return Ok(joined);
-        }
-        list = Some(joined);
+        list = Some(joined_with(alloc, list, part, relations, &within, &near, met)?);
         add_all(&mut slots, &own)?;
     }
     Ok(whole(alloc, list)?)
+}
+
+/// The join of the parts so far with one more. What is looked up is looked up for each conjunction of the parts so far.
+#[cycle(evaluate)]
+fn joined_with<T: OfTuples, R: Relations>(
+    alloc: Global,
+    before: Option<GenRel<T>>,
+    part: &Plan,
+    relations: &R,
+    within: &[T::Atom],
+    slots: &[Slot],
+    met: &mut u64,
+) -> Result<GenRel<T>, Refused>
+    requires part { IsEvaluable T.reads (R.catalogue relations.now) (plan_form part.now) }
+    requires within { AllByRecursion T.normal within.now }
+    requires rational { AreRational slots.now }
+    ensures is { IfOk result (λ r. IsJoinedWith T.holds T.mentions T.lines (R.catalogue relations.now) (conj_holds T.holds within.now) (plan_form part.now) (begun before) r) }
+    ensures wide { IsErrOf result Wide → plan_clashes (stored_measures (R.catalogue relations.now)) (plan_form part.now) ≡ true }
+    ensures never_wide { T.decides → IsErrOf result Wide → ⊥ }
+{
+    match before {
+        Some(list) if is_lookup(alloc, &list, part, relations) => {
+            probed(alloc, &list, part, relations, within, met)
+        }
+        before => met_with(alloc, before, part, relations, within, slots, met),
+    }
+}
+
+/// The join of the parts so far with one more, by the slots that they share.
+#[cycle(evaluate)]
+fn met_with<T: OfTuples, R: Relations>(
+    alloc: Global,
+    before: Option<GenRel<T>>,
+    part: &Plan,
+    relations: &R,
+    within: &[T::Atom],
+    slots: &[Slot],
+    met: &mut u64,
+) -> Result<GenRel<T>, Refused>
+    requires part { IsEvaluable T.reads (R.catalogue relations.now) (plan_form part.now) }
+    requires within { AllByRecursion T.normal within.now }
+    requires rational { AreRational slots.now }
+    ensures is { IfOk result (λ r. IsJoinedWith T.holds T.mentions T.lines (R.catalogue relations.now) (conj_holds T.holds within.now) (plan_form part.now) (begun before) r) }
+    ensures wide { IsErrOf result Wide → plan_clashes (stored_measures (R.catalogue relations.now)) (plan_form part.now) ≡ true }
+    ensures never_wide { T.decides → IsErrOf result Wide → ⊥ }
+{
+    let inner = narrowed(alloc, within, &before)?;
+    let next = evaluate_within(alloc, part, relations, &inner, met)?;
+    match before {
+        Some(list) => Ok(join_inhabited(alloc, &list, &next, slots, met)?),
+        None => Ok(next),
+    }
+}
+
+/// The join of a list with one part more, which is evaluated for each conjunction of the list within that.
+#[cycle(evaluate)]
+fn probed<T: OfTuples, R: Relations>(
+    alloc: Global,
+    list: &GenRel<T>,
+    part: &Plan,
+    relations: &R,
+    within: &[T::Atom],
+    met: &mut u64,
+) -> Result<GenRel<T>, Refused>
+    requires part { IsEvaluable T.reads (R.catalogue relations.now) (plan_form part.now) }
+    requires within { AllByRecursion T.normal within.now }
+    ensures is { IfOk result (λ r. IsJoinedWith T.holds T.mentions T.lines (R.catalogue relations.now) (conj_holds T.holds within.now) (plan_form part.now) list.now r) }
+    ensures wide { IsErrOf result Wide → plan_clashes (stored_measures (R.catalogue relations.now)) (plan_form part.now) ≡ true }
+    ensures never_wide { T.decides → IsErrOf result Wide → ⊥ }
+{
+    let mut joined = GenRel::new(alloc);
+    for conj in list.list() {
+        let before = Some(alone(alloc, conj)?);
+        let more = met_with(alloc, before, part, relations, within, &[], met)?;
+        joined.append(more)?;
+    }
+    Ok(joined)
 }
 
 /// The union of the parts, without repetitions.
@@ -133,35 +245,20 @@ fn united<T: OfTuples, R: Relations>(
     alloc: Global,
     parts: &Vec<Plan>,
     relations: &R,
+    window: &[T::Atom],
     met: &mut u64,
 ) -> Result<GenRel<T>, Refused>
-    requires { AllAtomsOf (IsScannable T.reads (R.catalogue relations.now)) (plan_forms parts.now.items) }
-    ensures is { IfOk result (λ r. IsEvaluation (R.catalogue relations.now) (some_of (plan_forms parts.now.items)) (conjs_hold T.holds r) (conjs_mention T.mentions r) (conjs_lines T.lines r)) }
+    requires parts { AllAtomsOf (IsScannable T.reads (R.catalogue relations.now)) (plan_forms parts.now.items) }
+    requires window { AllByRecursion T.normal window.now }
+    ensures is { IfOk result (λ r. IsEvaluationWithin (R.catalogue relations.now) (some_of (plan_forms parts.now.items)) (conj_holds T.holds window.now) (conjs_hold T.holds r) (conjs_mention T.mentions r) (conjs_lines T.lines r)) }
     ensures wide { IsErrOf result Wide → any_clashes (plan_atom_lines (stored_measures (R.catalogue relations.now))) (plan_atom_clash (stored_measures (R.catalogue relations.now))) (plan_forms parts.now.items) ≡ true }
     ensures never_wide { T.decides → IsErrOf result Wide → ⊥ }
 {
     let mut list = GenRel::new(alloc);
     for part in parts {
-        list.append(evaluate_counted(alloc, part, relations, met)?)?;
+        list.append(evaluate_within(alloc, part, relations, window, met)?)?;
     }
     Ok(distinct(alloc, list)?)
-}
-
-/// The join of the parts so far with one more, by the slots that they share.
-fn joined_with<T: Theory>(
-    alloc: Global,
-    before: Option<GenRel<T>>,
-    part: GenRel<T>,
-    slots: &[Slot],
-    met: &mut u64,
-) -> Result<GenRel<T>, NoMemory>
-    requires { AreRational slots.now }
-    ensures { IfOk result (λ r. IsMeet T.holds T.mentions T.lines (begun before) part r) }
-{
-    match before {
-        Some(list) => join_inhabited(alloc, &list, &part, slots, met),
-        None => Ok(part),
-    }
 }
 
 /// The join of all parts: of none the conjunction without atoms, which holds everywhere.

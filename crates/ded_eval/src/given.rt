@@ -1,7 +1,9 @@
 //! Relations that are given by name.
 ghost use Rattle.std.specs.Prelude.{◌≡◌, ◌++◌, ◌∷◌, [], false, length, take, OnOk, OnErr};
+ghost use Rattle.std.specs.Option.{option_map};
 
 use ded_algebra::Relations;
+use ded_hull::Window;
 use ded_model::memory::NoMemory;
 use ded_model::name::{Heading, Name};
 use ded_model::tuple::{Tuple, Tuples};
@@ -36,7 +38,8 @@ impl Model for Given {
 }
 
 impl Given {
-    ghost use Rattle.ded_eval.specs.Given.{has_name, given_under, without_name, IsPlace};
+    ghost use Rattle.ded_algebra.specs.Evaluation.{given_tuples};
+    ghost use Rattle.ded_eval.specs.Given.{given_catalogue, has_name, given_under, without_name, IsPlace};
 
     /// No relations. It does not allocate.
     pub fn new(alloc: Global) -> Given
@@ -85,6 +88,25 @@ impl Given {
         }
     }
 
+    /// Whether a relation of the name is given. It does not allocate.
+    pub fn has(&self, name: &Name) -> bool
+        ensures { result ≡ has_name name.now self.now }
+    {
+        self.place(name).is_some()
+    }
+
+    /// The tuples of the relation of the name, none exactly where it isn't given. It does not allocate.
+    pub fn tuples(&self, name: &Name) -> Option<&[Tuple]>
+        ensures { option_map (λ ts. ts.now) result ≡ given_tuples (given_catalogue self.now) name.now }
+    {
+        for relation in &self.relations {
+            if relation.name == *name {
+                return Some(&relation.tuples.list);
+            }
+        }
+        None
+    }
+
     /// The place of the relation of the name.
     fn place(&self, name: &Name) -> Option<usize>
         ensures { IsPlace name.now self.now result }
@@ -103,12 +125,23 @@ impl Relations for Given {
 
     ghost catalogue = { given_catalogue };
 
-    fn tuples(&self, name: &Name) -> Option<&[Tuple]> {
-        for relation in &self.relations {
-            if relation.name == *name {
-                return Some(&relation.tuples.list);
-            }
+    fn formed(&self) {
+        let _ = &self.relations; // for its invariant
+    }
+
+    fn is_indexed(&self, _: &Name) -> bool {
+        false
+    }
+
+    fn near(
+        &self,
+        alloc: Global,
+        name: &Name,
+        window: &Window,
+    ) -> Result<Option<Vec<&Tuple>>, NoMemory> {
+        match self.tuples(name) {
+            Some(tuples) => Ok(Some(window.near(alloc, tuples)?)),
+            None => Ok(None),
         }
-        None
     }
 }

@@ -2,6 +2,8 @@
 //!
 //! The evaluation goes from the leaves of a plan to its root with the operations on lists of conjunctions: scans rename stored
 //! tuples, joins go through an index over boxes, differences and complements are cut piece by piece, and projections eliminate.
+//! What a question fixes goes down to the scans as a window ([`evaluate_within`]): tuples that hold nowhere in it needn't be read,
+//! and a part of a join that finds few tuples is looked up for each conjunction of the parts before it.
 //! Conjunctions that no point satisfies are dropped at once, and of equal ones that a union or a projection makes only the first
 //! is kept. It is written over any theory whose atoms stand for rows and text atoms ([`OfTuples`]). The list that it gives holds
 //! exactly where the plan does, mentions only slots that the plan mentions freely, and has lines among the plan's; it gives up
@@ -18,16 +20,18 @@
 //!
 //! It stands on `ded_algebra` for what a plan is evaluated over and what an evaluation promises, on `ded_join`,
 //! `ded_complement` and `ded_genrel` for the operations, on `ded_reduce` for superfluous atoms, on `ded_theory`, `ded_linear` and
-//! `ded_theme` for the atoms, on `ded_tuple` for stored tuples, and on `ded_box` for extents.
+//! `ded_theme` for the atoms, on `ded_tuple` for stored tuples, on `ded_hull` for windows, and on `ded_box` for extents.
 #![tactic(auto)]
 
 mod atoms;
+mod beside;
 mod closed;
 mod engine;
 mod evaluation;
 mod extents;
 mod given;
 pub mod laws;
+mod lookups;
 mod own_slots;
 mod reading;
 mod reduction;
@@ -36,14 +40,15 @@ mod rows;
 mod scanning;
 mod slots;
 mod theories;
+mod window;
 
 pub use atoms::{eval, eval_counted};
 pub use closed::holds_everywhere;
 pub use engine::{Engine, tuples};
-pub use evaluation::evaluate_counted;
+pub use evaluation::{evaluate_counted, evaluate_within};
 pub use extents::extended;
 pub use given::{Given, GivenRelation};
-pub use reading::OfTuples;
+pub use reading::{AtomRef, OfTuples};
 pub use reduction::reduced;
 pub use rows::OfRows;
 pub use theories::Atoms;

@@ -1,15 +1,24 @@
-//! Tuples read as conjunctions of a theory.
+//! Tuples read as conjunctions of a theory, and atoms of a theory lent as the rows and text atoms that they stand for.
 ghost use Rattle.std.specs.Prelude.{IfOk};
 ghost use Rattle.std.specs.List.{AllByRecursion};
 ghost use Rattle.ded_model.specs.Normal.{IsNormalAtom, IsNormalTuple};
+ghost use Rattle.ded_hull.specs.Windows.{lent};
 ghost use Rattle.ded_eval.specs.Reading.{IsConjunctionOf, IsListOf};
 
 use ded_genrel::GenRel;
 use ded_model::memory::NoMemory;
-use ded_model::tuple::{Atom, Tuple};
+use ded_model::row::Row;
+use ded_model::tuple::{Atom, ThemeAtom, Tuple};
 use ded_theory::Theory;
 use std::alloc::Global;
 use std::hash::Hash;
+
+/// A row or a text atom, lent.
+#[derive(Drop)]
+pub enum AtomRef<'a> {
+    Linear(&'a Row),
+    Theme(&'a ThemeAtom),
+}
 
 /// A theory whose atoms stand for rows and text atoms.
 pub trait OfTuples: Theory<Atom: Eq + Hash> {
@@ -17,7 +26,7 @@ pub trait OfTuples: Theory<Atom: Eq + Hash> {
     ghost use Rattle.ded_model.specs.Coefs.{AreCoefs};
     ghost use Rattle.ded_model.specs.Lines.{Line, In};
     ghost use Rattle.ded_model.specs.Row.{Atom};
-    ghost use Rattle.ded_eval.specs.Reading.{StandsFor};
+    ghost use Rattle.ded_eval.specs.Reading.{StandsFor, atom_of};
 
     /// Whether a normal row or text atom can be read as an atom.
     ghost reads: { Atom → Type 0 };
@@ -31,6 +40,10 @@ pub trait OfTuples: Theory<Atom: Eq + Hash> {
         requires reads { reads atom.now }
         ensures stands { IfOk result (λ a. StandsFor Self.holds Self.mentions Self.lines a atom.now) }
         ensures normal { IfOk result Self.normal };
+
+    /// The row or text atom that an atom stands for. It doesn't allocate.
+    fn lent(atom: &Self::Atom) -> AtomRef<'_>
+        ensures { StandsFor Self.holds Self.mentions Self.lines atom.now (atom_of result) };
 
     /// Atoms that `==` tells to be equal are the same. It does nothing.
     fn equal_atoms()
@@ -65,10 +78,10 @@ pub(crate) fn conjunction<T: OfTuples>(
 /// Out of memory.
 pub(crate) fn conjunctions<T: OfTuples>(
     alloc: Global,
-    tuples: &[Tuple],
+    tuples: &[&Tuple],
 ) -> Result<GenRel<T>, NoMemory>
-    requires { AllByRecursion (λ t. AllByRecursion T.reads t) tuples.now }
-    ensures { IfOk result (λ r. IsListOf T.holds T.mentions T.lines r tuples.now) }
+    requires { AllByRecursion (λ t. AllByRecursion T.reads t) (lent tuples.now) }
+    ensures { IfOk result (λ r. IsListOf T.holds T.mentions T.lines r (lent tuples.now)) }
 {
     let mut list = GenRel::new(alloc);
     for tuple in tuples {

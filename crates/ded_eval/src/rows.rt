@@ -4,7 +4,7 @@ ghost use Rattle.ded_model.specs.Normal.{IsNormalAtom};
 ghost use Rattle.ded_eval.specs.Laws.{IsAnyRow, IsOfRows, line_in_order, kinds_in_order};
 ghost use Rattle.ded_eval.specs.Reading.{StandsFor};
 
-use crate::reading::OfTuples;
+use crate::reading::{AtomRef, OfTuples};
 use ded_linear::Linear;
 use ded_model::laws::sameness::{equal_parts, equal_tuples};
 use ded_model::memory::NoMemory;
@@ -34,6 +34,10 @@ pub trait OfRows: OfNumbers<Atom: Eq + Hash> {
         ensures stands { IfOk result (λ a. StandsFor Self.holds Self.mentions Self.lines a (First row.now)) }
         ensures normal { IfOk result Self.normal };
 
+    /// The row that an atom stands for. It doesn't allocate.
+    fn row(atom: &Self::Atom) -> &Row
+        ensures { StandsFor Self.holds Self.mentions Self.lines atom.now (First result.now) };
+
     /// Atoms that `==` tells to be equal are the same. It does nothing.
     fn equal_atoms()
         ensures { (a b : Self.Atom) → Self.Atom.eq a b ≡ true → a ≡ b };
@@ -47,6 +51,10 @@ impl OfRows for Linear {
 
     fn from_row(row: &Row) -> Result<Row, NoMemory> {
         row.copy()
+    }
+
+    fn row(atom: &Row) -> &Row {
+        atom
     }
 
     fn equal_atoms() {
@@ -63,6 +71,13 @@ impl<N: OfRows> OfTuples for Both<N, Theme> {
         match atom {
             BothAtom::First(row) => Ok(BothAtom::First(N::from_row(row)?)),
             BothAtom::Second(theme) => Ok(BothAtom::Second(theme.copy()?)),
+        }
+    }
+
+    fn lent(atom: &BothAtom<N::Atom, <Theme as Theory>::Atom>) -> AtomRef<'_> {
+        match atom {
+            BothAtom::First(row) => AtomRef::Linear(N::row(row)),
+            BothAtom::Second(theme) => AtomRef::Theme(theme),
         }
     }
 

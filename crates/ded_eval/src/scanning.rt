@@ -8,10 +8,12 @@ ghost use Rattle.ded_model.specs.Logic.{atom};
 ghost use Rattle.ded_model.specs.PlanForm.{scan};
 ghost use Rattle.ded_model.specs.Point.{AreDistinctSlots};
 ghost use Rattle.ded_genrel.specs.Lists.{conjs_hold, conjs_mention, conjs_lines};
-ghost use Rattle.ded_algebra.specs.Evaluation.{IsScannedFrom, IsEvaluation};
+ghost use Rattle.ded_model.specs.Cell.{conj_holds};
+ghost use Rattle.ded_algebra.specs.Evaluation.{IsScannedFrom, IsEvaluationWithin};
 ghost use Rattle.ded_eval.specs.Scanning.{column_pairs};
 
 use crate::reading::{OfTuples, conjunctions};
+use crate::window::columns_window;
 use ded_algebra::Relations;
 use ded_genrel::GenRel;
 use ded_model::memory::NoMemory;
@@ -19,7 +21,7 @@ use ded_model::name::Name;
 use ded_model::slot::{Slot, Slots};
 use std::alloc::{AllocError, Global};
 
-/// The tuples of a name, its columns read into the slots.
+/// The tuples of a name, its columns read into the slots: at least all that hold somewhere in the window.
 ///
 /// # Errors
 /// Out of memory.
@@ -28,14 +30,17 @@ pub(crate) fn scanned<T: OfTuples, R: Relations>(
     name: &Name,
     slots: &Slots,
     relations: &R,
+    window: &[T::Atom],
 ) -> Result<GenRel<T>, NoMemory>
     requires { IsScannedFrom T.reads (entry_of (R.catalogue relations.now).entries name.now) slots.now }
-    ensures { IfOk result (λ r. IsEvaluation (R.catalogue relations.now) (atom (scan name.now slots.now)) (conjs_hold T.holds r) (conjs_mention T.mentions r) (conjs_lines T.lines r)) }
+    ensures { IfOk result (λ r. IsEvaluationWithin (R.catalogue relations.now) (atom (scan name.now slots.now)) (conj_holds T.holds window.now) (conjs_hold T.holds r) (conjs_mention T.mentions r) (conjs_lines T.lines r)) }
 {
-    match relations.tuples(name) {
+    relations.formed();
+    let columns = columns_window::<T>(alloc, window, &slots.list)?;
+    match relations.near(alloc, name, &columns)? {
         Some(tuples) => {
             let pairs = column_pairs(alloc, &slots.list)?;
-            conjunctions::<T>(alloc, tuples)?.rename(&pairs)
+            conjunctions::<T>(alloc, &tuples)?.rename(&pairs)
         }
         None => unreachable!(),
     }

@@ -42,6 +42,22 @@ fn slots_of_parts(alloc: Global, parts: &Vec<Plan>) -> Result<Vec<Slot>, NoMemor
     Ok(slots)
 }
 
+/// The rational slots that those of the parts mention that are rows and text atoms alone, each once.
+///
+/// # Errors
+/// Out of memory.
+pub(crate) fn slots_of_rows(alloc: Global, parts: &[Plan]) -> Result<Vec<Slot>, NoMemory>
+    ensures { IfOk result (λ v. AreRational v.items) }
+{
+    let mut slots = Vec::new(alloc);
+    for part in parts {
+        if let Plan::Rows(tuple) = part {
+            add_all(&mut slots, &slots_of_atoms(alloc, &tuple.atoms)?)?;
+        }
+    }
+    Ok(slots)
+}
+
 /// The rational slots that rows among the atoms mention, each once.
 fn slots_of_atoms(alloc: Global, atoms: &[Atom]) -> Result<Vec<Slot>, NoMemory>
     ensures { IfOk result (λ v. AreRational v.items) }

@@ -1,18 +1,25 @@
 use Rattle.std.proofs.Common.{take, drop, map}
-use Rattle.ded_model.specs.Logic.{every_of, some_of, logics, AllAtomsOf}
+use Rattle.ded_model.specs.Logic.{some_of, logics, AllAtomsOf}
 use Rattle.ded_model.specs.PlanForm.{plan_form, plan_forms}
 use Rattle.ded_genrel.specs.Rounds.{AreRational}
 use Rattle.ded_algebra.specs.Evaluation.{IsScannable}
-use Rattle.ded_eval.specs.Joining.{begun}
+use Rattle.ded_genrel.specs.Lists.{conjs_of}
+use Rattle.ded_eval.specs.Joining.{begun, IsJoinedWith}
+use Rattle.ded_model.specs.Cell.{conj_holds}
 use Rattle.ded_eval.proofs.Evaluated.{IsListFor}
+use Rattle.ded_eval.proofs.Joined.{IsJoined}
 use Rattle.ded_eval.proofs.evaluation.+evaluate.Given as goal
 
 abbrev pub invariant-joined-loop-part : goal.invariant-joined-loop-part
 invariant-joined-loop-part g l =
-    IsListFor g.T.Theory.holds g.T.Theory.mentions g.T.Theory.lines (g.R.Relations.catalogue l.relations) (every_of (logics (map plan_form (take l.part-index l.part-items)))) (begun l.list)
+    IsJoined g.T.Theory.holds g.T.Theory.mentions g.T.Theory.lines (conj_holds g.T.Theory.holds l.window) (g.R.Relations.catalogue l.relations) (map plan_form l.part-items) (map plan_form (take l.part-index l.part-items)) (begun l.list)
     × AreRational l.slots.items × AllAtomsOf (IsScannable g.T.OfTuples.reads (g.R.Relations.catalogue l.relations)) (plan_forms (drop l.part-index l.part-items))
 
 abbrev pub invariant-united-loop-part : goal.invariant-united-loop-part
 invariant-united-loop-part g l =
-    IsListFor g.T.Theory.holds g.T.Theory.mentions g.T.Theory.lines (g.R.Relations.catalogue l.relations) (some_of (logics (map plan_form (take l.part-index l.part-items)))) l.list
+    IsListFor g.T.Theory.holds g.T.Theory.mentions g.T.Theory.lines (conj_holds g.T.Theory.holds l.window) (g.R.Relations.catalogue l.relations) (some_of (logics (map plan_form (take l.part-index l.part-items)))) l.list
     × AllAtomsOf (IsScannable g.T.OfTuples.reads (g.R.Relations.catalogue l.relations)) (plan_forms (drop l.part-index l.part-items))
+
+abbrev pub invariant-probed-loop-conj : goal.invariant-probed-loop-conj
+invariant-probed-loop-conj g l =
+    IsJoinedWith g.T.Theory.holds g.T.Theory.mentions g.T.Theory.lines (g.R.Relations.catalogue l.relations) (conj_holds g.T.Theory.holds l.within) (plan_form l.part) (conjs_of (take l.conj-index l.conj-items)) l.joined

@@ -1,22 +1,18 @@
-use Rattle.std.proofs.Common.{Some, sym, ap, subst, ◌∙◌}
+use Rattle.std.proofs.Common.{Some, sym, ap, ◌∙◌}
 use Rattle.ded_eval.specs.declared.given.GivenRelation.{GivenRelation}
 use Rattle.std.specs.Str.{bytes_eq}
-use Rattle.ded_eval.specs.Given.{AreNamedApart}
-use Rattle.ded_eval.proofs.Names.{found_in, are_given, found_here, passed_by, found_none}
-use Rattle.ded_eval.proofs.given.GivenRelations.tuples.Goals as goal
+use Rattle.ded_eval.proofs.Names.{found_in, found_here, passed_by, found_none}
+use Rattle.ded_eval.proofs.given.Given.tuples.Goals as goal
 
 pub loop-relation-init : goal.loop-relation-init
 loop-relation-init c = ap (found_in c.args.name.now) (c.deref-relation-items.ensures.value ∙ c.self.view_is)
 
-pub returns-then-eq-clause-tuples : goal.returns-then-eq-clause-tuples
-returns-then-eq-clause-tuples c =
+pub returns-then-eq : goal.returns-then-eq
+returns-then-eq c =
     ap Some (c.deref.ensures.value ∙ ap (λ (r : GivenRelation). r.tuples) c.relation.view_is)
     ∙ sym (found_here c.args.name.now c.deref-relation-items.result.now c.loop-relation.relation-index c.relation-item.result c.loop-relation-test.true c.relation-item.is
     (ap (λ (r : GivenRelation). bytes_eq r.name c.args.name.now) (sym c.relation.view_is) ∙ sym c.eq.ensures ∙ c.if-eq.true))
     ∙ c.loop-relation.invariant
-
-pub returns-then-eq-clause-given : goal.returns-then-eq-clause-given
-returns-then-eq-clause-given c = are_given c.args.self.now (subst AreNamedApart c.self.view_is c.self.invariant)
 
 pub loop-relation-preserved : goal.loop-relation-preserved
 loop-relation-preserved c =
@@ -24,8 +20,5 @@ loop-relation-preserved c =
     (ap (λ (r : GivenRelation). bytes_eq r.name c.args.name.now) (sym c.relation.view_is) ∙ sym c.eq.ensures ∙ c.if-eq.false))
     ∙ c.loop-relation.invariant
 
-pub returns-clause-tuples : goal.returns-clause-tuples
-returns-clause-tuples c = sym (found_none c.args.name.now c.deref-relation-items.result.now c.loop-relation.relation-index c.loop-relation-test.false) ∙ c.loop-relation.invariant
-
-pub returns-clause-given : goal.returns-clause-given
-returns-clause-given c = are_given c.args.self.now (subst AreNamedApart c.self.view_is c.self.invariant)
+pub returns : goal.returns
+returns c = sym (found_none c.args.name.now c.deref-relation-items.result.now c.loop-relation.relation-index c.loop-relation-test.false) ∙ c.loop-relation.invariant

@@ -1,0 +1,91 @@
+//! Which parts of a join are looked up for each conjunction of the parts before them.
+
+use crate::beside::is_rows;
+use crate::reading::OfTuples;
+use crate::window::columns_window;
+use ded_algebra::Relations;
+use ded_genrel::GenRel;
+use ded_hull::Window;
+use ded_model::memory::NoMemory;
+use ded_model::name::Name;
+use ded_model::plan::Plan;
+use ded_model::slot::Slots;
+use ded_model::tuple::Tuple;
+use std::alloc::Global;
+
+/// An index has to pass over three of four tuples.
+const FEW: usize = 4;
+
+/// Whether looking the plan up for each conjunction of the list is likely to be cheaper than reading it whole: it scans one relation
+/// that has an index, with rows and projections alone around it, and few of the tuples may hold where a conjunction of the list does.
+/// Where the list has one conjunction alone, the plan is read within that in any case.
+pub(crate) fn is_lookup<T: OfTuples, R: Relations>(
+    alloc: Global,
+    list: &GenRel<T>,
+    plan: &Plan,
+    relations: &R,
+) -> bool {
+    let conjs = list.list();
+    if conjs.len() < 2 {
+        return false;
+    }
+    match (scan_in(plan), conjs.get(conjs.len() / 2)) {
+        (Some((name, slots)), Some(conj)) => {
+            relations.is_indexed(name)
+                && is_selective::<T, R>(alloc, conj, name, slots, relations).unwrap_or(false)
+        }
+        _ => false,
+    }
+}
+
+/// The only scan of a plan that has rows and projections alone around it.
+#[cycle(scan_in)]
+fn scan_in(plan: &Plan) -> Option<(&Name, &Slots)> {
+    match plan {
+        Plan::Scan(name, slots) => Some((name, slots)),
+        Plan::Project(_, part) => scan_in(part),
+        Plan::Join(parts) => only_scan_in(parts),
+        Plan::Rows(_) | Plan::Union(_) | Plan::Minus(_, _) | Plan::Not(_) => None,
+    }
+}
+
+/// The only scan of the parts, all others of which are rows.
+#[cycle(scan_in)]
+fn only_scan_in(parts: &Vec<Plan>) -> Option<(&Name, &Slots)> {
+    let mut found = None;
+    for part in parts {
+        if is_rows(part) {
+            continue;
+        }
+        if found.is_some() {
+            return None;
+        }
+        found = Some(scan_in(part)?);
+    }
+    found
+}
+
+/// Whether few tuples of the name may hold where the conjunction does.
+///
+/// # Errors
+/// Out of memory.
+fn is_selective<T: OfTuples, R: Relations>(
+    alloc: Global,
+    conj: &[T::Atom],
+    name: &Name,
+    slots: &Slots,
+    relations: &R,
+) -> Result<bool, NoMemory> {
+    let window = columns_window::<T>(alloc, conj, &slots.list)?;
+    let near = count(relations.near(alloc, name, &window)?);
+    let all = count(relations.near(alloc, name, &Window::everything(alloc))?);
+    Ok(near <= all / FEW)
+}
+
+/// How many tuples are lent.
+fn count(tuples: Option<Vec<&Tuple>>) -> usize {
+    match tuples {
+        Some(tuples) => tuples.len(),
+        None => 0,
+    }
+}
