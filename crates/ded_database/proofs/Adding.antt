@@ -1,5 +1,5 @@
 -- The list of a view to which an inserted tuple only adds.
-use Rattle.std.proofs.Common.{◌≡◌, ℕ, Bool, true, false, not, ◌||◌, ◌&&◌, ◌⊎◌, inl, inr, cond, Some, None, is_some, List, [], ◌∷◌, ◌++◌, map, refl, sym, ap, ◌∙◌, subst, true≢false, bytes_eq}
+use Rattle.std.proofs.Common.{◌≡◌, ℕ, Bool, true, false, not, ◌&&◌, ◌⊎◌, inl, inr, cond, Some, None, is_some, List, [], ◌∷◌, ◌++◌, map, refl, sym, ap, ◌∙◌, subst, true≢false, bytes_eq}
 use Rattle.std.specs.Prelude.{◌↔◌, IsTrue}
 use Rattle.std.specs.List.{list_any, AllByRecursion}
 use Rattle.std.specs.Option.{option_map}
@@ -12,7 +12,7 @@ use Rattle.ded_model.specs.Catalogue.{relation, view, Catalogue, tuples_of, at_s
 use Rattle.ded_model.specs.Entries.{known, entry_of, relation_in, view_in, columns_in}
 use Rattle.ded_model.specs.Form.{Form, uses}
 use Rattle.ded_model.specs.Goal.{goal_mentions}
-use Rattle.ded_model.specs.Known.{IsTupleOver, IsAccepted}
+use Rattle.ded_model.specs.Known.{IsTupleOver, IsAccepted, IsWellFormed}
 use Rattle.ded_model.specs.Lines.{In, IsSubset, tuples_lines, atoms_lines}
 use Rattle.ded_model.specs.Measure.{Measure, entry_measure, with_measure, stored_measures, measures, goal_lines, goal_clashes, plan_lines, plan_clashes}
 use Rattle.ded_model.specs.Logic.{AllAtoms}
@@ -46,10 +46,12 @@ use Rattle.ded_keep.proofs.Appended.{extended, kept_after}
 use Rattle.ded_database.specs.declared.mark.Mark.{Mark}
 use Rattle.ded_database.specs.Marks.{reaches_beside, mark_adds}
 use Rattle.ded_query.specs.Gathering.{IsGivenOf, IsFront, IsViewOf}
+use Rattle.ded_query.specs.Over.{over_relations}
 use Rattle.ded_model.proofs.Made.{plain_base}
 use Rattle.ded_query.proofs.Entries.{named_columns, relation_heading}
 use Rattle.ded_query.proofs.Evaluable.{all_with, any_atoms, scannable, scans_same}
-use Rattle.ded_query.proofs.GivenNames.{lines_from, clash_from}
+use Rattle.ded_query.proofs.GivenNames.{no_entry, lines_from, clash_from}
+use Rattle.ded_query.proofs.Standing.{over_right, still_there, hidden_gone}
 use Rattle.ded_query.proofs.Names.{scanned_used, used_known}
 use Rattle.ded_database.specs.Changes.{IsInsert}
 use Rattle.ded_database.specs.Held.{IsHeld}
@@ -79,15 +81,6 @@ without-append n (r ∷ rs) ss = by (bytes_eq n r.name) (without-append n rs ss)
 -- what stood in front still does, where none of it has the name
 pub front_without : (n : List ℕ) (old new : List GivenRelation) → has_name n old ≡ false → IsFront old new → IsFront old (without_name n new)
 front_without n old new h f = record { more = without_name n f.more; is = ap (without_name n) f.is ∙ without-append n old f.more ∙ ap (λ l. l ++ without_name n f.more) (all_left n old h) }
-
--- no entry has the name then
-pub no_entry : (n : List ℕ) (rs : List GivenRelation) → has_name n rs ≡ false → entry_of (given_catalogue rs).entries n ≡ None
-no_entry n [] h = refl
-no_entry n (r ∷ rs) h = by (bytes_eq n r.name) h (no_entry n rs)
-  where
-    by : (b : Bool) → (b || has_name n rs) ≡ false → (has_name n rs ≡ false → entry_of (map given_entry rs) n ≡ None) → cond b (Some (given_entry r)) (entry_of (map given_entry rs) n) ≡ None
-    by true h next = absurd (true≢false h)
-    by false h next = next h
 
 -- ---- the tuple among those of the relation
 
@@ -121,13 +114,15 @@ pub record IsGivenBeside (d : Catalogue) (n : List ℕ) (plan : PlanForm) (rs : 
   pub there : (o : List ℕ) → plan_uses o plan ≡ true → bytes_eq o n ≡ false → has_name o rs ≡ true
   pub apart : has_name n rs ≡ false
 
-pub given_beside : (d : Catalogue) (n : List ℕ) (plan : PlanForm) (names : List (List ℕ)) (gathered rs : List GivenRelation)
-    → ((o : List ℕ) → list_any (bytes_eq o) names ≡ (plan_uses o plan && not (bytes_eq o n))) → AllByRecursion (IsGivenOf d) gathered → AllByRecursion (λ o. has_name o gathered ≡ true) names → rs ≡ without_name n gathered
-    → IsGivenBeside d n plan rs
-given_beside d n plan names gathered rs all k h e = record {
-  of = subst (AllByRecursion (IsGivenOf d)) (sym e) (all_left_over (IsGivenOf d) n gathered k);
-  there = λ o u i. ap (has_name o) e ∙ other_has o n gathered i (of_named (λ m. has_name m gathered ≡ true) names o h (all o ∙ and_from (plan_uses o plan) (not (bytes_eq o n)) u (ap not i)));
-  apart = ap (has_name n) e ∙ gone_name n gathered;
+-- so are the views that were gathered and the relations of the catalogue, without the one of the name
+pub given_beside : (d : Catalogue) (n : List ℕ) (plan : PlanForm) (names : List (List ℕ)) (gathered rs : List GivenRelation) → IsWellFormed d
+    → ((o : List ℕ) → list_any (bytes_eq o) names ≡ (plan_uses o plan && not (bytes_eq o n))) → AllByRecursion (IsGivenOf d) gathered → AllByRecursion (λ o. has_name o (over_relations d None gathered) ≡ true) names
+    → rs ≡ without_name n gathered → IsGivenBeside d n plan (over_relations d (Some n) rs)
+given_beside d n plan names gathered rs w all k h e = record {
+  of = over_right d (Some n) rs w (subst (AllByRecursion (IsGivenOf d)) (sym e) (all_left_over (IsGivenOf d) n gathered k));
+  there = λ o u i. still_there d None (Some n) gathered rs o (λ x. ap (has_name o) e ∙ other_has o n gathered i x) i
+      (of_named (λ m. has_name m (over_relations d None gathered) ≡ true) names o h (all o ∙ and_from (plan_uses o plan) (not (bytes_eq o n)) u (ap not i)));
+  apart = hidden_gone d n rs (ap (has_name n) e ∙ gone_name n gathered);
 }
 
 -- ---- an insert into a relation that the view's plan scans once

@@ -16,7 +16,7 @@ use Rattle.ded_sorts.specs.Causes.{is_view_with}
 use Rattle.ded_sorts.proofs.KnownEntries.{columns_there, view_there}
 use Rattle.ded_eval.specs.declared.given.GivenRelation.{GivenRelation}
 use Rattle.ded_algebra.specs.Evaluation.{given_tuples}
-use Rattle.ded_eval.specs.Given.{unnumbered, given_entry, given_catalogue, given_under, has_name}
+use Rattle.ded_eval.specs.Given.{given_entry, given_catalogue, given_under, has_name}
 use Rattle.ded_query.proofs.Arguments.{byte_arguments, arguments_long}
 use Rattle.ded_model.proofs.Made.{plain_base}
 use Rattle.ded_eval.proofs.Taken.{none_under}

@@ -2,7 +2,6 @@
 use Rattle.std.proofs.Common.{◌≡◌, ℕ, Bool, true, false, not, is_some, length, take, Option, Some, Result, Ok, Err, List, [], refl, sym, ap, ◌∙◌, subst, true≢false, append-nil}
 use Rattle.std.specs.Prelude.{OnErr}
 use Rattle.std.specs.List.{AllByRecursion}
-use Rattle.std.proofs.Math.Seq.{take-append_seam}
 use Rattle.std.proofs.lemmas.Bool.{false_from_ne_true}
 use Rattle.std.proofs.lemmas.Option.{same_Some}
 use Rattle.ded_model.specs.Row.{Atom}
@@ -13,7 +12,6 @@ use Rattle.ded_eval.specs.Given.{has_name}
 use Rattle.ded_database.specs.declared.mark.Mark.{Mark}
 use Rattle.ded_database.specs.Marks.{IsMark, IsOnceIn}
 use Rattle.ded_views.specs.Reaching.{reaches}
-use Rattle.ded_query.specs.Gathering.{IsFront}
 use Rattle.ded_database.specs.Held.{IsHeld, IsUpheld, held_under, is_marked}
 use Rattle.ded_database.specs.Renewed.{AreLeft, AreTaken, AreRenewed}
 use Rattle.ded_database.specs.Upkeep.{LeavesOthers, IsLonger, IsReady}

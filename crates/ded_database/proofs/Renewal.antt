@@ -1,5 +1,5 @@
 -- The lists of views made anew, one after another.
-use Rattle.std.proofs.Common.{◌≡◌, ℕ, Bool, true, false, is_some, Option, Some, List, [], ◌∷◌, ◌++◌, refl, sym, ap, ◌∙◌, subst, true≢false, bytes_eq, append_assoc, append-nil}
+use Rattle.std.proofs.Common.{◌≡◌, ℕ, Bool, true, false, is_some, Option, Some, List, [], ◌∷◌, ◌++◌, refl, sym, ap, ◌∙◌, subst, true≢false, bytes_eq, append-nil}
 use Rattle.std.specs.List.{AllByRecursion}
 use Rattle.std.specs.Option.{option_map}
 use Rattle.std.proofs.lemmas.Bool.{or_parts}
@@ -19,7 +19,7 @@ use Rattle.ded_database.specs.declared.mark.Mark.{Mark}
 use Rattle.ded_database.specs.Marks.{IsOnceIn}
 use Rattle.ded_views.specs.Reaching.{reaches}
 use Rattle.ded_views.proofs.Views.{name_measure}
-use Rattle.ded_query.specs.Gathering.{IsFront, IsGivenAs, IsViewOf}
+use Rattle.ded_query.specs.Gathering.{IsGivenAs, IsViewOf}
 use Rattle.ded_database.specs.Held.{IsHeld, held_under, is_marked}
 use Rattle.ded_database.specs.Renewed.{IsRenewed, AreRenewed}
 use Rattle.ded_database.specs.Upkeep.{IsTightView, IsLonger}

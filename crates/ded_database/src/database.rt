@@ -7,7 +7,6 @@ ghost use Rattle.ded_catalog.specs.State.{catalogue_of};
 use crate::keeping::{drop_kept, keep_view};
 use crate::mark::Mark;
 use crate::upkeep::{deleted, inserted};
-use ded_algebra::Relations;
 use ded_catalog::{Catalogue, Snapshot};
 use ded_eval::Given;
 use ded_model::command::Refusal;

@@ -23,7 +23,7 @@ use ded_model::name::Name;
 use ded_model::plan::Plan;
 use ded_model::tuple::{Tuple, Tuples};
 use ded_plan::scanned_names;
-use ded_query::give_names;
+use ded_query::{Over, give_names};
 use std::alloc::Global;
 
 /// The list of a view after a tuple is inserted that only adds to it: the list before, and behind it what the plan gives for the tuple
@@ -55,8 +55,8 @@ pub(crate) fn extended(
     extended
 }
 
-/// The list of a view after a tuple is inserted that only adds to it, as [`extended`] gives it. What else the plan
-/// scans is given behind what is held, and stays there.
+/// The list of a view after a tuple is inserted that only adds to it, as [`extended`] gives it. Other views that the plan
+/// scans are given behind what is held, and stay there. Other relations are read where they stand.
 fn extended_over(
     alloc: Global,
     change: &Change<'_, '_>,
@@ -80,13 +80,18 @@ fn extended_over(
     give_names(alloc, change.snapshot, &names, held)?;
     // The others don't reach the relation, so nothing of it is given. This says so.
     let _ = held.take(change.name);
-    let _ = held.tuples(change.name);
     let Some(heading) = change.snapshot.heading(change.name) else {
         unreachable!()
     };
     let none = Tuples {
         list: Vec::new(alloc),
     };
+    let others = Over {
+        snapshot: change.snapshot,
+        given: &*held,
+        hidden: Some(change.name),
+    };
+    others.formed();
     let added = add_tuple(
         alloc,
         &Engine {},
@@ -95,7 +100,7 @@ fn extended_over(
         heading,
         none,
         tuple,
-        &*held,
+        &others,
     )?;
     let more = reduced(alloc, added)?;
     Ok(joined(list, more)?)

@@ -11,7 +11,6 @@ ghost use Rattle.ded_database.specs.Held.{is_marked, AreMarkedApart, IsHeld, IsU
 ghost use Rattle.ded_database.specs.Keeping.{IsMarkedWith, IsListedWith, without_mark};
 
 use crate::mark::{Mark, mark_of};
-use ded_algebra::Relations;
 use ded_catalog::{Catalogue, Snapshot};
 use ded_eval::Given;
 use ded_model::memory::{NoMemory, Refused};
@@ -62,7 +61,7 @@ fn hold(alloc: Global, catalogue: &Catalogue, held: &mut Given, name: &Name) -> 
     ensures listed { OnOk result (IsListedWith (catalogue_of catalogue.now) name.now held.old held.new) }
     ensures err { OnErr result (held.new ≡ held.old) }
 {
-    if held.tuples(name).is_some() {
+    if held.has(name) {
         return Ok(());
     }
     catalogue.formed();

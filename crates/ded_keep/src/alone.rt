@@ -3,8 +3,11 @@ ghost use Rattle.std.specs.Prelude.{◌≡◌, true, is_none};
 ghost use Rattle.ded_model.specs.Entries.{entry_of};
 
 use ded_algebra::Relations;
+use ded_hull::Window;
+use ded_model::memory::NoMemory;
 use ded_model::name::{Heading, Name};
 use ded_model::tuple::Tuple;
+use std::alloc::Global;
 
 /// The tuples alone under the name, which the other relations don't give, and these as they are.
 #[derive(Drop)]
@@ -21,12 +24,24 @@ impl<'a, R: Relations> Relations for Alone<'a, R> {
 
     ghost catalogue = { λ a. with_tuples (R.catalogue a.others.now) a.name.now a.heading.now a.tuples.now };
 
-    fn tuples(&self, name: &Name) -> Option<&[Tuple]> {
-        let other = self.others.tuples(name);
+    fn formed(&self) {
+        self.others.formed();
+    }
+
+    fn near(
+        &self,
+        alloc: Global,
+        name: &Name,
+        window: &Window,
+    ) -> Result<Option<Vec<&Tuple>>, NoMemory> {
         if name.is_same(self.name) {
-            Some(self.tuples)
+            Ok(Some(window.near(alloc, self.tuples)?))
         } else {
-            other
+            self.others.near(alloc, name, window)
         }
+    }
+
+    fn is_indexed(&self, name: &Name) -> bool {
+        !name.is_same(self.name) && self.others.is_indexed(name)
     }
 }

@@ -67,8 +67,7 @@ pub fn add_tuple<E: Evaluate, R: Relations>(
         → (p : Point) → IsPoint p → IsTrue (tuples_hold ts p) ↔ PlanHolds d (plan_form plan.now) p) }
     ensures wide { IsErrOf result Wide → plan_clashes (stored_measures (with_alone (R.catalogue others.now) changed.now heading.now added.now)) (plan_form plan.now) ≡ true }
 {
-    // asked for what it ensures: only relations are given, each with a name of its own
-    let _ = others.tuples(changed);
+    others.formed();
     let mut tuples = Vec::with_capacity(alloc, 1)?;
     tuples.push(added.copy()?)?;
     let relations = Alone {

@@ -1,5 +1,5 @@
 -- Relations and views as what is given of them.
-use Rattle.std.proofs.Common.{◌≡◌, ℕ, ◌-◌, ◌<◌, ◌≤◌, arith, true, false, List, [], ◌∷◌, Option, Some, None, is_some, is_none, refl, sym, ap, ◌∙◌, subst, true≢false}
+use Rattle.std.proofs.Common.{◌≡◌, ℕ, ◌-◌, ◌<◌, ◌≤◌, arith, true, List, [], ◌∷◌, Option, Some, None, is_some, is_none, refl, sym, ap, ◌∙◌, subst, true≢false}
 use Rattle.std.specs.Prelude.{◌↔◌, IsTrue}
 use Rattle.std.specs.List.{AllByRecursion}
 use Rattle.std.specs.Option.{option_map}
@@ -23,6 +23,7 @@ use Rattle.ded_model.proofs.Made.{plain_base}
 use Rattle.ded_model.proofs.Rows.{or_left, or_right}
 use Rattle.ded_sorts.proofs.Frees.{goal_free}
 use Rattle.ded_sorts.proofs.Headings.{goals_mean}
+use Rattle.ded_sorts.proofs.KnownEntries.{columns_there}
 use Rattle.ded_views.specs.Same.{AreByteArguments}
 use Rattle.ded_views.proofs.Placing.{unknown}
 use Rattle.ded_views.proofs.Views.{relation_means, view_means, plain_there, name_measure, name_known, tuples_over, view_accepted, lesser_level}
@@ -137,24 +138,14 @@ heading_known h None e = absurd (none-some h (sym e))
 heading_known h (Some k) e = refl
 
 -- its tuples are what is given of it
-pub relation_given : (c : Catalogue) (n : List ℕ) (h : List Column) (ts : List (List Atom)) → IsWellFormed c → Some ts ≡ option_map tuples_of (relation_in (entry_of c.entries n))
-    → Some h ≡ option_map (λ k. k.columns) (known c n) → IsGivenOf c (record { name = n; heading = h; tuples = ts })
-relation_given c n h ts w e i = by (entry_of c.entries n) refl e
-  where
-    by : (o : Option Entry) → entry_of c.entries n ≡ o → Some ts ≡ option_map tuples_of (relation_in o) → IsGivenOf c (record { name = n; heading = h; tuples = ts })
-    by None f e = absurd (none-some ts (sym e))
-    by (Some (view m k x)) f e = absurd (none-some ts (sym e))
-    by (Some (relation m k j us)) f e =
-        let same : k ≡ h = ap columns_with (sym (name_known c w n (relation m k j us) f)) ∙ named_columns c n h i in
-        let stored : tuples_of us ≡ ts = sym (same_Some ts (tuples_of us) e) in
-        subst (λ x. IsGivenOf c (record { name = n; heading = h; tuples = x })) stored
-        (subst (λ x. IsGivenOf c (record { name = n; heading = x; tuples = tuples_of us })) same
-        (record {
-          columns = ap (columns_in c) (plain_base n (plain_there c w n (relation m k j us) f)) ∙ named_columns c n h i ∙ sym same;
-          over = tuples_over c w n m k j us f;
-          means = λ d xs l b r. relation_means c w n m k j us f d xs;
-          lines = λ l x. subst (λ (y : Measure). In l y.lines) (sym (name_measure c w n (relation m k j us) f)) x;
-        }))
+pub relation_given : (c : Catalogue) (n : List ℕ) (h : List Column) (i : ℕ) (ts : List (ℕ × List Atom)) → IsWellFormed c → entry_of c.entries n ≡ Some (relation n h i ts)
+    → IsGivenOf c (record { name = n; heading = h; tuples = tuples_of ts })
+relation_given c n h i ts w e = record {
+  columns = ap (columns_in c) (plain_base n (plain_there c w n (relation n h i ts) e)) ∙ columns_there c n (relation n h i ts) w e;
+  over = tuples_over c w n n h i ts e;
+  means = λ d xs l b r. relation_means c w n n h i ts e d xs;
+  lines = λ l x. subst (λ (y : Measure). In l y.lines) (sym (name_measure c w n (relation n h i ts) e)) x;
+}
 
 -- ---- of code
 
@@ -181,11 +172,6 @@ relation_heading c n w r e = by (entry_of c.entries n) refl r
     by : (o : Option Entry) → entry_of c.entries n ≡ o → is_some (relation_in o) ≡ true → ⊥
     by None f r = true≢false (sym r)
     by (Some x) f r = none_mapped (known c n) (ap is_some (name_known c w n x f)) e
-
--- and tuples
-pub relation_tuples : (o : Option (List (ℕ × List Atom))) → is_some o ≡ true → None ≡ option_map tuples_of o → ⊥
-relation_tuples None r e = true≢false (sym r)
-relation_tuples (Some ts) r e = none-some (tuples_of ts) e
 
 -- a view has a goal
 pub view_missing : (o : Option (List Column × Form)) → is_some o ≡ true → None ≡ option_map (λ v. goal_of v.0 v.1) o → ⊥

@@ -1,5 +1,5 @@
 -- What is gathered, name by name.
-use Rattle.std.proofs.Common.{◌≡◌, ℕ, ◌+◌, ◌<◌, ◌≤◌, true, is_some, List, [], ◌∷◌, ◌++◌, Result, Ok, Err, take, length, get_or, sym, ap, ◌∙◌, subst, append_assoc, append-nil}
+use Rattle.std.proofs.Common.{◌≡◌, ℕ, ◌+◌, ◌<◌, ◌≤◌, true, is_some, List, [], ◌∷◌, ◌++◌, Result, Ok, Err, None, take, length, get_or, refl, sym, ap, ◌∙◌, subst, append_assoc, append-nil}
 use Rattle.std.specs.Prelude.{OnOk, OnErr}
 use Rattle.std.specs.List.{AllByRecursion, list_any}
 use Rattle.std.proofs.Math.Seq.{take-append_seam}
@@ -23,7 +23,9 @@ use Rattle.ded_eval.specs.Given.{has_name}
 use Rattle.ded_views.proofs.Clashing.{plan_clashing}
 use Rattle.ded_views.proofs.GoalNames.{speaks_used}
 use Rattle.ded_query.specs.Gathering.{IsGivenOf, IsGathered, IsFront, IsPosed}
+use Rattle.ded_query.specs.Over.{over_relations}
 use Rattle.ded_query.proofs.Names.{scanned_used, used_known}
+use Rattle.ded_query.proofs.Standing.{still_there}
 use Rattle.ded_views.proofs.Named.{all_named, some_named}
 
 pub gathered_none : (c : Catalogue) (rs : List GivenRelation) → AllByRecursion (IsGivenOf c) rs → IsGathered c rs rs
@@ -55,11 +57,14 @@ front_kept old new f = ap (take (length old)) f.is ∙ take-append_seam old f.mo
 -- ---- names
 
 -- one name more
-pub named_more : (c : Catalogue) (names : List (List ℕ)) (i : ℕ) (n : List ℕ) (mid new : List GivenRelation) → i < length names → n ≡ get_or names i n → IsGathered c mid new → has_name n new ≡ true
-    → AllByRecursion (λ m. has_name m mid ≡ true) (take i names) → AllByRecursion (λ m. has_name m new ≡ true) (take (i + 1) names)
+pub named_more : (c : Catalogue) (names : List (List ℕ)) (i : ℕ) (n : List ℕ) (mid new : List GivenRelation) → i < length names → n ≡ get_or names i n → IsGathered c mid new
+    → has_name n (over_relations c None new) ≡ true → AllByRecursion (λ m. has_name m (over_relations c None mid) ≡ true) (take i names)
+    → AllByRecursion (λ m. has_name m (over_relations c None new) ≡ true) (take (i + 1) names)
 named_more c names i n mid new l e g h k =
-    subst (AllByRecursion (λ m. has_name m new ≡ true)) (sym (take_more names i n l))
-    (all-push (λ m. has_name m new ≡ true) (take i names) (get_or names i n) (all_weaker (λ m. has_name m mid ≡ true) (λ m. has_name m new ≡ true) (take i names) g.kept k) (subst (λ m. has_name m new ≡ true) e h))
+    subst (AllByRecursion (λ m. has_name m (over_relations c None new) ≡ true)) (sym (take_more names i n l))
+    (all-push (λ m. has_name m (over_relations c None new) ≡ true) (take i names) (get_or names i n)
+    (all_weaker (λ m. has_name m (over_relations c None mid) ≡ true) (λ m. has_name m (over_relations c None new) ≡ true) (take i names) (λ m x. still_there c None None mid new m (g.kept m) refl x) k)
+    (subst (λ m. has_name m (over_relations c None new) ≡ true) e h))
 
 module _ (c : Catalogue) (g : GoalForm) (plan : PlanForm) (level : ℕ) (p : IsPosed c g level) (k : IsPlanned g plan) where
   -- the scans of the plan are of names that the formula uses

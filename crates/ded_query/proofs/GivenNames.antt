@@ -1,14 +1,12 @@
 -- What the names of given relations mean and measure, where these hold what the names do over a catalogue.
-use Rattle.std.proofs.Common.{◌≡◌, ℕ, ◌<◌, Bool, true, false, cond, ◌||◌, ◌⊎◌, inl, inr, List, [], ◌∷◌, ◌++◌, length, map, Option, Some, None, is_some, refl, sym, ap, ◌∙◌, subst, true≢false, bytes_eq}
+use Rattle.std.proofs.Common.{◌≡◌, ℕ, ◌<◌, Bool, true, false, cond, ◌||◌, ◌⊎◌, inl, inr, List, [], ◌∷◌, ◌++◌, length, map, Some, None, refl, sym, ap, ◌∙◌, subst, true≢false, bytes_eq}
 use Rattle.std.specs.Prelude.{◌↔◌, IsTrue, MatchBool}
 use Rattle.std.specs.List.{AllByRecursion}
 use Rattle.std.proofs.lemmas.Slice.Eq.{bytes_eq-Decides}
 use Rattle.ded_model.specs.Row.{Atom, tuples_hold}
 use Rattle.ded_model.specs.Catalogue.{Catalogue, tuples_of, at_slots, with_entry, meaning_from, stored, meaning}
-use Rattle.std.specs.Option.{option_map}
-use Rattle.ded_model.specs.Entries.{entry_of, relation_in, columns_in}
+use Rattle.ded_model.specs.Entries.{entry_of, columns_in}
 use Rattle.ded_model.proofs.Rows.{or_left, or_right}
-use Rattle.ded_algebra.specs.Evaluation.{given_tuples}
 use Rattle.ded_model.specs.Lines.{IsSubset, tuples_lines}
 use Rattle.ded_model.specs.Measure.{Measures, with_measure, measures_from, stored_measures, measures}
 use Rattle.ded_model.specs.Made.{base}
@@ -109,21 +107,16 @@ found_of c (r ∷ rs) n g e = by (bytes_eq n r.name) refl e (found_of c rs n g.1
         let found = next h in
         record { relation = found.relation; of = found.of; named = found.named; entry = ap (λ b. cond b (Some (given_entry r)) (entry_of (map given_entry rs) n)) f ∙ found.entry }
 
--- ---- of code
-
-pub some_mapped : {A B : Type 0} (f : A → B) (o : Option A) → is_some o ≡ is_some (option_map f o)
-some_mapped f None = refl
-some_mapped f (Some x) = refl
-
--- tuples stand under a name exactly where it is given
-pub given_has : (n : List ℕ) (rs : List GivenRelation) → is_some (given_tuples (given_catalogue rs) n) ≡ has_name n rs
-given_has n [] = refl
-given_has n (r ∷ rs) = by (bytes_eq n r.name) refl (given_has n rs)
+-- no entry has a name that isn't given
+pub no_entry : (n : List ℕ) (rs : List GivenRelation) → has_name n rs ≡ false → entry_of (given_catalogue rs).entries n ≡ None
+no_entry n [] h = refl
+no_entry n (r ∷ rs) h = by (bytes_eq n r.name) h (no_entry n rs)
   where
-    by : (b : Bool) → bytes_eq n r.name ≡ b → is_some (given_tuples (given_catalogue rs) n) ≡ has_name n rs
-        → is_some (option_map tuples_of (relation_in (cond (bytes_eq n r.name) (Some (given_entry r)) (entry_of (map given_entry rs) n)))) ≡ (bytes_eq n r.name || has_name n rs)
-    by true e next = rw e refl
-    by false e next = rw e next
+    by : (b : Bool) → (b || has_name n rs) ≡ false → (has_name n rs ≡ false → entry_of (map given_entry rs) n ≡ None) → cond b (Some (given_entry r)) (entry_of (map given_entry rs) n) ≡ None
+    by true h next = absurd (true≢false h)
+    by false h next = next h
+
+-- ---- of code
 
 -- the last one of a list is given
 pub has_last : (rs : List GivenRelation) (r : GivenRelation) → has_name r.name (rs ++ r ∷ []) ≡ true

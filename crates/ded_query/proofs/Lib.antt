@@ -6,3 +6,4 @@ pub mod Evaluations
 pub mod Gathered
 pub mod GivenNames
 pub mod Names
+pub mod Standing

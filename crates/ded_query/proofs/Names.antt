@@ -1,6 +1,5 @@
 -- The names that a plan scans.
-use Rattle.std.proofs.Common.{◌≡◌, ℕ, Bool, true, false, inl, inr, List, [], ◌∷◌, refl, sym, subst, true≢false, is_some, bytes_eq}
-use Rattle.std.specs.List.{AllByRecursion, list_any}
+use Rattle.std.proofs.Common.{◌≡◌, ℕ, Bool, true, false, inl, inr, List, sym, subst, true≢false, is_some}
 use Rattle.std.proofs.lemmas.Slice.Eq.{bytes_eq-Decides}
 use Rattle.ded_model.specs.Catalogue.{Catalogue}
 use Rattle.ded_model.specs.Form.{Form, FormAtom, compare, member, atom_uses, uses}
@@ -9,7 +8,6 @@ use Rattle.ded_model.specs.Logic.{Logic, atom, always, never, negation, every_of
 use Rattle.ded_model.specs.Made.{base}
 use Rattle.ded_model.specs.PlanForm.{PlanAtom, scan, rows, PlanForm}
 use Rattle.ded_model.specs.Uses.{plan_atom_uses, plan_uses}
-use Rattle.ded_model.proofs.Rows.{or_left, or_right}
 use Rattle.ded_model.proofs.Members.{or_split}
 use Rattle.ded_plan.specs.Plans.{IsScanOf}
 use Rattle.ded_views.proofs.Atoms.{all_where_none}

@@ -1,5 +1,5 @@
 //! Answers of questions and of views.
-ghost use Rattle.std.specs.Prelude.{◌≡◌, ◌↔◌, IsTrue, true, is_some, [], IfOk, IsErrOf, OnOk};
+ghost use Rattle.std.specs.Prelude.{◌≡◌, ◌↔◌, IsTrue, true, is_some, None, [], IfOk, IsErrOf, OnOk};
 ghost use Rattle.std.specs.List.{AllByRecursion, list_any};
 ghost use Rattle.ded_model.specs.declared.memory.Refused.TheVariants.{Wide};
 ghost use Rattle.ded_model.specs.Catalogue.{IsTruth};
@@ -16,6 +16,7 @@ ghost use Rattle.ded_eval.specs.Given.{has_name};
 ghost use Rattle.ded_catalog.specs.Snapshots.{snapshot_of};
 ghost use Rattle.ded_plan.specs.Planned.{IsPlanned};
 ghost use Rattle.ded_query.specs.Gathering.{IsGivenOf, IsGathered, IsFront, IsPosed, IsPosedPlan, IsEvaluated, IsViewOf, IsViewPlan};
+ghost use Rattle.ded_query.specs.Over.{over_relations};
 ghost use Rattle.ded_query.specs.Questions.{IsQuestion, IsAnswer};
 
 use crate::gathering::{evaluated_by, give_all};
@@ -130,7 +131,7 @@ pub fn planned_view(
     Ok(reduced(alloc, tuples)?)
 }
 
-/// Gives the names as well, which are made of defined ones. What was given stays at the front.
+/// Gives those of the names that are views as well. All are made of defined ones. What was given stays at the front.
 ///
 /// # Errors
 /// `Wide` only where one of the names clashes, otherwise out of memory. More may be given then.
@@ -143,7 +144,7 @@ pub fn give_names(
     requires defined { AllByRecursion (λ n. is_some (known (snapshot_of snapshot.now) (base n)) ≡ true) names.now }
     requires held { AllByRecursion (IsGivenOf (snapshot_of snapshot.now)) held.old }
     ensures gathered { OnOk result (IsGathered (snapshot_of snapshot.now) held.old held.new) }
-    ensures all { OnOk result (AllByRecursion (λ n. has_name n held.new ≡ true) names.now) }
+    ensures all { OnOk result (AllByRecursion (λ n. has_name n (over_relations (snapshot_of snapshot.now) None held.new) ≡ true) names.now) }
     ensures front { IsFront held.old held.new }
     ensures wide { IsErrOf result Wide → list_any (λ n. (measures (snapshot_of snapshot.now) n).clash) names.now ≡ true }
 {

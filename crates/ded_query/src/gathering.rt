@@ -1,9 +1,7 @@
-//! What a plan scans, gathered: the tuples of relations, and views as what their goals are evaluated to.
-ghost use Rattle.std.specs.Prelude.{◌≡◌, ◌≤◌, true, is_some, is_none, Some, None, IfOk, IsErrOf, OnOk};
+//! What a plan scans, gathered: views as what their goals are evaluated to. Relations are read where they stand.
+ghost use Rattle.std.specs.Prelude.{◌≡◌, ◌≤◌, true, is_some, is_none, None, IfOk, IsErrOf, OnOk};
 ghost use Rattle.std.specs.List.{AllByRecursion, list_any};
-ghost use Rattle.std.specs.Option.{option_map};
 ghost use Rattle.ded_model.specs.declared.memory.Refused.TheVariants.{Wide};
-ghost use Rattle.ded_model.specs.Catalogue.{Catalogue};
 ghost use Rattle.ded_model.specs.Entries.{known, entry_of, relation_in, view_in};
 ghost use Rattle.ded_model.specs.Goal.{GoalForm, goal_form};
 ghost use Rattle.ded_model.specs.Known.{level_with};
@@ -14,8 +12,10 @@ ghost use Rattle.ded_catalog.specs.Snapshots.{snapshot_of};
 ghost use Rattle.ded_eval.specs.Given.{has_name};
 ghost use Rattle.ded_plan.specs.Planned.{IsPlanned};
 ghost use Rattle.ded_query.specs.Gathering.{IsGivenOf, IsGathered, IsFront, IsPosed, IsPosedPlan, IsEvaluated, IsViewGoal, IsViewOf, IsGivenAs};
+ghost use Rattle.ded_query.specs.Over.{over_relations};
 
-use ded_algebra::{Evaluate, Relations};
+use crate::over::Over;
+use ded_algebra::Evaluate;
 use ded_catalog::Snapshot;
 use ded_eval::{Engine, Given, GivenRelation, reduced};
 use ded_goals::laws;
@@ -28,8 +28,8 @@ use ded_plan::{plan, scanned_names};
 use std::alloc::Global;
 
 /// Tuples that hold exactly where the goal of an accepted formula does over the catalogue, whose names have at most the level.
-/// They mention only slots that the goal mentions freely. What it reaches is given first, each name once. What was given stays at
-/// the front.
+/// They mention only slots that the goal mentions freely. The views that it reaches are given first, each name once. What was given
+/// stays at the front.
 ///
 /// # Errors
 /// `Wide` only where the goal clashes, otherwise out of memory. More may be given then.
@@ -74,12 +74,18 @@ pub(crate) fn evaluated_by(
     ensures wide { IsErrOf result Wide → (g : GoalForm) → IsPosed (snapshot_of snapshot.now) g level → IsPlanned g (plan_form plan.now)
         → goal_clashes (measures (snapshot_of snapshot.now)) g ≡ true }
 {
+    snapshot.formed();
     let names = scanned_names(alloc, plan)?;
     give_all(alloc, snapshot, &names, level, given)?;
-    Engine {}.evaluate(alloc, plan, &*given)
+    let relations = Over {
+        snapshot,
+        given: &*given,
+        hidden: None,
+    };
+    Engine {}.evaluate(alloc, plan, &relations)
 }
 
-/// Gives the names, which are made of defined ones that have at most the level.
+/// Gives those of the names that are views. All are made of defined ones that have at most the level.
 ///
 /// # Errors
 /// `Wide` only where one of the names clashes, otherwise out of memory. More may be given then.
@@ -95,7 +101,7 @@ pub(crate) fn give_all(
     requires levels { AllByRecursion (λ n. level_with (known (snapshot_of snapshot.now) (base n)) ≤ level) names.now }
     requires given { AllByRecursion (IsGivenOf (snapshot_of snapshot.now)) given.old }
     ensures gathered { OnOk result (IsGathered (snapshot_of snapshot.now) given.old given.new) }
-    ensures all { OnOk result (AllByRecursion (λ n. has_name n given.new ≡ true) names.now) }
+    ensures all { OnOk result (AllByRecursion (λ n. has_name n (over_relations (snapshot_of snapshot.now) None given.new) ≡ true) names.now) }
     ensures front { IsFront given.old given.new }
     ensures wide { IsErrOf result Wide → list_any (λ n. (measures (snapshot_of snapshot.now) n).clash) names.now ≡ true }
 {
@@ -105,7 +111,7 @@ pub(crate) fn give_all(
     Ok(())
 }
 
-/// Gives the name, which is made of a defined one that has at most the level, unless it is given already.
+/// Gives the name, which is made of a defined one that has at most the level, unless it is a relation or is given already.
 ///
 /// # Errors
 /// `Wide` only where the name clashes, otherwise out of memory. More may be given then.
@@ -121,42 +127,32 @@ fn give(
     requires level { level_with (known (snapshot_of snapshot.now) (base name.now)) ≤ level }
     requires given { AllByRecursion (IsGivenOf (snapshot_of snapshot.now)) given.old }
     ensures gathered { OnOk result (IsGathered (snapshot_of snapshot.now) given.old given.new) }
-    ensures is { OnOk result (has_name name.now given.new ≡ true) }
+    ensures is { OnOk result (has_name name.now (over_relations (snapshot_of snapshot.now) None given.new) ≡ true) }
     ensures front { IsFront given.old given.new }
     ensures wide { IsErrOf result Wide → (measures (snapshot_of snapshot.now) name.now).clash ≡ true }
 {
     snapshot.formed();
-    if is_given(given, name) {
+    if given.has(name) {
         return Ok(());
     }
     match snapshot.goal(name) {
         Some(goal) => give_view(alloc, snapshot, name, goal, level, given),
-        None => give_relation(alloc, snapshot, name, given),
+        None => give_relation(snapshot, name),
     }
 }
 
-/// Gives a relation. A closure or an interior isn't evaluated yet, and counts as out of memory.
+/// A relation is read where it stands, so nothing is given of it. A closure or an interior isn't evaluated yet, and counts as out of
+/// memory.
 ///
 /// # Errors
-/// Out of memory; nothing is changed then.
-fn give_relation(
-    alloc: Global,
-    snapshot: &Snapshot<'_>,
-    name: &Name,
-    given: &mut Given,
-) -> Result<(), Refused>
-    requires goal { is_none (view_in (entry_of (snapshot_of snapshot.now).entries name.now)) ≡ true }
-    requires given { AllByRecursion (IsGivenOf (snapshot_of snapshot.now)) given.old }
-    ensures gathered { OnOk result (IsGathered (snapshot_of snapshot.now) given.old given.new) }
-    ensures is { OnOk result (has_name name.now given.new ≡ true) }
-    ensures front { IsFront given.old given.new }
+/// Out of memory.
+fn give_relation(snapshot: &Snapshot<'_>, name: &Name) -> Result<(), Refused>
+    requires { is_none (view_in (entry_of (snapshot_of snapshot.now).entries name.now)) ≡ true }
+    ensures is { OnOk result (is_some (relation_in (entry_of (snapshot_of snapshot.now).entries name.now)) ≡ true) }
     ensures memory { IsErrOf result Wide → ⊥ }
 {
     match snapshot.heading(name) {
-        Some(_) => {
-            let relation = relation(alloc, snapshot, name)?;
-            Ok(add(snapshot, given, relation)?)
-        }
+        Some(_) => Ok(()),
         None => Err(Refused::Memory),
     }
 }
@@ -188,13 +184,6 @@ fn give_view(
     Ok(add(snapshot, given, view)?)
 }
 
-/// Whether the name is given.
-fn is_given(given: &Given, name: &Name) -> bool
-    ensures { result ≡ has_name name.now given.now }
-{
-    given.tuples(name).is_some()
-}
-
 /// Adds the relation, unless one of its name is given.
 ///
 /// # Errors
@@ -207,7 +196,7 @@ fn add(snapshot: &Snapshot<'_>, given: &mut Given, relation: GivenRelation) -> R
     ensures front { IsFront given.old given.new }
 {
     let _ = snapshot; // for its invariant
-    if is_given(given, &relation.name) {
+    if given.has(&relation.name) {
         return Ok(());
     }
     given.add(relation)
@@ -227,28 +216,6 @@ pub fn held_view(
 {
     snapshot.formed();
     let Some(heading) = snapshot.heading(name) else {
-        unreachable!()
-    };
-    Ok(GivenRelation {
-        name: name.copy()?,
-        heading: heading.copy()?,
-        tuples,
-    })
-}
-
-/// A relation under its name, with copies of its tuples.
-///
-/// # Errors
-/// Out of memory.
-fn relation(alloc: Global, snapshot: &Snapshot<'_>, name: &Name) -> Result<GivenRelation, NoMemory>
-    requires { is_some (relation_in (entry_of (snapshot_of snapshot.now).entries name.now)) ≡ true }
-    ensures { IfOk result (λ r. IsGivenAs (snapshot_of snapshot.now) name.now r) }
-{
-    snapshot.formed();
-    let Some(heading) = snapshot.heading(name) else {
-        unreachable!()
-    };
-    let Some(tuples) = snapshot.tuples(alloc, name)? else {
         unreachable!()
     };
     Ok(GivenRelation {

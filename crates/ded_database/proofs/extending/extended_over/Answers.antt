@@ -1,4 +1,4 @@
-use Rattle.std.proofs.Common.{◌≡◌, Err, sym, ap, ◌∙◌, subst}
+use Rattle.std.proofs.Common.{◌≡◌, Some, Err, sym, ap, ◌∙◌, subst}
 use Rattle.std.specs.Str.{bytes_eq}
 use Rattle.std.specs.List.{list_any}
 use Rattle.std.proofs.lemmas.Result.{err_from_is_err_and}
@@ -8,9 +8,11 @@ use Rattle.ded_genrel.proofs.Items.{all_weaker}
 use Rattle.ded_eval.specs.Given.{given_catalogue}
 use Rattle.ded_keep.specs.Adding.{with_alone, IsExtended}
 use Rattle.ded_query.specs.Gathering.{IsGivenOf, IsFront}
+use Rattle.ded_query.specs.Over.{over_relations}
+use Rattle.ded_query.proofs.GivenNames.{no_entry}
 use Rattle.ded_database.specs.Changes.{before, after}
 use Rattle.ded_database.specs.Held.{IsHeld}
-use Rattle.ded_database.proofs.Adding.{IsGivenBeside, given_beside, names_known, names_clash, heading_there, no_entry, held_other, front_without, evaluable_alone, clash_of_view, view_extended, evaluated_alone, adds_beside, adds_additive}
+use Rattle.ded_database.proofs.Adding.{IsGivenBeside, given_beside, names_known, names_clash, heading_there, held_other, front_without, evaluable_alone, clash_of_view, view_extended, evaluated_alone, adds_beside, adds_additive}
 use Rattle.ded_database.proofs.extending.extended_over.Goals as goal
 
 pub give_names-requires-clause-defined : goal.give_names-requires-clause-defined
@@ -43,10 +45,10 @@ unreachable-requires c = heading_there (before c.args.change.now) (after c.args.
 pub add_tuple-requires-clause-apart : goal.add_tuple-requires-clause-apart
 add_tuple-requires-clause-apart c =
     let n = c.args.change.now.name.now in
-    let y : IsGivenBeside (after c.args.change.now) n (plan_form c.args.mark.now.plan) c.take.new.self =
-    given_beside (after c.args.change.now) n (plan_form c.args.mark.now.plan) c.deref.result.now c.give_names.new.held c.take.new.self
+    let y : IsGivenBeside (after c.args.change.now) n (plan_form c.args.mark.now.plan) (over_relations (after c.args.change.now) (Some n) c.take.new.self) =
+    given_beside (after c.args.change.now) n (plan_form c.args.mark.now.plan) c.deref.result.now c.give_names.new.held c.take.new.self c.requires.insert.formed_after
     (λ o. ap (list_any (bytes_eq o)) c.deref.ensures.value ∙ c.in_ok-names.ensures o) c.in_ok-give_names.ensures.gathered.of c.in_ok-give_names.ensures.all c.take.ensures.left in
-    no_entry n c.take.new.self y.apart
+    no_entry n (over_relations (after c.args.change.now) (Some n) c.take.new.self) y.apart
 
 pub add_tuple-requires-clause-evaluable : goal.add_tuple-requires-clause-evaluable
 add_tuple-requires-clause-evaluable c =
@@ -54,11 +56,12 @@ add_tuple-requires-clause-evaluable c =
     let n = c.args.change.now.name.now in
     let m = c.args.mark.now in
     let k = c.requires.mark in
-    let y : IsGivenBeside (after c.args.change.now) n (plan_form m.plan) c.take.new.self =
-    given_beside (after c.args.change.now) n (plan_form m.plan) c.deref.result.now c.give_names.new.held c.take.new.self
+    let rs = over_relations (after c.args.change.now) (Some n) c.take.new.self in
+    let y : IsGivenBeside (after c.args.change.now) n (plan_form m.plan) rs =
+    given_beside (after c.args.change.now) n (plan_form m.plan) c.deref.result.now c.give_names.new.held c.take.new.self c.requires.insert.formed_after
     (λ o. ap (list_any (bytes_eq o)) c.deref.ensures.value ∙ c.in_ok-names.ensures o) c.in_ok-give_names.ensures.gathered.of c.in_ok-give_names.ensures.all c.take.ensures.left in
     evaluable_alone b (after c.args.change.now) n c.args.tuple.now c.requires.insert m.name k.own k.columns k.formula (plan_form m.plan) k.entry k.planned
-    (adds_beside m n _ (c.nothing_beside.ensures b m n k) c.requires.adds) c.in-Some.heading.now c.in-Some.ensures c.take.new.self y
+    (adds_beside m n _ (c.nothing_beside.ensures b m n k) c.requires.adds) c.in-Some.heading.now c.in-Some.ensures rs y
 
 pub returns-in_err-added-clause-front : goal.returns-in_err-added-clause-front
 returns-in_err-added-clause-front c =
@@ -75,11 +78,12 @@ returns-in_err-added-clause-wide c = λ i.
     let n = c.args.change.now.name.now in
     let m = c.args.mark.now in
     let k = c.requires.mark in
-    let y : IsGivenBeside (after c.args.change.now) n (plan_form m.plan) c.take.new.self =
-    given_beside (after c.args.change.now) n (plan_form m.plan) c.deref.result.now c.give_names.new.held c.take.new.self
+    let rs = over_relations (after c.args.change.now) (Some n) c.take.new.self in
+    let y : IsGivenBeside (after c.args.change.now) n (plan_form m.plan) rs =
+    given_beside (after c.args.change.now) n (plan_form m.plan) c.deref.result.now c.give_names.new.held c.take.new.self c.requires.insert.formed_after
     (λ o. ap (list_any (bytes_eq o)) c.deref.ensures.value ∙ c.in_ok-names.ensures o) c.in_ok-give_names.ensures.gathered.of c.in_ok-give_names.ensures.all c.take.ensures.left in
     clash_of_view b (after c.args.change.now) n c.args.tuple.now c.requires.insert m.name k.own k.columns k.formula (plan_form m.plan) k.entry k.planned
-    (adds_beside m n _ (c.nothing_beside.ensures b m n k) c.requires.adds) c.in-Some.heading.now c.in-Some.ensures c.take.new.self y
+    (adds_beside m n _ (c.nothing_beside.ensures b m n k) c.requires.adds) c.in-Some.heading.now c.in-Some.ensures rs y
     (c.in_err-added.ensures.wide (ap Err is))
 
 pub returns-in_err-more-clause-front : goal.returns-in_err-more-clause-front
@@ -102,13 +106,14 @@ returns-clause-is c =
     let n = c.args.change.now.name.now in
     let m = c.args.mark.now in
     let k = c.requires.mark in
-    let y : IsGivenBeside (after c.args.change.now) n (plan_form m.plan) c.take.new.self =
-    given_beside (after c.args.change.now) n (plan_form m.plan) c.deref.result.now c.give_names.new.held c.take.new.self
+    let rs = over_relations (after c.args.change.now) (Some n) c.take.new.self in
+    let y : IsGivenBeside (after c.args.change.now) n (plan_form m.plan) rs =
+    given_beside (after c.args.change.now) n (plan_form m.plan) c.deref.result.now c.give_names.new.held c.take.new.self c.requires.insert.formed_after
     (λ o. ap (list_any (bytes_eq o)) c.deref.ensures.value ∙ c.in_ok-names.ensures o) c.in_ok-give_names.ensures.gathered.of c.in_ok-give_names.ensures.all c.take.ensures.left in
-    let all = with_alone (given_catalogue c.take.new.self) n c.in-Some.heading.now c.args.tuple.now in
+    let all = with_alone (given_catalogue rs) n c.in-Some.heading.now c.args.tuple.now in
     let r = c.in_ok-more.ensures in
     view_extended b (after c.args.change.now) n c.args.tuple.now c.requires.insert m.name k.own k.columns k.formula (plan_form m.plan) k.entry k.planned
-    (adds_beside m n _ (c.nothing_beside.ensures b m n k) c.requires.adds) c.in-Some.heading.now c.in-Some.ensures c.take.new.self y c.tuples.ensures.given (adds_additive m n c.requires.adds)
+    (adds_beside m n _ (c.nothing_beside.ensures b m n k) c.requires.adds) c.in-Some.heading.now c.in-Some.ensures rs y c.formed.ensures (adds_additive m n c.requires.adds)
     c.args.list c.in_ok-more.more c.in_ok-joined.field-0 c.requires.list
     (evaluated_alone all (plan_form m.plan) c.in_ok-added.added c.in_ok-more.more (subst (λ ks. IsExtended all (plan_form m.plan) ks c.in_ok-added.added) c.new.ensures.items c.in_ok-added.ensures.is) r.holds r.slots r.lines)
     r.normal c.in_ok-joined.ensures

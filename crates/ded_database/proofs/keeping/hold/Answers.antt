@@ -10,16 +10,13 @@ use Rattle.ded_sorts.proofs.KnownEntries.{view_there}
 use Rattle.ded_genrel.proofs.Items.{all_weaker}
 use Rattle.ded_eval.specs.Given.{has_name}
 use Rattle.ded_query.specs.Gathering.{IsGivenOf}
-use Rattle.ded_query.proofs.GivenNames.{some_mapped, given_has}
 use Rattle.ded_database.specs.Held.{IsHeld}
 use Rattle.ded_database.proofs.Listing.{clash_untight, listed_there, listed_more, listed_none, names_added}
 use Rattle.ded_database.proofs.keeping.hold.Goals as goal
 
-pub returns-then-is_some-clause-listed : goal.returns-then-is_some-clause-listed
-returns-then-is_some-clause-listed c =
-    let n = c.args.name.now in
-    let there : is_some c.tuples.result ≡ has_name n c.args.held.now = some_mapped (λ ts. ts.now) c.tuples.result ∙ ap is_some c.tuples.ensures.tuples ∙ given_has n c.args.held.now in
-    listed_there (catalogue_of c.args.catalogue.now) n c.args.held.now (sym there ∙ sym c.is_some.ensures ∙ c.if-is_some.true)
+pub returns-then-has-clause-listed : goal.returns-then-has-clause-listed
+returns-then-has-clause-listed c =
+    listed_there (catalogue_of c.args.catalogue.now) c.args.name.now c.args.held.now (sym c.has.ensures ∙ c.if-has.true)
 
 pub view_tuples-requires-clause-view : goal.view_tuples-requires-clause-view
 view_tuples-requires-clause-view c =
@@ -34,8 +31,7 @@ view_tuples-requires-clause-held c =
 pub add-requires : goal.add-requires
 add-requires c =
     let n = c.args.name.now in
-    let there : is_some c.tuples.result ≡ has_name n c.args.held.now = some_mapped (λ ts. ts.now) c.tuples.result ∙ ap is_some c.tuples.ensures.tuples ∙ given_has n c.args.held.now in
-    record { new = ap (λ m. has_name m c.view_tuples.new.held) c.in_ok-held_view-in-Ok.ensures.0.name ∙ ap (has_name n) c.view_tuples.ensures.held ∙ sym there ∙ sym c.is_some.ensures ∙ c.if-is_some.false }
+    record { new = ap (λ m. has_name m c.view_tuples.new.held) c.in_ok-held_view-in-Ok.ensures.0.name ∙ ap (has_name n) c.view_tuples.ensures.held ∙ sym c.has.ensures ∙ c.if-has.false }
 
 pub returns-in_ok-held_view-in-Ok-clause-names : goal.returns-in_ok-held_view-in-Ok-clause-names
 returns-in_ok-held_view-in-Ok-clause-names c =
@@ -46,9 +42,8 @@ pub returns-in_ok-held_view-in-Ok-clause-listed : goal.returns-in_ok-held_view-i
 returns-in_ok-held_view-in-Ok-clause-listed c =
     let n = c.args.name.now in
     let r = c.in_ok-held_view-in-Ok.field-0 in
-    let there : is_some c.tuples.result ≡ has_name n c.args.held.now = some_mapped (λ ts. ts.now) c.tuples.result ∙ ap is_some c.tuples.ensures.tuples ∙ given_has n c.args.held.now in
     on_ok_weaker c.add.result
-    (λ e. listed_more (catalogue_of c.args.catalogue.now) n c.args.held.now r c.add.new.self (sym there ∙ sym c.is_some.ensures ∙ c.if-is_some.false) c.in_ok-held_view-in-Ok.ensures.0.name
+    (λ e. listed_more (catalogue_of c.args.catalogue.now) n c.args.held.now r c.add.new.self (sym c.has.ensures ∙ c.if-has.false) c.in_ok-held_view-in-Ok.ensures.0.name
     (e ∙ ap (λ rs. rs ++ r ∷ []) c.view_tuples.ensures.held)) c.add.ensures.ok
 
 pub returns-in-Err-Wide-clause-listed : goal.returns-in-Err-Wide-clause-listed

@@ -21,4 +21,4 @@ returns-clause-is g c = is_extended g c
 pub returns-clause-adds : goal.returns-clause-adds
 returns-clause-adds g c = λ b d addition before p i.
     kept_after _ _ _ _ ((is_extended g c).holds p i) _ (before p i)
-    (added_alone (g.R.Relations.catalogue c.args.others.now) b d c.args.changed.now c.args.heading.now c.args.added.now (plan_form c.args.plan.now) c.tuples.ensures.given c.requires.apart c.requires.additive addition p i)
+    (added_alone (g.R.Relations.catalogue c.args.others.now) b d c.args.changed.now c.args.heading.now c.args.added.now (plan_form c.args.plan.now) c.formed.ensures c.requires.apart c.requires.additive addition p i)

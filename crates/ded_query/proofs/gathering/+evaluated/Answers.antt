@@ -1,8 +1,8 @@
-use Rattle.std.proofs.Common.{rules, ◌≡◌, ◌≤◌, ◌∙◌, true, is_some, Err, List, ℕ, sym, ap, subst}
+use Rattle.std.proofs.Common.{rules, ◌≡◌, ◌≤◌, ◌∙◌, true, is_some, None, Err, List, ℕ, refl, sym, ap, subst}
 use Rattle.std.specs.List.{AllByRecursion, list_any}
 use Rattle.std.specs.Str.{bytes_eq}
 use Rattle.std.proofs.lemmas.List.{take_all}
-use Rattle.std.proofs.lemmas.Result.{IfOk-weaker, err_from_is_err_and}
+use Rattle.std.proofs.lemmas.Result.{IfOk-weaker, on_ok_weaker, err_from_is_err_and}
 use Rattle.ded_model.specs.declared.memory.Refused.TheVariants.{Wide}
 use Rattle.ded_model.specs.Entries.{known, entry_of, view_in}
 use Rattle.ded_model.specs.Made.{base}
@@ -14,10 +14,12 @@ use Rattle.ded_model.specs.Uses.{plan_uses}
 use Rattle.ded_catalog.specs.Snapshots.{snapshot_of}
 use Rattle.ded_complement.proofs.Cutting.{all-at}
 use Rattle.ded_eval.specs.Given.{has_name}
+use Rattle.ded_query.specs.Over.{over_relations}
 use Rattle.ded_query.proofs.Entries.{view_goal, view_posed, view_low, view_level, view_clash, no_view}
 use Rattle.ded_query.proofs.Evaluable.{evaluable}
 use Rattle.ded_query.proofs.Evaluations.{evaluated_of, evaluated_part, clash_of_goal}
 use Rattle.ded_query.proofs.Gathered.{gathered_none, gathered_more, front_none, front_more, named_more, posed_scans, posed_known, posed_levels, posed_clash}
+use Rattle.ded_query.proofs.Standing.{over_right, given_there, stored_there}
 use Rattle.ded_query.proofs.gathering.+evaluated.Goals as goal
 use Rattle.ded_views.proofs.Named.{of_named}
 
@@ -70,8 +72,9 @@ evaluated_by-evaluate-requires t c =
     let cat = snapshot_of c.args.snapshot.now in
     let plan = plan_form c.args.plan.now in
     let ns = c.deref.result.now in
-    let rs = c.give_all.new.given in
-    evaluable cat c.requires.posed.posed.formula rs c.in_ok-give_all.ensures.gathered.of plan
+    let gs = c.give_all.new.given in
+    let rs = over_relations cat None gs in
+    evaluable cat c.requires.posed.posed.formula rs (over_right cat None gs c.formed.ensures c.in_ok-give_all.ensures.gathered.of) plan
     (posed_scans cat c.requires.posed.goal plan c.args.level c.requires.posed.posed c.requires.posed.planned)
     (λ n u. of_named (λ m. has_name m rs ≡ true) ns n c.in_ok-give_all.ensures.all (sym (c.in_ok-names.ensures.all n ∙ ap (list_any (bytes_eq n)) (sym c.deref.ensures.value)) ∙ u))
 
@@ -80,15 +83,18 @@ evaluated_by-returns-clause-is t c = λ g p k.
     let cat = snapshot_of c.args.snapshot.now in
     let plan = plan_form c.args.plan.now in
     let ns = c.deref.result.now in
-    let rs = c.give_all.new.given in
+    let gs = c.give_all.new.given in
+    let rs = over_relations cat None gs in
     let uses : (n : List ℕ) → plan_uses n plan ≡ true → has_name n rs ≡ true =
     λ n u. of_named (λ m. has_name m rs ≡ true) ns n c.in_ok-give_all.ensures.all (sym (c.in_ok-names.ensures.all n ∙ ap (list_any (bytes_eq n)) (sym c.deref.ensures.value)) ∙ u) in
     IfOk-weaker c.evaluate.result _ _
-    (λ ts e. evaluated_of cat g plan rs c.in_ok-give_all.ensures.gathered.of k p.formula (posed_scans cat g plan c.args.level p k) ts uses e) c.evaluate.ensures.is
+    (λ ts e. evaluated_of cat g plan rs (over_right cat None gs c.formed.ensures c.in_ok-give_all.ensures.gathered.of) k p.formula (posed_scans cat g plan c.args.level p k) ts uses e) c.evaluate.ensures.is
 
 pub evaluated_by-returns-clause-wide : goal.evaluated_by-returns-clause-wide
 evaluated_by-returns-clause-wide t c = λ i g p k.
-    clash_of_goal (snapshot_of c.args.snapshot.now) g (plan_form c.args.plan.now) c.give_all.new.given c.in_ok-give_all.ensures.gathered.of k (c.evaluate.ensures.wide i)
+    let cat = snapshot_of c.args.snapshot.now in
+    let gs = c.give_all.new.given in
+    clash_of_goal cat g (plan_form c.args.plan.now) (over_relations cat None gs) (over_right cat None gs c.formed.ensures c.in_ok-give_all.ensures.gathered.of) k (c.evaluate.ensures.wide i)
 
 -- ---- give
 
@@ -98,8 +104,17 @@ give-give_view-requires t c =
     let view = view_goal cat c.args.name.now (goal_form c.in-Some.goal.now) c.in-Some.ensures in
     (search rules, (view, (view_low cat c.args.name.now (goal_form c.in-Some.goal.now) c.args.level c.formed.ensures view c.requires.level, c.requires.given)))
 
-pub give-give_relation-requires-clause-goal : goal.give-give_relation-requires-clause-goal
-give-give_relation-requires-clause-goal t c = no_view (view_in (entry_of (snapshot_of c.args.snapshot.now).entries c.args.name.now)) c.in-None.ensures
+pub give-give_relation-requires : goal.give-give_relation-requires
+give-give_relation-requires t c = no_view (view_in (entry_of (snapshot_of c.args.snapshot.now).entries c.args.name.now)) c.in-None.ensures
+
+pub give-returns-then-has-clause-is : goal.give-returns-then-has-clause-is
+give-returns-then-has-clause-is t c = given_there (snapshot_of c.args.snapshot.now) None c.args.given.now c.args.name.now (sym c.has.ensures ∙ c.if-has.true)
+
+pub give-returns-in-Some-clause-is : goal.give-returns-in-Some-clause-is
+give-returns-in-Some-clause-is t c = on_ok_weaker c.give_view.result (given_there (snapshot_of c.args.snapshot.now) None c.give_view.new.given c.args.name.now) c.give_view.ensures.is
+
+pub give-returns-in-None-clause-is : goal.give-returns-in-None-clause-is
+give-returns-in-None-clause-is t c = on_ok_weaker c.give_relation.result (stored_there (snapshot_of c.args.snapshot.now) None c.args.given.now c.args.name.now refl) c.give_relation.ensures.is
 
 -- ---- give_all
 
@@ -132,7 +147,7 @@ give_all-returns-clause-gathered t c = c.loop-name.invariant.0
 
 pub give_all-returns-clause-all : goal.give_all-returns-clause-all
 give_all-returns-clause-all t c =
-    subst (AllByRecursion (λ n. has_name n c.loop-name.given ≡ true)) (take_all c.loop-name.name-index c.args.names.now c.loop-name-test.false) c.loop-name.invariant.1
+    subst (AllByRecursion (λ n. has_name n (over_relations (snapshot_of c.args.snapshot.now) None c.loop-name.given) ≡ true)) (take_all c.loop-name.name-index c.args.names.now c.loop-name-test.false) c.loop-name.invariant.1
 
 pub give_all-returns-clause-front : goal.give_all-returns-clause-front
 give_all-returns-clause-front t c = c.loop-name.invariant.2

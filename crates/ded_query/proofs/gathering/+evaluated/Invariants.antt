@@ -1,8 +1,9 @@
-use Rattle.std.proofs.Common.{◌≡◌, true, ◌+◌, ◌*◌, take}
+use Rattle.std.proofs.Common.{◌≡◌, true, ◌+◌, ◌*◌, None, take}
 use Rattle.std.specs.List.{AllByRecursion}
 use Rattle.ded_catalog.specs.Snapshots.{snapshot_of}
 use Rattle.ded_eval.specs.Given.{has_name}
 use Rattle.ded_query.specs.Gathering.{IsGathered, IsFront}
+use Rattle.ded_query.specs.Over.{over_relations}
 use Rattle.ded_query.proofs.gathering.+evaluated.Given as goal
 
 abbrev pub decreases-give_view : goal.decreases-give_view
@@ -21,4 +22,4 @@ abbrev pub decreases-evaluated : goal.decreases-evaluated
 decreases-evaluated l = 5 * l.level + 4
 
 abbrev pub invariant-give_all-loop-name : goal.invariant-give_all-loop-name
-invariant-give_all-loop-name l = IsGathered (snapshot_of l.snapshot) l.fn.given l.given × AllByRecursion (λ n. has_name n l.given ≡ true) (take l.name-index l.names) × IsFront l.fn.given l.given
+invariant-give_all-loop-name l = IsGathered (snapshot_of l.snapshot) l.fn.given l.given × AllByRecursion (λ n. has_name n (over_relations (snapshot_of l.snapshot) None l.given) ≡ true) (take l.name-index l.names) × IsFront l.fn.given l.given

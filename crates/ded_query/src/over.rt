@@ -1,0 +1,68 @@
+//! The relations of a catalogue where they stand, and what is given under other names.
+ghost use Rattle.std.specs.Prelude.{◌≡◌};
+
+use ded_algebra::Relations;
+use ded_catalog::Snapshot;
+use ded_eval::Given;
+use ded_hull::Window;
+use ded_model::memory::NoMemory;
+use ded_model::name::Name;
+use ded_model::tuple::Tuple;
+use std::alloc::Global;
+
+/// What is given, and the relations of a catalogue under all other names but the hidden one. Nothing is copied.
+#[derive(Drop)]
+pub struct Over<'a, 'b, 'c> {
+    pub snapshot: &'a Snapshot<'b>,
+    pub given: &'c Given,
+    pub hidden: Option<&'b Name>,
+}
+
+impl<'a, 'b, 'c> Over<'a, 'b, 'c> {
+    ghost use Rattle.std.specs.Option.{option_map};
+    ghost use Rattle.ded_query.specs.Over.{is_hidden};
+
+    /// Whether the name is the hidden one. It doesn't allocate.
+    fn hides(&self, name: &Name) -> bool
+        ensures { result ≡ is_hidden (option_map (λ n. n.now) self.now.hidden) name.now }
+    {
+        match self.hidden {
+            Some(hidden) => name.is_same(hidden),
+            None => false,
+        }
+    }
+}
+
+impl<'a, 'b, 'c> Relations for Over<'a, 'b, 'c> {
+    ghost use Rattle.std.specs.Option.{option_map};
+    ghost use Rattle.ded_catalog.specs.Snapshots.{snapshot_of};
+    ghost use Rattle.ded_eval.specs.Given.{given_catalogue};
+    ghost use Rattle.ded_query.specs.Over.{over_relations};
+
+    ghost catalogue = { λ o. given_catalogue (over_relations (snapshot_of o.snapshot.now) (option_map (λ n. n.now) o.hidden) o.given.now) };
+
+    fn formed(&self) {
+        self.snapshot.formed();
+        self.given.formed();
+    }
+
+    fn near(
+        &self,
+        alloc: Global,
+        name: &Name,
+        window: &Window,
+    ) -> Result<Option<Vec<&Tuple>>, NoMemory> {
+        self.snapshot.formed();
+        if self.given.has(name) {
+            self.given.near(alloc, name, window)
+        } else if self.hides(name) {
+            Ok(None)
+        } else {
+            self.snapshot.near(alloc, name, window)
+        }
+    }
+
+    fn is_indexed(&self, name: &Name) -> bool {
+        !self.given.has(name) && !self.hides(name)
+    }
+}
