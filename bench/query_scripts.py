@@ -13,6 +13,7 @@ Problem = namedtuple('Problem', 'script data smt yes')
 DISTANCE = 5
 WAIT = 10
 LOOK_UPS = 1000
+MANY_LOOK_UPS = 20000
 
 
 # ---- Texts of rows -------------------------------------------------------------------------------------------------
@@ -93,13 +94,17 @@ def near_roads(n):
     return Problem('\n'.join(script), f'near {DISTANCE}\n' + data_list(land) + data_list(roads), None, None)
 
 
-def look_ups(n):
+def many_look_ups(n):
+    return look_ups(n, MANY_LOOK_UPS)
+
+
+def look_ups(n, questions=LOOK_UPS):
     """n zones, and many questions whether a point is in one of them."""
     chance = random.Random(n)
     side = 100 * (isqrt(n - 1) + 1)
     zones = [cut_rectangle(chance.randrange(side), chance.randrange(side), chance.randrange(40, 120), chance.randrange(40, 120))
              for _ in range(n)]
-    points = [(chance.randrange(side), chance.randrange(side)) for _ in range(LOOK_UPS)]
+    points = [(chance.randrange(side), chance.randrange(side)) for _ in range(questions)]
     script = ['relation Zone(n text, x, y);']
     script += [f'insert Zone {dedale_tuple(rows, "xy", ("n", f"z{k}"))};' for k, rows in enumerate(zones)]
     script += [f'ask exists n text (Zone(n, {x}, {y}));' for x, y in points]
@@ -146,6 +151,50 @@ def gap(n):
     return coverage(n, missing=True)
 
 
+def one_text(n):
+    """Two relations of n tuples each, with n texts: the pairs that have one text."""
+    chance = random.Random(n)
+    script = ['relation Price(item text, x);', 'relation Stock(item text, y);']
+    for name, column in (('Price', 'x'), ('Stock', 'y')):
+        script += [f"insert {name} {{ item = 'i{chance.randrange(n)}', {column} = {k} }};" for k in range(n)]
+    script.append('query (item text, x, y) : Price(item, x) and Stock(item, y);')
+    return Problem('\n'.join(script), None, None, None)
+
+
+def outside(boxes):
+    """What is in none of the boxes."""
+    script = ['relation Box(x, y);'] + [f'insert Box {dedale_tuple(rectangle(*box), "xy")};' for box in boxes]
+    return Problem('\n'.join(script + ['query (x, y) : not Box(x, y);']), None, None, None)
+
+
+def outside_a_diagonal(n):
+    return outside([(2 * k, 2 * k + 1, 2 * k, 2 * k + 1) for k in range(n)])
+
+
+def outside_at_random(n):
+    chance = random.Random(n)
+    side = 100 * isqrt(n)
+    corners = [(chance.randrange(side), chance.randrange(side)) for _ in range(n)]
+    return outside([(x, x + chance.randrange(20, 90), y, y + chance.randrange(20, 90)) for x, y in corners])
+
+
+def kept_changes(n):
+    """n regions that come, one of three of which goes again, under a kept view of those that a road crosses; asked after each."""
+    chance = random.Random(n)
+    side = 100 * (isqrt(n - 1) + 1)
+    script = ['relation Land(n text, x, y);', 'relation Road(x, y);', 'view Crossed(n text) := exists x exists y (Land(n, x, y) and Road(x, y));']
+    for _ in range(max(n // 8, 1)):
+        x, y = chance.randrange(side), chance.randrange(side)
+        script.append(f'insert Road {dedale_tuple([([0, 1], -y, "="), ([-1, 0], x, "<="), ([1, 0], -x - 300, "<=")], "xy")};')
+    script.append('keep Crossed;')
+    for k, (i, j) in enumerate(cells(n)):
+        script.append(f'insert Land {dedale_tuple(cut_rectangle(100 * i, 100 * j, 90, 90), "xy", ("n", f"r{k}"))};')
+        script.append(f"ask Crossed('r{k}');")
+        if k % 3 == 2:
+            script += [f'delete Land {k - 1};', f"ask Crossed('r{k - 2}');"]
+    return Problem('\n'.join(script), None, None, None)
+
+
 def sums(depth):
     """Two players choose numbers of 0 to 10 by turns. Can the second one always bring the sum within 1 of the middle?"""
     names = [f'x{k}' for k in range(1, depth + 1)]
@@ -186,6 +235,11 @@ def ladder(depth):
 SERIES = [
     ('parts of regions near a road', near_roads, (50, 100, 200, 400, 800)),
     ('look-ups of 1,000 points', look_ups, (30, 100, 300, 1000, 3000)),
+    ('look-ups of 20,000 points', many_look_ups, (1000, 10000, 32000, 100000)),
+    ('pairs with one text', one_text, (300, 1000, 3000)),
+    ('outside a diagonal of boxes', outside_a_diagonal, (100, 400, 800, 3200)),
+    ('outside boxes at random', outside_at_random, (100, 400, 800, 3200)),
+    ('changes under a kept view', kept_changes, (25, 100, 400)),
     ('pairs of trains to change', changes, (18, 37, 75, 150)),
     ('coverage of a district', coverage, (8, 16, 32, 64, 128)),
     ('coverage with a gap', gap, (8, 16, 32, 64, 128)),
