@@ -4,6 +4,7 @@
 
 #include <iostream>
 #include <string>
+#include <unordered_map>
 #include <vector>
 
 using namespace Parma_Polyhedra_Library;
@@ -183,6 +184,69 @@ void coverage() {
   std::cout << (left.empty() ? 1 : 0) << " yes\n";
 }
 
+// What the boxes leave of the plane, piece by piece.
+void outside() {
+  vector<Region> left = {Region(Poly(2))};
+  for (const Region &box : regions_of(read_list(2))) {
+    vector<Region> next;
+    for (const Region &piece : left) {
+      if (!piece.bounds.meets(box.bounds)) {
+        next.push_back(piece);
+        continue;
+      }
+      Pieces rest = linear_partition(box.poly, piece.poly).second;
+      for (const auto &part : rest)
+        if (!part.pointset().is_empty()) next.emplace_back(part.pointset());
+    }
+    left.swap(next);
+  }
+  std::cout << left.size() << " tuples\n";
+}
+
+// Pairs of tuples with one text, found by it.
+void one_text() {
+  size_t count, pairs = 0;
+  std::unordered_multimap<std::string, long> prices;
+  std::string text;
+  long value;
+  cin >> count;
+  for (size_t k = 0; k < count && cin >> text >> value; ++k) prices.emplace(text, value);
+  cin >> count;
+  for (size_t k = 0; k < count && cin >> text >> value; ++k) {
+    auto found = prices.equal_range(text);
+    for (auto price = found.first; price != found.second; ++price) {
+      Poly pair(2);
+      pair.add_constraint(Variable(0) == price->second);
+      pair.add_constraint(Variable(1) == value);
+      if (!pair.is_empty()) ++pairs;
+    }
+  }
+  std::cout << pairs << " tuples\n";
+}
+
+// Regions come, are asked whether a road crosses them, and go; what is known of one is kept.
+void kept_changes() {
+  vector<Region> roads = regions_of(read_list(2));
+  vector<Rows> land = read_list(2);
+  vector<bool> crossed(land.size(), false);
+  size_t hits = 0, at;
+  std::string change;
+  while (cin >> change >> at) {
+    if (change == "delete") crossed[at] = false;
+    else if (change == "ask") hits += crossed[at];
+    else {
+      Region region(poly_of(land[at], 2));
+      for (const Region &road : roads)
+        if (!crossed[at] && region.bounds.meets(road.bounds)) {
+          Poly part(region.poly);
+          part.intersection_assign(road.poly);
+          crossed[at] = !part.is_empty();
+        }
+    }
+  }
+  std::cout << hits << " yes\n";
+}
+
 Pieces complement(const Pieces &pieces, size_t variables) {
   Pieces all(variables, UNIVERSE);
   all.difference_assign(pieces);
@@ -218,6 +282,9 @@ int main() {
   else if (problem == "look_ups") look_ups();
   else if (problem == "changes") changes();
   else if (problem == "coverage") coverage();
+  else if (problem == "outside") outside();
+  else if (problem == "one_text") one_text();
+  else if (problem == "kept_changes") kept_changes();
   else if (problem == "game") game();
   else return 2;
 }

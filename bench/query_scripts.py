@@ -155,16 +155,20 @@ def one_text(n):
     """Two relations of n tuples each, with n texts: the pairs that have one text."""
     chance = random.Random(n)
     script = ['relation Price(item text, x);', 'relation Stock(item text, y);']
+    data = 'one_text\n'
     for name, column in (('Price', 'x'), ('Stock', 'y')):
-        script += [f"insert {name} {{ item = 'i{chance.randrange(n)}', {column} = {k} }};" for k in range(n)]
+        items = [f'i{chance.randrange(n)}' for _ in range(n)]
+        script += [f"insert {name} {{ item = '{item}', {column} = {k} }};" for k, item in enumerate(items)]
+        data += f'{n}\n' + ''.join(f'{item} {k}\n' for k, item in enumerate(items))
     script.append('query (item text, x, y) : Price(item, x) and Stock(item, y);')
-    return Problem('\n'.join(script), None, None, None)
+    return Problem('\n'.join(script), data, None, None)
 
 
 def outside(boxes):
     """What is in none of the boxes."""
     script = ['relation Box(x, y);'] + [f'insert Box {dedale_tuple(rectangle(*box), "xy")};' for box in boxes]
-    return Problem('\n'.join(script + ['query (x, y) : not Box(x, y);']), None, None, None)
+    data = 'outside\n' + data_list([rectangle(*box) for box in boxes])
+    return Problem('\n'.join(script + ['query (x, y) : not Box(x, y);']), data, None, None)
 
 
 def outside_a_diagonal(n):
@@ -183,16 +187,20 @@ def kept_changes(n):
     chance = random.Random(n)
     side = 100 * (isqrt(n - 1) + 1)
     script = ['relation Land(n text, x, y);', 'relation Road(x, y);', 'view Crossed(n text) := exists x exists y (Land(n, x, y) and Road(x, y));']
+    roads, land, changes_made = [], [], []
     for _ in range(max(n // 8, 1)):
         x, y = chance.randrange(side), chance.randrange(side)
-        script.append(f'insert Road {dedale_tuple([([0, 1], -y, "="), ([-1, 0], x, "<="), ([1, 0], -x - 300, "<=")], "xy")};')
-    script.append('keep Crossed;')
+        roads.append([([0, 1], -y, '='), ([-1, 0], x, '<='), ([1, 0], -x - 300, '<=')])
+    script += [f'insert Road {dedale_tuple(road, "xy")};' for road in roads] + ['keep Crossed;']
     for k, (i, j) in enumerate(cells(n)):
-        script.append(f'insert Land {dedale_tuple(cut_rectangle(100 * i, 100 * j, 90, 90), "xy", ("n", f"r{k}"))};')
-        script.append(f"ask Crossed('r{k}');")
+        land.append(cut_rectangle(100 * i, 100 * j, 90, 90))
+        script += [f'insert Land {dedale_tuple(land[k], "xy", ("n", f"r{k}"))};', f"ask Crossed('r{k}');"]
+        changes_made += [f'insert {k}', f'ask {k}']
         if k % 3 == 2:
             script += [f'delete Land {k - 1};', f"ask Crossed('r{k - 2}');"]
-    return Problem('\n'.join(script), None, None, None)
+            changes_made += [f'delete {k - 2}', f'ask {k - 2}']
+    data = 'kept_changes\n' + data_list(roads) + data_list(land) + '\n'.join(changes_made) + '\n'
+    return Problem('\n'.join(script), data, None, None)
 
 
 def sums(depth):
