@@ -165,43 +165,30 @@ void changes() {
   std::cout << pairs << " tuples\n";
 }
 
-// What one zone after another leaves of the district.
-void coverage() {
-  vector<Region> left = regions_of(read_list(2));
-  for (const Region &zone : regions_of(read_list(2))) {
+// What one region after another leaves of the pieces.
+vector<Region> left_of(vector<Region> left, const vector<Region> &taken) {
+  for (const Region &region : taken) {
     vector<Region> next;
     for (const Region &piece : left) {
-      if (!piece.bounds.meets(zone.bounds)) {
+      if (!piece.bounds.meets(region.bounds)) {
         next.push_back(piece);
         continue;
       }
-      Pieces rest = linear_partition(zone.poly, piece.poly).second;
+      Pieces rest = linear_partition(region.poly, piece.poly).second;
       for (const auto &part : rest)
         if (!part.pointset().is_empty()) next.emplace_back(part.pointset());
     }
     left.swap(next);
   }
-  std::cout << (left.empty() ? 1 : 0) << " yes\n";
+  return left;
 }
 
-// What the boxes leave of the plane, piece by piece.
-void outside() {
-  vector<Region> left = {Region(Poly(2))};
-  for (const Region &box : regions_of(read_list(2))) {
-    vector<Region> next;
-    for (const Region &piece : left) {
-      if (!piece.bounds.meets(box.bounds)) {
-        next.push_back(piece);
-        continue;
-      }
-      Pieces rest = linear_partition(box.poly, piece.poly).second;
-      for (const auto &part : rest)
-        if (!part.pointset().is_empty()) next.emplace_back(part.pointset());
-    }
-    left.swap(next);
-  }
-  std::cout << left.size() << " tuples\n";
+void coverage() {
+  vector<Region> district = regions_of(read_list(2)), zones = regions_of(read_list(2));
+  std::cout << (left_of(district, zones).empty() ? 1 : 0) << " yes\n";
 }
+
+void outside() { std::cout << left_of({Region(Poly(2))}, regions_of(read_list(2))).size() << " tuples\n"; }
 
 // Pairs of tuples with one text, found by it.
 void one_text() {
