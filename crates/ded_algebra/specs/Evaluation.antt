@@ -1,17 +1,18 @@
 -- What plans are evaluated over, and what an evaluation gives.
-use Rattle.std.specs.Prelude.{◌≡◌, ◌↔◌, ℕ, Bool, true, false, IsTrue, Option, Some, None, List, [], ◌∷◌}
+use Rattle.std.specs.Prelude.{◌≡◌, ◌↔◌, ◌&&◌, ◌||◌, ◌++◌, ℕ, Bool, true, false, IsTrue, Option, Some, None, List, [], ◌∷◌}
 use Rattle.std.specs.Str.{bytes_eq}
 use Rattle.std.specs.List.{list_any, AllByRecursion}
 use Rattle.ded_model.specs.declared.slot.Slot.{Slot}
 use Rattle.ded_model.specs.declared.name.Column.{Column}
 use Rattle.ded_model.specs.Point.{slot, Point, IsPoint}
-use Rattle.ded_model.specs.Row.{Atom}
+use Rattle.ded_model.specs.Row.{Atom, tuple_holds, tuple_mentions}
 use Rattle.ded_model.specs.Known.{IsTupleOver}
+use Rattle.ded_model.specs.Normal.{IsNormalTuple}
 use Rattle.ded_model.specs.Catalogue.{Entry, relation, view, Catalogue, entry_name, tuples_of, GivenHolds}
 use Rattle.ded_model.specs.Entries.{entry_of, relation_in}
 use Rattle.ded_model.specs.Logic.{AllAtoms}
 use Rattle.ded_model.specs.PlanForm.{PlanAtom, scan, rows, PlanForm, plan_mentions}
-use Rattle.ded_model.specs.Lines.{Line, IsSubset}
+use Rattle.ded_model.specs.Lines.{Line, IsSubset, atoms_lines}
 use Rattle.ded_model.specs.Measure.{stored_measures, plan_lines}
 use Rattle.std.specs.Option.{option_map}
 
@@ -56,15 +57,27 @@ IsAnyAtom a = Unit {0}
 
 -- ---- what is given back
 
--- what holds at points, mentions slots and has lines holds exactly where the plan does over the given relations, mentions only slots that
--- the plan mentions freely, and has lines among the plan's
-pub record IsEvaluation (c : Catalogue) (f : PlanForm) (test : Point → Bool) (used : Slot → Bool) (ls : List Line) : Type 0 where
-  pub holds : (p : Point) → IsPoint p → IsTrue (test p) ↔ GivenHolds c f p
-  pub slots : (s : Slot) → used s ≡ true → plan_mentions f (slot s) ≡ true
-  pub lines : IsSubset ls (plan_lines (stored_measures c) f)
-
--- the same, but what it holds at is said of points inside alone
+-- what holds at points, mentions slots and has lines holds, of the points inside, exactly where the plan does over the given
+-- relations, mentions only slots that the plan mentions freely, and has lines among the plan's
 pub record IsEvaluationWithin (c : Catalogue) (f : PlanForm) (inside : Point → Bool) (test : Point → Bool) (used : Slot → Bool) (ls : List Line) : Type 0 where
   pub holds : (p : Point) → IsPoint p → inside p ≡ true → IsTrue (test p) ↔ GivenHolds c f p
   pub slots : (s : Slot) → used s ≡ true → plan_mentions f (slot s) ≡ true
   pub lines : IsSubset ls (plan_lines (stored_measures c) f)
+
+-- the same, where all points are inside
+abbrev pub IsEvaluation : Catalogue → PlanForm → (Point → Bool) → (Slot → Bool) → List Line → Type 0
+IsEvaluation c f test used ls = IsEvaluationWithin c f (λ p. true) test used ls
+
+-- ---- two tuples
+
+-- the tuple holds where both do, is normal, mentions only slots that one of them mentions, and has lines among theirs
+pub record IsOfBoth (t u both : List Atom) : Type 0 where
+  pub holds : (p : Point) → IsPoint p → tuple_holds both p ≡ (tuple_holds t p && tuple_holds u p)
+  pub normal : IsNormalTuple both
+  pub slots : (s : Slot) → tuple_mentions both s ≡ true → (tuple_mentions t s || tuple_mentions u s) ≡ true
+  pub lines : IsSubset (atoms_lines both) (atoms_lines t ++ atoms_lines u)
+
+-- the tuple of both, or none where they hold nowhere together
+abbrev pub IsMet : List Atom → List Atom → Option (List Atom) → Type 0
+IsMet t u None = (p : Point) → IsPoint p → (tuple_holds t p && tuple_holds u p) ≡ false
+IsMet t u (Some both) = IsOfBoth t u both

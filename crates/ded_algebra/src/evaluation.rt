@@ -4,11 +4,11 @@ ghost use Rattle.std.specs.Option.{option_map};
 ghost use Rattle.ded_model.specs.declared.memory.Refused.TheVariants.{Wide};
 ghost use Rattle.ded_model.specs.Catalogue.{Catalogue};
 ghost use Rattle.ded_model.specs.PlanForm.{plan_form};
-ghost use Rattle.ded_model.specs.Row.{tuples_hold, tuples_mention};
+ghost use Rattle.ded_model.specs.Row.{tuple_holds, tuples_hold, tuples_mention};
 ghost use Rattle.ded_model.specs.Lines.{tuples_lines};
 ghost use Rattle.ded_model.specs.Measure.{stored_measures, plan_clashes};
 ghost use Rattle.ded_hull.specs.Windows.{AreLent, lent};
-ghost use Rattle.ded_algebra.specs.Evaluation.{AreGiven, given_tuples, IsAnyAtom, IsEvaluable, IsEvaluation};
+ghost use Rattle.ded_algebra.specs.Evaluation.{AreGiven, given_tuples, IsAnyAtom, IsEvaluable, IsEvaluation, IsEvaluationWithin, IsMet};
 
 use ded_hull::Window;
 use ded_model::memory::{NoMemory, Refused};
@@ -61,4 +61,28 @@ pub trait Evaluate {
         requires { IsEvaluable IsAnyAtom (R.catalogue relations.now) (plan_form plan.now) }
         ensures is { IfOk result (λ ts. IsEvaluation (R.catalogue relations.now) (plan_form plan.now) (tuples_hold ts) (tuples_mention ts) (tuples_lines ts)) }
         ensures wide { IsErrOf result Wide → plan_clashes (stored_measures (R.catalogue relations.now)) (plan_form plan.now) ≡ true };
+
+    /// Normal tuples as those of [`Evaluate::evaluate`], which hold exactly where the plan does at each point at which the tuple
+    /// `within` holds, and anywhere else maybe not.
+    ///
+    /// # Errors
+    /// As [`Evaluate::evaluate`].
+    fn evaluate_within<R: Relations>(
+        &self,
+        alloc: Global,
+        plan: &Plan,
+        relations: &R,
+        within: &Tuple,
+    ) -> Result<Tuples, Refused>
+        requires { IsEvaluable IsAnyAtom (R.catalogue relations.now) (plan_form plan.now) }
+        ensures is { IfOk result (λ ts. IsEvaluationWithin (R.catalogue relations.now) (plan_form plan.now) (tuple_holds within.now) (tuples_hold ts) (tuples_mention ts) (tuples_lines ts)) }
+        ensures wide { IsErrOf result Wide → plan_clashes (stored_measures (R.catalogue relations.now)) (plan_form plan.now) ≡ true };
+
+    /// The tuple of the points at which both tuples hold, in normal form and without atoms that its others imply. It mentions only
+    /// slots that one of the two mentions, and has lines among theirs. None only where they hold nowhere together.
+    ///
+    /// # Errors
+    /// Out of memory.
+    fn meet(&self, alloc: Global, first: &Tuple, second: &Tuple) -> Result<Option<Tuple>, NoMemory>
+        ensures { IfOk result (IsMet first.now second.now) };
 }

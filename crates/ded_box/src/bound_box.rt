@@ -1,6 +1,6 @@
 //! Boxes.
 ghost use Rattle.std.specs.Prelude.{◌≡◌, ◌↔◌, IsTrue, IfOk, length};
-ghost use Rattle.ded_box.specs.Boxes.{AreIntervals, Shared, IsCover, boxes_meet, has_values, hull};
+ghost use Rattle.ded_box.specs.Boxes.{AreIntervals, Shared, IsCover, boxes_meet, has_values, hull, hulls};
 
 use crate::interval::{Side, checked, intervals_meet, may_meet, wider};
 use ded_model::bound::Bound;
@@ -101,11 +101,29 @@ pub fn cover(alloc: Global, a: &BoundBox, b: &BoundBox) -> Result<BoundBox, NoMe
     if !are_full(second) {
         return a.copy();
     }
+    Ok(BoundBox {
+        list: hulls(alloc, first, second)?,
+    })
+}
+
+/// At each place the least interval that contains the intervals of both lists, as far as both lists go; none of them is empty.
+///
+/// # Errors
+/// Out of memory.
+pub fn hulls(
+    alloc: Global,
+    first: &[(Bound, Bound)],
+    second: &[(Bound, Bound)],
+) -> Result<Vec<(Bound, Bound)>, NoMemory>
+    ensures { IfOk result (λ v. v.items ≡ hulls first.now second.now) }
+{
     let mut list = Vec::with_capacity(alloc, first.len())?;
-    for i in 0..first.len() {
-        list.push(hull(&first[i], &second[i]))?;
+    for (i, span) in first.iter().enumerate() {
+        if i < second.len() {
+            list.push(hull(span, &second[i]))?;
+        }
     }
-    Ok(BoundBox { list })
+    Ok(list)
 }
 
 /// Whether none of the intervals is empty.

@@ -11,5 +11,5 @@
 mod bound_box;
 mod interval;
 
-pub use bound_box::{BoundBox, cover, meets};
+pub use bound_box::{BoundBox, cover, hulls, meets};
 pub use interval::{Side, checked, intervals_meet, may_meet, narrower, wider};

@@ -20,7 +20,6 @@ use Rattle.std.specs.List.{list_all}
 use Rattle.ded_catalog.specs.Relations.{IsEntryOf, IsIndex, Indexes}
 use Rattle.ded_catalog.specs.Tuples.{AreUpTo}
 use Rattle.ded_catalog.proofs.Numbers.{above_none, found_numbered, cut}
-use Rattle.ded_catalog.proofs.Picked.{Misses}
 use Rattle.ded_model.proofs.Bools.{or_false_left, or_false_right}
 
 -- ---- some element, by place
@@ -155,13 +154,25 @@ taken_out k es ts us present is gone h =
     let free : IsFree k us = free_from k us (sym (found_numbered k us) ∙ ap is_some gone) in
     subst (IsIndex (without k es)) (sym split) (removed k es c.before c.after c.tuple (subst (IsFree k) split free) (subst (IsIndex es) c.was h))
 
+-- no tuple has the number then, and what is true of each tuple stays so
+pub taken_free : (k : ℕ) (ts us : List (ℕ × List Atom)) → list_any (λ t. t.0 == k) ts ≡ true → us ≡ remove_entry (is_at (nat_cmp k)) ts → lookup (is_at (nat_cmp k)) us ≡ None
+    → IsFree k us × ((P : ℕ × List Atom → Type 0) → Every P ts → Every P us)
+taken_free k ts us present is gone =
+    let c = cut ts k present in
+    let split : us ≡ c.before ++ c.after = is ∙ c.is in
+    (free_from k us (sym (found_numbered k us) ∙ ap is_some gone), λ P h. subst (Every P) (sym split) (part P c.before c.after (k, c.tuple) (subst (Every P) c.was h)))
+  where
+    part : (P : ℕ × List Atom → Type 0) (before after : List (ℕ × List Atom)) (t : ℕ × List Atom) → Every P (before ++ t ∷ after) → Every P (before ++ after)
+    part P [] after t h = h.1
+    part P (b ∷ bs) after t h = (h.0, part P bs after t h.1)
+
 -- ---- what is found
 
 apart_from : (a b : Bool) → (a ≡ true → b ≡ true → ⊥) → b ≡ true → a ≡ false
 apart_from true b h e = absurd (h refl e)
 apart_from false b h e = refl
 
-missed : (w : Window) (es : List Entry) (ids : List ℕ) (t : ℕ × List Atom) → IsComplete w.limits.items es ids → Some (IsEntryOf t) es → (Contains ids t.0 → ⊥) → IsMissed w t.1
+pub missed : (w : Window) (es : List Entry) (ids : List ℕ) (t : ℕ × List Atom) → IsComplete w.limits.items es ids → Some (IsEntryOf t) es → (Contains ids t.0 → ⊥) → IsMissed w t.1
 missed w es ids t complete some none p is within = apart_from (tuple_holds t.1 p) true (λ holds e. none (there es (complete (column_value p) p.den is.positive met) some holds)) refl
   where
     met : are_met (column_value p) p.den w.limits.items ≡ true
@@ -171,6 +182,3 @@ missed w es ids t complete some none p is within = apart_from (tuple_holds t.1 p
     there [] c s h = absurd s
     there (e ∷ es) c (inl s) h = subst (Contains ids) s.0 (c.0 (s.1 p is h))
     there (e ∷ es) c (inr s) h = there es c.1 s h
-
-pub misses : (w : Window) (es : List Entry) (ids : List ℕ) (ts : List (ℕ × List Atom)) → IsComplete w.limits.items es ids → IsIndex es ts → Misses w (Contains ids) ts
-misses w es ids ts complete h = every_by _ _ ts (λ t s none. missed w es ids t complete s none) h.all

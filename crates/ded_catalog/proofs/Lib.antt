@@ -1,8 +1,11 @@
 pub mod Agreeing
+pub mod Bounded
 pub mod Calls
+pub mod Coded
 pub mod Copies
 pub mod Gathering
 pub mod Indexed
+pub mod Indexing
 pub mod Keeping
 pub mod Levels
 pub mod Lookups

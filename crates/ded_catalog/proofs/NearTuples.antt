@@ -11,7 +11,8 @@ use Rattle.ded_model.specs.Row.{Atom}
 use Rattle.ded_hull.specs.declared.window.Window.{Window}
 use Rattle.ded_hull.specs.Windows.{IsMissed, IsNear, AreLent}
 use Rattle.ded_hull.proofs.Found.{taken_more}
-use Rattle.ded_hull.proofs.Near.{sifted_append, near_append, near_same}
+use Rattle.ded_model.proofs.Sublists.{sublist_append}
+use Rattle.ded_hull.proofs.Near.{near_append, near_same}
 use Rattle.ded_catalog.specs.Changing.{Change, changed, inserted_in, deleted_in, is_left_out, without_number, with_last}
 use Rattle.ded_catalog.specs.Nearby.{AreNear, AreFound, AddsNear, with_number, picked}
 use Rattle.ded_catalog.proofs.SnapshotTuples.{read_with, tuples-changed}
@@ -23,7 +24,7 @@ pub adds_step : (w : Window) (old new : List (ℕ × List Atom)) (t : ℕ × Lis
     → ((rest : List (ℕ × List Atom)) → AreNear w rest before → AreNear w (old ++ rest) all) → (rest : List (ℕ × List Atom)) → AreNear w rest left → AreNear w (new ++ rest) all
 adds_step w old new t before left all e a so_far rest n =
     subst (λ us. AreNear w us all) (sym (append_assoc old a.more rest) ∙ ap (λ us. us ++ rest) (sym a.list))
-    (so_far (a.more ++ rest) (subst (AreNear w (a.more ++ rest)) (sym e) (sifted_append (λ u. IsMissed w u.1) a.more (t ∷ []) rest left a.near n)))
+    (so_far (a.more ++ rest) (subst (AreNear w (a.more ++ rest)) (sym e) (sublist_append (λ u. IsMissed w u.1) a.more (t ∷ []) rest left a.near n)))
 
 pub adds_end : (w : Window) (old left all : List (ℕ × List Atom)) → left ≡ [] → ((rest : List (ℕ × List Atom)) → AreNear w rest left → AreNear w (old ++ rest) all) → AreNear w old all
 adds_end w old left all e so_far = subst (λ us. AreNear w us all) (append-nil old) (so_far [] (subst (AreNear w []) (sym e) refl))
@@ -38,7 +39,7 @@ pub picked_more : (w : Window) (is : List ℕ) (k i : ℕ) (ts old new : List (�
 picked_more w is k i ts old new o h e f a n =
     let more : picked (take (k + 1) is) ts ≡ picked (take k is) ts ++ with_number i o =
     ap (λ js. picked js ts) (taken_more is k 0 h ∙ ap (λ x. take k is ++ x ∷ []) (sym e)) ∙ picked-append (take k is) (i ∷ []) ts ∙ ap (λ us. picked (take k is) ts ++ us) (append-nil (with_number i (lookup (is_at (nat_cmp i)) ts)) ∙ ap (with_number i) (sym f)) in
-    subst (AreNear w new) (sym more) (subst (λ us. AreNear w us (picked (take k is) ts ++ with_number i o)) (sym a.list) (sifted_append (λ u. IsMissed w u.1) old (picked (take k is) ts) a.more (with_number i o) n a.near))
+    subst (AreNear w new) (sym more) (subst (λ us. AreNear w us (picked (take k is) ts ++ with_number i o)) (sym a.list) (sublist_append (λ u. IsMissed w u.1) old (picked (take k is) ts) a.more (with_number i o) n a.near))
 
 -- ---- after a change
 

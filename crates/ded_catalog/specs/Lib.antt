@@ -2,10 +2,12 @@ pub mod Changed
 pub mod Changing
 pub mod Conditions
 pub mod Copies
+pub mod Ends
 pub mod Forms
 pub mod Mentions
 pub mod Nearby
 pub mod Relations
 pub mod Snapshots
 pub mod State
+pub mod Texts
 pub mod Tuples

@@ -5,8 +5,9 @@ use Rattle.std.specs.Borrow.{Bor}
 use Rattle.std.specs.Map.{lookup}
 use Rattle.std.specs.Ordering.{nat_cmp}
 use Rattle.ded_model.specs.Row.{Atom}
+use Rattle.ded_model.specs.Sublists.{IsSublistWithout}
 use Rattle.ded_hull.specs.declared.window.Window.{Window}
-use Rattle.ded_hull.specs.Windows.{IsMissed, IsSifted}
+use Rattle.ded_hull.specs.Windows.{IsMissed}
 
 -- the tuples behind references, with their numbers
 abbrev pub numbered : List (ℕ × Bor (List Atom)) → List (ℕ × List Atom)
@@ -14,7 +15,7 @@ numbered ts = map (λ t. (t.0, t.1.now)) ts
 
 -- the first list is the second one without tuples that hold nowhere in the window
 abbrev pub AreNear : Window → List (ℕ × List Atom) → List (ℕ × List Atom) → Type 0
-AreNear w found ts = IsSifted (λ t. IsMissed w t.1) found ts
+AreNear w found ts = IsSublistWithout (λ t. IsMissed w t.1) found ts
 
 -- the same, where there may be no lists
 abbrev pub AreFound : Window → Option (List (ℕ × List Atom)) → Option (List (ℕ × List Atom)) → Type 0

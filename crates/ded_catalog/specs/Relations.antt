@@ -1,11 +1,17 @@
 -- What a relation of the program is seen as, and the index of its tuples.
 use Rattle.std.specs.Prelude.{◌≡◌, ℕ, List, ◌∷◌}
-use Rattle.std.specs.List.Sorted.{IsPermutation}
+use Rattle.std.specs.List.{Contains}
+use Rattle.std.specs.List.Sorted.{IsPermutation, IsStrictlyIncreasing}
 use Rattle.ded_model.specs.declared.name.Column.{Column}
 use Rattle.ded_model.specs.Row.{Atom, tuple_holds}
 use Rattle.ded_model.proofs.Lists.{Every, Some}
 use Rattle.ded_hull.specs.declared.entry.Entry.{Entry}
+use Rattle.ded_hull.specs.declared.window.Window.{Window}
+use Rattle.ded_hull.specs.Entries.{without}
 use Rattle.ded_hull.specs.Tuples.{IsReachOf}
+use Rattle.ded_hull.specs.Windows.{IsMissed}
+use Rattle.ded_catalog.specs.declared.index.Index.{Index}
+use Rattle.ded_catalog.specs.Texts.{IsThere, Keeps}
 
 -- tuples with their numbers
 pub record Numbered : Type 0 where
@@ -31,3 +37,40 @@ pub record Indexes (t : ℕ × List Atom) (old new : List Entry) : Type 0 where
   pub entry : Entry
   pub is : IsEntryOf t entry
   pub list : IsPermutation (entry ∷ old) new
+
+-- the index has the reach of each tuple, and the keys of its texts
+pub record IsIndexOf (cs : List Column) (x : Index) (ts : List (ℕ × List Atom)) : Type 0 where
+  pub reaches : IsIndex x.hulls ts
+  pub texts : Every (IsThere x.texts.keys cs x.texts.set) ts
+
+-- ---- what is done with an index
+
+-- the same reaches in some order, and the same keys
+pub record IsCopied (old new : Index) : Type 0 where
+  pub reaches : IsPermutation old.hulls new.hulls
+  pub keys : new.texts.keys ≡ old.texts.keys
+  pub set : new.texts.set.keys ≡ old.texts.set.keys
+
+-- the tuple is in the index, beside what was there
+pub record IsIndexed (cs : List Column) (t : ℕ × List Atom) (old new : Index) : Type 0 where
+  pub reaches : Indexes t old.hulls new.hulls
+  pub keys : new.texts.keys ≡ old.texts.keys
+  pub there : IsThere old.texts.keys cs new.texts.set t
+  pub keeps : Keeps t.0 old.texts.set new.texts.set
+
+-- all but what has the number is in the index
+pub record IsUndone (k : ℕ) (old new : Index) : Type 0 where
+  pub reaches : new.hulls ≡ old.hulls
+  pub keys : new.texts.keys ≡ old.texts.keys
+  pub keeps : Keeps k old.texts.set new.texts.set
+
+-- what has the number is out of the index
+pub record IsUnindexed (k : ℕ) (old new : Index) : Type 0 where
+  pub reaches : new.hulls ≡ without k old.hulls
+  pub keys : new.texts.keys ≡ old.texts.keys
+  pub keeps : Keeps k old.texts.set new.texts.set
+
+-- the numbers ascend, and a tuple of the index whose number isn't among them holds nowhere in the window
+pub record Finds (w : Window) (cs : List Column) (x : Index) (ids : List ℕ) : Type 0 where
+  pub ascending : IsStrictlyIncreasing ids
+  pub missed : (t : ℕ × List Atom) → Some (IsEntryOf t) x.hulls → IsThere x.texts.keys cs x.texts.set t → (Contains ids t.0 → ⊥) → IsMissed w t.1

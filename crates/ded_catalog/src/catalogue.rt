@@ -6,10 +6,10 @@ mod names;
 mod reads;
 
 use crate::hashing::NameHashing;
+use crate::index::Index;
 use crate::mentions::mentioned;
 use crate::stored::{Relation, Stored, View};
 use crate::table::{Table, add, delete_from, insert_into, level_in, take_out};
-use ded_hull::Hulls;
 use ded_model::command::Refusal;
 use ded_model::formula::Formula;
 use ded_model::goal::Goal;
@@ -119,7 +119,7 @@ impl Catalogue {
             heading,
             inserts,
             tuples,
-            hulls: Hulls::new(alloc),
+            index: Index::new(alloc, self.names.hasher().keys),
         });
         add(&mut self.names, name, relation)
     }

@@ -39,7 +39,7 @@ fn copy_relation(relation: &Relation) -> Result<Relation, NoMemory>
         heading: relation.heading.copy()?,
         inserts: relation.inserts,
         tuples: copy_tuples(alloc, &relation.tuples)?,
-        hulls: relation.hulls.copy(alloc)?,
+        index: relation.index.copy(alloc)?,
     })
 }
 

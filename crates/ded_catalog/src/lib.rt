@@ -10,23 +10,28 @@
 //! what depends on the relations can be made anew before the change is. It borrows the catalogue and copies nothing. Contracts
 //! see it as the catalogue that it stands for, which is well formed, and which is the one that the insert or the delete makes.
 //!
-//! Beside its tuples a relation keeps an index of their reaches. So the tuples that may hold in a window are looked up and lent, where
-//! it has limits, and all others are passed over. Contracts don't see the index: they say that no tuple is lost that holds somewhere in
-//! the window.
+//! Beside its tuples a relation keeps an index of their reaches, and of the texts that they fix in their columns. So the tuples that may
+//! hold in a window are looked up and lent, where it has limits or a text that few of them may have, and all others are passed over.
+//! Contracts don't see the index: they say that no tuple is lost that holds somewhere in the window. A region that is bound by slanted
+//! rows alone is kept by its exact bounds.
 //!
-//! It stands on `ded_sorts` for what is known of names and what changes them, on `ded_hull` for the index, and on `indexmap`.
+//! It stands on `ded_sorts` for what is known of names and what changes them, on `ded_hull` and `ded_linear` for the reaches, and on `indexmap`.
 #![tactic(auto)]
 
 mod catalogue;
 mod change;
 mod copying;
+mod ends;
 mod finding;
+mod fixed;
 mod hashing;
+mod index;
 mod mentions;
 mod relation;
 mod snapshot;
 mod stored;
 mod table;
+mod texts;
 
 pub use catalogue::Catalogue;
 pub use snapshot::Snapshot;

@@ -1,18 +1,20 @@
 //! Relations: their tuples, found by number.
-ghost use Rattle.std.specs.Prelude.{◌≡◌, ◌==◌, ◌+◌, ◌<◌, ◌^◌, ◌++◌, ◌∷◌, [], true, None, IfOk, IfErr, OnOk, OnErr};
+ghost use Rattle.std.specs.Prelude.{◌≡◌, ◌==◌, ◌+◌, ◌<◌, ◌^◌, ◌++◌, ◌∷◌, [], true, None, IfOk, IfErr, OnErr};
 ghost use Rattle.std.specs.List.{list_any};
 ghost use Rattle.std.specs.Option.{unwrap_or};
 ghost use Rattle.ded_model.specs.declared.command.Refusal.TheVariants.{Memory};
 ghost use Rattle.ded_catalog.specs.Nearby.{numbered, AreNear};
-ghost use Rattle.ded_catalog.specs.Relations.{IsIndex, Indexes};
+ghost use Rattle.ded_catalog.specs.Relations.{IsIndexOf};
 ghost use Rattle.ded_catalog.specs.Tuples.{AreUpTo, refusal_of, IsSame, Pushes, Removes};
 
 use crate::finding::{looked_up, sifted};
+use crate::index::Index;
 use crate::stored::Relation;
-use ded_hull::{Hulls, Sieve, Window, reach_of};
+use ded_hull::{Sieve, Window};
 use ded_model::command::Refusal;
 use ded_model::limits;
 use ded_model::memory::NoMemory;
+use ded_model::name::Heading;
 use ded_model::tuple::Tuple;
 use std::alloc::{AllocError, Global};
 use std::collections::BTreeMap;
@@ -45,13 +47,12 @@ impl Relation {
         if let Some(refusal) = self.refusal(limit) {
             return Err(refusal);
         }
-        let width = self.heading.columns.len();
         match push_next(
             &mut self.tuples,
-            &mut self.hulls,
+            &mut self.index,
+            &self.heading,
             self.inserts,
             tuple,
-            width,
         ) {
             Ok(number) => {
                 self.inserts = number;
@@ -76,8 +77,9 @@ impl Relation {
         ensures { Removes self.old self.new number }
     {
         prove!(number <= u64::from(self.inserts));
-        let _ = self.tuples.remove(&(number as u32));
-        self.hulls.remove(number as u32);
+        if let Some(tuple) = self.tuples.remove(&(number as u32)) {
+            self.index.remove(&self.heading, number as u32, &tuple);
+        }
     }
 
     /// The tuples that may hold in the window, with their numbers, in ascending order of these.
@@ -92,51 +94,40 @@ impl Relation {
         ensures { IfOk result (λ found. AreNear window.now (numbered found.items) self.now.tuples.entries) }
     {
         let sieve = Sieve::new(alloc, window)?;
-        if window.limits.is_empty() {
-            return sifted(alloc, &self.tuples, &sieve);
+        let count = self.tuples.len(); // for the order of the numbers too
+        match self.index.find(alloc, &self.heading, window, count)? {
+            Some(numbers) => looked_up(alloc, &self.tuples, &numbers, &sieve),
+            None => sifted(alloc, &self.tuples, &sieve),
         }
-        let numbers = self.hulls.find(alloc, &window.limits)?;
-        let _ = self.tuples.len(); // for the order of the numbers
-        looked_up(alloc, &self.tuples, &numbers, &sieve)
     }
 }
 
-/// Puts the tuple, over so many columns, under the number after the last one, and its reach into the index.
+/// Puts the tuple, over the columns, under the number after the last one, and into the index.
 ///
 /// # Errors
 /// Out of memory; the tuples stay as they are then, and the index is one of them.
 fn push_next(
     tuples: &mut BTreeMap<u32, Tuple>,
-    hulls: &mut Hulls,
+    index: &mut Index,
+    heading: &Heading,
     last: u32,
     tuple: Tuple,
-    width: usize,
 ) -> Result<u32, NoMemory>
     requires room { last + 1 < 2 ^ 32 }
     requires numbers { AreUpTo last tuples.old.entries }
-    requires index { IsIndex hulls.old tuples.old.entries }
+    requires index { IsIndexOf heading.now index.old tuples.old.entries }
     ensures number { IfOk result (λ k. k ≡ last + 1) }
     ensures pushed { IfOk result (λ k. tuples.new.entries ≡ tuples.old.entries ++ (k, tuple) ∷ []) }
     ensures unchanged { OnErr result (tuples.new.entries ≡ tuples.old.entries) }
-    ensures index { IsIndex hulls.new tuples.new.entries }
+    ensures index { IsIndexOf heading.now index.new tuples.new.entries }
 {
     let number = last + 1;
-    index(hulls, number, &tuple, width)?;
-    if tuples.insert(number, tuple).is_err() {
-        hulls.remove(number);
-        return Err(AllocError);
+    index.insert(heading, number, &tuple)?;
+    match tuples.insert(number, tuple) {
+        Ok(_) => Ok(number),
+        Err(failed) => {
+            index.remove(heading, number, &failed.value.1);
+            Err(AllocError)
+        }
     }
-    Ok(number)
-}
-
-/// Puts the reach of the tuple, over so many columns, under the number.
-///
-/// # Errors
-/// Out of memory; nothing is changed then.
-fn index(hulls: &mut Hulls, number: u32, tuple: &Tuple, width: usize) -> Result<(), NoMemory>
-    ensures indexed { OnOk result (Indexes (number, tuple.now) hulls.old hulls.new) }
-    ensures unchanged { OnErr result (hulls.new ≡ hulls.old) }
-{
-    let reach = reach_of(*tuple.atoms.allocator(), tuple, width)?;
-    hulls.insert(number, reach)
 }

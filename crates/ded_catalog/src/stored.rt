@@ -4,7 +4,7 @@ ghost use Rattle.std.specs.List.{list_any};
 ghost use Rattle.std.specs.Option.{unwrap_or};
 ghost use Rattle.ded_model.specs.declared.command.Refusal.TheVariants.{Memory};
 
-use ded_hull::Hulls;
+use crate::index::Index;
 use ded_model::command::Refusal;
 use ded_model::formula::Formula;
 use ded_model::goal::Goal;
@@ -13,24 +13,24 @@ use ded_model::tuple::Tuple;
 use std::collections::BTreeMap;
 use std::marker::Model;
 
-/// A relation: its heading, how many inserts it has accepted, its tuples by their numbers, and an index of the reaches of these.
-/// Contracts see all but the index, in which each tuple has an entry under its number.
+/// A relation: its heading, how many inserts it has accepted, its tuples by their numbers, and an index of these. Contracts see all
+/// but the index, in which each tuple has its reach under its number, and the keys of its texts.
 #[derive(Drop)]
 pub(crate) struct Relation {
     pub(crate) heading: Heading,
     pub(crate) inserts: u32,
     pub(crate) tuples: BTreeMap<u32, Tuple>,
-    pub(crate) hulls: Hulls,
+    pub(crate) index: Index,
 }
 
 impl Model for Relation {
-    ghost use Rattle.ded_catalog.specs.Relations.{Relation, IsIndex};
+    ghost use Rattle.ded_catalog.specs.Relations.{Relation, IsIndexOf};
 
     ghost Value = { Relation };
 
     ghost view = { λ r. record { heading = r.heading; inserts = r.inserts; tuples = record { entries = r.tuples.entries } } };
 
-    ghost invariant = { λ r. IsIndex r.hulls r.tuples.entries };
+    ghost invariant = { λ r. IsIndexOf r.heading r.index r.tuples.entries };
 }
 
 /// A view: its heading, its formula as written, the goal of that, its level, and the names that the formula speaks of, each

@@ -1,7 +1,9 @@
 mod Adding
+mod Beside
 pub mod Closing
 mod Listing
 pub mod ListsStaying
+mod Losing
 mod Marking
 pub mod MarksOfViews
 mod NamesOfMarks
@@ -10,7 +12,9 @@ pub mod ReachedNames
 mod Ready
 mod Removal
 pub mod Renewal
+mod Rowless
 mod Staying
+mod Told
 pub mod Under
 pub mod UsedNames
 mod Views

@@ -1,5 +1,5 @@
 -- A change of what a relation holds.
-use Rattle.std.specs.Prelude.{ℕ, Option, Some, None, List}
+use Rattle.std.specs.Prelude.{◌≡◌, ℕ, Option, Some, None, List}
 use Rattle.std.specs.Option.{option_map}
 use Rattle.ded_model.specs.Catalogue.{Catalogue}
 use Rattle.ded_model.specs.Known.{IsWellFormed}
@@ -8,6 +8,8 @@ use Rattle.ded_sorts.specs.Changes.{Inserts, Deletes}
 use Rattle.ded_catalog.specs.State.{catalogue_of}
 use Rattle.ded_catalog.specs.Snapshots.{snapshot_of}
 use Rattle.ded_database.specs.declared.change.Change.{Change}
+use Rattle.ded_database.specs.declared.change.Step.{Step}
+use Rattle.ded_database.specs.declared.change.Step.TheVariants.{Inserted, Deleted}
 
 -- the catalogue before the change, and after it
 abbrev pub before : Change → Catalogue
@@ -17,8 +19,20 @@ abbrev pub after : Change → Catalogue
 after x = snapshot_of x.snapshot.now
 
 -- the tuple that is inserted
+abbrev pub inserted_in : Step → Option (List Atom)
+inserted_in (Inserted t) = Some t.now
+inserted_in (Deleted o) = None
+
+-- the tuple that is deleted, where it is told
+abbrev pub deleted_in : Step → Option (List Atom)
+deleted_in (Inserted t) = None
+deleted_in (Deleted o) = option_map (λ t. t.now) o
+
 abbrev pub inserted_tuple : Change → Option (List Atom)
-inserted_tuple x = option_map (λ t. t.now) x.tuple
+inserted_tuple x = inserted_in x.step
+
+abbrev pub deleted_tuple : Change → Option (List Atom)
+deleted_tuple x = deleted_in x.step
 
 -- one tuple is inserted, or one is deleted
 abbrev pub ChangesTuple : Catalogue → Catalogue → List ℕ → Option (List Atom) → Type 0
@@ -37,3 +51,20 @@ pub record IsChange (c d : Catalogue) (n : List ℕ) (t : Option (List Atom)) : 
   pub formed_before : IsWellFormed c
   pub formed_after : IsWellFormed d
   pub changes : ChangesTuple c d n t
+
+-- both are well formed, and the second is the first without the tuple
+pub record IsDelete (c d : Catalogue) (n : List ℕ) (t : List Atom) : Type 0 where
+  pub formed_before : IsWellFormed c
+  pub formed_after : IsWellFormed d
+  pub number : ℕ
+  pub deletes : Deletes c d n number
+  pub tuple : deletes.tuple ≡ t
+
+-- where the tuple is told
+abbrev pub IsToldDelete : Catalogue → Catalogue → List ℕ → Option (List Atom) → Type 0
+IsToldDelete c d n None = Unit {0}
+IsToldDelete c d n (Some t) = IsDelete c d n t
+
+-- a delete of the number takes the tuple
+abbrev pub DeletesTuple : Catalogue → List ℕ → ℕ → List Atom → Type 0
+DeletesTuple c n k t = (d : Catalogue) → IsWellFormed d → Deletes c d n k → IsDelete c d n t

@@ -2,6 +2,7 @@ pub mod Changes
 pub mod Closed
 pub mod Held
 pub mod Keeping
+pub mod Lasting
 pub mod Marks
 pub mod Renewed
 pub mod State

@@ -4,11 +4,18 @@ use ded_catalog::{Catalogue, Snapshot};
 use ded_model::name::Name;
 use ded_model::tuple::Tuple;
 
-/// The catalogue before a change and as it will be, the relation's name, and the tuple that is inserted: none where one is deleted.
+/// The tuple that is inserted, or the one that is deleted, where it is told.
+#[derive(Clone, Copy)]
+pub enum Step<'b> {
+    Inserted(&'b Tuple),
+    Deleted(Option<&'b Tuple>),
+}
+
+/// The catalogue before a change and as it will be, the relation's name, and the tuple that comes or goes.
 #[derive(Clone, Copy)]
 pub struct Change<'a, 'b> {
     pub catalogue: &'b Catalogue,
     pub snapshot: &'a Snapshot<'b>,
     pub name: &'b Name,
-    pub tuple: Option<&'b Tuple>,
+    pub step: Step<'b>,
 }

@@ -1,5 +1,5 @@
 //! The list of a view to which a tuple only adds.
-ghost use Rattle.std.specs.Prelude.{◌≡◌, ◌++◌, ◌&&◌, not, true, Some, IfOk, IsErrOf, ℕ, List};
+ghost use Rattle.std.specs.Prelude.{◌≡◌, ◌&&◌, not, true, Some, IfOk, IsErrOf, ℕ, List};
 ghost use Rattle.std.specs.Str.{bytes_eq};
 ghost use Rattle.std.specs.List.{list_any, AllByRecursion};
 ghost use Rattle.ded_model.specs.declared.memory.Refused.TheVariants.{Wide};
@@ -17,7 +17,7 @@ use crate::laws;
 use crate::mark::Mark;
 use ded_algebra::Relations;
 use ded_eval::{Engine, Given, reduced};
-use ded_keep::add_tuple;
+use ded_keep::{add_tuple, put_behind};
 use ded_model::memory::{NoMemory, Refused};
 use ded_model::name::Name;
 use ded_model::plan::Plan;
@@ -27,7 +27,7 @@ use ded_query::{Over, give_names};
 use std::alloc::Global;
 
 /// The list of a view after a tuple is inserted that only adds to it: the list before, and behind it what the plan gives for the tuple
-/// alone. What is held is right over the catalogue as it will be, and stays as it is.
+/// alone, but for what the list is found to cover. What is held is right over the catalogue as it will be, and stays as it is.
 ///
 /// # Errors
 /// `Wide` only where the view clashes over the catalogue as it will be, otherwise out of memory. The list is lost then.
@@ -103,19 +103,8 @@ fn extended_over(
         &others,
     )?;
     let more = reduced(alloc, added)?;
-    Ok(joined(list, more)?)
-}
-
-/// The tuples of the first list, and behind them those of the second.
-///
-/// # Errors
-/// Out of memory.
-fn joined(list: Tuples, more: Tuples) -> Result<Tuples, NoMemory>
-    ensures { IfOk result (λ ts. ts ≡ list ++ more) }
-{
     let mut list = list.list;
-    let mut more = more.list;
-    list.append(&mut more)?;
+    put_behind(alloc, &Engine {}, &mut list, more)?;
     Ok(Tuples { list })
 }
 

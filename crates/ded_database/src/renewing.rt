@@ -7,15 +7,16 @@ ghost use Rattle.ded_eval.specs.Given.{has_name, without_name};
 ghost use Rattle.ded_database.specs.Marks.{mark_adds, IsMark};
 ghost use Rattle.ded_query.specs.Gathering.{IsFront, IsViewOf};
 ghost use Rattle.ded_views.specs.Reaching.{reaches};
-ghost use Rattle.ded_database.specs.Changes.{before, after, inserted_tuple, IsChange};
+ghost use Rattle.ded_database.specs.Changes.{before, after, inserted_tuple, deleted_tuple, IsChange, IsToldDelete};
 ghost use Rattle.ded_database.specs.Held.{IsHeld, held_under, is_marked, AreMarkedApart};
 ghost use Rattle.ded_database.specs.Renewed.{IsRenewed, AreRenewed};
 ghost use Rattle.ded_database.specs.Upkeep.{IsLonger};
 
-use crate::change::Change;
+use crate::change::{Change, Step};
 use crate::extending::extended;
 use crate::laws;
 use crate::mark::Mark;
+use crate::shortening::list_without;
 use ded_eval::{Given, GivenRelation};
 use ded_model::memory::{NoMemory, Refused};
 use ded_model::tuple::Tuples;
@@ -36,6 +37,7 @@ pub(crate) fn renew_all(
     added: &mut u64,
 ) -> Result<(), NoMemory>
     requires change { IsChange (before change.now) (after change.now) change.now.name.now (inserted_tuple change.now) }
+    requires told { IsToldDelete (before change.now) (after change.now) change.now.name.now (deleted_tuple change.now) }
     requires marks { AllByRecursion (IsMark (before change.now)) marks.now }
     requires apart { AreMarkedApart marks.now }
     requires held { AllByRecursion (IsHeld (after change.now)) held.old }
@@ -66,6 +68,7 @@ fn renew(
     added: &mut u64,
 ) -> Result<(), NoMemory>
     requires change { IsChange (before change.now) (after change.now) change.now.name.now (inserted_tuple change.now) }
+    requires told { IsToldDelete (before change.now) (after change.now) change.now.name.now (deleted_tuple change.now) }
     requires mark { IsMark (before change.now) mark.now }
     requires held { AllByRecursion (IsHeld (after change.now)) held.old }
     requires stale { AllByRecursion (IsHeld (before change.now)) stale.old }
@@ -83,8 +86,8 @@ fn renew(
     }
 }
 
-/// The list of one view after the change: the list before, extended, where there is one and the change only adds to it, and else what its
-/// plan is evaluated to. What is held stays as it is.
+/// The list of one view after the change: where there is a list before, and the tuple that comes or goes takes part once, that list,
+/// extended or without what the tuple gave, and else what its plan is evaluated to. What is held stays as it is.
 ///
 /// # Errors
 /// `Wide` only where the view clashes over the catalogue as it will be, otherwise out of memory.
@@ -97,6 +100,7 @@ fn new_list(
     added: &mut u64,
 ) -> Result<Tuples, Refused>
     requires change { IsChange (before change.now) (after change.now) change.now.name.now (inserted_tuple change.now) }
+    requires told { IsToldDelete (before change.now) (after change.now) change.now.name.now (deleted_tuple change.now) }
     requires mark { IsMark (before change.now) mark.now }
     requires list { IfSome list (λ r. IsViewOf (before change.now) mark.now.name r.tuples) }
     requires held { AllByRecursion (IsHeld (after change.now)) held.old }
@@ -105,12 +109,67 @@ fn new_list(
     ensures held { held.new ≡ held.old }
     ensures wide { IsErrOf result Wide → (measures (after change.now) mark.now.name).clash ≡ true }
 {
-    match (change.tuple, list) {
-        (Some(tuple), Some(list)) if mark.adds(change.name) => {
-            let tuples = extended(alloc, change, tuple, mark, list.tuples, held)?;
+    match list {
+        Some(list) if mark.adds(change.name) => {
+            followed(alloc, change, mark, list.tuples, held, added)
+        }
+        _ => anew(alloc, change, mark, held),
+    }
+}
+
+/// The list of one view in which the tuple that comes or goes takes part once, after the change: extended, or without what the tuple gave.
+/// Where a tuple goes that isn't told, it is what the plan is evaluated to. What is held stays as it is.
+///
+/// # Errors
+/// `Wide` only where the view clashes over the catalogue as it will be, otherwise out of memory. The list is lost then.
+fn followed(
+    alloc: Global,
+    change: &Change<'_, '_>,
+    mark: &Mark,
+    list: Tuples,
+    held: &mut Given,
+    added: &mut u64,
+) -> Result<Tuples, Refused>
+    requires change { IsChange (before change.now) (after change.now) change.now.name.now (inserted_tuple change.now) }
+    requires told { IsToldDelete (before change.now) (after change.now) change.now.name.now (deleted_tuple change.now) }
+    requires mark { IsMark (before change.now) mark.now }
+    requires adds { mark_adds mark.now change.now.name.now ≡ true }
+    requires list { IsViewOf (before change.now) mark.now.name list }
+    requires held { AllByRecursion (IsHeld (after change.now)) held.old }
+    ensures is { IfOk result (IsViewOf (after change.now) mark.now.name) }
+    ensures longer { is_some (inserted_tuple change.now) ≡ true → IfOk result (IsLonger list) }
+    ensures held { held.new ≡ held.old }
+    ensures wide { IsErrOf result Wide → (measures (after change.now) mark.now.name).clash ≡ true }
+{
+    match change.step {
+        Step::Inserted(tuple) => {
+            let tuples = extended(alloc, change, tuple, mark, list, held)?;
             *added = added.saturating_add(1);
             Ok(tuples)
         }
-        _ => planned_view(alloc, change.snapshot, &mark.name, &mark.plan, held),
+        Step::Deleted(told) => match told {
+            Some(gone) => list_without(alloc, change, gone, mark, list, held),
+            None => anew(alloc, change, mark, held),
+        },
     }
+}
+
+/// What the plan of one view is evaluated to after the change. What is held stays as it is.
+///
+/// # Errors
+/// `Wide` only where the view clashes over the catalogue as it will be, otherwise out of memory.
+pub(crate) fn anew(
+    alloc: Global,
+    change: &Change<'_, '_>,
+    mark: &Mark,
+    held: &mut Given,
+) -> Result<Tuples, Refused>
+    requires change { IsChange (before change.now) (after change.now) change.now.name.now (inserted_tuple change.now) }
+    requires mark { IsMark (before change.now) mark.now }
+    requires held { AllByRecursion (IsHeld (after change.now)) held.old }
+    ensures is { IfOk result (IsViewOf (after change.now) mark.now.name) }
+    ensures held { held.new ≡ held.old }
+    ensures wide { IsErrOf result Wide → (measures (after change.now) mark.now.name).clash ≡ true }
+{
+    planned_view(alloc, change.snapshot, &mark.name, &mark.plan, held)
 }

@@ -10,11 +10,12 @@ ghost use Rattle.ded_catalog.specs.State.{catalogue_of};
 ghost use Rattle.ded_database.specs.Marks.{IsMark};
 ghost use Rattle.ded_sorts.specs.Causes.{insert_refusal, is_relation_with};
 ghost use Rattle.ded_sorts.specs.Changes.{Inserts, Deletes};
-ghost use Rattle.ded_database.specs.Changes.{before, after, inserted_tuple, IsChange};
+ghost use Rattle.ded_database.specs.Changes.{before, after, inserted_tuple, deleted_tuple, IsChange, IsToldDelete};
 ghost use Rattle.ded_database.specs.Held.{is_marked, IsUpheld};
 ghost use Rattle.ded_database.specs.Upkeep.{KeepsUp, LeavesOthers, OnlyAdds, IsReady, IsReadyWithout};
 
-use crate::change::Change;
+use crate::change::{Change, Step};
+use crate::gone::told_tuple;
 use crate::laws;
 use crate::mark::Mark;
 use crate::renewing::renew_all;
@@ -66,7 +67,7 @@ pub fn inserted(
         catalogue,
         snapshot: &snapshot,
         name,
-        tuple: Some(&tuple),
+        step: Step::Inserted(&tuple),
     };
     let Ok(count) = bring_up_to_date(alloc, &change, marks, held, added) else {
         return Err(Refusal::Memory);
@@ -138,7 +139,7 @@ fn ready_without<'a>(
         catalogue,
         snapshot: &snapshot,
         name,
-        tuple: None,
+        step: Step::Deleted(told_tuple(catalogue, name, number)),
     };
     bring_up_to_date(alloc, &change, marks, held, added)
 }
@@ -156,6 +157,7 @@ fn bring_up_to_date(
     added: &mut u64,
 ) -> Result<usize, NoMemory>
     requires change { IsChange (before change.now) (after change.now) change.now.name.now (inserted_tuple change.now) }
+    requires told { IsToldDelete (before change.now) (after change.now) change.now.name.now (deleted_tuple change.now) }
     requires upheld { IsUpheld (before change.now) marks.now held.old }
     ensures ok { IfOk result (λ count. IsReady (before change.now) (after change.now) change.now.name.now (inserted_tuple change.now) marks.now held.old held.new count) }
     ensures err { OnErr result (IsUpheld (before change.now) marks.now held.new) }

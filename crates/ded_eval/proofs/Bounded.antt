@@ -10,32 +10,7 @@ use Rattle.ded_model.specs.Interval.{IsExactBound}
 use Rattle.ded_model.specs.Point.{Point, same_sort}
 use Rattle.ded_model.specs.Width.{rational_columns}
 use Rattle.ded_box.specs.Intervals.{IsInterval}
-use Rattle.ded_box.specs.Boxes.{hull, hulls}
 use Rattle.ded_box.specs.Extents.{BoundsAt, AreBounds}
-
--- ---- hulls
-
--- one place more
-pub hulls_at : (a b : List (Bound × Bound)) (i : ℕ) (x y : Bound × Bound) → i < length a → i < length b → x ≡ get_or a i x → y ≡ get_or b i y → hulls (take (i + 1) a) b ≡ hulls (take i a) b ++ hull x y ∷ []
-hulls_at [] b i x y h k e f = absurd (omega (arith, h))
-hulls_at (v ∷ a) [] i x y h k e f = absurd (omega (arith, k))
-hulls_at (v ∷ a) (w ∷ b) zero x y h k e f = sym (ap (λ z. hull z y ∷ []) e ∙ ap (λ z. hull v z ∷ []) f)
-hulls_at (v ∷ a) (w ∷ b) (suc i) x y h k e f =
-    ap (λ n. hulls (take n (v ∷ a)) (w ∷ b)) (add-one (suc i))
-    ∙ ap (λ n. hull v w ∷ hulls (take n a) b) (sym (add-one i))
-    ∙ ap (λ zs. hull v w ∷ zs) (hulls_at a b i x y (omega (arith, h)) (omega (arith, k)) e f)
-
--- no place more in the second list
-pub hulls_past : (a b : List (Bound × Bound)) (i : ℕ) → length b ≤ i → hulls (take (i + 1) a) b ≡ hulls (take i a) b
-hulls_past [] b zero h = refl
-hulls_past [] b (suc i) h = ap (λ n. hulls (take n []) b) (add-one (suc i))
-hulls_past (v ∷ a) [] zero h = refl
-hulls_past (v ∷ a) [] (suc i) h = ap (λ n. hulls (take n (v ∷ a)) []) (add-one (suc i))
-hulls_past (v ∷ a) (w ∷ b) zero h = absurd (omega (arith, h))
-hulls_past (v ∷ a) (w ∷ b) (suc i) h =
-    ap (λ n. hulls (take n (v ∷ a)) (w ∷ b)) (add-one (suc i))
-    ∙ ap (λ n. hull v w ∷ hulls (take n a) b) (sym (add-one i))
-    ∙ ap (λ zs. hull v w ∷ zs) (hulls_past a b i (omega (arith, h)))
 
 -- ---- columns
 

@@ -16,8 +16,8 @@ use Rattle.ded_model.proofs.Members.{In-left, In-right, In-split, subset_trans}
 use Rattle.ded_model.proofs.Sameness.{lists_same}
 use Rattle.ded_theory.specs.Conjunctions.{conj_mentions, conj_lines}
 use Rattle.ded_genrel.specs.Lists.{conjs_of, AreNormal, conjs_hold, conjs_mention, conjs_lines}
-use Rattle.ded_reduce.specs.Reductions.{IsSublist}
-use Rattle.ded_reduce.proofs.Sublists.{sublist_all}
+use Rattle.ded_model.specs.Sublists.{IsSublist}
+use Rattle.ded_model.proofs.Sublists.{sublist_all}
 use Rattle.ded_eval.proofs.Evaluated.{IsListFor}
 use Rattle.ded_eval.proofs.Once.{once_all, parts_all, parts_distinct, told}
 
@@ -25,7 +25,7 @@ module _ {A : Type 0} (h : A → Point → Bool) (m : A → Slot → Bool) (l : 
   -- the lines of some of the conjunctions
   sublist_lines_of : (kept conjs : List (List A)) → IsSublist kept conjs → IsSubset (conjs_lines l kept) (conjs_lines l conjs)
   sublist_lines_of kept [] s x i = subst (λ cs. In x (conjs_lines l cs)) s i
-  sublist_lines_of kept (c ∷ conjs) (inl s) x i = In-right x (conj_lines l c) (conjs_lines l conjs) (sublist_lines_of kept conjs s x i)
+  sublist_lines_of kept (c ∷ conjs) (inl s) x i = In-right x (conj_lines l c) (conjs_lines l conjs) (sublist_lines_of kept conjs s.1 x i)
   sublist_lines_of kept (c ∷ conjs) (inr s) x i = elim (In-split x (conj_lines l c) (conjs_lines l s.0) (subst (λ cs. In x (conjs_lines l cs)) s.1 i)) [
     | inl a ↦ In-left x (conj_lines l c) (conjs_lines l conjs) a
     | inr b ↦ In-right x (conj_lines l c) (conjs_lines l conjs) (sublist_lines_of s.0 conjs s.2 x b)
@@ -51,7 +51,7 @@ module _ {A : Type 0} (h : A → Point → Bool) (m : A → Slot → Bool) (l : 
         once = AllPairs-from_IsDistinct (λ c d. (lists_same same c d, told (lists_equiv laws) c d)) (conjs_of ks) (parts_distinct (λ c. c.items) equal ks d);
         slots = λ s u. sym (ap (λ cs. conjs_mention m cs s) is ∙ part.some (λ c. conj_mentions m c s)) ∙ u;
         lines = sublist_lines_of (conjs_of ks) (conjs_of xs) kept;
-        normal_ones = sublist_all _ (conjs_of ks) (conjs_of xs) kept;
+        normal_ones = sublist_all _ _ (conjs_of ks) (conjs_of xs) kept;
       }
 
   -- what a plan stands for, without repetitions

@@ -20,6 +20,7 @@ use Rattle.ded_genrel.specs.Lists.{conjs_of, conjs_hold, conjs_mention, conjs_li
 use Rattle.ded_genrel.specs.Operations.{IsOperation, IsInhabitedPart}
 use Rattle.ded_genrel.proofs.Laws.{conjs_hold-append, conjs_mention-append, conjs_lines-append}
 use Rattle.ded_eval.specs.Reading.{IsConjunctionOf}
+use Rattle.ded_eval.specs.Within.{IsBegun}
 
 -- ---- one part more
 
@@ -54,13 +55,23 @@ lines-push of [] f = append-nil (lines of f)
 lines-push of (g ∷ fs) f = ap (λ ls. lines of g ++ ls) (lines-push of fs f) ∙ sym (append_assoc (lines of g) (all_lines of (logics fs)) (lines of f))
 
 module _ {A : Type 0} (h : A → Point → Bool) (m : A → Slot → Bool) (l : A → List Line) where
+  -- a join begins with one conjunction
+  pub begun_some : (atoms : List A) (list out : List (List A)) → list ≡ atoms ∷ [] → IsInhabitedPart h m l list out → IsBegun h m l atoms out
+  begun_some atoms list out e r = record {
+    holds = λ p i. r.is.holds p i ∙ ap (λ xs. conjs_hold h xs p) e ∙ or-false _;
+    slots = λ s u. sym (ap (λ xs. conjs_mention m xs s) e ∙ or-false _) ∙ r.is.slots s u;
+    lines = subset_trans (conjs_lines l out) (conjs_lines l list) (conj_lines l atoms) r.is.lines (subst (λ ls. IsSubset (conjs_lines l list) ls) (ap (conjs_lines l) e ∙ append-nil (conj_lines l atoms)) (λ x i. i));
+  }
+
   -- rows hold where they do
   pub rows_for : (c : Catalogue) (t : List Atom) (atoms : List A) (list out : List (List A)) → list ≡ atoms ∷ [] → IsConjunctionOf h m l atoms t → IsInhabitedPart h m l list out → IsEvaluation c (atom (rows t)) (conjs_hold h out) (conjs_mention m out) (conjs_lines l out)
-  rows_for c t atoms list out e k r = record {
-    holds = λ p i. (let same = r.is.holds p i ∙ ap (λ xs. conjs_hold h xs p) e ∙ or-false _ ∙ k.holds p in (λ x. sym same ∙ x, λ x. same ∙ x));
-    slots = λ s u. sym (ap (λ xs. conjs_mention m xs s) e ∙ or-false _ ∙ k.slots s) ∙ r.is.slots s u;
-    lines = subset_trans (conjs_lines l out) (conjs_lines l list) (atoms_lines t) r.is.lines (subst (λ ls. IsSubset ls (atoms_lines t)) (sym (ap (conjs_lines l) e ∙ append-nil (conj_lines l atoms))) k.lines);
-  }
+  rows_for c t atoms list out e k r =
+      let begun = begun_some atoms list out e r in
+      record {
+        holds = λ p i w. (let same = begun.holds p i ∙ k.holds p in (λ x. sym same ∙ x, λ x. same ∙ x));
+        slots = λ s u. sym (k.slots s) ∙ begun.slots s u;
+        lines = subset_trans (conjs_lines l out) (conj_lines l atoms) (atoms_lines t) begun.lines k.lines;
+      }
 
 module _ {A : Type 0} (h : A → Point → Bool) (m : A → Slot → Bool) (l : A → List Line) (inside : Point → Bool) where
   -- the list is what the plan stands for, at points inside
@@ -69,7 +80,7 @@ module _ {A : Type 0} (h : A → Point → Bool) (m : A → Slot → Bool) (l : 
 
   -- what is so everywhere is so inside
   pub everywhere_for : (c : Catalogue) (f : PlanForm) (xs : List (List A)) → IsEvaluation c f (conjs_hold h xs) (conjs_mention m xs) (conjs_lines l xs) → IsListFor c f xs
-  everywhere_for c f xs a = record { holds = λ p i w. a.holds p i; slots = a.slots; lines = a.lines }
+  everywhere_for c f xs a = record { holds = λ p i w. a.holds p i refl; slots = a.slots; lines = a.lines }
 
   -- ---- unions
 

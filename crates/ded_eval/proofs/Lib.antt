@@ -24,6 +24,7 @@ pub mod Sifted
 pub mod Slotless
 pub mod Taken
 pub mod TupleParts
+pub mod TuplesOfBoth
 pub mod TuplesRead
 pub mod TuplesWritten
 pub mod WideTuples

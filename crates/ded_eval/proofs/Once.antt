@@ -8,21 +8,21 @@ use Rattle.indexmap.specs.IndexSet.{insert_key, insert_all}
 use Rattle.ded_model.proofs.Rows.{or_left, or_right}
 use Rattle.ded_model.proofs.Members.{or_split}
 use Rattle.std.proofs.Math.Bool.{or-false}
-use Rattle.ded_reduce.specs.Reductions.{IsSublist}
-use Rattle.ded_reduce.proofs.Sublists.{sublist_refl}
+use Rattle.ded_model.specs.Sublists.{IsSublist}
+use Rattle.ded_model.proofs.Sublists.{sublist_refl}
 use Rattle.ded_model.proofs.Bools.{or_known}
 
 -- ---- lists with one element more
 
 module _ {A : Type 0} where
   pub sublist_push : (xs ys : List A) (y : A) → IsSublist xs ys → IsSublist (xs ++ y ∷ []) (ys ++ y ∷ [])
-  sublist_push xs [] y h = subst (λ us. IsSublist (us ++ y ∷ []) (y ∷ [])) (sym h) (sublist_refl (y ∷ []))
-  sublist_push xs (z ∷ ys) y (inl h) = inl (sublist_push xs ys y h)
+  sublist_push xs [] y h = subst (λ us. IsSublist (us ++ y ∷ []) (y ∷ [])) (sym h) (sublist_refl (λ x. Unit {0}) (y ∷ []))
+  sublist_push xs (z ∷ ys) y (inl h) = inl (tt, sublist_push xs ys y h.1)
   sublist_push xs (z ∷ ys) y (inr h) = inr (h.0 ++ y ∷ [], ap (λ us. us ++ y ∷ []) h.1, sublist_push h.0 ys y h.2)
 
   pub sublist_skip : (xs ys : List A) (y : A) → IsSublist xs ys → IsSublist xs (ys ++ y ∷ [])
-  sublist_skip xs [] y h = inl h
-  sublist_skip xs (z ∷ ys) y (inl h) = inl (sublist_skip xs ys y h)
+  sublist_skip xs [] y h = inl (tt, h)
+  sublist_skip xs (z ∷ ys) y (inl h) = inl (tt, sublist_skip xs ys y h.1)
   sublist_skip xs (z ∷ ys) y (inr h) = inr (h.0, h.1, sublist_skip h.0 ys y h.2)
 
 -- ---- one after another, each once

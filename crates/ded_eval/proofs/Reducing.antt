@@ -12,7 +12,7 @@ use Rattle.ded_model.specs.Normal.{IsNormalTuple}
 use Rattle.ded_theory.specs.Verdicts.{HoldsNowhere}
 use Rattle.ded_theme.proofs.Lists.{all-append}
 use Rattle.std.proofs.Math.Bool.{or-false}
-use Rattle.ded_reduce.specs.Reductions.{IsSublist}
+use Rattle.ded_model.specs.Sublists.{IsSublist}
 use Rattle.ded_eval.specs.Kept.{ArePartsOf, IsReducedTuple, IsReducedPart, AreReducedParts}
 use Rattle.ded_eval.proofs.Once.{once_all, told}
 use Rattle.ded_eval.proofs.TuplesRead.{tuples_hold-push}

@@ -57,12 +57,3 @@ module _ {A : Type 0} (h : A → Point → Bool) (m : A → Slot → Bool) (l : 
     slots = λ s u. mentions-push in_plan_atom fs f (slot s) ∙ or_left _ _ (r.slots s u);
     lines = λ M. subst (IsSubset (conj_lines l atoms)) (sym (lines-push (plan_atom_lines M) fs f)) (λ x i. In-left x (all_lines (plan_atom_lines M) (logics fs)) (lines (plan_atom_lines M) f) (r.lines M x i));
   }
-
-  -- ---- where a join begins
-
-  pub begun_some : (atoms : List A) (list out : List (List A)) → list ≡ atoms ∷ [] → IsInhabitedPart h m l list out → IsBegun h m l atoms out
-  begun_some atoms list out e r = record {
-    holds = λ p i. r.is.holds p i ∙ ap (λ xs. conjs_hold h xs p) e ∙ or-false _;
-    slots = λ s u. sym (ap (λ xs. conjs_mention m xs s) e ∙ or-false _) ∙ r.is.slots s u;
-    lines = subset_trans (conjs_lines l out) (conjs_lines l list) (conj_lines l atoms) r.is.lines (subst (λ ls. IsSubset (conjs_lines l list) ls) (ap (conjs_lines l) e ∙ append-nil (conj_lines l atoms)) (λ x i. i));
-  }

@@ -17,7 +17,8 @@ use Rattle.ded_model.specs.PlanForm.{PlanAtom, PlanForm, scan, rows}
 use Rattle.ded_model.proofs.Members.{In-left}
 use Rattle.ded_theory.specs.Both.{by_kind}
 use Rattle.ded_genrel.proofs.Items.{all_weaker}
-use Rattle.ded_algebra.specs.Evaluation.{IsScannedFrom, IsScannable, IsEvaluable}
+use Rattle.ded_algebra.specs.Evaluation.{IsAnyAtom, IsScannedFrom, IsScannable, IsEvaluable}
+use Rattle.ded_eval.specs.Laws.{IsAnyRow, IsOfRows}
 use Rattle.ded_eval.specs.Reading.{StandsFor}
 
 -- a row stands for itself
@@ -82,3 +83,11 @@ mutual
 -- a plan that can be evaluated where atoms have a property can be where they have one that follows
 pub evaluable_weaker : (P Q : Atom → Type 0) → ((a : Atom) → P a → Q a) → (c : Catalogue) (g : PlanForm) → IsEvaluable P c g → IsEvaluable Q c g
 evaluable_weaker P Q f c g k = atoms_weaker (IsScannable P c) (IsScannable Q c) (atom_read P Q f c) g k
+
+any_read : (a : Atom) → IsAnyAtom a → IsOfRows IsAnyRow a
+any_read (First r) k = tt
+any_read (Second a) k = tt
+
+-- over rows and text atoms any plan can be that can be evaluated
+pub evaluable_any : (c : Catalogue) (g : PlanForm) → IsEvaluable IsAnyAtom c g → IsEvaluable (IsOfRows IsAnyRow) c g
+evaluable_any = evaluable_weaker IsAnyAtom (IsOfRows IsAnyRow) any_read

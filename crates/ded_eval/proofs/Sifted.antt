@@ -9,7 +9,7 @@ use Rattle.ded_model.specs.Normal.{IsNormalTuple}
 use Rattle.ded_theory.specs.Both.{by_kind}
 use Rattle.ded_theory.specs.Conjunctions.{IsWide}
 use Rattle.ded_theory.specs.Verdicts.{HoldsNowhere}
-use Rattle.ded_reduce.specs.Reductions.{IsSublist}
+use Rattle.ded_model.specs.Sublists.{IsSublist}
 use Rattle.ded_eval.proofs.Conjunctive.{tuple_holds-is}
 use Rattle.ded_eval.proofs.Narrowness.{narrow_is}
 use Rattle.ded_eval.specs.Kept.{IsReducedPart}

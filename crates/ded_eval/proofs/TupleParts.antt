@@ -12,8 +12,9 @@ use Rattle.ded_model.proofs.Rows.{or_left, or_right}
 use Rattle.ded_model.proofs.Members.{In-split, In-left, In-right, or_split}
 use Rattle.ded_theory.specs.Both.{by_kind}
 use Rattle.ded_theory.specs.Conjunctions.{conj_lines}
-use Rattle.ded_reduce.specs.Reductions.{IsSublist}
-use Rattle.ded_reduce.proofs.Sublists.{sublist_refl, sublist_slots, sublist_lines}
+use Rattle.ded_model.specs.Sublists.{IsSublist}
+use Rattle.ded_model.proofs.Sublists.{sublist_refl}
+use Rattle.ded_reduce.proofs.Sublists.{sublist_slots, sublist_lines}
 use Rattle.ded_eval.proofs.Conjunctive.{atoms_lines-is}
 use Rattle.ded_eval.specs.Kept.{ArePartsOf}
 use Rattle.ded_tuple.proofs.Chains.{atom-chains}
@@ -37,14 +38,14 @@ pub parts_after : (fs ts us : List (List Atom)) → IsSublist fs ts → AreParts
 parts_after fs ts [] h k = subst (λ xs. IsSublist fs xs) k h
 parts_after fs ts (u ∷ us) h (inl k) = inl (parts_after fs ts us h k)
 parts_after fs ts (u ∷ us) h (inr k) = elim (subst (λ xs. IsSublist fs xs) k.2 h) [
-  | inl i ↦ inl (parts_after fs k.1 us i k.4)
+  | inl i ↦ inl (parts_after fs k.1 us i.1 k.4)
   | inr j ↦ inr (k.0, j.0, j.1, k.3, parts_after j.0 k.1 us j.2 k.4)
 ]
 
 -- parts of some
 pub parts_before : (ts us vs : List (List Atom)) → ArePartsOf ts us → IsSublist us vs → ArePartsOf ts vs
 parts_before ts us [] h k = subst (λ xs. ArePartsOf ts xs) k h
-parts_before ts us (v ∷ vs) h (inl k) = inl (parts_before ts us vs h k)
+parts_before ts us (v ∷ vs) h (inl k) = inl (parts_before ts us vs h k.1)
 parts_before ts us (v ∷ vs) h (inr k) = elim (subst (λ xs. ArePartsOf ts xs) k.1 h) [
   | inl i ↦ inl (parts_before ts k.0 vs i k.2)
   | inr j ↦ inr (j.0, j.1, j.2, j.3, parts_before j.1 k.0 vs j.4 k.2)
@@ -53,21 +54,25 @@ parts_before ts us (v ∷ vs) h (inr k) = elim (subst (λ xs. ArePartsOf ts xs) 
 -- each list is made of parts of itself
 pub sublist_parts : (ts us : List (List Atom)) → IsSublist ts us → ArePartsOf ts us
 sublist_parts ts [] h = h
-sublist_parts ts (u ∷ us) (inl h) = inl (sublist_parts ts us h)
-sublist_parts ts (u ∷ us) (inr h) = inr (u, h.0, h.1, sublist_refl u, sublist_parts h.0 us h.2)
+sublist_parts ts (u ∷ us) (inl h) = inl (sublist_parts ts us h.1)
+sublist_parts ts (u ∷ us) (inr h) = inr (u, h.0, h.1, sublist_refl _ u, sublist_parts h.0 us h.2)
 
 -- ---- what parts mention, and their lines
+
+pub part_slots : (t u : List Atom) → IsSublist t u → (s : Slot) → tuple_mentions t s ≡ true → tuple_mentions u s ≡ true
+unfolding tuple_mentions
+part_slots t u h s = sublist_slots atom_mentions s t u h
 
 pub parts_slots : (ts us : List (List Atom)) → ArePartsOf ts us → (s : Slot) → tuples_mention ts s ≡ true → tuples_mention us s ≡ true
 unfolding tuple_mentions tuples_mention
 parts_slots ts [] h s e = subst (λ xs. tuples_mention xs s ≡ true) h e
 parts_slots ts (u ∷ us) (inl h) s e = or_right (tuple_mentions u s) (tuples_mention us s) (parts_slots ts us h s e)
 parts_slots ts (u ∷ us) (inr h) s e = elim (or_split (tuple_mentions h.0 s) (tuples_mention h.1 s) (subst (λ xs. tuples_mention xs s ≡ true) h.2 e)) [
-  | inl a ↦ or_left (tuple_mentions u s) (tuples_mention us s) (sublist_slots atom_mentions s h.0 u h.3 a)
+  | inl a ↦ or_left (tuple_mentions u s) (tuples_mention us s) (part_slots h.0 u h.3 s a)
   | inr b ↦ or_right (tuple_mentions u s) (tuples_mention us s) (parts_slots h.1 us h.4 s b)
 ]
 
-part_lines : (t u : List Atom) → IsSublist t u → IsSubset (atoms_lines t) (atoms_lines u)
+pub part_lines : (t u : List Atom) → IsSublist t u → IsSubset (atoms_lines t) (atoms_lines u)
 part_lines t u h = subst (λ ls. IsSubset ls (atoms_lines u)) (atoms_lines-is t)
     (subst (IsSubset (conj_lines (by_kind row_lines (λ a. [])) t)) (atoms_lines-is u) (sublist_lines (by_kind row_lines (λ a. [])) t u h))
 
@@ -88,10 +93,10 @@ begins_rest a b (c ∷ cs) e h = (atom-chains a b c).less e h
 -- what stands before a normal tuple stands before its parts
 begins_part : (a : Atom) (t u : List Atom) → IsSublist t u → BeginsAfter a u → IsNormalTuple u → BeginsAfter a t
 begins_part a t [] h b n = subst (BeginsAfter a) (sym h) tt
-begins_part a t (c ∷ u) (inl h) b n = begins_part a t u h (begins_rest a c u b n.1) n.2
+begins_part a t (c ∷ u) (inl h) b n = begins_part a t u h.1 (begins_rest a c u b n.1) n.2
 begins_part a t (c ∷ u) (inr h) b n = subst (BeginsAfter a) (sym h.1) b
 
 pub normal_part : (t u : List Atom) → IsSublist t u → IsNormalTuple u → IsNormalTuple t
 normal_part t [] h n = subst IsNormalTuple (sym h) tt
-normal_part t (c ∷ u) (inl h) n = normal_part t u h n.2
+normal_part t (c ∷ u) (inl h) n = normal_part t u h.1 n.2
 normal_part t (c ∷ u) (inr h) n = subst IsNormalTuple (sym h.1) (n.0, begins_part c h.0 u h.2 n.1 n.2, normal_part h.0 u h.2 n.2)

@@ -7,7 +7,7 @@ use Rattle.ded_model.specs.Row.{Atom, atom_holds, tuple_holds, tuples_hold}
 use Rattle.ded_model.specs.Normal.{IsNormalTuple}
 use Rattle.ded_model.specs.Width.{IsNarrowList}
 use Rattle.ded_theory.specs.Verdicts.{HoldsNowhere}
-use Rattle.ded_reduce.specs.Reductions.{IsSublist}
+use Rattle.ded_model.specs.Sublists.{IsSublist}
 
 -- the first tuples are parts of some of the second ones, in the same order
 abbrev pub ArePartsOf : List (List Atom) → List (List Atom) → Type 0

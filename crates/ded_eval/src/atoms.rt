@@ -3,15 +3,17 @@ ghost use Rattle.std.specs.Prelude.{◌≡◌, true, IfOk, IsErrOf};
 ghost use Rattle.ded_model.specs.declared.memory.Refused.TheVariants.{Wide};
 ghost use Rattle.ded_model.specs.Measure.{stored_measures, plan_clashes};
 ghost use Rattle.ded_model.specs.PlanForm.{plan_form};
+ghost use Rattle.ded_model.specs.Row.{tuple_holds};
 ghost use Rattle.ded_genrel.specs.Lists.{conjs_hold, conjs_mention, conjs_lines};
-ghost use Rattle.ded_algebra.specs.Evaluation.{IsAnyAtom, IsEvaluable, IsEvaluation};
+ghost use Rattle.ded_algebra.specs.Evaluation.{IsAnyAtom, IsEvaluable, IsEvaluation, IsEvaluationWithin};
 
-use crate::evaluation::evaluate_counted;
+use crate::evaluation::{evaluate_counted, evaluate_within};
 use crate::theories::Atoms;
 use ded_algebra::Relations;
 use ded_genrel::GenRel;
 use ded_model::memory::Refused;
 use ded_model::plan::Plan;
+use ded_model::tuple::Tuple;
 use ded_theory::Theory;
 use std::alloc::Global;
 
@@ -50,4 +52,23 @@ pub fn eval_counted<R: Relations>(
     ensures wide { IsErrOf result Wide → plan_clashes (stored_measures (R.catalogue relations.now)) (plan_form plan.now) ≡ true }
 {
     evaluate_counted::<Atoms, R>(alloc, plan, relations, met)
+}
+
+/// A list that holds exactly where the plan does over the given relations at each point at which the tuple does, with slots and
+/// lines as [`eval`] gives it.
+///
+/// # Errors
+/// As [`eval`].
+pub(crate) fn eval_within<R: Relations>(
+    alloc: Global,
+    plan: &Plan,
+    relations: &R,
+    within: &Tuple,
+) -> Result<GenRel<Atoms>, Refused>
+    requires { IsEvaluable IsAnyAtom (R.catalogue relations.now) (plan_form plan.now) }
+    ensures is { IfOk result (λ r. IsEvaluationWithin (R.catalogue relations.now) (plan_form plan.now) (tuple_holds within.now) (conjs_hold ⟦<Atoms as Theory>⟧.holds r) (conjs_mention ⟦<Atoms as Theory>⟧.mentions r) (conjs_lines ⟦<Atoms as Theory>⟧.lines r)) }
+    ensures wide { IsErrOf result Wide → plan_clashes (stored_measures (R.catalogue relations.now)) (plan_form plan.now) ≡ true }
+{
+    let mut met = 0;
+    evaluate_within::<Atoms, R>(alloc, plan, relations, &within.atoms, &mut met)
 }

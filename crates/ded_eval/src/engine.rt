@@ -5,17 +5,18 @@ ghost use Rattle.ded_model.specs.Lines.{tuples_lines};
 ghost use Rattle.ded_eval.specs.Reading.{IsWrittenAs};
 ghost use Rattle.ded_genrel.specs.Lists.{conjs_of};
 
-use crate::atoms::eval;
+use crate::atoms::{eval, eval_within};
+use crate::meeting::met;
 use crate::theories::Atoms;
 use ded_algebra::{Evaluate, Relations};
 use ded_genrel::GenRel;
 use ded_model::memory::{NoMemory, Refused};
 use ded_model::plan::Plan;
-use ded_model::tuple::Tuples;
+use ded_model::tuple::{Tuple, Tuples};
 use ded_tuple::normal_tuple;
 use std::alloc::Global;
 
-/// Evaluates plans by [`eval`].
+/// Evaluates plans by [`eval`], and within tuples by [`eval_within`].
 pub struct Engine {}
 
 impl Evaluate for Engine {
@@ -27,6 +28,26 @@ impl Evaluate for Engine {
     ) -> Result<Tuples, Refused> {
         let list = eval(alloc, plan, relations)?;
         Ok(tuples(alloc, list)?)
+    }
+
+    fn evaluate_within<R: Relations>(
+        &self,
+        alloc: Global,
+        plan: &Plan,
+        relations: &R,
+        within: &Tuple,
+    ) -> Result<Tuples, Refused> {
+        let list = eval_within(alloc, plan, relations, within)?;
+        Ok(tuples(alloc, list)?)
+    }
+
+    fn meet(
+        &self,
+        alloc: Global,
+        first: &Tuple,
+        second: &Tuple,
+    ) -> Result<Option<Tuple>, NoMemory> {
+        met(alloc, first, second)
     }
 }
 

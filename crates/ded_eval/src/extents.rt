@@ -12,12 +12,11 @@ ghost use Rattle.ded_model.specs.Row.{tuple_holds};
 ghost use Rattle.ded_model.specs.Width.{IsBoxNarrow};
 ghost use Rattle.ded_theory.specs.Conjunctions.{IsWide};
 ghost use Rattle.ded_box.specs.Intervals.{IsInterval};
-ghost use Rattle.ded_box.specs.Boxes.{hull, hulls};
 ghost use Rattle.ded_box.specs.Extents.{AreBounds, IsBox, covering};
 
 use crate::scanning::following;
 use crate::theories::Atoms;
-use ded_box::{Side, checked, wider};
+use ded_box::{checked, hulls};
 use ded_model::bound::{Bound, BoxReply, Spans};
 use ded_model::memory::{NoMemory, Refused};
 use ded_model::name::{Column, Heading};
@@ -58,30 +57,6 @@ fn covering(alloc: Global, extent: BoxReply, more: BoxReply) -> Result<BoxReply,
             _ => Ok(BoxReply::Spans(spans)),
         },
     }
-}
-
-/// At each place the least interval that contains the intervals of both lists, as far as both lists go.
-fn hulls(
-    alloc: Global,
-    first: &[(Bound, Bound)],
-    second: &[(Bound, Bound)],
-) -> Result<Vec<(Bound, Bound)>, NoMemory>
-    ensures { IfOk result (λ v. v.items ≡ hulls first.now second.now) }
-{
-    let mut list = Vec::new(alloc);
-    for (i, span) in first.iter().enumerate() {
-        if i < second.len() {
-            list.push(hull(*span, second[i]))?;
-        }
-    }
-    Ok(list)
-}
-
-/// The least interval that contains both intervals, where none of them is empty.
-fn hull(a: (Bound, Bound), b: (Bound, Bound)) -> (Bound, Bound)
-    ensures { result ≡ hull a b }
-{
-    (wider(Side::Lower, a.0, b.0), wider(Side::Upper, a.1, b.1))
 }
 
 /// The exact bounds of each rational column over the points that satisfy all the atoms.

@@ -32,6 +32,7 @@ mod extents;
 mod given;
 pub mod laws;
 mod lookups;
+mod meeting;
 mod own_slots;
 mod reading;
 mod reduction;

@@ -63,7 +63,10 @@ fn reduced_tuple(alloc: Global, tuple: Tuple) -> Result<Option<Tuple>, NoMemory>
 }
 
 /// The tuple without the atoms that its others imply, or nothing where it is found to hold nowhere.
-fn sifted(alloc: Global, tuple: &Tuple) -> Result<Option<Tuple>, NoMemory>
+///
+/// # Errors
+/// Out of memory.
+pub(crate) fn sifted(alloc: Global, tuple: &Tuple) -> Result<Option<Tuple>, NoMemory>
     ensures { IfOk result (λ r. IsReducedPart tuple.now r) }
 {
     match reduce::<Atoms>(alloc, &tuple.atoms)? {

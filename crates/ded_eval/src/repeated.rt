@@ -7,7 +7,7 @@ ghost use Rattle.ded_model.specs.Point.{Point};
 ghost use Rattle.ded_model.specs.Row.{tuples_hold, tuples_mention};
 ghost use Rattle.ded_model.specs.Lines.{IsSubset, tuples_lines};
 ghost use Rattle.ded_genrel.specs.Lists.{conjs_hold, conjs_mention, conjs_lines};
-ghost use Rattle.ded_reduce.specs.Reductions.{IsSublist};
+ghost use Rattle.ded_model.specs.Sublists.{IsSublist};
 
 use crate::reading::OfTuples;
 use ded_genrel::GenRel;

@@ -1,11 +1,12 @@
 -- Windows: what is asked of the values of columns, and the tuples that may hold there.
-use Rattle.std.specs.Prelude.{◌≡◌, ◌⊎◌, ◌&&◌, ℕ, ℤ, Bool, true, false, Option, Some, None, List, [], ◌∷◌, map}
+use Rattle.std.specs.Prelude.{◌≡◌, ◌&&◌, ℕ, ℤ, Bool, true, false, Option, Some, None, List, map}
 use Rattle.std.specs.Borrow.{Bor}
 use Rattle.std.specs.Str.{bytes_eq}
 use Rattle.std.specs.List.{list_all}
 use Rattle.ded_model.specs.declared.slot.Sort.TheVariants.{Rat, Text}
 use Rattle.ded_model.specs.Point.{Point, IsPoint, slot, number_at, text_at}
 use Rattle.ded_model.specs.Row.{Atom, tuple_holds}
+use Rattle.ded_model.specs.Sublists.{IsSublistWithout}
 use Rattle.ded_hull.specs.declared.window.Window.{Window}
 use Rattle.ded_hull.specs.Limits.{are_met}
 
@@ -33,14 +34,9 @@ is_within w p = are_met (column_value p) p.den w.limits.items && list_all (is_te
 abbrev pub IsMissed : Window → List Atom → Type 0
 IsMissed w t = (p : Point) → IsPoint p → is_within w p ≡ true → tuple_holds t p ≡ false
 
--- the first list is the second one without elements that are missed
-abbrev pub IsSifted : {A : Type 0} → (A → Type 0) → List A → List A → Type 0
-IsSifted Missed found [] = found ≡ []
-IsSifted Missed found (x ∷ xs) = (Missed x × IsSifted Missed found xs) ⊎ ((rest : List _) × (found ≡ x ∷ rest) × IsSifted Missed rest xs)
-
 -- the first list is the second one without tuples that hold nowhere in the window
 abbrev pub IsNear : Window → List (List Atom) → List (List Atom) → Type 0
-IsNear w found ts = IsSifted (IsMissed w) found ts
+IsNear w found ts = IsSublistWithout (IsMissed w) found ts
 
 -- the same, where there may be no lists
 abbrev pub AreLent : Window → Option (List (List Atom)) → Option (List (List Atom)) → Type 0

@@ -1,9 +1,10 @@
 //! Sums and products as far as 127 binary digits go, for lower ends: nothing is known of what is too low, and what is too high
 //! counts as the highest.
 ghost use Rattle.std.specs.Prelude.{◌≡◌, ◌+ℤ◌, ◌*ℤ◌};
-ghost use Rattle.std.specs.Option.{SomeIff};
 ghost use Rattle.ded_num.specs.Length.{IsShort};
 ghost use Rattle.ded_hull.specs.Limits.{kept, turned, is_same_sign, beyond};
+
+use ded_num::{short_product, short_sum};
 
 /// The product, or its negative.
 pub(crate) fn product(flipped: bool, a: i128, b: i128) -> Option<i128>
@@ -22,26 +23,6 @@ pub(crate) fn sum(a: i128, b: i128) -> Option<i128>
     match short_sum(a, b) {
         Some(sum) => Some(sum),
         None => beyond(0 < a, false),
-    }
-}
-
-/// `a * b`, unless it has more than 127 binary digits.
-fn short_product(a: i128, b: i128) -> Option<i128>
-    ensures { SomeIff result (IsShort (a *ℤ b)) (a *ℤ b) }
-{
-    match a.checked_mul(b) {
-        Some(product) if product != i128::MIN => Some(product),
-        _ => None,
-    }
-}
-
-/// `a + b`, unless it has more than 127 binary digits.
-fn short_sum(a: i128, b: i128) -> Option<i128>
-    ensures { SomeIff result (IsShort (a +ℤ b)) (a +ℤ b) }
-{
-    match a.checked_add(b) {
-        Some(sum) if sum != i128::MIN => Some(sum),
-        _ => None,
     }
 }
 

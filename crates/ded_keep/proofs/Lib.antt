@@ -3,3 +3,5 @@ pub mod ScanCounts
 pub mod AdditivePlans
 pub mod AloneMeanings
 pub mod Appended
+pub mod Covered
+pub mod Leaving

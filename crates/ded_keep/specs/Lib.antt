@@ -1,3 +1,5 @@
 pub mod Additive
 pub mod Adding
+pub mod Behind
+pub mod Remaining
 pub mod Scans

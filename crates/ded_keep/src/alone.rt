@@ -1,12 +1,20 @@
 //! One tuple alone under a name, and other relations as they are given.
-ghost use Rattle.std.specs.Prelude.{◌≡◌, true, is_none};
+ghost use Rattle.std.specs.Prelude.{◌≡◌, true, is_none, None, IfOk, IsErrOf};
+ghost use Rattle.ded_model.specs.declared.memory.Refused.TheVariants.{Wide};
 ghost use Rattle.ded_model.specs.Entries.{entry_of};
+ghost use Rattle.ded_model.specs.Lines.{tuples_lines};
+ghost use Rattle.ded_model.specs.Measure.{stored_measures, plan_clashes};
+ghost use Rattle.ded_model.specs.PlanForm.{plan_form};
+ghost use Rattle.ded_model.specs.Row.{tuples_hold, tuples_mention};
+ghost use Rattle.ded_algebra.specs.Evaluation.{IsAnyAtom, IsEvaluable, IsEvaluation};
+ghost use Rattle.ded_keep.specs.Adding.{with_alone};
 
-use ded_algebra::Relations;
+use ded_algebra::{Evaluate, Relations};
 use ded_hull::Window;
-use ded_model::memory::NoMemory;
+use ded_model::memory::{NoMemory, Refused};
 use ded_model::name::{Heading, Name};
-use ded_model::tuple::Tuple;
+use ded_model::plan::Plan;
+use ded_model::tuple::{Tuple, Tuples};
 use std::alloc::Global;
 
 /// The tuples alone under the name, which the other relations don't give, and these as they are.
@@ -44,4 +52,33 @@ impl<'a, R: Relations> Relations for Alone<'a, R> {
     fn is_indexed(&self, name: &Name) -> bool {
         !name.is_same(self.name) && self.others.is_indexed(name)
     }
+}
+
+/// What the plan gives with the tuple alone as the tuples of the name `changed`, which the other relations don't give.
+///
+/// # Errors
+/// `Wide` only where the plan clashes so, otherwise out of memory.
+pub(crate) fn tuples_alone<E: Evaluate, R: Relations>(
+    alloc: Global,
+    engine: &E,
+    plan: &Plan,
+    changed: &Name,
+    heading: &Heading,
+    tuple: &Tuple,
+    others: &R,
+) -> Result<Tuples, Refused>
+    requires apart { entry_of (R.catalogue others.now).entries changed.now ≡ None }
+    requires evaluable { IsEvaluable IsAnyAtom (with_alone (R.catalogue others.now) changed.now heading.now tuple.now) (plan_form plan.now) }
+    ensures is { IfOk result (λ ts. IsEvaluation (with_alone (R.catalogue others.now) changed.now heading.now tuple.now) (plan_form plan.now) (tuples_hold ts) (tuples_mention ts) (tuples_lines ts)) }
+    ensures wide { IsErrOf result Wide → plan_clashes (stored_measures (with_alone (R.catalogue others.now) changed.now heading.now tuple.now)) (plan_form plan.now) ≡ true }
+{
+    let mut tuples = Vec::with_capacity(alloc, 1)?;
+    tuples.push(tuple.copy()?)?;
+    let relations = Alone {
+        name: changed,
+        heading,
+        tuples: &tuples,
+        others,
+    };
+    engine.evaluate(alloc, plan, &relations)
 }

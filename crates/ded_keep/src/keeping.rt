@@ -1,5 +1,5 @@
 //! Kept tuples, computed anew and extended.
-ghost use Rattle.std.specs.Prelude.{◌≡◌, ◌↔◌, ◌++◌, true, IsTrue, None, IfOk, IsErrOf};
+ghost use Rattle.std.specs.Prelude.{◌≡◌, ◌↔◌, true, IsTrue, None, IfOk, IsErrOf};
 ghost use Rattle.ded_model.specs.declared.memory.Refused.TheVariants.{Wide};
 ghost use Rattle.ded_model.specs.Catalogue.{Catalogue, PlanHolds};
 ghost use Rattle.ded_model.specs.Entries.{entry_of};
@@ -12,9 +12,10 @@ ghost use Rattle.ded_algebra.specs.Evaluation.{IsAnyAtom, IsEvaluable, IsEvaluat
 ghost use Rattle.ded_keep.specs.Additive.{is_additive};
 ghost use Rattle.ded_keep.specs.Adding.{with_alone, IsExtended, IsAddition};
 
-use crate::alone::Alone;
+use crate::alone::tuples_alone;
+use crate::behind::put_behind;
 use ded_algebra::{Evaluate, Relations};
-use ded_model::memory::{NoMemory, Refused};
+use ded_model::memory::Refused;
 use ded_model::name::{Heading, Name};
 use ded_model::plan::Plan;
 use ded_model::tuple::{Tuple, Tuples};
@@ -39,8 +40,8 @@ pub fn refresh<E: Evaluate, R: Relations>(
     engine.evaluate(alloc, plan, relations)
 }
 
-/// Tuples that hold where `kept` does or where the plan does with `added` alone as the tuples of `changed`: `kept`, and more behind it.
-/// So where `kept` held exactly where the plan did, and `added` is inserted into `changed`, they hold exactly where the plan does then,
+/// Tuples that hold where `kept` does or where the plan does with `added` alone as the tuples of `changed`: `kept`, and more behind it,
+/// without tuples that are found to be covered already ([`put_behind`]). So where `kept` held exactly where the plan did, and `added` is inserted into `changed`, they hold exactly where the plan does then,
 /// if each other name that the plan scans means what is given of it before and after. The closure and the interior of `changed` are such
 /// names.
 /// The plan is additive in `changed`, whose heading is `heading`. The other relations don't give `changed`, and give each other name
@@ -68,28 +69,8 @@ pub fn add_tuple<E: Evaluate, R: Relations>(
     ensures wide { IsErrOf result Wide → plan_clashes (stored_measures (with_alone (R.catalogue others.now) changed.now heading.now added.now)) (plan_form plan.now) ≡ true }
 {
     others.formed();
-    let mut tuples = Vec::with_capacity(alloc, 1)?;
-    tuples.push(added.copy()?)?;
-    let relations = Alone {
-        name: changed,
-        heading,
-        tuples: &tuples,
-        others,
-    };
-    let more = engine.evaluate(alloc, plan, &relations)?;
-    Ok(extended(kept, more)?)
-}
-
-/// The tuples of the first list, and behind them those of the second.
-///
-/// # Errors
-/// Out of memory.
-fn extended(kept: Tuples, more: Tuples) -> Result<Tuples, NoMemory>
-    ensures { IfOk result (λ ts. ts ≡ kept ++ more) }
-{
+    let more = tuples_alone(alloc, engine, plan, changed, heading, added, others)?;
     let mut list = kept.list;
-    for tuple in more.list {
-        list.push(tuple)?;
-    }
+    put_behind(alloc, engine, &mut list, more)?;
     Ok(Tuples { list })
 }

@@ -1,8 +1,10 @@
-//! Kept views: an answer that is held as a list of tuples, and extended when a tuple is inserted.
+//! Kept views: an answer that is held as a list of tuples, which follows the inserts and deletes of a relation.
 //!
 //! Where a plan scans the changed relation exactly once, under no complement and not in what a difference takes away
 //! ([`is_additive`]), a kept answer only has to be extended by what the plan gives for the new tuple alone ([`add_tuple`]). So an
-//! insert costs nothing of the size of the changed relation. [`refresh`] computes an answer anew; a database does the same through
+//! insert costs nothing of the size of the changed relation. A delete takes off what the plan gives for the tuple that goes
+//! ([`remove_tuple`]): a kept tuple that doesn't meet it stays, and of each other one only what the plan gives within it is made anew.
+//! What is put behind a list is left out where it is covered already ([`put_behind`]). [`refresh`] computes an answer anew; a database does the same through
 //! `ded_query`, which gathers what the plan scans. `laws` says why adding is right: an additive plan holds, where the name gains
 //! tuples, exactly where it did or where it does for these alone. All other names that it scans have to mean the same, among them the
 //! closure and the interior of the name, to which an insert does more than add.
@@ -13,8 +15,12 @@
 
 mod additive;
 mod alone;
+mod behind;
 mod keeping;
 pub mod laws;
+mod removing;
 
 pub use additive::is_additive;
+pub use behind::put_behind;
 pub use keeping::{add_tuple, refresh};
+pub use removing::remove_tuple;

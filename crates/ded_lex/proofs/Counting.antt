@@ -3,8 +3,8 @@ use Rattle.std.proofs.Common.{◌≡◌, ◌≢◌, ◌<◌, ℕ, suc, ◌+◌, 
 use Rattle.std.specs.Prelude.{Option, Some, None, not}
 use Rattle.std.proofs.Math.ListN.{get_or}
 use Rattle.std.proofs.Math.Seq.{drop-cons}
-use Rattle.ded_lex.specs.Lexemes.{text_byte}
-use Rattle.ded_lex.specs.Fronts.{longer, quoted_rest}
+use Rattle.ded_lex.specs.Lexemes.{digit_byte, text_byte}
+use Rattle.ded_lex.specs.Fronts.{longer, decimal_rest, quoted_rest}
 use Rattle.ded_lex.proofs.Cases.{is_not}
 
 -- this many bytes before the length
@@ -43,3 +43,13 @@ text_on bytes i false lt ne f text before =
     before
     ∙ ap (plus i) (ap (quoted_rest false) (drop_first bytes i lt) ∙ text_step (get_or bytes i 0) (drop (i + 1) bytes) ne text)
     ∙ plus_longer i (quoted_rest false (drop (i + 1) bytes))
+
+-- A step through the digits of a decimal.
+digit_step : (b : ℕ) (bs : List ℕ) → digit_byte b ≡ true → decimal_rest (b ∷ bs) ≡ longer (decimal_rest bs)
+digit_step b bs d = rw d refl
+
+pub digit_on : (bytes : List ℕ) (i : ℕ) → i < length bytes → digit_byte (get_or bytes i 0) ≡ true → decimal_rest bytes ≡ plus i (decimal_rest (drop i bytes)) → decimal_rest bytes ≡ plus (i + 1) (decimal_rest (drop (i + 1) bytes))
+digit_on bytes i lt d before =
+    before
+    ∙ ap (plus i) (ap decimal_rest (drop_first bytes i lt) ∙ digit_step (get_or bytes i 0) (drop (i + 1) bytes) d)
+    ∙ plus_longer i (decimal_rest (drop (i + 1) bytes))

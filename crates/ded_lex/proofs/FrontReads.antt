@@ -9,10 +9,10 @@ use Rattle.ded_lex.specs.declared.front.Front.{Front}
 use Rattle.ded_lex.specs.declared.token.TokenKind.{TokenKind}
 use Rattle.ded_lex.specs.declared.token.TokenKind.TheVariants as kind
 use Rattle.ded_lex.specs.Gaps.{blank_byte, Space, Comment, OpenComment}
-use Rattle.ded_lex.specs.Lexemes.{Word, Number, Quoted, Sign, digit_byte, letter_byte, word_byte, BeginsNot, Each}
+use Rattle.ded_lex.specs.Lexemes.{Word, Number, Decimal, Quoted, Sign, digit_byte, letter_byte, word_byte, numeral_byte, BeginsWith, BeginsNot, Each}
 use Rattle.ded_lex.specs.Tokens.{Cell, GapCell, LexemeCell, cell_bytes, IsCell, kind_of}
-use Rattle.ded_lex.specs.Fronts.{word_rest, number_rest, quoted_rest, line_length, begins_with, sign_rest, front_with, front_of}
-use Rattle.ded_lex.proofs.Rests.{word_sound, word_found, digit_no_letter, number_sound, number_found, LineRead, line_sound, line_ended, line_open, text_sound, text_found}
+use Rattle.ded_lex.specs.Fronts.{word_rest, number_rest, decimal_rest, quoted_rest, line_length, begins_with, sign_rest, front_with, numeral_front, front_of}
+use Rattle.ded_lex.proofs.Rests.{word_sound, word_found, digit_no_letter, number_sound, number_found, decimal_sound, decimal_found, pointed, LineRead, line_sound, line_ended, line_open, text_sound, text_found}
 use Rattle.ded_lex.proofs.Signs.{SignRead, sign_sound, sign_found}
 use Rattle.ded_lex.proofs.Cases.{tested, same_some, none_some}
 
@@ -61,6 +61,18 @@ number_read b bs n h e =
       each = (h, (h, r.all), r.stops);
       kind_is = refl;
       count = omega (arith, r.count);
+    }
+
+decimal_read : (b : ℕ) (bs : List ℕ) (n : ℕ) → digit_byte b ≡ true → decimal_rest bs ≡ Some n → FrontRead (b ∷ bs) (Some kind.Decimal) (n + 1)
+decimal_read b bs n h e =
+    let r = decimal_sound bs n e in
+    record {
+      cell = LexemeCell (Decimal (b ∷ (r.front ++ 46 ∷ r.fraction)));
+      rest = r.rest;
+      is = ap (λ (l : List ℕ). b ∷ l) (r.is ∙ sym (append_assoc r.front (46 ∷ r.fraction) r.rest));
+      each = (record { whole = b ∷ r.front; fraction = r.fraction; is = refl; begins = h; digits = (h, r.digits); goes_on = r.goes_on; more_digits = r.more_digits }, r.stops);
+      kind_is = refl;
+      count = omega (arith, r.count, length-append r.front (46 ∷ r.fraction));
     }
 
 text_read : (bs : List ℕ) (n : ℕ) → quoted_rest false bs ≡ Some n → FrontRead (39 ∷ bs) (Some kind.Quoted) (n + 1)
@@ -141,9 +153,14 @@ module _ (b : ℕ) (bs : List ℕ) (f : Front) where
 
   sound_number : blank_byte b ≡ false → letter_byte b ≡ false → digit_byte b ≡ true → front_of (b ∷ bs) ≡ Some f → IsFrontRead (b ∷ bs) f
   sound_number s l d e =
-      let h : front_with (Some kind.Number) (number_rest bs) ≡ Some f = rw (s, l, d) at e in
-      let w = with_some (Some kind.Number) (number_rest bs) f h in
-      done (b ∷ bs) (Some kind.Number) w.0 f w.2 (number_read b bs w.0 d w.1)
+      let h : numeral_front bs (number_rest bs) ≡ Some f = rw (s, l, d) at e in
+      by_number (number_rest bs) refl h
+    where
+      by_number : (o : Option ℕ) → number_rest bs ≡ o → numeral_front bs o ≡ Some f → IsFrontRead (b ∷ bs) f
+      by_number None i h =
+          let w = with_some (Some kind.Decimal) (decimal_rest bs) f h in
+          done (b ∷ bs) (Some kind.Decimal) w.0 f w.2 (decimal_read b bs w.0 d w.1)
+      by_number (Some n) i h = done (b ∷ bs) (Some kind.Number) n f (same_some h) (number_read b bs n d i)
 
   sound_word : blank_byte b ≡ false → letter_byte b ≡ true → front_of (b ∷ bs) ≡ Some f → IsFrontRead (b ∷ bs) f
   sound_word s l e =
@@ -187,11 +204,26 @@ word_first b ws next l all stops =
     let more : word_rest (ws ++ next) ≡ length ws = word_found ws next all stops in
     step ∙ same_front (Some kind.Word) (word_rest (ws ++ next) + 1) (length (b ∷ ws)) (omega (arith, more))
 
-number_first : (b : ℕ) (ds next : List ℕ) → digit_byte b ≡ true → Each digit_byte ds → BeginsNot word_byte next → front_of (b ∷ (ds ++ next)) ≡ Some (front_cell (LexemeCell (Number (b ∷ ds))))
+number_first : (b : ℕ) (ds next : List ℕ) → digit_byte b ≡ true → Each digit_byte ds → BeginsNot numeral_byte next → front_of (b ∷ (ds ++ next)) ≡ Some (front_cell (LexemeCell (Number (b ∷ ds))))
 number_first b ds next d all stops =
-    let step : front_of (b ∷ (ds ++ next)) ≡ front_with (Some kind.Number) (number_rest (ds ++ next)) = rw (digit_no_blank b d, digit_no_letter b d, d) refl in
-    step ∙ ap (front_with (Some kind.Number)) (number_found ds next all stops)
+    let step : front_of (b ∷ (ds ++ next)) ≡ numeral_front (ds ++ next) (number_rest (ds ++ next)) = rw (digit_no_blank b d, digit_no_letter b d, d) refl in
+    step ∙ ap (numeral_front (ds ++ next)) (number_found ds next all stops)
     ∙ same_front (Some kind.Number) (length ds + 1) (length (b ∷ ds)) (omega arith)
+
+decimal_first : (b : ℕ) (ds ps next : List ℕ) → digit_byte b ≡ true → Each digit_byte ds → BeginsWith digit_byte ps → Each digit_byte ps → BeginsNot numeral_byte next
+    → front_of (b ∷ (ds ++ 46 ∷ (ps ++ next))) ≡ some_front (Some kind.Decimal) (length (b ∷ (ds ++ 46 ∷ ps)))
+decimal_first b ds ps next d all begins more stops =
+    let step : front_of (b ∷ (ds ++ 46 ∷ (ps ++ next))) ≡ numeral_front (ds ++ 46 ∷ (ps ++ next)) (number_rest (ds ++ 46 ∷ (ps ++ next))) = rw (digit_no_blank b d, digit_no_letter b d, d) refl in
+    step ∙ ap (numeral_front (ds ++ 46 ∷ (ps ++ next))) (pointed ds (ps ++ next) all)
+    ∙ ap (front_with (Some kind.Decimal)) (decimal_found ds ps next all begins more stops)
+    ∙ same_front (Some kind.Decimal) (length ds + 1 + length ps + 1) (length (b ∷ (ds ++ 46 ∷ ps))) (omega (arith, length-append ds (46 ∷ ps)))
+
+decimal_front : (bs next : List ℕ) (whole fraction : List ℕ) → bs ≡ whole ++ 46 ∷ fraction → BeginsWith digit_byte whole → Each digit_byte whole → BeginsWith digit_byte fraction → Each digit_byte fraction → BeginsNot numeral_byte next
+    → front_of (bs ++ next) ≡ Some (front_cell (LexemeCell (Decimal bs)))
+decimal_front bs next [] ps e begins all goes more stops = absurd begins
+decimal_front bs next (w ∷ ws) ps e begins all goes more stops =
+    subst (λ (l : List ℕ). front_of (l ++ next) ≡ Some (front_cell (LexemeCell (Decimal l)))) (sym e)
+    (ap (λ (l : List ℕ). front_of (w ∷ l)) (append_assoc ws (46 ∷ ps) next) ∙ decimal_first w ws ps next begins all.1 goes more stops)
 
 pub front_found : (cell : Cell) (next : List ℕ) → IsCell cell next → front_of (cell_bytes cell ++ next) ≡ Some (front_cell cell)
 front_found (GapCell (Space b)) next h = rw h refl
@@ -207,6 +239,7 @@ front_found (LexemeCell (Word [])) next h = absurd h.0
 front_found (LexemeCell (Word (b ∷ ws))) next h = word_first b ws next h.0 h.1.1 h.2
 front_found (LexemeCell (Number [])) next h = absurd h.0
 front_found (LexemeCell (Number (b ∷ ds))) next h = number_first b ds next h.0 h.1.1 h.2
+front_found (LexemeCell (Decimal bs)) next h = decimal_front bs next h.0.whole h.0.fraction h.0.is h.0.begins h.0.digits h.0.goes_on h.0.more_digits h.1
 front_found (LexemeCell (Quoted value)) next h =
     let found : quoted_rest false (doubled value ++ 39 ∷ next) ≡ Some (length (doubled value) + 1) = text_found value next h.0 h.1 in
     let count : length (doubled value) + 1 + 1 ≡ length (39 ∷ (doubled value ++ 39 ∷ [])) = omega (arith, length-append (doubled value) (39 ∷ [])) in

@@ -1,11 +1,11 @@
 -- The counted rests of words, numbers, quoted texts and comments are those of their definitions, and each is counted.
 use Rattle.std.proofs.Common.{◌≡◌, ◌≢◌, ◌⊎◌, ℕ, ◌+◌, List, [], ◌∷◌, ◌++◌, length, refl, sym, ap, ◌∙◌, subst, inl, inr, ⊎_elim, Bool, true, false, arith}
-use Rattle.std.specs.Prelude.{Option, Some, None, ◌||◌}
+use Rattle.std.specs.Prelude.{Option, Some, None, ◌==◌, ◌||◌}
 use Rattle.std.proofs.lemmas.Bool.Decides.{nat_tests}
 use Rattle.ded_model.specs.Quoting.{doubled}
 use Rattle.ded_lex.specs.Gaps.{IsLine}
-use Rattle.ded_lex.specs.Lexemes.{digit_byte, letter_byte, word_byte, text_byte, Each, BeginsNot, quote_byte}
-use Rattle.ded_lex.specs.Fronts.{longer, word_rest, number_rest, quoted_rest, line_length}
+use Rattle.ded_lex.specs.Lexemes.{digit_byte, letter_byte, word_byte, numeral_byte, text_byte, Each, BeginsWith, BeginsNot, quote_byte}
+use Rattle.ded_lex.specs.Fronts.{longer, word_rest, number_rest, fraction_rest, decimal_rest, quoted_rest, line_length}
 use Rattle.ded_lex.proofs.Counting.{text_step}
 use Rattle.ded_lex.proofs.Cases.{tested, same_or, is_not, same_some, none_some}
 use Rattle.std.proofs.lemmas.Bool.{or_parts}
@@ -58,31 +58,121 @@ word_found (w ∷ ws) next all stops =
 pub digit_no_letter : (b : ℕ) → digit_byte b ≡ true → letter_byte b ≡ false
 digit_no_letter b h = grind (arith, nat_tests)
 
-pub number_sound : (bs : List ℕ) (n : ℕ) → number_rest bs ≡ Some n → Run digit_byte word_byte bs n
-number_sound [] n e = subst (λ (m : ℕ). Run digit_byte word_byte [] m) (same_some e) (run_none digit_byte word_byte [] tt)
+digit_no_point : (b : ℕ) → digit_byte b ≡ true → (b == 46) ≡ false
+digit_no_point b h = grind (arith, nat_tests)
+
+-- no letter, no point and no digit
+stops_number : (b : ℕ) → (letter_byte b || (b == 46)) ≡ false → digit_byte b ≡ false → numeral_byte b ≡ false
+stops_number b f g = let free = or_parts (letter_byte b) (b == 46) f in rw (free.0, g, free.1) refl
+
+pub number_sound : (bs : List ℕ) (n : ℕ) → number_rest bs ≡ Some n → Run digit_byte numeral_byte bs n
+number_sound [] n e = subst (λ (m : ℕ). Run digit_byte numeral_byte [] m) (same_some e) (run_none digit_byte numeral_byte [] tt)
 number_sound (b ∷ bs) n e = ⊎_elim
-    (λ (t : letter_byte b ≡ true). let h : None ≡ Some n = rw t at e in absurd (none_some h))
-    (λ (f : letter_byte b ≡ false). ⊎_elim
+    (λ (t : (letter_byte b || (b == 46)) ≡ true). let h : None ≡ Some n = rw t at e in absurd (none_some h))
+    (λ (f : (letter_byte b || (b == 46)) ≡ false). ⊎_elim
     (λ (t : digit_byte b ≡ true).
     let h : longer (number_rest bs) ≡ Some n = rw (f, t) at e in
     let m = longer_some (number_rest bs) n h in
-    subst (λ (k : ℕ). Run digit_byte word_byte (b ∷ bs) k) m.2 (run_first digit_byte word_byte b bs m.0 t (number_sound bs m.0 m.1)))
+    subst (λ (k : ℕ). Run digit_byte numeral_byte (b ∷ bs) k) m.2 (run_first digit_byte numeral_byte b bs m.0 t (number_sound bs m.0 m.1)))
     (λ (g : digit_byte b ≡ false).
     let h : Some 0 ≡ Some n = rw (f, g) at e in
-    let stops : word_byte b ≡ false = rw (f, g) refl in
-    subst (λ (k : ℕ). Run digit_byte word_byte (b ∷ bs) k) (same_some h) (run_none digit_byte word_byte (b ∷ bs) stops))
+    subst (λ (k : ℕ). Run digit_byte numeral_byte (b ∷ bs) k) (same_some h) (run_none digit_byte numeral_byte (b ∷ bs) (stops_number b f g)))
     (tested (digit_byte b)))
-    (tested (letter_byte b))
+    (tested (letter_byte b || (b == 46)))
 
-pub number_found : (ds next : List ℕ) → Each digit_byte ds → BeginsNot word_byte next → number_rest (ds ++ next) ≡ Some (length ds)
+pub number_found : (ds next : List ℕ) → Each digit_byte ds → BeginsNot numeral_byte next → number_rest (ds ++ next) ≡ Some (length ds)
 number_found [] [] all stops = refl
 number_found [] (b ∷ bs) all stops =
-    let free = or_parts (letter_byte b) (digit_byte b) stops in
-    rw (free.0, free.1) refl
+    let free = or_parts (word_byte b) (b == 46) stops in
+    let none = or_parts (letter_byte b) (digit_byte b) free.0 in
+    rw (none.0, free.1, none.1) refl
 number_found (d ∷ ds) next all stops =
-    let step : number_rest (d ∷ (ds ++ next)) ≡ longer (number_rest (ds ++ next)) = rw (digit_no_letter d all.0, all.0) refl in
+    let step : number_rest (d ∷ (ds ++ next)) ≡ longer (number_rest (ds ++ next)) = rw (digit_no_letter d all.0, digit_no_point d all.0, all.0) refl in
     let same : length ds + 1 ≡ length (d ∷ ds) = omega arith in
     step ∙ ap longer (number_found ds next all.1 stops) ∙ ap Some same
+
+-- Decimals: digits, a point, and digits, behind the first digit.
+pub record DecimalRun (bs : List ℕ) (n : ℕ) : Type 0 where
+  pub front : List ℕ
+  pub fraction : List ℕ
+  pub rest : List ℕ
+  pub is : bs ≡ front ++ 46 ∷ (fraction ++ rest)
+  pub digits : Each digit_byte front
+  pub goes_on : BeginsWith digit_byte fraction
+  pub more_digits : Each digit_byte fraction
+  pub stops : BeginsNot numeral_byte rest
+  pub count : n ≡ length front + 1 + length fraction
+
+fraction_sound : (bs : List ℕ) (n : ℕ) → fraction_rest bs ≡ Some n → DecimalRun (46 ∷ bs) (n + 1)
+fraction_sound [] n e = absurd (none_some e)
+fraction_sound (b ∷ bs) n e = ⊎_elim
+    (λ (t : digit_byte b ≡ true).
+    let h : longer (number_rest bs) ≡ Some n = rw t at e in
+    let m = longer_some (number_rest bs) n h in
+    let r = number_sound bs m.0 m.1 in
+    record {
+      front = [];
+      fraction = b ∷ r.front;
+      rest = r.rest;
+      is = ap (λ (l : List ℕ). 46 ∷ b ∷ l) r.is;
+      digits = tt;
+      goes_on = t;
+      more_digits = (t, r.all);
+      stops = r.stops;
+      count = omega (arith, r.count, m.2);
+    })
+    (λ (f : digit_byte b ≡ false). let h : None ≡ Some n = rw f at e in absurd (none_some h))
+    (tested (digit_byte b))
+
+pub decimal_sound : (bs : List ℕ) (n : ℕ) → decimal_rest bs ≡ Some n → DecimalRun bs n
+decimal_sound [] n e = absurd (none_some e)
+decimal_sound (b ∷ bs) n e = ⊎_elim
+    (λ (t : digit_byte b ≡ true).
+    let h : longer (decimal_rest bs) ≡ Some n = rw t at e in
+    let m = longer_some (decimal_rest bs) n h in
+    let r = decimal_sound bs m.0 m.1 in
+    record {
+      front = b ∷ r.front;
+      fraction = r.fraction;
+      rest = r.rest;
+      is = ap (λ (l : List ℕ). b ∷ l) r.is;
+      digits = (t, r.digits);
+      goes_on = r.goes_on;
+      more_digits = r.more_digits;
+      stops = r.stops;
+      count = omega (arith, r.count, m.2);
+    })
+    (λ (f : digit_byte b ≡ false). ⊎_elim
+    (λ (p : b ≡ 46).
+    let h : longer (fraction_rest bs) ≡ Some n = subst (λ (x : ℕ). decimal_rest (x ∷ bs) ≡ Some n) p e in
+    let m = longer_some (fraction_rest bs) n h in
+    subst (λ (x : ℕ). DecimalRun (x ∷ bs) n) (sym p) (subst (λ (k : ℕ). DecimalRun (46 ∷ bs) k) m.2 (fraction_sound bs m.0 m.1)))
+    (λ (q : b ≢ 46). let h : None ≡ Some n = rw (f, is_not b 46 q) at e in absurd (none_some h))
+    (same_or b 46))
+    (tested (digit_byte b))
+
+pub fraction_found : (ps next : List ℕ) → BeginsWith digit_byte ps → Each digit_byte ps → BeginsNot numeral_byte next → fraction_rest (ps ++ next) ≡ Some (length ps)
+fraction_found [] next begins all stops = absurd begins
+fraction_found (p ∷ ps) next begins all stops =
+    let step : fraction_rest (p ∷ (ps ++ next)) ≡ longer (number_rest (ps ++ next)) = rw begins refl in
+    let same : length ps + 1 ≡ length (p ∷ ps) = omega arith in
+    step ∙ ap longer (number_found ps next all.1 stops) ∙ ap Some same
+
+pub decimal_found : (ds ps next : List ℕ) → Each digit_byte ds → BeginsWith digit_byte ps → Each digit_byte ps → BeginsNot numeral_byte next → decimal_rest (ds ++ 46 ∷ (ps ++ next)) ≡ Some (length ds + 1 + length ps)
+decimal_found [] ps next all begins more stops =
+    let same : length ps + 1 ≡ 0 + 1 + length ps = omega arith in
+    ap longer (fraction_found ps next begins more stops) ∙ ap Some same
+decimal_found (d ∷ ds) ps next all begins more stops =
+    let step : decimal_rest (d ∷ (ds ++ 46 ∷ (ps ++ next))) ≡ longer (decimal_rest (ds ++ 46 ∷ (ps ++ next))) = rw all.0 refl in
+    let same : length ds + 1 + length ps + 1 ≡ length (d ∷ ds) + 1 + length ps = omega arith in
+    step ∙ ap longer (decimal_found ds ps next all.1 begins more stops) ∙ ap Some same
+
+-- no number ends before a point
+pub pointed : (ds rest : List ℕ) → Each digit_byte ds → number_rest (ds ++ 46 ∷ rest) ≡ None
+pointed [] rest all = refl
+pointed (d ∷ ds) rest all =
+    let step : number_rest (d ∷ (ds ++ 46 ∷ rest)) ≡ longer (number_rest (ds ++ 46 ∷ rest)) = rw (digit_no_letter d all.0, digit_no_point d all.0, all.0) refl in
+    step ∙ ap longer (pointed ds rest all.1)
 
 -- Comments, up to the line feed or to the end.
 abbrev pub LineRead : List ℕ → ℕ → Type 0

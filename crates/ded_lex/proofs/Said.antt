@@ -5,7 +5,7 @@ use Rattle.std.proofs.Math.Seq.{drop-append_seam, take-append_seam}
 use Rattle.ded_model.specs.Quoting.{doubled}
 use Rattle.ded_lex.specs.declared.token.Token.{Token}
 use Rattle.ded_lex.specs.Gaps.{gap_bytes}
-use Rattle.ded_lex.specs.Lexemes.{Lexeme, Word, Number, Quoted, Sign, lexeme_bytes}
+use Rattle.ded_lex.specs.Lexemes.{Lexeme, Word, Number, Decimal, Quoted, Sign, lexeme_bytes}
 use Rattle.ded_lex.specs.Tokens.{Cell, GapCell, LexemeCell, cell_bytes, tokens_from, lexemes_of, AreTokens, AreLexemes, undoubled, kind_of, lexeme_of, lexeme}
 use Rattle.ded_lex.proofs.Cases.{same_or, is_not}
 
@@ -28,6 +28,7 @@ value_back (b ∷ value) = ⊎_elim
 said : (l : Lexeme) → lexeme_of (kind_of l) (lexeme_bytes l) ≡ l
 said (Word bs) = refl
 said (Number digits) = refl
+said (Decimal bs) = refl
 said (Quoted value) = ap Quoted (value_back value)
 said (Sign bs) = refl
 

@@ -27,7 +27,8 @@ lone_is b h =
     (λ h5. or_byte b 61 _ (λ e. inl (inr (inr (inr (inr (inr (inl (single b 61 e))))))))
     (λ h6. or_byte b 43 _ (λ e. inl (inr (inr (inr (inr (inr (inr (inl (single b 43 e)))))))))
     (λ h7. or_byte b 42 _ (λ e. inl (inr (inr (inr (inr (inr (inr (inr (inl (single b 42 e))))))))))
-    (λ h8. inr (eqb-true b 45 h8)) h7) h6) h5) h4) h3) h2) h1) h
+    (λ h8. or_byte b 47 _ (λ e. inl (inr (inr (inr (inr (inr (inr (inr (inr (inl (single b 47 e)))))))))))
+    (λ h9. inr (eqb-true b 45 h9)) h8) h7) h6) h5) h4) h3) h2) h1) h
 
 open_is : (b : ℕ) → open_sign b ≡ true → IsOneOf (b ∷ []) open_signs
 open_is b h =
@@ -40,22 +41,22 @@ double b k c e f = ap (λ (x : ℕ). x ∷ c ∷ []) e ∙ ap (λ (x : ℕ). k �
 two_is : (b c : ℕ) → (open_sign b || (b == 33)) ≡ true → c ≡ 61 → IsOneOf (b ∷ c ∷ []) lone_signs
 two_is b c h f = ⊎_elim
     (λ (o : open_sign b ≡ true).
-    or_byte b 58 _ (λ e. at_eight (double b 58 c e f))
-    (λ o1. or_byte b 60 _ (λ e. at_nine (double b 60 c e f)) (λ o2. at_ten (double b 62 c (eqb-true b 62 o2) f)) o1) o)
-    (λ (n : (b == 33) ≡ true). at_eleven (double b 33 c (eqb-true b 33 n) f))
+    or_byte b 58 _ (λ e. at_nine (double b 58 c e f))
+    (λ o1. or_byte b 60 _ (λ e. at_ten (double b 60 c e f)) (λ o2. at_eleven (double b 62 c (eqb-true b 62 o2) f)) o1) o)
+    (λ (n : (b == 33) ≡ true). at_twelve (double b 33 c (eqb-true b 33 n) f))
     (or_split (open_sign b) (b == 33) h)
   where
-    at_eight : b ∷ c ∷ [] ≡ 58 ∷ 61 ∷ [] → IsOneOf (b ∷ c ∷ []) lone_signs
-    at_eight e = inr (inr (inr (inr (inr (inr (inr (inr (inl e))))))))
-
-    at_nine : b ∷ c ∷ [] ≡ 60 ∷ 61 ∷ [] → IsOneOf (b ∷ c ∷ []) lone_signs
+    at_nine : b ∷ c ∷ [] ≡ 58 ∷ 61 ∷ [] → IsOneOf (b ∷ c ∷ []) lone_signs
     at_nine e = inr (inr (inr (inr (inr (inr (inr (inr (inr (inl e)))))))))
 
-    at_ten : b ∷ c ∷ [] ≡ 62 ∷ 61 ∷ [] → IsOneOf (b ∷ c ∷ []) lone_signs
+    at_ten : b ∷ c ∷ [] ≡ 60 ∷ 61 ∷ [] → IsOneOf (b ∷ c ∷ []) lone_signs
     at_ten e = inr (inr (inr (inr (inr (inr (inr (inr (inr (inr (inl e))))))))))
 
-    at_eleven : b ∷ c ∷ [] ≡ 33 ∷ 61 ∷ [] → IsOneOf (b ∷ c ∷ []) lone_signs
+    at_eleven : b ∷ c ∷ [] ≡ 62 ∷ 61 ∷ [] → IsOneOf (b ∷ c ∷ []) lone_signs
     at_eleven e = inr (inr (inr (inr (inr (inr (inr (inr (inr (inr (inr (inl e)))))))))))
+
+    at_twelve : b ∷ c ∷ [] ≡ 33 ∷ 61 ∷ [] → IsOneOf (b ∷ c ∷ []) lone_signs
+    at_twelve e = inr (inr (inr (inr (inr (inr (inr (inr (inr (inr (inr (inr (inl e))))))))))))
 
 -- A sign of so many bytes behind the first one.
 pub record SignRead (b : ℕ) (bs : List ℕ) (n : ℕ) : Type 0 where
@@ -123,7 +124,8 @@ lone_found bs next (inr (inr (inr (inr (inr (inr (inr (inr (inl e))))))))) = sub
 lone_found bs next (inr (inr (inr (inr (inr (inr (inr (inr (inr (inl e)))))))))) = subst (λ (l : List ℕ). ReadsSign l next) (sym e) refl
 lone_found bs next (inr (inr (inr (inr (inr (inr (inr (inr (inr (inr (inl e))))))))))) = subst (λ (l : List ℕ). ReadsSign l next) (sym e) refl
 lone_found bs next (inr (inr (inr (inr (inr (inr (inr (inr (inr (inr (inr (inl e)))))))))))) = subst (λ (l : List ℕ). ReadsSign l next) (sym e) refl
-lone_found bs next (inr (inr (inr (inr (inr (inr (inr (inr (inr (inr (inr (inr none)))))))))))) = absurd none
+lone_found bs next (inr (inr (inr (inr (inr (inr (inr (inr (inr (inr (inr (inr (inl e))))))))))))) = subst (λ (l : List ℕ). ReadsSign l next) (sym e) refl
+lone_found bs next (inr (inr (inr (inr (inr (inr (inr (inr (inr (inr (inr (inr (inr (none)))))))))))))) = absurd none
 
 colon_found : (next : List ℕ) → BeginsNot equals_byte next → ReadsSign (58 ∷ []) next
 colon_found [] free = refl

@@ -1,5 +1,5 @@
--- Words, numbers, quoted texts and signs.
-use Rattle.std.specs.Prelude.{◌≡◌, ◌⊎◌, ℕ, Bool, true, false, List, [], ◌∷◌, ◌++◌, if◌then◌else◌, ◌==◌, ◌&&◌, ◌||◌, nat_le, codes}
+-- Words, numbers, decimals, quoted texts and signs.
+use Rattle.std.specs.Prelude.{◌≡◌, ◌⊎◌, ℕ, Bool, true, false, List, [], ◌∷◌, ◌++◌, ◌==◌, ◌&&◌, ◌||◌, nat_le, codes}
 use Rattle.std.specs.List.{AllByRecursion}
 use Rattle.ded_model.specs.Quoting.{quoted}
 
@@ -18,16 +18,18 @@ word_byte b = letter_byte b || digit_byte b
 abbrev pub text_byte : ℕ → Bool
 text_byte b = (nat_le 32 b && nat_le b 126) || (nat_le 128 b && nat_le b 255)
 
--- A word by its bytes, a number by its digits, a quoted text by its value, and a sign by its bytes.
+-- A word, a decimal and a sign by their bytes, a number by its digits, and a quoted text by its value.
 pub data Lexeme : Type 0 where
   Word : List ℕ → Lexeme
   Number : List ℕ → Lexeme
+  Decimal : List ℕ → Lexeme
   Quoted : List ℕ → Lexeme
   Sign : List ℕ → Lexeme
 
 abbrev pub lexeme_bytes : Lexeme → List ℕ
 lexeme_bytes (Word bs) = bs
 lexeme_bytes (Number digits) = digits
+lexeme_bytes (Decimal bs) = bs
 lexeme_bytes (Quoted value) = quoted value
 lexeme_bytes (Sign bs) = bs
 
@@ -45,6 +47,20 @@ abbrev pub BeginsNot : (ℕ → Bool) → List ℕ → Type 0
 BeginsNot test [] = Unit {0}
 BeginsNot test (b ∷ bs) = test b ≡ false
 
+-- what may not follow a number or a decimal: a letter, _, a digit or a point
+abbrev pub numeral_byte : ℕ → Bool
+numeral_byte b = word_byte b || (b == 46)
+
+-- digits, a point, and digits
+pub record IsDecimal (bs : List ℕ) : Type 0 where
+  pub whole : List ℕ
+  pub fraction : List ℕ
+  pub is : bs ≡ whole ++ 46 ∷ fraction
+  pub begins : BeginsWith digit_byte whole
+  pub digits : Each digit_byte whole
+  pub goes_on : BeginsWith digit_byte fraction
+  pub more_digits : Each digit_byte fraction
+
 abbrev pub equals_byte : ℕ → Bool
 equals_byte b = b == 61
 
@@ -60,7 +76,7 @@ IsOneOf bs (xs ∷ rest) = (bs ≡ xs) ⊎ IsOneOf bs rest
 
 -- signs that no longer sign begins with
 abbrev pub lone_signs : List (List ℕ)
-lone_signs = codes "(" ∷ codes ")" ∷ codes "{" ∷ codes "}" ∷ codes "," ∷ codes "=" ∷ codes "+" ∷ codes "*" ∷ codes ":=" ∷ codes "<=" ∷ codes ">=" ∷ codes "!=" ∷ []
+lone_signs = codes "(" ∷ codes ")" ∷ codes "{" ∷ codes "}" ∷ codes "," ∷ codes "=" ∷ codes "+" ∷ codes "*" ∷ codes "/" ∷ codes ":=" ∷ codes "<=" ∷ codes ">=" ∷ codes "!=" ∷ []
 
 -- signs that an = makes longer
 abbrev pub open_signs : List (List ℕ)
@@ -71,9 +87,10 @@ abbrev pub IsSign : List ℕ → List ℕ → Type 0
 IsSign bs next =
     IsOneOf bs lone_signs ⊎ (IsOneOf bs open_signs × BeginsNot equals_byte next) ⊎ ((bs ≡ codes "-") × BeginsNot dash_byte next)
 
--- The longest lexeme, where these bytes come next. A digit that a letter or _ follows is in none.
+-- The longest lexeme, where these bytes come next. A digit that a letter or _ follows is in none, nor is a point that isn't between digits.
 abbrev pub IsLexeme : Lexeme → List ℕ → Type 0
 IsLexeme (Word bs) next = BeginsWith letter_byte bs × Each word_byte bs × BeginsNot word_byte next
-IsLexeme (Number digits) next = BeginsWith digit_byte digits × Each digit_byte digits × BeginsNot word_byte next
+IsLexeme (Number digits) next = BeginsWith digit_byte digits × Each digit_byte digits × BeginsNot numeral_byte next
+IsLexeme (Decimal bs) next = IsDecimal bs × BeginsNot numeral_byte next
 IsLexeme (Quoted value) next = Each text_byte value × BeginsNot quote_byte next
 IsLexeme (Sign bs) next = IsSign bs next

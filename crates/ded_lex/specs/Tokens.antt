@@ -4,7 +4,7 @@ use Rattle.ded_lex.specs.declared.token.Token.{Token}
 use Rattle.ded_lex.specs.declared.token.TokenKind.{TokenKind}
 use Rattle.ded_lex.specs.declared.token.TokenKind.TheVariants as kind
 use Rattle.ded_lex.specs.Gaps.{Gap, gap_bytes, IsGap}
-use Rattle.ded_lex.specs.Lexemes.{Lexeme, Word, Number, Quoted, Sign, lexeme_bytes, IsLexeme}
+use Rattle.ded_lex.specs.Lexemes.{Lexeme, Word, Number, Decimal, Quoted, Sign, lexeme_bytes, IsLexeme}
 
 -- What bytes are made of.
 pub data Cell : Type 0 where
@@ -28,6 +28,7 @@ AreCells (cell ∷ cells) = IsCell cell (flat_map cell_bytes cells) × AreCells 
 abbrev pub kind_of : Lexeme → TokenKind
 kind_of (Word bs) = kind.Word
 kind_of (Number digits) = kind.Number
+kind_of (Decimal bs) = kind.Decimal
 kind_of (Quoted value) = kind.Quoted
 kind_of (Sign bs) = kind.Sign
 
@@ -76,6 +77,7 @@ quoted_value (b ∷ bs) = undoubled bs
 abbrev pub lexeme_of : TokenKind → List ℕ → Lexeme
 lexeme_of kind.Word text = Word text
 lexeme_of kind.Number text = Number text
+lexeme_of kind.Decimal text = Decimal text
 lexeme_of kind.Quoted text = Quoted (quoted_value text)
 lexeme_of kind.Sign text = Sign text
 

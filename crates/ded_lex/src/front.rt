@@ -1,6 +1,6 @@
 //! The gap or token with which bytes begin.
-ghost use Rattle.std.specs.Prelude.{◌≡◌, ◌≤◌, ◌<◌, length, IfSome, true, false, Bool};
-ghost use Rattle.ded_lex.specs.Fronts.{word_rest, number_rest, quoted_rest, line_length, begins_with, sign_rest, front_with, front_of};
+ghost use Rattle.std.specs.Prelude.{◌≡◌, ◌≤◌, ◌<◌, ◌+◌, length, IfSome, true, false, Bool};
+ghost use Rattle.ded_lex.specs.Fronts.{word_rest, number_rest, fraction_rest, decimal_rest, quoted_rest, line_length, begins_with, sign_rest, front_with, numeral_front, front_of};
 
 use crate::byte::{is_blank_byte, is_digit, is_letter, is_text_byte, is_word_byte};
 use crate::token::TokenKind;
@@ -25,14 +25,14 @@ fn word_rest(after: &[u8]) -> usize
     after.len()
 }
 
-/// How many digits of a number follow its first one, or none where a letter or `_` follows them.
+/// How many digits of a number follow its first one, or none where a letter, `_` or a point follows them.
 #[tactic(auto, using(crate::proofs::Counting::plus_longer))]
 fn number_rest(after: &[u8]) -> Option<usize>
     ensures value { result ≡ number_rest after.now }
     ensures within { IfSome result (λ n. n ≤ length after.now) }
 {
     for (i, byte) in after.iter().enumerate() {
-        if is_letter(*byte) {
+        if is_letter(*byte) || *byte == b'.' {
             return None;
         }
         if !is_digit(*byte) {
@@ -40,6 +40,35 @@ fn number_rest(after: &[u8]) -> Option<usize>
         }
     }
     Some(after.len())
+}
+
+/// How many digits follow a point, or none where there are none, or a letter, `_` or a point follows them.
+fn fraction_rest(after: &[u8]) -> Option<usize>
+    ensures value { result ≡ fraction_rest after.now }
+    ensures within { IfSome result (λ n. n ≤ length after.now) }
+{
+    match after.split_first() {
+        Some((first, digits)) if is_digit(*first) => Some(number_rest(digits)? + 1),
+        _ => None,
+    }
+}
+
+/// How many bytes of a decimal follow its first digit, or none where no point between digits follows it.
+#[tactic(auto, using(crate::proofs::Counting::plus_longer, crate::proofs::Counting::plus_zero))]
+fn decimal_rest(after: &[u8]) -> Option<usize>
+    ensures value { result ≡ decimal_rest after.now }
+    ensures within { IfSome result (λ n. n ≤ length after.now) }
+{
+    for (i, byte) in after.iter().enumerate() {
+        if is_digit(*byte) {
+            continue;
+        }
+        if *byte != b'.' {
+            return None;
+        }
+        return Some(fraction_rest(&after[i + 1..])? + i + 1);
+    }
+    None
 }
 
 /// How many bytes of a quoted text follow its first quote, or none where the text doesn't end or holds a control
@@ -94,7 +123,7 @@ fn sign_rest(byte: u8, after: &[u8]) -> Option<usize>
     ensures within { IfSome result (λ n. n ≤ length after.now) }
 {
     match byte {
-        b'(' | b')' | b'{' | b'}' | b',' | b'=' | b'+' | b'*' | b'-' => Some(0),
+        b'(' | b')' | b'{' | b'}' | b',' | b'=' | b'+' | b'*' | b'/' | b'-' => Some(0),
         b':' | b'<' | b'>' => Some(if begins_with(after, b'=') { 1 } else { 0 }),
         b'!' if begins_with(after, b'=') => Some(1),
         _ => None,
@@ -115,6 +144,18 @@ fn front_with(kind: Option<TokenKind>, rest: Option<usize>) -> Option<Front>
     }
 }
 
+/// The number or decimal behind whose first digit these bytes stand, or none where that is none.
+fn numeral_front(after: &[u8]) -> Option<Front>
+    requires { length after.now < 4294967295 }
+    ensures value { result ≡ numeral_front after.now (number_rest after.now) }
+    ensures within { IfSome result (λ front. (0 < front.length) × (front.length ≤ length after.now + 1)) }
+{
+    match number_rest(after) {
+        Some(rest) => front_with(Some(TokenKind::Number), Some(rest)),
+        None => front_with(Some(TokenKind::Decimal), decimal_rest(after)),
+    }
+}
+
 /// The gap or token with which the bytes begin, or none where they begin with neither.
 pub fn front_of(bytes: &[u8]) -> Option<Front>
     requires { length bytes.now < 4294967296 }
@@ -131,7 +172,7 @@ pub fn front_of(bytes: &[u8]) -> Option<Front>
         return front_with(Some(TokenKind::Word), Some(word_rest(after)));
     }
     if is_digit(*byte) {
-        return front_with(Some(TokenKind::Number), number_rest(after));
+        return numeral_front(after);
     }
     if *byte == b'\'' {
         return front_with(Some(TokenKind::Quoted), quoted_rest(after));

@@ -12,9 +12,11 @@ pub enum TokenKind {
     Word,
     /// Digits.
     Number,
+    /// Digits, a point, and digits.
+    Decimal,
     /// A text between quotes, in which each quote is doubled.
     Quoted,
-    /// One of `( ) { } , : := < <= = != >= > + - *`.
+    /// One of `( ) { } , : := < <= = != >= > + - * /`.
     Sign,
 }
 

@@ -34,6 +34,7 @@ pub mod Rows
 pub mod Sats
 pub mod Sameness
 pub mod Saying
+pub mod Sublists
 pub mod Terms
 pub mod Texts
 pub mod Unused

@@ -31,6 +31,7 @@ pub mod Renaming
 pub mod Row
 pub mod Scanned
 pub mod Slotted
+pub mod Sublists
 pub mod Sum
 pub mod Uses
 pub mod Value

@@ -50,6 +50,11 @@ same_key (slot s) (name y) = false
 same_key (name x) (slot t) = false
 same_key (name x) (name y) = bytes_eq x y
 
+-- the key is a slot of the sort
+abbrev pub IsSlotOf : Sort → Key → Type 0
+IsSlotOf s (slot u) = u.sort ≡ s
+IsSlotOf s (name x) = ⊥
+
 -- an absent coordinate is the rational 0 and the empty text
 abbrev pub absent : Value
 absent = number (pos 0)

@@ -17,4 +17,4 @@ mod product;
 pub use divisor::{gcd, quotient};
 pub use fraction::cmp_frac;
 pub use length::bits;
-pub use product::checked_mix;
+pub use product::{checked_mix, short_product, short_sum};

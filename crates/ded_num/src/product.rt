@@ -15,7 +15,7 @@ pub fn checked_mix(a: i128, x: i128, b: i128, y: i128) -> Option<i128>
 }
 
 /// `a * x`, unless it has more than 127 binary digits.
-fn short_product(a: i128, x: i128) -> Option<i128>
+pub fn short_product(a: i128, x: i128) -> Option<i128>
     ensures { SomeIff result (IsShort (a *ℤ x)) (a *ℤ x) }
 {
     match a.checked_mul(x) {
@@ -25,7 +25,7 @@ fn short_product(a: i128, x: i128) -> Option<i128>
 }
 
 /// `a + b`, unless it has more than 127 binary digits.
-fn short_sum(a: i128, b: i128) -> Option<i128>
+pub fn short_sum(a: i128, b: i128) -> Option<i128>
     ensures { SomeIff result (IsShort (a +ℤ b)) (a +ℤ b) }
 {
     match a.checked_add(b) {

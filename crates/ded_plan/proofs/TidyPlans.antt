@@ -11,8 +11,8 @@ use Rattle.ded_model.specs.Normal.{IsNormalTuple}
 use Rattle.ded_model.specs.Rational.{AreRationalCoefs, AreRationalAtoms, IsRationalPlanAtom, IsRationalPlan}
 use Rattle.ded_model.specs.Logic.{Logic, atom, always, never, negation, every_of, some_of, implies, minus, exists, forall, Logics, none, also, AllAtoms, AllAtomsOf, IsOfSort, IsSorted, AreSorted}
 use Rattle.ded_model.specs.PlanForm.{PlanAtom, scan, rows, PlanForm, plan_form, plan_forms}
-use Rattle.ded_model.specs.Point.{Key, slot, name}
-use Rattle.ded_plan.specs.Rewritten.{IsSlotOf, ProjectsSlots, EachProjectsSlots, IsTidyAtom, IsTidyPlan}
+use Rattle.ded_model.specs.Point.{Key, slot, name, IsSlotOf}
+use Rattle.ded_plan.specs.Rewritten.{ProjectsSlots, EachProjectsSlots, IsTidyAtom, IsTidyPlan}
 use Rattle.ded_model.proofs.AtomSlots.{AreCoefs-rational}
 
 -- ---- all atoms

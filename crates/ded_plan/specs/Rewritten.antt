@@ -1,8 +1,7 @@
 -- What is promised of the plan that is put in the place of a plan.
 use Rattle.std.specs.Prelude.{◌≡◌, ◌↔◌, ◌<◌, ◌≤◌, ℕ, Bool, true, false, List}
 use Rattle.ded_model.specs.declared.slot.Slot.{Slot}
-use Rattle.ded_model.specs.declared.slot.Sort.{Sort}
-use Rattle.ded_model.specs.Point.{Key, slot, name, Point, AreDistinctSlots}
+use Rattle.ded_model.specs.Point.{Key, slot, Point, IsSlotOf, AreDistinctSlots}
 use Rattle.ded_model.specs.Normal.{IsNormalTuple}
 use Rattle.ded_model.specs.Logic.{atom, always, never, negation, every_of, some_of, implies, minus, exists, forall, Logics, none, also, AllAtoms, count_atoms, conjunctive}
 use Rattle.ded_model.specs.PlanForm.{PlanAtom, scan, rows, PlanForm, plan_mentions}
@@ -12,11 +11,6 @@ use Rattle.ded_model.specs.Measure.{Measures, plan_b, plan_rank, plan_lines, pla
 use Rattle.ded_model.specs.Pushed.{pushed}
 
 -- ---- tidy plans
-
--- the key is a slot of the sort
-abbrev pub IsSlotOf : Sort → Key → Type 0
-IsSlotOf s (slot u) = u.sort ≡ s
-IsSlotOf s (name x) = ⊥
 
 -- each projection is one of a slot, of its sort
 abbrev mutual

@@ -6,11 +6,11 @@ use Rattle.ded_model.specs.declared.slot.Sort.{Sort}
 use Rattle.ded_model.specs.declared.slot.Sort.TheVariants.{Rat, Text}
 use Rattle.ded_model.specs.Logic.{atom, always, never, negation, every_of, some_of, implies, minus, exists, forall, Logics, none, also}
 use Rattle.ded_model.specs.PlanForm.{PlanAtom, scan, rows, PlanForm}
-use Rattle.ded_model.specs.Point.{Key, slot, name}
+use Rattle.ded_model.specs.Point.{Key, slot, name, IsSlotOf}
 use Rattle.ded_print.specs.Numbers.{number_text, count_text}
 use Rattle.ded_print.specs.Plans.{indent, later_slots_text, slots_text, plan_atom_text, key_text, sort_text, parts, node_lines, part_lines, plan_text}
 use Rattle.ded_print.specs.Quiet.{IsQuiet, IsQuietPlan, AreQuietPlans}
-use Rattle.ded_print.specs.Told.{IsPlainName, IsToldAtom, IsSlotOf, IsToldPlan, AreToldPlans}
+use Rattle.ded_print.specs.Told.{IsPlainName, IsToldAtom, IsToldPlan, AreToldPlans}
 use Rattle.ded_print.specs.Tuples.{slot_names}
 use Rattle.ded_print.proofs.Numerals.{same_number}
 use Rattle.ded_print.proofs.QuotedLines.{number_quiet, closed_written, counted_lines}

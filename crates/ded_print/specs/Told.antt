@@ -6,7 +6,7 @@ use Rattle.ded_model.specs.declared.slot.Sort.{Sort}
 use Rattle.ded_model.specs.Logic.{atom, always, never, negation, every_of, some_of, implies, minus, exists, forall, Logics, none, also}
 use Rattle.ded_model.specs.Normal.{IsNormalTuple}
 use Rattle.ded_model.specs.PlanForm.{PlanAtom, scan, rows, PlanForm}
-use Rattle.ded_model.specs.Point.{Key, slot, name}
+use Rattle.ded_model.specs.Point.{IsSlotOf}
 
 -- each byte is above 47, as letters, digits and `_` are
 abbrev pub IsPlainName : List ℕ → Type 0
@@ -16,11 +16,6 @@ IsPlainName = AllByRecursion (λ b. 47 < b)
 abbrev pub IsToldAtom : (List ℕ → List Sort) → PlanAtom → Type 0
 IsToldAtom sorts (scan n ss) = IsPlainName n × (map (λ (s : Slot). s.sort) ss ≡ sorts n)
 IsToldAtom sorts (rows t) = IsNormalTuple t
-
--- a slot of the sort
-abbrev pub IsSlotOf : Sort → Key → Type 0
-IsSlotOf s (slot u) = u.sort ≡ s
-IsSlotOf s (name x) = ⊥
 
 -- scans and lists of atoms that are told, under the connectives that a plan has. `sorts` gives the sorts of the columns of
 -- each name: a slot is written as its number alone

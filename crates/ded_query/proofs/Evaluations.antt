@@ -1,5 +1,5 @@
 -- What a plan over gathered relations is evaluated to.
-use Rattle.std.proofs.Common.{◌≡◌, ℕ, true, List, sym, ◌∙◌, subst, true≢false}
+use Rattle.std.proofs.Common.{◌≡◌, ℕ, true, List, refl, sym, ◌∙◌, subst, true≢false}
 use Rattle.std.specs.Prelude.{◌↔◌, IsTrue}
 use Rattle.std.specs.List.{AllByRecursion}
 use Rattle.ded_model.specs.declared.slot.Slot.{Slot}
@@ -30,7 +30,7 @@ module _ (c : Catalogue) (g : GoalForm) (plan : PlanForm) (rs : List GivenRelati
       → IsEvaluation (given_catalogue rs) plan (tuples_hold ts) (tuples_mention ts) (tuples_lines ts) → IsEvaluated c g ts
   evaluated_of f scans ts u e = record {
     holds = λ q i.
-        let here = e.holds q i in
+        let here = e.holds q i refl in
         let alike = read_alike (given_catalogue rs) c plan q i (scanned_same c f rs k plan scans u) in
         let goal = p.holds c q i in
         (λ x. goal.1 (alike.0 (here.0 x)), λ x. here.1 (alike.1 (goal.0 x)));
@@ -57,7 +57,7 @@ pub evaluation_part : (c : Catalogue) (plan : PlanForm) (ts us : List (List Atom
     → ((p : Point) → IsPoint p → tuples_hold us p ≡ tuples_hold ts p) → ((s : Slot) → tuples_mention us s ≡ true → tuples_mention ts s ≡ true) → IsSubset (tuples_lines us) (tuples_lines ts)
     → IsEvaluation c plan (tuples_hold us) (tuples_mention us) (tuples_lines us)
 evaluation_part c plan ts us e same slots lines = record {
-  holds = λ p i. subst (λ b. IsTrue b ↔ GivenHolds c plan p) (sym (same p i)) (e.holds p i);
+  holds = λ p i w. subst (λ b. IsTrue b ↔ GivenHolds c plan p) (sym (same p i)) (e.holds p i w);
   slots = λ s h. e.slots s (slots s h);
   lines = λ l i. e.lines l (lines l i);
 }

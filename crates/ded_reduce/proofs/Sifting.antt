@@ -12,10 +12,12 @@ use Rattle.ded_model.specs.declared.tuple.Negated.TheVariants.{One, Two}
 use Rattle.ded_model.specs.Point.{Point, IsPoint}
 use Rattle.ded_model.specs.Cell.{conj_holds, HoldsSomewhere, IsReduced}
 use Rattle.ded_model.specs.Lines.{Line, In, IsSubset}
+use Rattle.ded_model.specs.Sublists.{IsSublist}
 use Rattle.ded_model.specs.Negation.{EachPiece, some_piece_holds}
 use Rattle.ded_model.proofs.Points.{and_left, and_right}
 use Rattle.ded_model.proofs.Rows.{or_left, or_right}
 use Rattle.ded_model.proofs.Members.{In-split, In-left, In-right, or_split}
+use Rattle.ded_model.proofs.Sublists.{sublist_refl, sublist_trans, sublist_all}
 use Rattle.ded_theory.specs.declared.answers.Verdict.{Verdict}
 use Rattle.ded_theory.specs.declared.answers.Verdict.TheVariants.{Empty, Inhabited, Unknown}
 use Rattle.ded_theory.specs.Conjunctions.{conj_mentions, conj_lines, IsWide}
@@ -23,8 +25,8 @@ use Rattle.ded_theory.specs.Verdicts.{HoldsNowhere, IsVerdict}
 use Rattle.ded_theory.proofs.Conjunctions.{conj_holds-append, conj_mentions-append}
 use Rattle.ded_theory.proofs.Parted.{wide_more}
 use Rattle.ded_genrel.proofs.Laws.{conj_lines-append}
-use Rattle.ded_reduce.specs.Reductions.{IsSublist, MayBeOpen, IsNeeded, IsImplied, IsSifted}
-use Rattle.ded_reduce.proofs.Sublists.{sublist_refl, sublist_trans, sublist_without, length_without, sublist_all, parted_at, parted_others, parted_length}
+use Rattle.ded_reduce.specs.Reductions.{MayBeOpen, IsNeeded, IsImplied, IsSifted}
+use Rattle.ded_reduce.proofs.Sublists.{sublist_without, length_without, parted_at, parted_others, parted_length}
 use Rattle.std.proofs.lemmas.Bool.{not-true}
 use Rattle.ded_model.proofs.Bools.{and_swap}
 use Rattle.std.proofs.Math.Bool.{or-false, and-true}
@@ -182,7 +184,7 @@ module _ {A : Type 0} (D : Type 0) (h : A → Point → Bool) (m : A → Slot �
 
   pub sifting_none : (normal : A → Type 0) (old : List A) → AllByRecursion normal old → Sifting normal old old 0 false
   sifting_none normal old n = record {
-    kept = sublist_refl old;
+    kept = sublist_refl _ old;
     holds = λ p i. refl;
     all_normal = n;
     shorter = λ e. absurd (true≢false (sym e));
@@ -193,9 +195,9 @@ module _ {A : Type 0} (D : Type 0) (h : A → Point → Bool) (m : A → Slot �
   pub sifting_removed : (normal : A → Type 0) (old left new : List A) (index : ℕ) (removed : Bool) (d : A) → index < length left → d ≡ get_or left index d → new ≡ take index left ++ drop (suc index) left → IsImplied h left index
       → Sifting normal old left index removed → Sifting normal old new index true
   sifting_removed normal old left new index removed d lt at e z s = subst (λ xs. Sifting normal old xs index true) (sym e) (record {
-    kept = sublist_trans (take index left ++ drop (suc index) left) left old (sublist_without left index lt) s.kept;
+    kept = sublist_trans _ (take index left ++ drop (suc index) left) left old (sublist_without left index lt) s.kept;
     holds = λ p i. implied_same (conj_holds h (take index left ++ drop (suc index) left) p) (h d p) (z d at p i) ∙ sym (others_hold left index d p lt at) ∙ s.holds p i;
-    all_normal = sublist_all normal (take index left ++ drop (suc index) left) left (sublist_without left index lt) s.all_normal;
+    all_normal = sublist_all _ normal (take index left ++ drop (suc index) left) left (sublist_without left index lt) s.all_normal;
     shorter = λ _. shorter removed refl;
     same = λ f. absurd (true≢false f);
     needed = λ f. absurd (true≢false f);
@@ -233,10 +235,10 @@ module _ {A : Type 0} (D : Type 0) (h : A → Point → Bool) (m : A → Slot �
     pub all_normal : AllByRecursion normal left
 
   pub reducing_none : (normal : A → Type 0) (conj left : List A) → left ≡ conj → AllByRecursion normal conj → Reducing normal conj left
-  reducing_none normal conj left e n = subst (Reducing normal conj) (sym e) (record { kept = sublist_refl conj; holds = λ p i. refl; all_normal = n })
+  reducing_none normal conj left e n = subst (Reducing normal conj) (sym e) (record { kept = sublist_refl _ conj; holds = λ p i. refl; all_normal = n })
 
   pub reducing_more : (normal : A → Type 0) (conj left new : List A) (removed : Bool) → Reducing normal conj left → IsSifted D h m l normal left new removed → Reducing normal conj new
-  reducing_more normal conj left new removed r s = record { kept = sublist_trans new left conj s.kept r.kept; holds = λ p i. s.holds p i ∙ r.holds p i; all_normal = s.all_normal }
+  reducing_more normal conj left new removed r s = record { kept = sublist_trans _ new left conj s.kept r.kept; holds = λ p i. s.holds p i ∙ r.holds p i; all_normal = s.all_normal }
 
   -- each atom is needed, and they hold somewhere
   pub reduced_is : (normal : A → Type 0) (copy left new : List A) (v : Verdict) (removed : Bool) → copy ≡ left → (v ≡ Empty → ⊥) → IsVerdict h m l copy v → (D → v ≡ Unknown → ⊥) → removed ≡ false → IsSifted D h m l normal left new removed → (MayBeOpen D m l new → ⊥) → IsReduced h new

@@ -1,19 +1,15 @@
 -- What reducing a conjunction gives.
-use Rattle.std.specs.Prelude.{◌≡◌, ◌⊎◌, ℕ, suc, ◌<◌, Bool, true, false, not, ◌&&◌, IsTrue, List, [], ◌∷◌, ◌++◌, length, take, drop, get_or}
+use Rattle.std.specs.Prelude.{◌≡◌, ℕ, suc, ◌<◌, Bool, true, false, not, ◌&&◌, IsTrue, List, ◌++◌, length, take, drop, get_or}
 use Rattle.std.specs.List.{AllByRecursion}
 use Rattle.ded_model.specs.declared.slot.Slot.{Slot}
 use Rattle.ded_model.specs.Point.{Point, IsPoint}
 use Rattle.ded_model.specs.Cell.{conj_holds}
 use Rattle.ded_model.specs.Lines.{Line}
+use Rattle.ded_model.specs.Sublists.{IsSublist}
 use Rattle.ded_theory.specs.Conjunctions.{IsWide}
 use Rattle.ded_theory.specs.Verdicts.{HoldsNowhere}
 use Rattle.ded_reduce.specs.declared.reduction.Reduced.{Reduced}
 use Rattle.ded_reduce.specs.declared.reduction.Reduced.TheVariants.{Gone, Kept}
-
--- the first list is the second without some of its elements, in the same order
-abbrev pub IsSublist : {A : Type 0} → List A → List A → Type 0
-IsSublist {A = A} xs [] = xs ≡ []
-IsSublist {A = A} xs (y ∷ ys) = IsSublist xs ys ⊎ ((zs : List A) × (xs ≡ y ∷ zs) × IsSublist zs ys)
 
 -- it is so where nothing was kept
 abbrev pub IfGone : {A : Type 0} → Type 0 → Reduced A → Type 0

@@ -16,14 +16,14 @@ use Rattle.ded_model.specs.Command.{CommandForm}
 use Rattle.ded_session.specs.Replies.{ReplyForm, done, number, truth, tuples, stored, boxes, steps, refused}
 use Rattle.ded_session.specs.Runs.{Steps, next_language, empty_catalogue, Run, unless_refused, accepted, accepted_replies, script_of}
 use Rattle.ded_session.specs.Steps.{Accepts, Step}
-use Rattle.ded_session.proofs.Languages.{steps_in}
+use Rattle.ded_session.proofs.Languages.{next_back, steps_in}
 
 -- ---- steps
 
 module _ (l : Language) (c e d : Catalogue) (s : Statement) (ss : List Statement) (replies : List ReplyForm) where
   goes_on : (reply : ReplyForm) → Step l c s reply e → Steps (next_language l) e ss replies d
       → Steps l c (unless_refused reply s ss) (unless_refused reply reply replies) d
-  goes_on (refused r) p more = subst (λ (k : Catalogue). Steps l k ss replies d) p.1 (steps_in (next_language l) l e d ss replies more)
+  goes_on (refused r) p more = subst (λ (k : Catalogue). Steps l k ss replies d) p.1 (steps_in (next_language l) l (next_back l) e d ss replies more)
   goes_on done p more = (e, p, more)
   goes_on (number k) p more = (e, p, more)
   goes_on (truth b) p more = (e, p, more)

@@ -11,6 +11,7 @@ use Rattle.ded_lex.specs.Lexemes as lexeme
 use Rattle.ded_lex.specs.Tokens.{Cell, GapCell, LexemeCell, AreCells, lexemes_of}
 use Rattle.ded_model.specs.declared.name.Column.{Column}
 use Rattle.ded_model.specs.declared.command.Language.{Language}
+use Rattle.ded_model.specs.declared.command.Language.TheVariants.{Opening, One, Two}
 use Rattle.ded_model.specs.declared.formula.CompareOp.TheVariants as op
 use Rattle.ded_model.specs.Command.{CommandForm}
 use Rattle.ded_model.specs.Form.{Form}
@@ -18,8 +19,8 @@ use Rattle.ded_grammar.specs.Trees.{PieceForm, nay, conjunct, disjunct, arrow, o
 use Rattle.ded_grammar.proofs.Carried.{PieceHas, PiecesHave, spelled_has}
 use Rattle.ded_syntax.specs.declared.item.Keyword.{Keyword}
 use Rattle.ded_syntax.specs.declared.item.Keyword.TheVariants as words
-use Rattle.ded_syntax.specs.Symbols.{Symbol, Word, Name, Plus, Minus, Times, Open, Close, OpenBrace, CloseBrace, Comma, Colon, Define, Relation, formula_word, command_word, is_unused, unused_word, word_symbol, sum_sign, other_sign, symbol, number_of}
-use Rattle.ded_syntax.specs.Operands.{Reader}
+use Rattle.ded_syntax.specs.Symbols.{Symbol, Word, Name, Plus, Minus, Times, Open, Close, OpenBrace, CloseBrace, Comma, Colon, Define, Relation, formula_word, command_word, is_unused, unused_word, word_symbol, sum_sign, other_sign, slash_symbol, decimal_symbol, symbol}
+use Rattle.ded_syntax.specs.Literals.{Reader, exact}
 use Rattle.ded_syntax.specs.Atoms.{spell_rest, Atom, truth, relates, belongs, spell_atom, atom_form, spell_column, sort_symbols, IsPiece, ArePieces, SpellsFormula}
 use Rattle.ded_syntax.specs.Commands.{Columns, spell_heading, heading, Plain, defines, inserts_none, inserts, deletes, drops, keeps, shows, boxes, spell_plain, plain_form, Prefix, views, asks, queries, explains, spell_prefix, prefix_form, SpellsCommand}
 use Rattle.ded_syntax.specs.Spelling.{Spells}
@@ -108,16 +109,27 @@ other_plain s =
     (sign s (codes ":") Colon _ tt
     (sign s (codes ":=") Define (Word words.Unused) tt tt))))))
 
-symbol_plain : (l : Lexeme) (next : List ℕ) → IsLexeme l next → IsPlainSymbol (symbol l)
-symbol_plain (lexeme.Word w) next p = word_plain w (p.0, p.1)
-symbol_plain (lexeme.Number ds) next p = tt
-symbol_plain (lexeme.Quoted t) next p = tt
-symbol_plain (lexeme.Sign s) next p = sum_plain s (other_sign s) (other_plain s)
+slash_plain : (language : Language) → IsPlainSymbol (slash_symbol language)
+slash_plain Opening = tt
+slash_plain One = tt
+slash_plain Two = tt
 
-symbols_plain : (cells : List Cell) → AreCells cells → ArePlainSymbols (map symbol (lexemes_of cells))
-symbols_plain [] p = tt
-symbols_plain (GapCell gap ∷ cells) p = symbols_plain cells p.1
-symbols_plain (LexemeCell l ∷ cells) p = (symbol_plain l _ p.0, symbols_plain cells p.1)
+decimal_plain : (language : Language) (bs : List ℕ) → IsPlainSymbol (decimal_symbol language bs)
+decimal_plain Opening bs = tt
+decimal_plain One bs = tt
+decimal_plain Two bs = tt
+
+symbol_plain : (language : Language) (l : Lexeme) (next : List ℕ) → IsLexeme l next → IsPlainSymbol (symbol language l)
+symbol_plain language (lexeme.Word w) next p = word_plain w (p.0, p.1)
+symbol_plain language (lexeme.Number ds) next p = tt
+symbol_plain language (lexeme.Decimal bs) next p = decimal_plain language bs
+symbol_plain language (lexeme.Quoted t) next p = tt
+symbol_plain language (lexeme.Sign s) next p = sum_plain s _ (sign s (codes "/") (slash_symbol language) (other_sign s) (slash_plain language) (other_plain s))
+
+symbols_plain : (language : Language) (cells : List Cell) → AreCells cells → ArePlainSymbols (map (symbol language) (lexemes_of cells))
+symbols_plain language [] p = tt
+symbols_plain language (GapCell gap ∷ cells) p = symbols_plain language cells p.1
+symbols_plain language (LexemeCell l ∷ cells) p = (symbol_plain language l _ p.0, symbols_plain language cells p.1)
 
 -- ---- parts of symbols
 
@@ -192,5 +204,5 @@ command_names value ts c depth q (inr s) =
 -- a command that bytes spell
 pub spelled_names : (language : Language) (bytes : List ℕ) (c : CommandForm) (depth : ℕ) → Spells language bytes c depth → NamesPlainly c
 spelled_names language bytes c depth s =
-    command_names number_of (map symbol s.lexemes) c depth
-    (subst (λ (ls : List Lexeme). ArePlainSymbols (map symbol ls)) s.are.lexemes_are (symbols_plain s.are.cells s.are.each)) s.command
+    command_names exact (map (symbol language) s.lexemes) c depth
+    (subst (λ (ls : List Lexeme). ArePlainSymbols (map (symbol language) ls)) s.are.lexemes_are (symbols_plain language s.are.cells s.are.each)) s.command

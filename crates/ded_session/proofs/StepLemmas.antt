@@ -29,7 +29,7 @@ module _ (l : Language) (bytes : List ℕ) (x : CommandForm) (h : IsRead l bytes
     where
       by : (b : Bool) → has_long_row x ≡ b → b ≡ false
       by false e = refl
-      by true e = absurd (h.accepted LongNumber (inr (record { command = x; depth = h.depth; spells = h.spells; long = e })))
+      by true e = absurd (h.accepted LongNumber (inr (inr (record { command = x; depth = h.depth; spells = h.spells; long = e }))))
 
   pub read_plain : IsPlainCommand x
   read_plain = spelled_plain l bytes x h.depth h.spells

@@ -7,7 +7,7 @@ use Rattle.ded_grammar.specs.declared.scan.Spot.TheVariants.{Start, Within, Afte
 use Rattle.ded_grammar.specs.Trees.{PieceForm, nay, conjunct, disjunct, arrow, opening, closing, binder, leaf}
 use Rattle.ded_grammar.specs.Scanning.{stepped, scan}
 use Rattle.ded_syntax.specs.Symbols.{Symbol}
-use Rattle.ded_syntax.specs.Operands.{Reader}
+use Rattle.ded_syntax.specs.Literals.{Reader}
 use Rattle.ded_syntax.specs.Atoms.{atom_form, IsPiece, ArePieces}
 
 module _ (value other : Reader) where

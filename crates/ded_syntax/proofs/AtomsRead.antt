@@ -6,22 +6,23 @@ use Rattle.ded_model.specs.declared.formula.Operand.{Operand}
 use Rattle.ded_model.specs.declared.name.Column.{Column}
 use Rattle.ded_model.specs.declared.slot.Sort.{Sort}
 use Rattle.ded_model.specs.declared.slot.Sort.TheVariants as sorts
-use Rattle.ded_model.specs.Form.{compare, member}
+use Rattle.ded_model.specs.Form.{member}
 use Rattle.ded_model.specs.Logic.{atom}
 use Rattle.ded_grammar.specs.Trees.{leaf}
 use Rattle.ded_grammar.specs.Building.{◌>>=◌}
 use Rattle.ded_syntax.specs.Symbols.{Symbol, Name, Open, Close, CloseBrace, Comma, Relation}
-use Rattle.ded_syntax.specs.Operands.{Reader, scaled, constant, lone, Side, text, sum, spell_side, operand_of}
-use Rattle.ded_syntax.specs.Atoms.{spell_rest, Comparison, spell_comparison, comparison_form, Atom, truth, relates, belongs, spell_atom, atom_form, spell_column}
-use Rattle.ded_syntax.specs.OperandReading.{operand_at}
-use Rattle.ded_syntax.specs.AtomReading.{comma_at, brace_at, relation_at, compare_at, operands_at, atom_at, column_at, as_leaf, piece_at}
+use Rattle.ded_syntax.specs.Literals.{whole, quotient, decimal, Reader}
+use Rattle.ded_syntax.specs.Operands.{scaled, constant, lone, Side, text, sum, spell_side, Reading, reading_of, argument_of}
+use Rattle.ded_syntax.specs.Atoms.{compared, argument, spell_rest, Comparison, spell_comparison, comparison_form, Atom, truth, relates, belongs, spell_atom, atom_form, spell_column}
+use Rattle.ded_syntax.specs.OperandReading.{side_at}
+use Rattle.ded_syntax.specs.AtomReading.{comma_at, brace_at, relation_at, compare_at, argument_at, operands_at, atom_at, column_at, as_leaf, piece_at}
 use Rattle.ded_syntax.proofs.OperandsRead.{Stops, side_read}
 use Rattle.ded_syntax.proofs.ListsRead.{ReadsItems, list_read, few_items, list_tail}
 
-sides_read : (value : Reader) (l r : Side) (op : CompareOp) (rest : List Symbol) → Stops rest → compare_at value (spell_side l ++ (Relation op ∷ (spell_side r ++ rest))) ≡ Some (atom (compare (operand_of value l) op (operand_of value r)), rest)
+sides_read : (value : Reader) (l r : Side) (op : CompareOp) (rest : List Symbol) → Stops rest → compare_at value (spell_side l ++ (Relation op ∷ (spell_side r ++ rest))) ≡ Some (compared value (reading_of value.number l) op (reading_of value.number r), rest)
 sides_read value l r op rest h =
-    ap (λ (o : Option (Operand × List Symbol)). o >>= λ l. relation_at l.1 >>= λ o. operand_at value o.1 >>= λ r. Some (atom (compare l.0 o.0 r.0), r.1)) (side_read value l (Relation op ∷ (spell_side r ++ rest)) tt)
-    ∙ ap (λ (o : Option (Operand × List Symbol)). o >>= λ r. Some (atom (compare (operand_of value l) op r.0), r.1)) (side_read value r rest h)
+    ap (λ (o : Option (Reading × List Symbol)). o >>= λ l. relation_at l.1 >>= λ o. side_at value.number o.1 >>= λ r. Some (compared value l.0 o.0 r.0, r.1)) (side_read value.number l (Relation op ∷ (spell_side r ++ rest)) tt)
+    ∙ ap (λ (o : Option (Reading × List Symbol)). o >>= λ r. Some (compared value (reading_of value.number l) op r.0, r.1)) (side_read value.number r rest h)
 
 spell_behind : (c : Comparison) (rest : List Symbol) → spell_comparison c ++ rest ≡ spell_side c.left ++ (Relation c.op ∷ (spell_side c.right ++ rest))
 spell_behind c rest = append_assoc (spell_side c.left) (Relation c.op ∷ spell_side c.right) rest
@@ -31,10 +32,13 @@ comparison_read value c rest h = ap (compare_at value) (spell_behind c rest) ∙
 
 -- ---- lists
 
-operands_listed : (value : Reader) → ReadsItems spell_side (operand_of value) (operand_at value) comma_at Close
+abbrev as_argument : Reader → Option (Reading × List Symbol) → Option (Operand × List Symbol)
+as_argument value o = o >>= λ s. Some (argument_of value s.0, s.1)
+
+operands_listed : (value : Reader) → ReadsItems spell_side (argument value) (argument_at value) comma_at Close
 operands_listed value = record {
-  before_comma = λ s rest. side_read value s (Comma ∷ rest) tt;
-  before_close = λ s rest. side_read value s (Close ∷ rest) tt;
+  before_comma = λ s rest. ap (as_argument value) (side_read value.number s (Comma ∷ rest) tt);
+  before_close = λ s rest. ap (as_argument value) (side_read value.number s (Close ∷ rest) tt);
   goes_on = λ rest. refl;
   stops = λ rest. refl;
 }
@@ -59,11 +63,11 @@ columns_listed = record {
   stops = λ rest. refl;
 }
 
-pub operands_read : (value : Reader) (s : Side) (ss : List Side) (rest : List Symbol) → operands_at value (spell_side s ++ (spell_rest spell_side ss ++ (Close ∷ rest))) ≡ Some (operand_of value s ∷ map (operand_of value) ss, rest)
+pub operands_read : (value : Reader) (s : Side) (ss : List Side) (rest : List Symbol) → operands_at value (spell_side s ++ (spell_rest spell_side ss ++ (Close ∷ rest))) ≡ Some (argument value s ∷ map (argument value) ss, rest)
 operands_read value s ss rest =
-    list_read spell_side (operand_of value) (operand_at value) comma_at Close (operands_listed value) ss s rest
+    list_read spell_side (argument value) (argument_at value) comma_at Close (operands_listed value) ss s rest
     (length (spell_side s ++ (spell_rest spell_side ss ++ (Close ∷ rest))))
-    (few_items spell_side (operand_of value) (operand_at value) comma_at Close s ss rest)
+    (few_items spell_side (argument value) (argument_at value) comma_at Close s ss rest)
 
 -- ---- atoms
 
@@ -71,8 +75,12 @@ operands_read value s ss rest =
 begins : (value : Reader) (l : Side) (op : CompareOp) (ts : List Symbol) → piece_at value (spell_side l ++ (Relation op ∷ ts)) ≡ as_leaf (compare_at value (spell_side l ++ (Relation op ∷ ts)))
 begins value (text s) op ts = refl
 begins value (sum true p ps) op ts = refl
-begins value (sum false (scaled d n) ps) op ts = refl
-begins value (sum false (constant d) ps) op ts = refl
+begins value (sum false (scaled (whole d) n) ps) op ts = refl
+begins value (sum false (scaled (quotient d e z) n) ps) op ts = refl
+begins value (sum false (scaled (decimal t) n) ps) op ts = refl
+begins value (sum false (constant (whole d)) ps) op ts = refl
+begins value (sum false (constant (quotient d e z)) ps) op ts = refl
+begins value (sum false (constant (decimal t)) ps) op ts = refl
 begins value (sum false (lone n) []) op ts = refl
 begins value (sum false (lone n) ((true, p) ∷ ps)) op ts = refl
 begins value (sum false (lone n) ((false, p) ∷ ps)) op ts = refl

@@ -9,7 +9,8 @@ use Rattle.ded_model.specs.Logic.{logics}
 use Rattle.ded_grammar.specs.Trees.{PieceForm}
 use Rattle.ded_grammar.specs.Building.{◌>>=◌}
 use Rattle.ded_syntax.specs.Symbols.{Symbol, Open, Close, OpenBrace, CloseBrace, Colon, Define, Relation}
-use Rattle.ded_syntax.specs.Operands.{Reader, scaled, constant, lone, Side, text, sum, spell_side}
+use Rattle.ded_syntax.specs.Literals.{whole, quotient, decimal, Reader}
+use Rattle.ded_syntax.specs.Operands.{scaled, constant, lone, Side, text, sum, spell_side}
 use Rattle.ded_syntax.specs.Atoms.{spell_rest, Comparison, spell_comparison, comparison_form, spell_column}
 use Rattle.ded_syntax.specs.Commands.{Columns, spell_heading, heading, Plain, defines, inserts_none, inserts, deletes, drops, keeps, shows, boxes, spell_plain, plain_form, Prefix, views, asks, queries, explains, spell_prefix, prefix_form, SpellsCommand}
 use Rattle.ded_syntax.specs.AtomReading.{comma_at, brace_at, list_at, compare_at, column_at, pieces_at}
@@ -38,8 +39,12 @@ whole_heading_read h = ap heading_at (sym (append-nil (spell_heading h))) ∙ he
 sides_begin : (value : Reader) (l : Side) (us ts : List Symbol) → braces_at value (OpenBrace ∷ (spell_side l ++ us) ++ ts) ≡ list_at (compare_at value) brace_at (length ((spell_side l ++ us) ++ ts)) ((spell_side l ++ us) ++ ts)
 sides_begin value (text s) us ts = refl
 sides_begin value (sum true p ps) us ts = refl
-sides_begin value (sum false (scaled d n) ps) us ts = refl
-sides_begin value (sum false (constant d) ps) us ts = refl
+sides_begin value (sum false (scaled (whole d) n) ps) us ts = refl
+sides_begin value (sum false (scaled (quotient d e z) n) ps) us ts = refl
+sides_begin value (sum false (scaled (decimal t) n) ps) us ts = refl
+sides_begin value (sum false (constant (whole d)) ps) us ts = refl
+sides_begin value (sum false (constant (quotient d e z)) ps) us ts = refl
+sides_begin value (sum false (constant (decimal t)) ps) us ts = refl
 sides_begin value (sum false (lone n) ps) us ts = refl
 
 braces_read : (value : Reader) (c : Comparison) (cs : List Comparison) → braces_at value (OpenBrace ∷ spell_comparison c ++ (spell_rest spell_comparison cs ++ CloseBrace ∷ [])) ≡ Some (comparison_form value c ∷ map (comparison_form value) cs, [])

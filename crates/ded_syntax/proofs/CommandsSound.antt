@@ -9,8 +9,8 @@ use Rattle.ded_model.specs.Logic.{logics}
 use Rattle.ded_grammar.specs.Building.{◌>>=◌}
 use Rattle.ded_syntax.specs.declared.item.Keyword.{Keyword}
 use Rattle.ded_syntax.specs.declared.item.Keyword.TheVariants as words
-use Rattle.ded_syntax.specs.Symbols.{Symbol, Word, Name, Number, Open, Close, OpenBrace, CloseBrace, Colon, Define}
-use Rattle.ded_syntax.specs.Operands.{Reader}
+use Rattle.ded_syntax.specs.Symbols.{Symbol, number_of, Word, Name, Number, Open, Close, OpenBrace, CloseBrace, Colon, Define}
+use Rattle.ded_syntax.specs.Literals.{Reader}
 use Rattle.ded_syntax.specs.Atoms.{spell_comparison, comparison_form, spell_column, ArePieces}
 use Rattle.ded_syntax.specs.Commands.{Columns, spell_heading, heading, Plain, defines, inserts_none, inserts, deletes, drops, keeps, shows, boxes, spell_plain, plain_form, Prefix, views, asks, queries, explains, spell_prefix, SpellsCommand}
 use Rattle.ded_syntax.specs.OperandReading.{name_at, number_at}
@@ -113,9 +113,9 @@ insert_sound value ts d e =
 
 delete_sound : (value : Reader) (ts : List Symbol) (d : Draft) → delete_draft value ts ≡ Some d → IsDraft value (Word words.Delete ∷ ts) d
 delete_sound value ts d e =
-    let n = bind_some (name_at ts) (λ n. number_at n.1 >>= λ d. ended (plain (delete n.0 (value d.0))) d.1) d e in
-    let b = bind_some (number_at n.0.1) (λ d. ended (plain (delete n.0.0 (value d.0))) d.1) d n.2 in
-    let z = ended_sound (plain (delete n.0.0 (value b.0.0))) d b.0.1 b.2 in
+    let n = bind_some (name_at ts) (λ n. number_at n.1 >>= λ d. ended (plain (delete n.0 (value.number (number_of d.0)))) d.1) d e in
+    let b = bind_some (number_at n.0.1) (λ d. ended (plain (delete n.0.0 (value.number (number_of d.0)))) d.1) d n.2 in
+    let z = ended_sound (plain (delete n.0.0 (value.number (number_of b.0.0)))) d b.0.1 b.2 in
     subst (IsDraft value (Word words.Delete ∷ ts)) z.1 (
       deletes n.0.0 b.0.0,
       ap (λ (l : List Symbol). Word words.Delete ∷ l) (name_sound ts n.0 n.1 ∙ ap (λ (l : List Symbol). Name n.0.0 ∷ l) (number_sound n.0.1 b.0 b.1 ∙ ap (λ (l : List Symbol). Number b.0.0 ∷ l) z.0)),

@@ -16,8 +16,8 @@ use Rattle.ded_model.specs.Command.{CommandForm}
 use Rattle.ded_syntax.specs.Symbols.{Symbol, symbol}
 use Rattle.ded_syntax.specs.CommandReading.{Draft, draft_at, scans}
 use Rattle.ded_syntax.specs.Drafts.{HasDraft}
-use Rattle.ded_syntax.specs.Items.{capped_of, AreSymbols}
-use Rattle.ded_syntax.specs.Operands.{Reader}
+use Rattle.ded_syntax.specs.Items.{AreSymbols}
+use Rattle.ded_syntax.specs.Literals.{Reader, capped_reader}
 use Rattle.ded_syntax.specs.Spelling.{Spells, AppliesIn, IsRead}
 use Rattle.ded_syntax.proofs.Seen.{no_lexemes}
 use Rattle.ded_syntax.proofs.Binds.{some_same}
@@ -65,19 +65,19 @@ module _ (language : Language) (bytes : List ℕ) where
   abbrev pub NoCommand : Type 0
   NoCommand = AppliesIn Syntax language bytes
 
-  module _ (ts : List Symbol) (are : AreSymbols bytes ts) where
-    by_scanning : (d : Draft) → draft_at capped_of ts ≡ Some d → (b : Bool) → scans d ≡ b → SomeCommand ⊎ NoCommand
+  module _ (ts : List Symbol) (are : AreSymbols language bytes ts) where
+    by_scanning : (d : Draft) → draft_at capped_reader ts ≡ Some d → (b : Bool) → scans d ≡ b → SomeCommand ⊎ NoCommand
     by_scanning d e true s = inl (some_spelled language bytes ts are d e s)
-    by_scanning d e false s = inr (not_drafted language bytes ts are (no_formula capped_of ts d e s)).applies
+    by_scanning d e false s = inr (not_drafted language bytes ts are (no_formula capped_reader ts d e s)).applies
 
-    by_drafts : (o : Option Draft) → draft_at capped_of ts ≡ o → SomeCommand ⊎ NoCommand
-    by_drafts None e = inr (not_drafted language bytes ts are (no_draft capped_of ts e)).applies
+    by_drafts : (o : Option Draft) → draft_at capped_reader ts ≡ o → SomeCommand ⊎ NoCommand
+    by_drafts None e = inr (not_drafted language bytes ts are (no_draft capped_reader ts e)).applies
     by_drafts (Some d) e = by_scanning d e (scans d) refl
 
   by_tokens : HasTokens 0 bytes → SomeCommand ⊎ NoCommand
   by_tokens (inl t) =
       let are : AreTokens bytes t.0 = record { cells = t.1.cells; is = t.1.is; each = t.1.each; tokens_are = t.1.tokens_are } in
-      by_drafts (map symbol (map (lexeme bytes) t.0)) (record { lexemes = map (lexeme bytes) t.0; are = tokens_say bytes t.0 are; seen = refl }) _ refl
+      by_drafts (map (symbol language) (map (lexeme bytes) t.0)) (record { lexemes = map (lexeme bytes) t.0; are = tokens_say bytes t.0 are; seen = refl }) _ refl
   by_tokens (inr none) =
       inr (no_token language bytes (no_lexemes bytes (λ tokens are. none tokens (record { cells = are.cells; is = are.is; each = are.each; tokens_are = are.tokens_are })))).applies
 

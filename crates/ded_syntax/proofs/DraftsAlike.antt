@@ -1,20 +1,20 @@
 -- Drafts: the commands for which they stand, and drafts of the same symbols whose numbers are read otherwise.
 use Rattle.std.proofs.Common.{◌≡◌, ℕ, Bool, true, List, refl, sym, ap, ◌∙◌}
 use Rattle.std.specs.Prelude.{Some}
-use Rattle.std.specs.List.{list_any}
 use Rattle.ded_model.specs.Command.{CommandForm}
-use Rattle.ded_model.specs.Form.{Form}
+use Rattle.ded_model.specs.Form.{Form, FormAtom}
 use Rattle.ded_grammar.specs.declared.scan.Spot.TheVariants.{Start}
-use Rattle.ded_grammar.specs.Trees.{piece_atom, meaning, nesting}
+use Rattle.ded_grammar.specs.Trees.{meaning, nesting}
 use Rattle.ded_grammar.proofs.Sound.{spelled}
 use Rattle.ded_grammar.proofs.Told.{one_spelled}
 use Rattle.ded_grammar.proofs.Leaves.{spelled_atoms}
 use Rattle.ded_syntax.specs.Symbols.{Symbol}
-use Rattle.ded_syntax.specs.Operands.{Reader}
+use Rattle.ded_syntax.specs.Literals.{Reader}
 use Rattle.ded_syntax.specs.Commands.{plain_form}
-use Rattle.ded_model.specs.LongRows.{is_long_atom, has_long_row}
+use Rattle.ded_model.specs.Logic.{some_atom}
+use Rattle.ded_syntax.specs.Marks.{some_in}
 use Rattle.ded_syntax.specs.CommandReading.{Head, view_head, ask_head, query_head, explain_head, head_form, Draft, plain, formed, draft_at, scans}
-use Rattle.ded_syntax.specs.Drafts.{HasDraft, long_draft}
+use Rattle.ded_syntax.specs.Drafts.{HasDraft, some_in_draft}
 use Rattle.ded_syntax.specs.Meaning.{Means}
 use Rattle.ded_syntax.proofs.PiecesRead.{pieces_read, spelled_scans}
 use Rattle.ded_syntax.proofs.CommandsRead.{plain_read, prefix_read, head_of}
@@ -42,15 +42,16 @@ one_meaning (formed h ps) c k m n (f, sp, e) (g, sq, i) =
     let same = one_spelled ps f g m n sp sq in
     (e ∙ ap (head_form h) same.0 ∙ sym i, same.1)
 
-head_rows : (h : Head) (f : Form) (b : Bool) → b ≡ has_long_row (head_form ask_head f) → b ≡ has_long_row (head_form h f)
-head_rows (view_head n h) f b e = e
-head_rows ask_head f b e = e
-head_rows (query_head h) f b e = e
-head_rows (explain_head h) f b e = e
+head_atoms : (test : FormAtom → Bool) (h : Head) (f : Form) → some_in test (head_form h f) ≡ some_atom test f
+head_atoms test (view_head n h) f = refl
+head_atoms test ask_head f = refl
+head_atoms test (query_head h) f = refl
+head_atoms test (explain_head h) f = refl
 
-pub draft_rows : (d : Draft) (c : CommandForm) (depth : ℕ) → Means d c depth → long_draft d ≡ has_long_row c
-draft_rows (plain k) c depth (e, flat) = ap has_long_row (sym e)
-draft_rows (formed h ps) c depth (f, sp, e) = head_rows h f (list_any (piece_atom is_long_atom) ps) (spelled_atoms is_long_atom ps f depth sp) ∙ ap has_long_row (sym e)
+-- the atoms of a draft are those of the command for which it stands
+pub draft_atoms : (test : FormAtom → Bool) (d : Draft) (c : CommandForm) (depth : ℕ) → Means d c depth → some_in_draft test d ≡ some_in test c
+draft_atoms test (plain k) c depth (e, flat) = ap (some_in test) (sym e)
+draft_atoms test (formed h ps) c depth (f, sp, e) = spelled_atoms test ps f depth sp ∙ sym (head_atoms test h f) ∙ ap (some_in test) (sym e)
 
 -- ---- other numbers
 

@@ -4,14 +4,17 @@ use Rattle.std.specs.Prelude.{◌||◌, ◌^◌, nat_lt, nat_le, if◌then◌els
 use Rattle.std.specs.List.{list_any}
 use Rattle.std.specs.Str.{bytes_eq}
 use Rattle.std.proofs.lemmas.Bool.Decides.{nat_tests}
+use Rattle.ded_model.specs.declared.command.Language.{Language}
+use Rattle.ded_model.specs.declared.command.Language.TheVariants.{Opening, One, Two}
 use Rattle.ded_lex.specs.Lexemes.{Lexeme}
 use Rattle.ded_lex.specs.Lexemes as lexeme
 use Rattle.ded_model.specs.declared.formula.CompareOp.TheVariants as op
 use Rattle.ded_syntax.specs.declared.item.Keyword.{Keyword}
 use Rattle.ded_syntax.specs.declared.item.Keyword.TheVariants as words
-use Rattle.ded_syntax.specs.Symbols.{Symbol, Word, Name, Number, Plus, Minus, Times, Open, Close, OpenBrace, CloseBrace, Comma, Colon, Define, Relation, formula_word, command_word, is_unused, unused_word, word_symbol, sign_symbol, symbol, number_of}
-use Rattle.ded_syntax.specs.Items.{capped, capped_of, is_long_name, is_long_literal}
-use Rattle.ded_syntax.specs.Spelling.{is_long_word, is_long_number}
+use Rattle.ded_syntax.specs.Symbols.{Symbol, Word, Name, Number, Decimal, Plus, Minus, Times, Open, Close, OpenBrace, CloseBrace, Comma, Colon, Define, Relation, formula_word, command_word, is_unused, unused_word, word_symbol, slash_symbol, sign_symbol, decimal_symbol, symbol, number_of, decimal_number, decimal_power}
+use Rattle.ded_syntax.specs.Items.{is_long_name, is_long_literal}
+use Rattle.ded_syntax.specs.Literals.{capped}
+use Rattle.ded_syntax.specs.Spelling.{is_long_word, is_long_decimal, is_long_number}
 use Rattle.ded_syntax.proofs.Agrees.{Alike, AllAlike}
 use Rattle.std.proofs.lemmas.Slice.Eq.{bytes_eq-Decides}
 use Rattle.std.proofs.lemmas.Bool.{or_parts}
@@ -106,8 +109,18 @@ quiet_literal s k t other e f = either (bytes_eq s k)
     either true = e
     either false = f
 
-name_sign : (s : List ℕ) → is_long_name (sign_symbol s) ≡ false
-name_sign s =
+slash_name : (language : Language) → is_long_name (slash_symbol language) ≡ false
+slash_name Opening = refl
+slash_name One = refl
+slash_name Two = refl
+
+slash_literal : (language : Language) → is_long_literal (slash_symbol language) ≡ false
+slash_literal Opening = refl
+slash_literal One = refl
+slash_literal Two = refl
+
+name_sign : (language : Language) (s : List ℕ) → is_long_name (sign_symbol language s) ≡ false
+name_sign language s =
     quiet_name s (codes "+") (Plus) _ refl
     (quiet_name s (codes "-") (Minus) _ refl
     (quiet_name s (codes "*") (Times) _ refl
@@ -117,16 +130,17 @@ name_sign s =
     (quiet_name s (codes "!=") (Relation op.NotEqual) _ refl
     (quiet_name s (codes ">=") (Relation op.GreaterEq) _ refl
     (quiet_name s (codes ">") (Relation op.Greater) _ refl
+    (quiet_name s (codes "/") (slash_symbol language) _ (slash_name language)
     (quiet_name s (codes "(") (Open) _ refl
     (quiet_name s (codes ")") (Close) _ refl
     (quiet_name s (codes "{") (OpenBrace) _ refl
     (quiet_name s (codes "}") (CloseBrace) _ refl
     (quiet_name s (codes ",") (Comma) _ refl
     (quiet_name s (codes ":") (Colon) _ refl
-    (quiet_name s (codes ":=") (Define) _ refl refl)))))))))))))))
+    (quiet_name s (codes ":=") (Define) _ refl refl))))))))))))))))
 
-literal_sign : (s : List ℕ) → is_long_literal (sign_symbol s) ≡ false
-literal_sign s =
+literal_sign : (language : Language) (s : List ℕ) → is_long_literal (sign_symbol language s) ≡ false
+literal_sign language s =
     quiet_literal s (codes "+") (Plus) _ refl
     (quiet_literal s (codes "-") (Minus) _ refl
     (quiet_literal s (codes "*") (Times) _ refl
@@ -136,13 +150,14 @@ literal_sign s =
     (quiet_literal s (codes "!=") (Relation op.NotEqual) _ refl
     (quiet_literal s (codes ">=") (Relation op.GreaterEq) _ refl
     (quiet_literal s (codes ">") (Relation op.Greater) _ refl
+    (quiet_literal s (codes "/") (slash_symbol language) _ (slash_literal language)
     (quiet_literal s (codes "(") (Open) _ refl
     (quiet_literal s (codes ")") (Close) _ refl
     (quiet_literal s (codes "{") (OpenBrace) _ refl
     (quiet_literal s (codes "}") (CloseBrace) _ refl
     (quiet_literal s (codes ",") (Comma) _ refl
     (quiet_literal s (codes ":") (Colon) _ refl
-    (quiet_literal s (codes ":=") (Define) _ refl refl)))))))))))))))
+    (quiet_literal s (codes ":=") (Define) _ refl refl))))))))))))))))
 
 unused_literal : (s : List ℕ) → is_long_literal (unused_word (Name s) s) ≡ false
 unused_literal s = either (is_unused s)
@@ -176,45 +191,50 @@ literal_word s =
 
 -- ---- lexemes
 
-symbol_name : (l : Lexeme) → is_long_name (symbol l) ≡ is_long_word l
-symbol_name (lexeme.Word w) = word_tells w
-symbol_name (lexeme.Number ds) = refl
-symbol_name (lexeme.Quoted t) = refl
-symbol_name (lexeme.Sign s) = name_sign s
+decimal_name : (language : Language) (bs : List ℕ) → is_long_name (decimal_symbol language bs) ≡ false
+decimal_name Opening bs = refl
+decimal_name One bs = refl
+decimal_name Two bs = refl
 
-symbol_literal : (l : Lexeme) → is_long_literal (symbol l) ≡ is_long_number l
-symbol_literal (lexeme.Word w) = literal_word w
-symbol_literal (lexeme.Number ds) = refl
-symbol_literal (lexeme.Quoted t) = refl
-symbol_literal (lexeme.Sign s) = literal_sign s
+symbol_name : (language : Language) (l : Lexeme) → is_long_name (symbol language l) ≡ is_long_word l
+symbol_name language (lexeme.Word w) = word_tells w
+symbol_name language (lexeme.Number ds) = refl
+symbol_name language (lexeme.Decimal bs) = decimal_name language bs
+symbol_name language (lexeme.Quoted t) = refl
+symbol_name language (lexeme.Sign s) = name_sign language s
 
-any_same : (f : Symbol → Bool) (g : Lexeme → Bool) → ((l : Lexeme) → f (symbol l) ≡ g l) → (ls : List Lexeme) → list_any f (map symbol ls) ≡ list_any g ls
-any_same f g h [] = refl
-any_same f g h (l ∷ ls) = ap (λ (b : Bool). b || list_any f (map symbol ls)) (h l) ∙ ap (λ (b : Bool). g l || b) (any_same f g h ls)
+decimal_literal : (language : Language) (bs : List ℕ) → is_long_literal (decimal_symbol language bs) ≡ is_long_decimal language bs
+decimal_literal Opening bs = refl
+decimal_literal One bs = refl
+decimal_literal Two bs = refl
 
-pub long_names : (ls : List Lexeme) → list_any is_long_name (map symbol ls) ≡ list_any is_long_word ls
-long_names ls = any_same is_long_name is_long_word symbol_name ls
+symbol_literal : (language : Language) (l : Lexeme) → is_long_literal (symbol language l) ≡ is_long_number language l
+symbol_literal language (lexeme.Word w) = literal_word w
+symbol_literal language (lexeme.Number ds) = refl
+symbol_literal language (lexeme.Decimal bs) = decimal_literal language bs
+symbol_literal language (lexeme.Quoted t) = refl
+symbol_literal language (lexeme.Sign s) = literal_sign language s
 
-pub long_literals : (ls : List Lexeme) → list_any is_long_literal (map symbol ls) ≡ list_any is_long_number ls
-long_literals ls = any_same is_long_literal is_long_number symbol_literal ls
+any_same : (language : Language) (f : Symbol → Bool) (g : Lexeme → Bool) → ((l : Lexeme) → f (symbol language l) ≡ g l) → (ls : List Lexeme) → list_any f (map (symbol language) ls) ≡ list_any g ls
+any_same language f g h [] = refl
+any_same language f g h (l ∷ ls) = ap (λ (b : Bool). b || list_any f (map (symbol language) ls)) (h l) ∙ ap (λ (b : Bool). g l || b) (any_same language f g h ls)
+
+pub long_names : (language : Language) (ls : List Lexeme) → list_any is_long_name (map (symbol language) ls) ≡ list_any is_long_word ls
+long_names language ls = any_same language is_long_name is_long_word (symbol_name language) ls
+
+pub long_literals : (language : Language) (ls : List Lexeme) → list_any is_long_literal (map (symbol language) ls) ≡ list_any (is_long_number language) ls
+long_literals language ls = any_same language is_long_literal (is_long_number language) (symbol_literal language) ls
 
 -- ---- numbers that are not long are read as they are
 
-not_capped : (n : ℕ) → nat_le (2 ^ 63) n ≡ false → capped n ≡ n
+pub not_capped : (n : ℕ) → nat_le (2 ^ 63) n ≡ false → capped n ≡ n
 not_capped n h = grind (arith, nat_tests)
 
-symbol_alike : (t : Symbol) → is_long_literal t ≡ false → Alike capped_of number_of t
+symbol_alike : (t : Symbol) → is_long_literal t ≡ false → Alike capped (λ n. n) t
 symbol_alike (Number d) e = not_capped (number_of d) e
+symbol_alike (Decimal bs) e = let both = or_parts (nat_le (2 ^ 63) (decimal_number bs)) (nat_le (2 ^ 63) (decimal_power bs)) e in (not_capped (decimal_number bs) both.0, not_capped (decimal_power bs) both.1)
 symbol_alike t e = tt
 
-pub all_alike : (ts : List Symbol) → list_any is_long_literal ts ≡ false → AllAlike capped_of number_of ts
+pub all_alike : (ts : List Symbol) → list_any is_long_literal ts ≡ false → AllAlike capped (λ n. n) ts
 all_alike [] e = tt
 all_alike (t ∷ ts) e = let both = or_parts (is_long_literal t) (list_any is_long_literal ts) e in (symbol_alike t both.0, all_alike ts both.1)
-
-turned_one : (t : Symbol) → Alike capped_of number_of t → Alike number_of capped_of t
-turned_one (Number d) e = sym e
-turned_one t e = tt
-
-pub turned : (ts : List Symbol) → AllAlike capped_of number_of ts → AllAlike number_of capped_of ts
-turned [] e = tt
-turned (t ∷ ts) e = (turned_one t e.0, turned ts e.1)

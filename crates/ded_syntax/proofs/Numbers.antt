@@ -1,10 +1,10 @@
 -- The value of digits as a loop finds it.
 use Rattle.std.proofs.Common.{◌≡◌, ℕ, ◌+◌, ◌-◌, ◌*◌, ◌<◌, List, [], ◌∷◌, length, drop, get_or, sym, ap, ◌∙◌, arith, add-one, drop-cons}
 use Rattle.ded_syntax.specs.Symbols.{number_from}
-use Rattle.ded_syntax.specs.Items.{capped}
+use Rattle.ded_syntax.specs.Literals.{capped}
 
 -- a value at the cap or above stays there
-capped_same : (n m : ℕ) (ds : List ℕ) → capped n ≡ capped m → capped (number_from n ds) ≡ capped (number_from m ds)
+pub capped_same : (n m : ℕ) (ds : List ℕ) → capped n ≡ capped m → capped (number_from n ds) ≡ capped (number_from m ds)
 capped_same n m [] e = e
 capped_same n m (d ∷ ds) e = capped_same (n * 10 + (d - 48)) (m * 10 + (d - 48)) ds (omega arith)
 

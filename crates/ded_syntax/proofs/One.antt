@@ -3,8 +3,8 @@ use Rattle.std.proofs.Common.{◌≡◌, ℕ, List, map, sym, subst, ◌∙◌}
 use Rattle.ded_model.specs.declared.command.Language.{Language}
 use Rattle.ded_model.specs.Command.{CommandForm}
 use Rattle.ded_lex.specs.Lexemes.{Lexeme}
-use Rattle.ded_syntax.specs.Symbols.{Symbol, symbol, number_of}
-use Rattle.ded_syntax.specs.Operands.{Reader}
+use Rattle.ded_syntax.specs.Symbols.{Symbol, symbol}
+use Rattle.ded_syntax.specs.Literals.{Reader, exact}
 use Rattle.ded_syntax.specs.Commands.{SpellsCommand}
 use Rattle.ded_syntax.specs.CommandReading.{Draft}
 use Rattle.ded_syntax.specs.Meaning.{Means}
@@ -14,7 +14,8 @@ use Rattle.ded_syntax.proofs.Seen.{one_list}
 use Rattle.ded_syntax.proofs.CommandsRead.{command_read}
 use Rattle.ded_syntax.proofs.DraftsAlike.{one_meaning}
 
-same_symbols : (value : Reader) (ts : List Symbol) (c k : CommandForm) (m n : ℕ) → SpellsCommand value ts c m → SpellsCommand value ts k n → (c ≡ k) × (m ≡ n)
+-- symbols spell one command at most
+pub same_symbols : (value : Reader) (ts : List Symbol) (c k : CommandForm) (m n : ℕ) → SpellsCommand value ts c m → SpellsCommand value ts k n → (c ≡ k) × (m ≡ n)
 same_symbols value ts c k m n s r =
     let d = command_read value ts c m s in
     let e = command_read value ts k n r in
@@ -22,6 +23,6 @@ same_symbols value ts c k m n s r =
 
 pub one_command : (language : Language) (bytes : List ℕ) (these those : CommandForm) (m n : ℕ) → Spells language bytes these m → Spells language bytes those n → (these ≡ those) × (m ≡ n)
 one_command language bytes these those m n s r =
-    same_symbols number_of (map symbol r.lexemes) these those m n
-    (subst (λ (ls : List Lexeme). SpellsCommand number_of (map symbol ls) these m) (one_list bytes s.lexemes r.lexemes s.are r.are) s.command)
+    same_symbols exact (map (symbol language) r.lexemes) these those m n
+    (subst (λ (ls : List Lexeme). SpellsCommand exact (map (symbol language) ls) these m) (one_list bytes s.lexemes r.lexemes s.are r.are) s.command)
     r.command

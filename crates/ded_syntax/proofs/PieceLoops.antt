@@ -5,7 +5,7 @@ use Rattle.std.proofs.lemmas.List.{append-nil}
 use Rattle.ded_grammar.specs.Building.{◌>>=◌}
 use Rattle.ded_grammar.specs.Trees.{PieceForm}
 use Rattle.ded_syntax.specs.Symbols.{Symbol}
-use Rattle.ded_syntax.specs.Operands.{Reader}
+use Rattle.ded_syntax.specs.Literals.{Reader}
 use Rattle.ded_syntax.specs.AtomReading.{piece_at, pieces_within}
 use Rattle.ded_syntax.proofs.PiecesRead.{some_piece}
 

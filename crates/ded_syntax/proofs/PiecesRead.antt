@@ -15,7 +15,8 @@ use Rattle.ded_grammar.specs.Spelling.{Spells}
 use Rattle.ded_grammar.proofs.Tells.{scanned}
 use Rattle.ded_grammar.proofs.Told.{one_spelled}
 use Rattle.ded_syntax.specs.Symbols.{Symbol, Name, Relation}
-use Rattle.ded_syntax.specs.Operands.{Reader, scaled, constant, lone, Side, text, sum, spell_side}
+use Rattle.ded_syntax.specs.Literals.{whole, quotient, decimal, Reader}
+use Rattle.ded_syntax.specs.Operands.{scaled, constant, lone, Side, text, sum, spell_side}
 use Rattle.ded_syntax.specs.Atoms.{Atom, truth, relates, belongs, spell_atom, sort_symbols, quantifier_symbol, IsPiece, ArePieces, SpellsFormula}
 use Rattle.ded_syntax.specs.AtomReading.{sort_at, piece_at, pieces_within, pieces_at}
 use Rattle.ded_syntax.proofs.Binds.{some_same}
@@ -99,8 +100,12 @@ within_read (p ∷ ps) value ts s n (suc k) h are le =
 side_some : (s : Side) → 0 < length (spell_side s)
 side_some (text s) = omega arith
 side_some (sum true p ps) = omega arith
-side_some (sum false (scaled d n) ps) = omega arith
-side_some (sum false (constant d) ps) = omega arith
+side_some (sum false (scaled (whole d) n) ps) = omega arith
+side_some (sum false (scaled (quotient d e z) n) ps) = omega arith
+side_some (sum false (scaled (decimal t) n) ps) = omega arith
+side_some (sum false (constant (whole d)) ps) = omega arith
+side_some (sum false (constant (quotient d e z)) ps) = omega arith
+side_some (sum false (constant (decimal t)) ps) = omega arith
 side_some (sum false (lone n) ps) = omega arith
 
 atom_some : (a : Atom) → 0 < length (spell_atom a)

@@ -4,7 +4,7 @@ use Rattle.std.specs.Prelude.{Some}
 use Rattle.ded_model.specs.declared.formula.CompareOp.{CompareOp}
 use Rattle.ded_model.specs.declared.formula.Operand.{Operand}
 use Rattle.ded_model.specs.declared.name.Column.{Column}
-use Rattle.ded_model.specs.Form.{Form, compare, member}
+use Rattle.ded_model.specs.Form.{Form, member}
 use Rattle.ded_model.specs.Logic.{atom}
 use Rattle.ded_grammar.specs.declared.piece.Quantifier.{Quantifier}
 use Rattle.ded_grammar.specs.declared.piece.Quantifier.TheVariants.{Exists, Forall}
@@ -13,10 +13,11 @@ use Rattle.ded_grammar.specs.Building.{◌>>=◌}
 use Rattle.ded_syntax.specs.declared.item.Keyword.{Keyword}
 use Rattle.ded_syntax.specs.declared.item.Keyword.TheVariants as words
 use Rattle.ded_syntax.specs.Symbols.{Symbol, Word, Name, Open, Close, CloseBrace, Comma, Relation}
-use Rattle.ded_syntax.specs.Operands.{Reader, spell_side, operand_of}
-use Rattle.ded_syntax.specs.Atoms.{Comparison, spell_comparison, comparison_form, Atom, truth, relates, belongs, spell_atom, atom_form, spell_column, sort_symbols, quantifier_symbol, IsPiece, ArePieces}
-use Rattle.ded_syntax.specs.OperandReading.{operand_at}
-use Rattle.ded_syntax.specs.AtomReading.{comma_at, brace_at, relation_at, compare_at, operands_at, atom_at, sort_at, column_at, binder_at, word_at, as_leaf, piece_at, pieces_within, pieces_at}
+use Rattle.ded_syntax.specs.Literals.{Reader}
+use Rattle.ded_syntax.specs.Operands.{Side, spell_side, Reading, reading_of, argument_of}
+use Rattle.ded_syntax.specs.Atoms.{compared, argument, Comparison, spell_comparison, comparison_form, Atom, truth, relates, belongs, spell_atom, atom_form, spell_column, sort_symbols, quantifier_symbol, IsPiece, ArePieces}
+use Rattle.ded_syntax.specs.OperandReading.{side_at}
+use Rattle.ded_syntax.specs.AtomReading.{comma_at, brace_at, relation_at, compare_at, argument_at, operands_at, atom_at, sort_at, column_at, binder_at, word_at, as_leaf, piece_at, pieces_within, pieces_at}
 use Rattle.ded_syntax.proofs.Binds.{bind_some, some_same}
 use Rattle.ded_syntax.proofs.OperandsSound.{side_sound}
 use Rattle.ded_syntax.proofs.ListsRead.{SoundItems, sign_of, list_sound, list_tail}
@@ -30,18 +31,18 @@ IsCompare value ts x = (c : Comparison) × (ts ≡ spell_comparison c ++ x.1) ×
 
 pub compare_sound : (value : Reader) (ts : List Symbol) (x : Form × List Symbol) → compare_at value ts ≡ Some x → IsCompare value ts x
 compare_sound value ts x e =
-    let b = bind_some (operand_at value ts) (λ l. relation_at l.1 >>= λ o. operand_at value o.1 >>= λ r. Some (atom (compare l.0 o.0 r.0), r.1)) x e in
-    let c = bind_some (relation_at b.0.1) (λ o. operand_at value o.1 >>= λ r. Some (atom (compare b.0.0 o.0 r.0), r.1)) x b.2 in
-    let d = bind_some (operand_at value c.0.1) (λ r. Some (atom (compare b.0.0 c.0.0 r.0), r.1)) x c.2 in
-    let l = side_sound value ts b.0 b.1 in
+    let b = bind_some (side_at value.number ts) (λ l. relation_at l.1 >>= λ o. side_at value.number o.1 >>= λ r. Some (compared value l.0 o.0 r.0, r.1)) x e in
+    let c = bind_some (relation_at b.0.1) (λ o. side_at value.number o.1 >>= λ r. Some (compared value b.0.0 o.0 r.0, r.1)) x b.2 in
+    let d = bind_some (side_at value.number c.0.1) (λ r. Some (compared value b.0.0 c.0.0 r.0, r.1)) x c.2 in
+    let l = side_sound value.number ts b.0 b.1 in
     let o = relation_sound b.0.1 c.0 c.1 in
-    let r = side_sound value c.0.1 d.0 d.1 in
+    let r = side_sound value.number c.0.1 d.0 d.1 in
     let same = some_same _ x d.2 in (
       record { left = l.0; op = c.0.0; right = r.0 },
       l.1
           ∙ ap (λ (t : List Symbol). spell_side l.0 ++ t) (o ∙ ap (λ (t : List Symbol). Relation c.0.0 ∷ t) (r.1 ∙ ap (λ (y : Form × List Symbol). spell_side r.0 ++ y.1) same))
           ∙ sym (append_assoc (spell_side l.0) (Relation c.0.0 ∷ spell_side r.0) x.1),
-      sym (ap (λ (y : Form × List Symbol). y.0) same) ∙ ap (λ (p : Operand). atom (compare p c.0.0 d.0.0)) l.2 ∙ ap (λ (p : Operand). atom (compare (operand_of value l.0) c.0.0 p)) r.2,
+      sym (ap (λ (y : Form × List Symbol). y.0) same) ∙ ap (λ (p : Reading). compared value p c.0.0 d.0.0) l.2 ∙ ap (λ (p : Reading). compared value (reading_of value.number l.0) c.0.0 p) r.2,
     )
 
 -- ---- lists
@@ -56,8 +57,15 @@ brace_end (Comma ∷ ts) x e = ap (λ (y : Bool × List Symbol). sign_of CloseBr
 brace_end (CloseBrace ∷ ts) x e = ap (λ (y : Bool × List Symbol). sign_of CloseBrace y.0 ∷ y.1) (some_same _ x e)
 brace_end ts x e = absurd cc
 
-operands_sound : (value : Reader) → SoundItems spell_side (operand_of value) (operand_at value) comma_at Close
-operands_sound value = record { item = λ ts y e. side_sound value ts y e; end = comma_end }
+argument_sound : (value : Reader) (ts : List Symbol) (x : Operand × List Symbol) → argument_at value ts ≡ Some x → (s : Side) × (ts ≡ spell_side s ++ x.1) × (x.0 ≡ argument value s)
+argument_sound value ts x e =
+    let b = bind_some (side_at value.number ts) (λ s. Some (argument_of value s.0, s.1)) x e in
+    let s = side_sound value.number ts b.0 b.1 in
+    let same = some_same _ x b.2 in
+    (s.0, s.1 ∙ ap (λ (y : Operand × List Symbol). spell_side s.0 ++ y.1) same, sym (ap (λ (y : Operand × List Symbol). y.0) same) ∙ ap (argument_of value) s.2)
+
+operands_sound : (value : Reader) → SoundItems spell_side (argument value) (argument_at value) comma_at Close
+operands_sound value = record { item = argument_sound value; end = comma_end }
 
 pub comparisons_sound : (value : Reader) → SoundItems spell_comparison (comparison_form value) (compare_at value) brace_at CloseBrace
 comparisons_sound value = record { item = λ ts y e. compare_sound value ts y e; end = brace_end }
@@ -84,8 +92,8 @@ Found value ts x = (front : List Symbol) × (ts ≡ front ++ x.1) × IsPiece val
 leaf_found : (value : Reader) (ts : List Symbol) (x : PieceForm × List Symbol) (a : Atom) (y : Form × List Symbol) → ts ≡ spell_atom a ++ y.1 → y.0 ≡ atom_form value a → Some (leaf y.0, y.1) ≡ Some x → Found value ts x
 leaf_found value ts x a y e m f = subst (Found value ts) (some_same _ x f) (spell_atom a, e, (a, refl, sym m))
 
-compared : (value : Reader) (ts : List Symbol) (x : PieceForm × List Symbol) → as_leaf (compare_at value ts) ≡ Some x → Found value ts x
-compared value ts x e =
+compare_found : (value : Reader) (ts : List Symbol) (x : PieceForm × List Symbol) → as_leaf (compare_at value ts) ≡ Some x → Found value ts x
+compare_found value ts x e =
     let b = bind_some (compare_at value ts) (λ y. Some (leaf y.0, y.1)) x e in
     let c = compare_sound value ts b.0 b.1 in
     leaf_found value ts x (relates c.0) b.0 c.1 c.2 b.2
@@ -94,7 +102,7 @@ membered : (value : Reader) (n : List ℕ) (ts : List Symbol) (x : PieceForm × 
 membered value n ts x e =
     let b = bind_some (atom_at value (Name n ∷ Open ∷ ts)) (λ y. Some (leaf y.0, y.1)) x e in
     let c = bind_some (operands_at value ts) (λ y. Some (atom (member n y.0), y.1)) b.0 b.1 in
-    let s = list_sound spell_side (operand_of value) (operand_at value) comma_at Close (operands_sound value) (length ts) ts c.0 c.1 in
+    let s = list_sound spell_side (argument value) (argument_at value) comma_at Close (operands_sound value) (length ts) ts c.0 c.1 in
     let same = some_same _ b.0 c.2 in
     leaf_found value (Name n ∷ Open ∷ ts) x (belongs n s.0 s.1) b.0
     (ap (λ (t : List Symbol). Name n ∷ Open ∷ t) (s.2 ∙ sym (list_tail spell_side s.0 s.1 Close c.0.1)) ∙ ap (λ (y : Form × List Symbol). spell_atom (belongs n s.0 s.1) ++ y.1) same)
@@ -102,9 +110,9 @@ membered value n ts x e =
     b.2
 
 named : (value : Reader) (n : List ℕ) (ts : List Symbol) (x : PieceForm × List Symbol) → as_leaf (atom_at value (Name n ∷ ts)) ≡ Some x → Found value (Name n ∷ ts) x
-named value n [] x e = compared value (Name n ∷ []) x e
+named value n [] x e = compare_found value (Name n ∷ []) x e
 named value n (Open ∷ ts) x e = membered value n ts x e
-named value n (t ∷ ts) x e = compared value (Name n ∷ t ∷ ts) x e
+named value n (t ∷ ts) x e = compare_found value (Name n ∷ t ∷ ts) x e
 
 binder_sound : (value : Reader) (q : Quantifier) (ts : List Symbol) (x : PieceForm × List Symbol) → binder_at q ts ≡ Some x → Found value (quantifier_symbol q ∷ ts) x
 binder_sound value q ts x e =
@@ -129,7 +137,7 @@ piece_sound value (Word w ∷ ts) x e = word_sound value w ts x e
 piece_sound value (Open ∷ ts) x e = subst (Found value (Open ∷ ts)) (some_same _ x e) (Open ∷ [], refl, refl)
 piece_sound value (Close ∷ ts) x e = subst (Found value (Close ∷ ts)) (some_same _ x e) (Close ∷ [], refl, refl)
 piece_sound value (Name n ∷ ts) x e = named value n ts x e
-piece_sound value ts x e = compared value ts x e
+piece_sound value ts x e = compare_found value ts x e
 
 within_sound : (k : ℕ) (value : Reader) (ts : List Symbol) (ps : List PieceForm) → pieces_within value k ts ≡ Some ps → ArePieces value ts ps
 within_sound k value [] ps e = subst (ArePieces value []) (some_same _ ps e) refl

@@ -3,6 +3,7 @@ use Rattle.std.proofs.Common.{◌≡◌, ℕ, ◌+◌, ◌≤◌, List, [], ◌�
 use Rattle.std.specs.Prelude.{map}
 use Rattle.std.proofs.lemmas.List.{length-map}
 use Rattle.ded_lex.specs.declared.token.Token.{Token}
+use Rattle.ded_model.specs.declared.command.Language.{Language}
 use Rattle.ded_lex.specs.Lexemes.{Lexeme}
 use Rattle.ded_lex.specs.Tokens.{AreTokens, AreLexemes, AreInOrder, lexeme}
 use Rattle.ded_lex.proofs.Said.{tokens_say, said_by_tokens}
@@ -23,11 +24,11 @@ one_list bytes these those x y =
     s.2 ∙ ap (map (lexeme bytes)) (one_token_list bytes s.0 t.0 s.1 t.1) ∙ sym t.2
 
 -- the symbols of a list that was made from a slice of the tokens
-pub symbols_are : (bytes : List ℕ) (tokens slice : List Token) (items : List Item) → AreTokens bytes tokens → slice ≡ tokens → symbols bytes items ≡ map symbol (map (lexeme bytes) slice) → AreSymbols bytes (symbols bytes items)
-symbols_are bytes tokens slice items are e f = record {
+pub symbols_are : (language : Language) (bytes : List ℕ) (tokens slice : List Token) (items : List Item) → AreTokens bytes tokens → slice ≡ tokens → symbols bytes items ≡ map (symbol language) (map (lexeme bytes) slice) → AreSymbols language bytes (symbols bytes items)
+symbols_are language bytes tokens slice items are e f = record {
   lexemes = map (lexeme bytes) tokens;
   are = tokens_say bytes tokens are;
-  seen = f ∙ ap (λ (l : List Token). map symbol (map (lexeme bytes) l)) e;
+  seen = f ∙ ap (λ (l : List Token). map (symbol language) (map (lexeme bytes) l)) e;
 }
 
 -- tokens in order are no more than the bytes in which they stand
@@ -38,6 +39,6 @@ count (t ∷ ts) at limit le (begins, some, within, behind) = omega (arith, begi
 few_tokens : (bytes : List ℕ) (tokens : List Token) → AreTokens bytes tokens → length tokens ≤ length bytes
 few_tokens bytes tokens are = omega (arith, count tokens 0 (length bytes) (omega arith) (in_order bytes tokens are))
 
-pub few_items : (bytes : List ℕ) (tokens slice : List Token) (items : List Item) → length bytes ≤ 65536 → AreTokens bytes tokens → slice ≡ tokens → symbols bytes items ≡ map symbol (map (lexeme bytes) slice) → length items ≤ 65536
-few_items bytes tokens slice items le are e f =
-    omega (arith, le, few_tokens bytes tokens are, ap length e, ap length f, length-map items (seen bytes), length-map (map (lexeme bytes) slice) symbol, length-map slice (lexeme bytes))
+pub few_items : (language : Language) (bytes : List ℕ) (tokens slice : List Token) (items : List Item) → length bytes ≤ 65536 → AreTokens bytes tokens → slice ≡ tokens → symbols bytes items ≡ map (symbol language) (map (lexeme bytes) slice) → length items ≤ 65536
+few_items language bytes tokens slice items le are e f =
+    omega (arith, le, few_tokens bytes tokens are, ap length e, ap length f, length-map items (seen bytes), length-map (map (lexeme bytes) slice) (symbol language), length-map slice (lexeme bytes))

@@ -1,15 +1,17 @@
--- How great totals can get, and one step of adding them up.
-use Rattle.std.proofs.Common.{◌≡◌, ℕ, zero, suc, ◌+◌, ◌≤◌, ◌<◌, Bool, true, false, List, [], ◌∷◌, ◌++◌, length, take, drop, set, get_or, refl, sym, ap, subst, ◌∙◌, arith}
+-- How great totals can get, and one step of reading the parts of a sum.
+use Rattle.std.proofs.Common.{◌≡◌, ℕ, zero, suc, ◌+◌, ◌≤◌, ◌<◌, Bool, true, false, List, [], ◌∷◌, ◌++◌, length, take, drop, set, get_or, refl, sym, ap, subst, ◌∙◌, arith, length-append}
 use Rattle.std.specs.Prelude.{◌^◌, ℤ, pos, ◌+ℤ◌, unsigned_abs, Option, Some, None, if◌then◌else◌}
 use Rattle.std.specs.List.{AllByRecursion}
 use Rattle.std.specs.Str.{bytes_eq}
 use Rattle.std.proofs.lemmas.Int.{ints}
 use Rattle.ded_model.specs.Sum.{ArePartsWithin, IsSum}
 use Rattle.ded_grammar.specs.Building.{◌>>=◌}
-use Rattle.ded_syntax.specs.Symbols.{Symbol, Name, Number, Plus, Minus, Times}
-use Rattle.ded_syntax.specs.Operands.{Reader, Sums, Factor, signed, put, add_factor}
-use Rattle.ded_syntax.specs.OperandReading.{behind_number, product_at, sign_at, after_sign, more_at, totalled}
+use Rattle.ded_syntax.specs.Symbols.{Symbol, Name, Plus, Minus, Times}
+use Rattle.ded_syntax.specs.Literals.{Scalar, whole, quotient, decimal, spell_scalar}
+use Rattle.ded_syntax.specs.Operands.{Product, scaled, constant, lone, spell_product, Part, Sums, Factor, signed, put, put_at, add_factor}
+use Rattle.ded_syntax.specs.OperandReading.{product_at, sign_at, after_sign, more_at, all_parts}
 use Rattle.ded_syntax.specs.Views.{IsBounded}
+use Rattle.ded_syntax.proofs.OperandsSound.{product_sound}
 
 -- ---- bounds
 
@@ -35,42 +37,34 @@ put_bounded n k (p ∷ ps) name z small h = either (bytes_eq p.0 name) (put_boun
     either true m = (omega (arith, ints, small, h.0), weaker n (n + k) ps (omega arith) h.1)
     either false m = (omega (arith, h.0), m)
 
--- one more product
-pub add_bounded : (n k : ℕ) (s : Sums) (minus : Bool) (f : Factor) → f.0 ≤ k → IsBounded n s → IsBounded (n + k) (add_factor s minus f)
-add_bounded n k s minus (j, None) le h = (weaker n (n + k) s.0 (omega arith) h.0, omega (arith, ints, h.1, signed_small minus j k le))
-add_bounded n k s minus (j, Some name) le h = (put_bounded n k s.0 name (signed minus j) (signed_small minus j k le) h.0, omega (arith, h.1))
+-- one more amount
+pub add_bounded : (n k : ℕ) (s : Sums) (name : Option (List ℕ)) (z : ℤ) → unsigned_abs z ≤ k → IsBounded n s → IsBounded (n + k) (put_at s name z)
+add_bounded n k s None z le h = (weaker n (n + k) s.0 (omega arith) h.0, omega (arith, ints, h.1, le))
+add_bounded n k s (Some name) z le h = (put_bounded n k s.0 name z le h.0, omega (arith, h.1))
 
-within : (ps : List (List ℕ × ℤ)) → AreBounded (2 ^ 100) ps → ArePartsWithin 112 ps
+within : (ps : List (List ℕ × ℤ)) → AreBounded (2 ^ 111) ps → ArePartsWithin 112 ps
 within [] h = tt
 within (p ∷ ps) h = (omega (arith, h.0), within ps h.1)
 
-pub is_sum : (s : Sums) → IsBounded (2 ^ 100) s → IsSum (record { parts = s.0; constant = s.1; over = pos 1 })
-is_sum s h = record { parts = within s.0 h.0; constant = omega (arith, h.1); over = omega arith; positive = omega arith }
+pub is_sum : (m : ℕ) (s : Sums) → 0 < m → m < 2 ^ 64 → IsBounded (2 ^ 111) s → IsSum (record { parts = s.0; constant = s.1; over = pos m })
+is_sum m s some low h = record { parts = within s.0 h.0; constant = omega (arith, h.1); over = omega (arith, low); positive = omega (arith, ints, some) }
 
 -- ---- steps
 
-behind_short : (k : ℕ) (ts : List Symbol) (x : Factor × List Symbol) → behind_number k ts ≡ Some x → length x.1 ≤ length ts
-behind_short k [] x e = subst (λ (y : Factor × List Symbol). length y.1 ≤ 0) (same e) (omega arith)
-  where
-    same : {y : Factor × List Symbol} → Some y ≡ Some x → y ≡ x
-    same e = cc
-behind_short k (Times ∷ Name n ∷ ts) x e = subst (λ (y : Factor × List Symbol). length y.1 ≤ suc (suc (length ts))) (same e) (omega arith)
-  where
-    same : {y : Factor × List Symbol} → Some y ≡ Some x → y ≡ x
-    same e = cc
-behind_short k (Times ∷ ts) x e = absurd cc
-behind_short k (t ∷ ts) x e = subst (λ (y : Factor × List Symbol). length y.1 ≤ suc (length ts)) (same e) (omega arith)
-  where
-    same : {y : Factor × List Symbol} → Some y ≡ Some x → y ≡ x
-    same e = cc
+scalar_long : (s : Scalar) → 0 < length (spell_scalar s)
+scalar_long (whole d) = omega arith
+scalar_long (quotient d e z) = omega arith
+scalar_long (decimal t) = omega arith
 
-product_short : (value : Reader) (ts : List Symbol) (x : Factor × List Symbol) → product_at value ts ≡ Some x → length x.1 < length ts
-product_short value (Number d ∷ ts) x e = omega (arith, behind_short (value d) ts x e)
-product_short value (Name n ∷ ts) x e = subst (λ (y : Factor × List Symbol). length y.1 < suc (length ts)) (same e) (omega arith)
-  where
-    same : {y : Factor × List Symbol} → Some y ≡ Some x → y ≡ x
-    same e = cc
-product_short value ts x e = absurd cc
+product_long : (p : Product) → 0 < length (spell_product p)
+product_long (scaled s n) = omega (arith, length-append (spell_scalar s) (Times ∷ Name n ∷ []))
+product_long (constant s) = scalar_long s
+product_long (lone n) = omega arith
+
+product_short : (value : ℕ → ℕ) (ts : List Symbol) (x : Factor × List Symbol) → product_at value ts ≡ Some x → length x.1 < length ts
+product_short value ts x e =
+    let p = product_sound value ts x e in
+    omega (arith, ap length p.1, length-append (spell_product p.0) x.1, product_long p.0)
 
 sign_short : (ts : List Symbol) (x : Bool × List Symbol) → sign_at ts ≡ Some x → length x.1 < length ts
 sign_short (Plus ∷ ts) x e = subst (λ (y : Bool × List Symbol). length y.1 < suc (length ts)) (same e) (omega arith)
@@ -83,33 +77,33 @@ sign_short (Minus ∷ ts) x e = subst (λ (y : Bool × List Symbol). length y.1 
     same e = cc
 sign_short ts x e = absurd cc
 
-module _ (k j : ℕ) (value : Reader) (again : (a : Sums) (ts : List Symbol) → length ts < k → length ts < j → more_at value k a ts ≡ more_at value j a ts) where
-  products : (a : Sums) (s : Bool × List Symbol) → length s.1 ≤ k → length s.1 ≤ j → (o : Option (Factor × List Symbol)) → product_at value s.1 ≡ o → (o >>= λ p. more_at value k (add_factor a s.0 p.0) p.1) ≡ (o >>= λ p. more_at value j (add_factor a s.0 p.0) p.1)
+module _ (k j : ℕ) (value : ℕ → ℕ) (again : (a : List Part) (ts : List Symbol) → length ts < k → length ts < j → more_at value k a ts ≡ more_at value j a ts) where
+  products : (a : List Part) (s : Bool × List Symbol) → length s.1 ≤ k → length s.1 ≤ j → (o : Option (Factor × List Symbol)) → product_at value s.1 ≡ o → (o >>= λ p. more_at value k (add_factor a s.0 p.0) p.1) ≡ (o >>= λ p. more_at value j (add_factor a s.0 p.0) p.1)
   products a s short less None e = refl
   products a s short less (Some p) e = again (add_factor a s.0 p.0) p.1 (omega (arith, product_short value s.1 p e, short)) (omega (arith, product_short value s.1 p e, less))
 
-  signs : (a : Sums) (ts : List Symbol) → length ts ≤ k → length ts ≤ j → (o : Option (Bool × List Symbol)) → sign_at ts ≡ o → after_sign value (more_at value k) a ts o ≡ after_sign value (more_at value j) a ts o
+  signs : (a : List Part) (ts : List Symbol) → length ts ≤ k → length ts ≤ j → (o : Option (Bool × List Symbol)) → sign_at ts ≡ o → after_sign value (more_at value k) a ts o ≡ after_sign value (more_at value j) a ts o
   signs a ts short less None e = refl
   signs a ts short less (Some s) e = products a s (omega (arith, sign_short ts s e, short)) (omega (arith, sign_short ts s e, less)) (product_at value s.1) refl
 
 -- how many products are allowed is no matter, where it is more than there are symbols
-more_enough : (k j : ℕ) (value : Reader) (a : Sums) (ts : List Symbol) → length ts < k → length ts < j → more_at value k a ts ≡ more_at value j a ts
+more_enough : (k j : ℕ) (value : ℕ → ℕ) (a : List Part) (ts : List Symbol) → length ts < k → length ts < j → more_at value k a ts ≡ more_at value j a ts
 more_enough zero j value a ts lt less = absurd (omega (arith, lt))
 more_enough (suc k) zero value a ts lt less = absurd (omega (arith, less))
 more_enough (suc k) (suc j) value a ts lt less = signs k j value (λ b us. more_enough k j value b us) a ts (omega (arith, lt)) (omega (arith, less)) (sign_at ts) refl
 
-pub totalled_off : (value : Reader) (a : Sums) (ts : List Symbol) → sign_at ts ≡ None → totalled value a ts ≡ Some (a, ts)
-totalled_off value a ts e = ap (after_sign value (more_at value (length ts)) a ts) e
+pub all_parts_off : (value : ℕ → ℕ) (a : List Part) (ts : List Symbol) → sign_at ts ≡ None → all_parts value a ts ≡ Some (a, ts)
+all_parts_off value a ts e = ap (after_sign value (more_at value (length ts)) a ts) e
 
-pub totalled_on : (value : Reader) (a b : Sums) (ts : List Symbol) (s : Bool × List Symbol) (p : Factor × List Symbol) → sign_at ts ≡ Some s → product_at value s.1 ≡ Some p → b ≡ add_factor a s.0 p.0 → totalled value a ts ≡ totalled value b p.1
-totalled_on value a b ts s p e f g =
+pub all_parts_on : (value : ℕ → ℕ) (a b : List Part) (ts : List Symbol) (s : Bool × List Symbol) (p : Factor × List Symbol) → sign_at ts ≡ Some s → product_at value s.1 ≡ Some p → b ≡ add_factor a s.0 p.0 → all_parts value a ts ≡ all_parts value b p.1
+all_parts_on value a b ts s p e f g =
     ap (after_sign value (more_at value (length ts)) a ts) e
     ∙ ap (λ (o : Option (Factor × List Symbol)). o >>= λ p. more_at value (length ts) (add_factor a s.0 p.0) p.1) f
     ∙ more_enough (length ts) (suc (length p.1)) value (add_factor a s.0 p.0) p.1 (omega (arith, sign_short ts s e, product_short value s.1 p f)) (omega arith)
-    ∙ ap (λ (c : Sums). totalled value c p.1) (sym g)
+    ∙ ap (λ (c : List Part). all_parts value c p.1) (sym g)
 
-pub totalled_fails : (value : Reader) (a : Sums) (ts : List Symbol) (s : Bool × List Symbol) → sign_at ts ≡ Some s → product_at value s.1 ≡ None → totalled value a ts ≡ None
-totalled_fails value a ts s e f =
+pub all_parts_fails : (value : ℕ → ℕ) (a : List Part) (ts : List Symbol) (s : Bool × List Symbol) → sign_at ts ≡ Some s → product_at value s.1 ≡ None → all_parts value a ts ≡ None
+all_parts_fails value a ts s e f =
     ap (after_sign value (more_at value (length ts)) a ts) e
     ∙ ap (λ (o : Option (Factor × List Symbol)). o >>= λ p. more_at value (length ts) (add_factor a s.0 p.0) p.1) f
 

@@ -6,7 +6,7 @@ use Rattle.ded_model.specs.declared.formula.CompareOp.{CompareOp}
 use Rattle.ded_model.specs.declared.name.Column.{Column}
 use Rattle.ded_model.specs.declared.slot.Sort.{Sort}
 use Rattle.ded_model.specs.declared.slot.Sort.TheVariants.{Rat, Text}
-use Rattle.ded_model.specs.Form.{Form, compare, member}
+use Rattle.ded_model.specs.Form.{Form, member}
 use Rattle.ded_model.specs.Logic.{atom, always, never}
 use Rattle.ded_grammar.specs.declared.piece.Quantifier.{Quantifier}
 use Rattle.ded_grammar.specs.declared.piece.Quantifier.TheVariants.{Exists, Forall}
@@ -15,8 +15,10 @@ use Rattle.ded_grammar.specs.Building.{◌>>=◌}
 use Rattle.ded_syntax.specs.declared.item.Keyword.{Keyword}
 use Rattle.ded_syntax.specs.declared.item.Keyword.TheVariants as words
 use Rattle.ded_syntax.specs.Symbols.{Symbol, Word, Name, Open, Close, CloseBrace, Comma, Relation}
-use Rattle.ded_syntax.specs.Operands.{Reader}
-use Rattle.ded_syntax.specs.OperandReading.{name_at, operand_at}
+use Rattle.ded_syntax.specs.Literals.{Reader}
+use Rattle.ded_syntax.specs.Operands.{argument_of}
+use Rattle.ded_syntax.specs.Atoms.{compared}
+use Rattle.ded_syntax.specs.OperandReading.{name_at, side_at}
 
 -- ---- lists
 
@@ -49,10 +51,13 @@ relation_at (Relation op ∷ ts) = Some (op, ts)
 relation_at ts = None
 
 abbrev pub compare_at : Reader → List Symbol → Option (Form × List Symbol)
-compare_at value ts = operand_at value ts >>= λ l. relation_at l.1 >>= λ o. operand_at value o.1 >>= λ r. Some (atom (compare l.0 o.0 r.0), r.1)
+compare_at value ts = side_at value.number ts >>= λ l. relation_at l.1 >>= λ o. side_at value.number o.1 >>= λ r. Some (compared value l.0 o.0 r.0, r.1)
+
+abbrev pub argument_at : Reader → List Symbol → Option (Operand × List Symbol)
+argument_at value ts = side_at value.number ts >>= λ s. Some (argument_of value s.0, s.1)
 
 abbrev pub operands_at : Reader → List Symbol → Option (List Operand × List Symbol)
-operands_at value ts = list_at (operand_at value) comma_at (length ts) ts
+operands_at value ts = list_at (argument_at value) comma_at (length ts) ts
 
 -- a name and a parenthesis
 abbrev pub called_at : List Symbol → Option (List ℕ × List Symbol)

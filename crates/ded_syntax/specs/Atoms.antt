@@ -1,6 +1,7 @@
 -- The grammar of comparisons, members, headings and formulas.
 use Rattle.std.specs.Prelude.{◌≡◌, ℕ, Bool, true, false, List, [], ◌∷◌, ◌++◌, map}
 use Rattle.ded_model.specs.declared.formula.CompareOp.{CompareOp}
+use Rattle.ded_model.specs.declared.formula.Operand.{Operand}
 use Rattle.ded_model.specs.declared.name.Column.{Column}
 use Rattle.ded_model.specs.declared.slot.Sort.{Sort}
 use Rattle.ded_model.specs.declared.slot.Sort.TheVariants.{Rat, Text}
@@ -12,7 +13,8 @@ use Rattle.ded_grammar.specs.Trees.{PieceForm, nay, conjunct, disjunct, arrow, o
 use Rattle.ded_grammar.specs.Spelling.{Spells}
 use Rattle.ded_syntax.specs.declared.item.Keyword.TheVariants as words
 use Rattle.ded_syntax.specs.Symbols.{Symbol, Word, Name, Open, Close, Comma, Relation}
-use Rattle.ded_syntax.specs.Operands.{Reader, Side, spell_side, operand_of}
+use Rattle.ded_syntax.specs.Literals.{Reader}
+use Rattle.ded_syntax.specs.Operands.{Side, spell_side, Reading, reading_of, operand_over, denominator_of, argument_of}
 
 -- ---- lists
 
@@ -32,8 +34,15 @@ pub record Comparison : Type 0 where
 abbrev pub spell_comparison : Comparison → List Symbol
 spell_comparison c = spell_side c.left ++ Relation c.op ∷ spell_side c.right
 
+-- what is read of both sides, compared
+abbrev pub compared : Reader → Reading → CompareOp → Reading → Form
+compared value l op r = atom (compare (operand_over value (denominator_of value l r) l) op (operand_over value (denominator_of value l r) r))
+
 abbrev pub comparison_form : Reader → Comparison → Form
-comparison_form value c = atom (compare (operand_of value c.left) c.op (operand_of value c.right))
+comparison_form value c = compared value (reading_of value.number c.left) c.op (reading_of value.number c.right)
+
+abbrev pub argument : Reader → Side → Operand
+argument value s = argument_of value (reading_of value.number s)
 
 -- unit = .. "true" | "false" | compare | member
 -- member = name "(" operand ( "," operand )* ")"
@@ -52,7 +61,7 @@ abbrev pub atom_form : Reader → Atom → Form
 atom_form value (truth true) = always
 atom_form value (truth false) = never
 atom_form value (relates c) = comparison_form value c
-atom_form value (belongs n s ss) = atom (member n (operand_of value s ∷ map (operand_of value) ss))
+atom_form value (belongs n s ss) = atom (member n (argument value s ∷ map (argument value) ss))
 
 -- ---- columns
 

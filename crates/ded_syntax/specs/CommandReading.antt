@@ -10,8 +10,8 @@ use Rattle.ded_grammar.specs.Scanning.{scan}
 use Rattle.ded_grammar.specs.Building.{◌>>=◌}
 use Rattle.ded_syntax.specs.declared.item.Keyword.{Keyword}
 use Rattle.ded_syntax.specs.declared.item.Keyword.TheVariants as words
-use Rattle.ded_syntax.specs.Symbols.{Symbol, Open, CloseBrace, OpenBrace, Colon, Define}
-use Rattle.ded_syntax.specs.Operands.{Reader}
+use Rattle.ded_syntax.specs.Symbols.{Symbol, number_of, Open, CloseBrace, OpenBrace, Colon, Define}
+use Rattle.ded_syntax.specs.Literals.{Reader}
 use Rattle.ded_syntax.specs.OperandReading.{name_at, number_at}
 use Rattle.ded_syntax.specs.AtomReading.{comma_at, brace_at, list_at, compare_at, column_at, keyword_at, pieces_at}
 
@@ -96,7 +96,7 @@ abbrev pub insert_draft : Reader → List Symbol → Option Draft
 insert_draft value ts = name_at ts >>= λ n. braces_at value n.1 >>= λ fs. ended (plain (insert n.0 (logics fs.0))) fs.1
 
 abbrev pub delete_draft : Reader → List Symbol → Option Draft
-delete_draft value ts = name_at ts >>= λ n. number_at n.1 >>= λ d. ended (plain (delete n.0 (value d.0))) d.1
+delete_draft value ts = name_at ts >>= λ n. number_at n.1 >>= λ d. ended (plain (delete n.0 (value.number (number_of d.0)))) d.1
 
 abbrev pub view_draft : Reader → List Symbol → Option Draft
 view_draft value ts = name_at ts >>= λ n. heading_at n.1 >>= λ h. define_at h.1 >>= formed_at value (view_head n.0 h.0)

@@ -5,8 +5,8 @@ use Rattle.ded_model.specs.Command.{CommandForm, relation, insert, delete, drop,
 use Rattle.ded_model.specs.Form.{Form}
 use Rattle.ded_model.specs.Logic.{logics}
 use Rattle.ded_syntax.specs.declared.item.Keyword.TheVariants as words
-use Rattle.ded_syntax.specs.Symbols.{Symbol, Word, Name, Number, Open, Close, OpenBrace, CloseBrace, Colon, Define}
-use Rattle.ded_syntax.specs.Operands.{Reader}
+use Rattle.ded_syntax.specs.Symbols.{Symbol, number_of, Word, Name, Number, Open, Close, OpenBrace, CloseBrace, Colon, Define}
+use Rattle.ded_syntax.specs.Literals.{Reader}
 use Rattle.ded_syntax.specs.Atoms.{spell_rest, Comparison, spell_comparison, comparison_form, spell_column, SpellsFormula}
 
 -- heading = "(" column ( "," column )* ")"
@@ -49,7 +49,7 @@ abbrev pub plain_form : Reader → Plain → CommandForm
 plain_form value (defines n h) = relation n (heading h)
 plain_form value (inserts_none n) = insert n (logics [])
 plain_form value (inserts n c cs) = insert n (logics (comparison_form value c ∷ map (comparison_form value) cs))
-plain_form value (deletes n d) = delete n (value d)
+plain_form value (deletes n d) = delete n (value.number (number_of d))
 plain_form value (drops n) = drop n
 plain_form value (keeps n) = keep n
 plain_form value (shows n) = show n

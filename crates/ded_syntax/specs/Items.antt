@@ -1,15 +1,15 @@
--- What the reader sees of symbols, and numbers as it reads them: those of 2^63 and above are read as 2^63.
-use Rattle.std.specs.Prelude.{◌≡◌, ◌^◌, ℕ, min, Bool, false, nat_le, nat_lt, List, map, length}
+-- What the reader sees of symbols.
+use Rattle.std.specs.Prelude.{◌≡◌, ◌^◌, ◌||◌, ℕ, Bool, false, nat_le, nat_lt, List, map, length}
 use Rattle.ded_lex.specs.Lexemes.{Lexeme}
+use Rattle.ded_model.specs.declared.command.Language.{Language}
 use Rattle.ded_lex.specs.Tokens.{AreLexemes, token_text, quoted_value}
 use Rattle.ded_syntax.specs.declared.item.Rest.{Rest}
 use Rattle.ded_syntax.specs.declared.item.Item.{Item}
 use Rattle.ded_syntax.specs.declared.item.Item.TheVariants as item
-use Rattle.ded_syntax.specs.Symbols.{Symbol, Word, Name, Number, Quoted, Plus, Minus, Times, Open, Close, OpenBrace, CloseBrace, Comma, Colon, Define, Relation, symbol, number_of}
+use Rattle.ded_syntax.specs.Literals.{capped}
+use Rattle.ded_syntax.specs.Symbols.{Symbol, Word, Name, Number, Decimal, Quoted, Plus, Minus, Times, Slash, Open, Close, OpenBrace, CloseBrace, Comma, Colon, Define, Relation, symbol, number_of, decimal_number, decimal_power}
 
-abbrev pub capped : ℕ → ℕ
-capped n = min n (2 ^ 63)
-
+-- the number of digits as it is read: 2^63 where it is above that
 abbrev pub capped_of : List ℕ → ℕ
 capped_of ds = capped (number_of ds)
 
@@ -18,10 +18,12 @@ abbrev pub seen : List ℕ → Item → Symbol
 seen bytes (item.Word w) = Word w
 seen bytes (item.Name n) = Name (token_text bytes n)
 seen bytes (item.Number d) = Number (token_text bytes d)
+seen bytes (item.Decimal d) = Decimal (token_text bytes d)
 seen bytes (item.Quoted t) = Quoted (quoted_value (token_text bytes t))
 seen bytes item.Plus = Plus
 seen bytes item.Minus = Minus
 seen bytes item.Times = Times
+seen bytes item.Slash = Slash
 seen bytes item.Open = Open
 seen bytes item.Close = Close
 seen bytes item.OpenBrace = OpenBrace
@@ -43,13 +45,14 @@ abbrev pub is_long_name : Symbol → Bool
 is_long_name (Name n) = nat_lt 64 (length n)
 is_long_name t = false
 
--- the number is above 2^63 - 1
+-- the number is above 2^63 - 1, or the decimal's digits without the point or its power of ten
 abbrev pub is_long_literal : Symbol → Bool
 is_long_literal (Number ds) = nat_le (2 ^ 63) (number_of ds)
+is_long_literal (Decimal bs) = nat_le (2 ^ 63) (decimal_number bs) || nat_le (2 ^ 63) (decimal_power bs)
 is_long_literal t = false
 
--- the symbols are those of the lexemes of the bytes
-pub record AreSymbols (bytes : List ℕ) (ts : List Symbol) : Type 0 where
+-- the symbols are those of the lexemes of the bytes in the language
+pub record AreSymbols (language : Language) (bytes : List ℕ) (ts : List Symbol) : Type 0 where
   pub lexemes : List Lexeme
   pub are : AreLexemes bytes lexemes
-  pub seen : ts ≡ map symbol lexemes
+  pub seen : ts ≡ map (symbol language) lexemes

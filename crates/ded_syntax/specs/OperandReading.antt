@@ -1,17 +1,10 @@
--- Reading operands, as functions on symbols.
-use Rattle.std.specs.Prelude.{ℕ, suc, Bool, true, false, List, ◌∷◌, length, Option, Some, None}
+-- Reading the sides of comparisons and the operands of members, as functions on symbols.
+use Rattle.std.specs.Prelude.{ℕ, suc, ◌==◌, Bool, true, false, List, [], ◌∷◌, length, Option, Some, None, if◌then◌else◌}
 use Rattle.std.proofs.Common.{zero}
-use Rattle.ded_model.specs.declared.formula.Operand.{Operand}
-use Rattle.ded_model.specs.declared.formula.Operand.TheVariants as operand
 use Rattle.ded_grammar.specs.Building.{◌>>=◌}
-use Rattle.ded_syntax.specs.Symbols.{Symbol, Name, Number, Quoted, Plus, Minus, Times}
-use Rattle.ded_syntax.specs.Operands.{Reader, Factor, Sums, add_factor, no_sums, as_sum}
-
--- behind the digits of a product
-abbrev pub behind_number : ℕ → List Symbol → Option (Factor × List Symbol)
-behind_number k (Times ∷ Name n ∷ ts) = Some ((k, Some n), ts)
-behind_number k (Times ∷ ts) = None
-behind_number k ts = Some ((k, None), ts)
+use Rattle.ded_syntax.specs.Symbols.{Symbol, Name, Number, Decimal, Quoted, Plus, Minus, Times, Slash, number_of, decimal_number, decimal_power}
+use Rattle.ded_syntax.specs.Literals.{Literal, lowest}
+use Rattle.ded_syntax.specs.Operands.{Factor, Part, add_factor, Reading, quoted, named, parts}
 
 abbrev pub number_at : List Symbol → Option (List ℕ × List Symbol)
 number_at (Number d ∷ ts) = Some (d, ts)
@@ -21,12 +14,29 @@ abbrev pub name_at : List Symbol → Option (List ℕ × List Symbol)
 name_at (Name n ∷ ts) = Some (n, ts)
 name_at ts = None
 
-abbrev pub product_by_number : Reader → List Symbol → Option (List ℕ × List Symbol) → Option (Factor × List Symbol)
-product_by_number value ts None = name_at ts >>= λ n. Some ((1, Some n.0), n.1)
-product_by_number value ts (Some d) = behind_number (value d.0) d.1
+-- the quotient of digits, unless the last ones stand for 0
+abbrev pub quotient_at : (ℕ → ℕ) → List ℕ → List ℕ → List Symbol → Option (Literal × List Symbol)
+quotient_at read d e ts = if number_of e == 0 then None else Some (lowest (read (number_of d)) (read (number_of e)), ts)
 
-abbrev pub product_at : Reader → List Symbol → Option (Factor × List Symbol)
-product_at value ts = product_by_number value ts (number_at ts)
+abbrev pub scalar_at : (ℕ → ℕ) → List Symbol → Option (Literal × List Symbol)
+scalar_at read (Number d ∷ Slash ∷ Number e ∷ ts) = quotient_at read d e ts
+scalar_at read (Number d ∷ Slash ∷ ts) = None
+scalar_at read (Number d ∷ ts) = Some ((read (number_of d), 1), ts)
+scalar_at read (Decimal t ∷ ts) = Some (lowest (read (decimal_number t)) (read (decimal_power t)), ts)
+scalar_at read ts = None
+
+-- behind the literal of a product
+abbrev pub behind_scalar : Literal → List Symbol → Option (Factor × List Symbol)
+behind_scalar l (Times ∷ Name n ∷ ts) = Some ((l, Some n), ts)
+behind_scalar l (Times ∷ ts) = None
+behind_scalar l ts = Some ((l, None), ts)
+
+abbrev pub product_by_scalar : List Symbol → Option (Literal × List Symbol) → Option (Factor × List Symbol)
+product_by_scalar ts None = name_at ts >>= λ n. Some (((1, 1), Some n.0), n.1)
+product_by_scalar ts (Some l) = behind_scalar l.0 l.1
+
+abbrev pub product_at : (ℕ → ℕ) → List Symbol → Option (Factor × List Symbol)
+product_at read ts = product_by_scalar ts (scalar_at read ts)
 
 -- the sign of a further product, true where it is taken away
 abbrev pub sign_at : List Symbol → Option (Bool × List Symbol)
@@ -34,26 +44,26 @@ sign_at (Plus ∷ ts) = Some (false, ts)
 sign_at (Minus ∷ ts) = Some (true, ts)
 sign_at ts = None
 
--- behind the sum so far: no further product, or one more, and then the rest
-abbrev pub after_sign : Reader → (Sums → List Symbol → Option (Sums × List Symbol)) → Sums → List Symbol → Option (Bool × List Symbol) → Option (Sums × List Symbol)
-after_sign value more a ts None = Some (a, ts)
-after_sign value more a ts (Some s) = product_at value s.1 >>= λ p. more (add_factor a s.0 p.0) p.1
+-- behind the parts so far: no further product, or one more, and then the rest
+abbrev pub after_sign : (ℕ → ℕ) → (List Part → List Symbol → Option (List Part × List Symbol)) → List Part → List Symbol → Option (Bool × List Symbol) → Option (List Part × List Symbol)
+after_sign read more a ts None = Some (a, ts)
+after_sign read more a ts (Some s) = product_at read s.1 >>= λ p. more (add_factor a s.0 p.0) p.1
 
 -- up to so many products more
-abbrev pub more_at : Reader → ℕ → Sums → List Symbol → Option (Sums × List Symbol)
-more_at value zero a ts = None
-more_at value (suc k) a ts = after_sign value (more_at value k) a ts (sign_at ts)
+abbrev pub more_at : (ℕ → ℕ) → ℕ → List Part → List Symbol → Option (List Part × List Symbol)
+more_at read zero a ts = None
+more_at read (suc k) a ts = after_sign read (more_at read k) a ts (sign_at ts)
 
--- the totals of these symbols with all that follows
-abbrev pub totalled : Reader → Sums → List Symbol → Option (Sums × List Symbol)
-totalled value a ts = more_at value (suc (length ts)) a ts
+-- the parts so far with all that follow
+abbrev pub all_parts : (ℕ → ℕ) → List Part → List Symbol → Option (List Part × List Symbol)
+all_parts read a ts = more_at read (suc (length ts)) a ts
 
 -- a sum whose first product is taken away or not
-abbrev pub sum_at : Reader → Bool → List Symbol → Option (Sums × List Symbol)
-sum_at value minus ts = product_at value ts >>= λ p. more_at value (suc (length p.1)) (add_factor no_sums minus p.0) p.1
+abbrev pub sum_at : (ℕ → ℕ) → Bool → List Symbol → Option (List Part × List Symbol)
+sum_at read minus ts = product_at read ts >>= λ p. more_at read (suc (length p.1)) (add_factor [] minus p.0) p.1
 
-abbrev pub summed_at : Reader → Bool → List Symbol → Option (Operand × List Symbol)
-summed_at value minus ts = sum_at value minus ts >>= λ x. Some (as_sum x.0, x.1)
+abbrev pub summed_at : (ℕ → ℕ) → Bool → List Symbol → Option (Reading × List Symbol)
+summed_at read minus ts = sum_at read minus ts >>= λ x. Some (parts x.0, x.1)
 
 abbrev pub quoted_at : List Symbol → Option (List ℕ × List Symbol)
 quoted_at (Quoted t ∷ ts) = Some (t, ts)
@@ -64,21 +74,21 @@ minus_at (Minus ∷ ts) = Some ts
 minus_at ts = None
 
 -- a name alone, where no sign follows it; else the sum that it begins
-abbrev pub behind_name : Reader → List Symbol → List ℕ × List Symbol → Option (Bool × List Symbol) → Option (Operand × List Symbol)
-behind_name value ts n None = Some (operand.Single n.0, n.1)
-behind_name value ts n (Some s) = summed_at value false ts
+abbrev pub behind_name : (ℕ → ℕ) → List Symbol → List ℕ × List Symbol → Option (Bool × List Symbol) → Option (Reading × List Symbol)
+behind_name read ts n None = Some (named n.0, n.1)
+behind_name read ts n (Some s) = summed_at read false ts
 
-abbrev pub operand_by_name : Reader → List Symbol → Option (List ℕ × List Symbol) → Option (Operand × List Symbol)
-operand_by_name value ts None = summed_at value false ts
-operand_by_name value ts (Some n) = behind_name value ts n (sign_at n.1)
+abbrev pub side_by_name : (ℕ → ℕ) → List Symbol → Option (List ℕ × List Symbol) → Option (Reading × List Symbol)
+side_by_name read ts None = summed_at read false ts
+side_by_name read ts (Some n) = behind_name read ts n (sign_at n.1)
 
-abbrev pub operand_by_minus : Reader → List Symbol → Option (List Symbol) → Option (Operand × List Symbol)
-operand_by_minus value ts None = operand_by_name value ts (name_at ts)
-operand_by_minus value ts (Some us) = summed_at value true us
+abbrev pub side_by_minus : (ℕ → ℕ) → List Symbol → Option (List Symbol) → Option (Reading × List Symbol)
+side_by_minus read ts None = side_by_name read ts (name_at ts)
+side_by_minus read ts (Some us) = summed_at read true us
 
-abbrev pub operand_by_text : Reader → List Symbol → Option (List ℕ × List Symbol) → Option (Operand × List Symbol)
-operand_by_text value ts None = operand_by_minus value ts (minus_at ts)
-operand_by_text value ts (Some t) = Some (operand.Quoted t.0, t.1)
+abbrev pub side_by_text : (ℕ → ℕ) → List Symbol → Option (List ℕ × List Symbol) → Option (Reading × List Symbol)
+side_by_text read ts None = side_by_minus read ts (minus_at ts)
+side_by_text read ts (Some t) = Some (quoted t.0, t.1)
 
-abbrev pub operand_at : Reader → List Symbol → Option (Operand × List Symbol)
-operand_at value ts = operand_by_text value ts (quoted_at ts)
+abbrev pub side_at : (ℕ → ℕ) → List Symbol → Option (Reading × List Symbol)
+side_at read ts = side_by_text read ts (quoted_at ts)

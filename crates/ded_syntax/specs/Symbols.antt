@@ -1,22 +1,26 @@
 -- Symbols: lexemes with reserved words and signs told apart. The grammar is over symbols.
-use Rattle.std.specs.Prelude.{◌+◌, ◌-◌, ◌*◌, ℕ, Bool, ◌||◌, List, [], ◌∷◌, if◌then◌else◌, codes}
+use Rattle.std.specs.Prelude.{◌+◌, ◌-◌, ◌*◌, ◌^◌, ℕ, ◌==◌, Bool, ◌||◌, List, [], ◌∷◌, ◌++◌, length, if◌then◌else◌, codes}
 use Rattle.std.specs.Str.{bytes_eq}
 use Rattle.ded_lex.specs.Lexemes.{Lexeme}
 use Rattle.ded_lex.specs.Lexemes as lexeme
+use Rattle.ded_model.specs.declared.command.Language.{Language}
+use Rattle.ded_model.specs.declared.command.Language.TheVariants.{Two}
 use Rattle.ded_model.specs.declared.formula.CompareOp.{CompareOp}
 use Rattle.ded_model.specs.declared.formula.CompareOp.TheVariants as op
 use Rattle.ded_syntax.specs.declared.item.Keyword.{Keyword}
 use Rattle.ded_syntax.specs.declared.item.Keyword.TheVariants as keyword
 
--- a reserved word, a name, a number by its digits, a quoted text by its value, or a sign
+-- a reserved word, a name, a number by its digits, a decimal by its bytes, a quoted text by its value, or a sign
 pub data Symbol : Type 0 where
   Word : Keyword → Symbol
   Name : List ℕ → Symbol
   Number : List ℕ → Symbol
+  Decimal : List ℕ → Symbol
   Quoted : List ℕ → Symbol
   Plus : Symbol
   Minus : Symbol
   Times : Symbol
+  Slash : Symbol
   Open : Symbol
   Close : Symbol
   OpenBrace : Symbol
@@ -102,14 +106,26 @@ other_sign s =
     else (if bytes_eq s (codes ":=") then Define
     else Word keyword.Unused))))))
 
-abbrev pub sign_symbol : List ℕ → Symbol
-sign_symbol s = sum_sign (other_sign s) s
+-- the sign of quotients, which stands in no command of another language
+abbrev pub slash_symbol : Language → Symbol
+slash_symbol Two = Slash
+slash_symbol _ = Word keyword.Unused
 
-abbrev pub symbol : Lexeme → Symbol
-symbol (lexeme.Word w) = word_symbol w
-symbol (lexeme.Number digits) = Number digits
-symbol (lexeme.Quoted value) = Quoted value
-symbol (lexeme.Sign s) = sign_symbol s
+abbrev pub sign_symbol : Language → List ℕ → Symbol
+sign_symbol language s = sum_sign (if bytes_eq s (codes "/") then slash_symbol language else other_sign s) s
+
+-- a decimal stands in no command of another language
+abbrev pub decimal_symbol : Language → List ℕ → Symbol
+decimal_symbol Two bs = Decimal bs
+decimal_symbol _ bs = Word keyword.Unused
+
+-- what the lexeme is in the language
+abbrev pub symbol : Language → Lexeme → Symbol
+symbol language (lexeme.Word w) = word_symbol w
+symbol language (lexeme.Number digits) = Number digits
+symbol language (lexeme.Decimal bs) = decimal_symbol language bs
+symbol language (lexeme.Quoted value) = Quoted value
+symbol language (lexeme.Sign s) = sign_symbol language s
 
 -- ---- numbers
 
@@ -120,3 +136,33 @@ number_from n (d ∷ ds) = number_from (n * 10 + (d - 48)) ds
 
 abbrev pub number_of : List ℕ → ℕ
 number_of ds = number_from 0 ds
+
+-- ---- decimals
+
+-- what stands before the point
+abbrev pub before_point : List ℕ → List ℕ
+before_point [] = []
+before_point (b ∷ bs) = if b == 46 then [] else b ∷ before_point bs
+
+-- what stands behind the point
+abbrev pub behind_point : List ℕ → List ℕ
+behind_point [] = []
+behind_point (b ∷ bs) = if b == 46 then bs else behind_point bs
+
+-- a zero with nothing behind it is left out
+abbrev pub trimmed_to : ℕ → List ℕ → List ℕ
+trimmed_to b [] = if b == 48 then [] else b ∷ []
+trimmed_to b (d ∷ ds) = b ∷ d ∷ ds
+
+-- without the zeros at the end
+abbrev pub trimmed : List ℕ → List ℕ
+trimmed [] = []
+trimmed (b ∷ bs) = trimmed_to b (trimmed bs)
+
+-- the digits without the point and the zeros at the end
+abbrev pub decimal_number : List ℕ → ℕ
+decimal_number bs = number_of (before_point bs ++ trimmed (behind_point bs))
+
+-- the power of ten below them
+abbrev pub decimal_power : List ℕ → ℕ
+decimal_power bs = 10 ^ length (trimmed (behind_point bs))

@@ -1,15 +1,55 @@
 -- What values of the reader are seen as.
-use Rattle.std.specs.Prelude.{◌≡◌, ◌≤◌, ◌^◌, ℕ, Bool, Some, unsigned_abs, List, option_map}
+use Rattle.std.specs.Prelude.{◌≡◌, ◌≤◌, ◌<◌, ◌+◌, ◌^◌, ℕ, Bool, Some, unsigned_abs, List, length, map, option_map}
 use Rattle.std.specs.List.{AllByRecursion}
-use Rattle.ded_syntax.specs.declared.operand.Factor.{Factor}
+use Rattle.ded_lex.specs.Tokens.{quoted_value}
+use Rattle.ded_syntax.specs.declared.scalar.Literal.{Literal}
+use Rattle.ded_syntax.specs.declared.side.Factor.{Factor}
+use Rattle.ded_syntax.specs.declared.side.Part.{Part}
+use Rattle.ded_syntax.specs.declared.side.Side.{Side}
+use Rattle.ded_syntax.specs.declared.side.Side.TheVariants as side
 use Rattle.ded_syntax.specs.declared.sum.Totals.{Totals}
-use Rattle.ded_syntax.specs.Symbols.{Symbol}
+use Rattle.ded_syntax.specs.Literals.{capped, marked_numerator}
+use Rattle.ded_syntax.specs.Literals as literals
 use Rattle.ded_syntax.specs.Operands as operands
 use Rattle.ded_syntax.specs.OperandReading.{product_at}
-use Rattle.ded_syntax.specs.Items.{capped_of}
+use Rattle.ded_syntax.specs.Symbols.{Symbol}
+
+abbrev pub seen_literal : Literal → literals.Literal
+seen_literal l = (l.numerator, l.denominator)
 
 abbrev pub seen_factor : Factor → operands.Factor
-seen_factor f = (f.number, option_map (λ n. n.now) f.name)
+seen_factor f = (seen_literal f.literal, option_map (λ n. n.now) f.name)
+
+abbrev pub seen_part : Part → operands.Part
+seen_part p = (p.minus, seen_factor p.factor)
+
+abbrev pub seen_parts : List Part → List operands.Part
+seen_parts ps = map seen_part ps
+
+abbrev pub seen_side : Side → operands.Reading
+seen_side (side.Quoted t) = operands.quoted (quoted_value t.now)
+seen_side (side.Name n) = operands.named n.now
+seen_side (side.Sum ps) = operands.parts (seen_parts ps.items)
+
+-- no denominator is 0
+abbrev pub ArePositive : List Part → Type 0
+ArePositive ps = AllByRecursion (λ p. 0 < p.factor.literal.denominator) ps
+
+-- a sum has no more parts than half of so many items, rounded up, and no denominator in it is 0
+abbrev pub IsFit : Side → ℕ → Type 0
+IsFit (side.Quoted t) n = Unit {0}
+IsFit (side.Name x) n = Unit {0}
+IsFit (side.Sum ps) n = (length ps.items + length ps.items ≤ n + 1) × ArePositive ps.items
+
+-- a product is read, and set behind the parts a
+pub record AddsProduct (minus : Bool) (ts : List Symbol) (a b : List operands.Part) (rest : List Symbol) : Type 0 where
+  pub factor : operands.Factor
+  pub read : product_at capped ts ≡ Some (factor, rest)
+  pub adds : b ≡ operands.add_factor a minus factor
+
+-- the numerators of the literals are at most 2^96, as far as they are read
+abbrev pub AreSmall : ℕ → List literals.Literal → Type 0
+AreSmall m ls = AllByRecursion (λ l. marked_numerator m l ≤ 2 ^ 96) ls
 
 abbrev pub seen_totals : Totals → operands.Sums
 seen_totals t = (t.parts.items, t.constant)
@@ -17,10 +57,3 @@ seen_totals t = (t.parts.items, t.constant)
 -- each coefficient and the constant are at most n in magnitude
 abbrev pub IsBounded : ℕ → operands.Sums → Type 0
 IsBounded n s = AllByRecursion (λ c. unsigned_abs c.1 ≤ n) s.0 × (unsigned_abs s.1 ≤ n)
-
--- a product is read, and added to the totals a or taken away from them
-pub record AddsProduct (minus : Bool) (ts : List Symbol) (a b : operands.Sums) (rest : List Symbol) : Type 0 where
-  pub factor : operands.Factor
-  pub read : product_at capped_of ts ≡ Some (factor, rest)
-  pub low : factor.0 ≤ 2 ^ 63
-  pub adds : b ≡ operands.add_factor a minus factor

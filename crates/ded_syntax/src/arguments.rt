@@ -8,8 +8,9 @@ ghost use Rattle.ded_num.specs.Gcd.{gcd_from, gcd_all};
 ghost use Rattle.ded_num.specs.Length.{IsShort};
 ghost use Rattle.ded_model.specs.Sum.{ArePartsWithin};
 ghost use Rattle.ded_model.specs.LongRows.{coefficients, is_long_over, is_long_row, is_long_argument};
+ghost use Rattle.ded_syntax.specs.Marks.{is_marked, is_unfit_argument};
 
-use crate::long::is_long_over;
+use crate::long::{TOO_GREAT, is_long_over};
 use ded_model::formula::{Operand, Term};
 use ded_model::name::Name;
 use ded_num::gcd;
@@ -68,12 +69,23 @@ fn is_long_argument(operand: &Operand) -> bool
     }
 }
 
-/// Whether one of the operands is a sum whose normal row as an argument has a number above 2^63 - 1 in magnitude.
-pub fn some_long_argument(operands: &[Operand]) -> bool
-    ensures { result ≡ list_any is_long_argument operands.now }
+/// Whether the operand is a sum over 2^63 or more.
+pub fn is_marked(operand: &Operand) -> bool
+    ensures { result ≡ is_marked operand.now }
+{
+    match operand {
+        Operand::Sum(term) => term.over.unsigned_abs() >= TOO_GREAT,
+        Operand::Single(_) | Operand::Quoted(_) => false,
+    }
+}
+
+/// Whether one of the operands is a sum over 2^63 or more, or one whose normal row as an argument has a number above 2^63 - 1 in
+/// magnitude.
+pub fn some_unfit_argument(operands: &[Operand]) -> bool
+    ensures { result ≡ list_any is_unfit_argument operands.now }
 {
     for operand in operands {
-        if is_long_argument(operand) {
+        if is_marked(operand) || is_long_argument(operand) {
             return true;
         }
     }

@@ -2,11 +2,13 @@
 ghost use Rattle.std.specs.Prelude.{◌≡◌, ◌≤◌, ◌<◌, length, Some, None, IfSome, IfNone, IfOk, IfErr};
 ghost use Rattle.ded_grammar.specs.declared.fault.ReadFault.TheVariants.{NotRead};
 ghost use Rattle.ded_model.specs.Form.{form};
-ghost use Rattle.ded_syntax.specs.Items.{capped_of, left};
-ghost use Rattle.ded_syntax.specs.AtomReading.{relation_at, compare_at, comma_at, operands_at, called_at, atom_at, sort_at, column_at};
+ghost use Rattle.ded_syntax.specs.Items.{left};
+ghost use Rattle.ded_syntax.specs.Literals.{capped_reader};
+ghost use Rattle.ded_syntax.specs.AtomReading.{relation_at, compare_at, comma_at, argument_at, operands_at, called_at, atom_at, sort_at, column_at};
 
 use crate::item::{Item, Keyword, Rest, text};
-use crate::operand::{name, name_of, operand};
+use crate::operand::{argument_of, name_of, operands_of};
+use crate::side::{name, read_side};
 use ded_grammar::ReadFault;
 use ded_model::formula::{CompareOp, Formula, Operand, Operands};
 use ded_model::name::Column;
@@ -31,16 +33,17 @@ fn relation(rest: Rest<'_>) -> Option<(CompareOp, Rest<'_>)>
 /// `NotRead` only where the rest begins with no comparison, otherwise out of memory.
 pub fn comparison(alloc: Global, rest: Rest<'_>) -> Result<(Formula, Rest<'_>), ReadFault>
     requires few { length (left rest) ≤ 65536 }
-    ensures read { IfOk result (λ x. compare_at capped_of (left rest.entry) ≡ Some (form x.0, left x.1)) }
-    ensures unread { IfErr result (λ e. e ≡ NotRead → compare_at capped_of (left rest.entry) ≡ None) }
+    ensures read { IfOk result (λ x. compare_at capped_reader (left rest.entry) ≡ Some (form x.0, left x.1)) }
+    ensures unread { IfErr result (λ e. e ≡ NotRead → compare_at capped_reader (left rest.entry) ≡ None) }
     ensures low { IfOk result (λ x. length (left x.1) < length (left rest.entry)) }
 {
-    let (first, rest) = operand(alloc, rest)?;
+    let (left, rest) = read_side(alloc, rest)?;
     let Some((op, rest)) = relation(rest) else {
         return Err(ReadFault::NotRead);
     };
-    let (second, rest) = operand(alloc, rest)?;
-    Ok((Formula::Compare(first, op, second), rest))
+    let (right, rest) = read_side(alloc, rest)?;
+    let (left, right) = operands_of(alloc, &left, &right)?;
+    Ok((Formula::Compare(left, op, right), rest))
 }
 
 /// What stands behind an item of a list in parentheses: true behind a comma, where another item is to come, and false
@@ -57,18 +60,29 @@ pub fn comma(rest: Rest<'_>) -> Option<(bool, Rest<'_>)>
     }
 }
 
+/// The operand of a member with which the rest begins, and what stands behind it.
+fn argument(alloc: Global, rest: Rest<'_>) -> Result<(Operand, Rest<'_>), ReadFault>
+    requires few { length (left rest) ≤ 65536 }
+    ensures read { IfOk result (λ x. argument_at capped_reader (left rest.entry) ≡ Some (x.0, left x.1)) }
+    ensures unread { IfErr result (λ e. e ≡ NotRead → argument_at capped_reader (left rest.entry) ≡ None) }
+    ensures low { IfOk result (λ x. length (left x.1) < length (left rest.entry)) }
+{
+    let (side, rest) = read_side(alloc, rest)?;
+    Ok((argument_of(alloc, &side)?, rest))
+}
+
 /// The operands of a member, up to the closing parenthesis, and what stands behind that.
 fn operands(alloc: Global, items: Rest<'_>) -> Result<(Vec<Operand>, Rest<'_>), ReadFault>
     requires few { length (left items) ≤ 65536 }
-    ensures read { IfOk result (λ x. operands_at capped_of (left items.entry) ≡ Some (x.0.items, left x.1)) }
-    ensures unread { IfErr result (λ e. e ≡ NotRead → operands_at capped_of (left items.entry) ≡ None) }
+    ensures read { IfOk result (λ x. operands_at capped_reader (left items.entry) ≡ Some (x.0.items, left x.1)) }
+    ensures unread { IfErr result (λ e. e ≡ NotRead → operands_at capped_reader (left items.entry) ≡ None) }
     ensures low { IfOk result (λ x. length (left x.1) < length (left items.entry)) }
 {
     let mut list = Vec::new(alloc);
     let mut rest = items;
     // Each operand has an item at least.
     for _ in 0..items.items.len() {
-        let (next, after) = operand(alloc, rest)?;
+        let (next, after) = argument(alloc, rest)?;
         list.push(next)?;
         let Some((goes_on, behind)) = comma(after) else {
             return Err(ReadFault::NotRead);
@@ -101,8 +115,8 @@ fn called(rest: Rest<'_>) -> Option<(&[u8], Rest<'_>)>
 /// `NotRead` only where the rest begins with neither, otherwise out of memory.
 pub fn atom(alloc: Global, rest: Rest<'_>) -> Result<(Formula, Rest<'_>), ReadFault>
     requires few { length (left rest) ≤ 65536 }
-    ensures read { IfOk result (λ x. atom_at capped_of (left rest.entry) ≡ Some (form x.0, left x.1)) }
-    ensures unread { IfErr result (λ e. e ≡ NotRead → atom_at capped_of (left rest.entry) ≡ None) }
+    ensures read { IfOk result (λ x. atom_at capped_reader (left rest.entry) ≡ Some (form x.0, left x.1)) }
+    ensures unread { IfErr result (λ e. e ≡ NotRead → atom_at capped_reader (left rest.entry) ≡ None) }
     ensures low { IfOk result (λ x. length (left x.1) < length (left rest.entry)) }
 {
     let Some((name, behind)) = called(rest) else {

@@ -8,13 +8,14 @@ ghost use Rattle.ded_model.specs.Form.{form};
 ghost use Rattle.ded_syntax.specs.CommandReading.{draft_at, scans, head_form};
 ghost use Rattle.ded_syntax.specs.Drafts.{HasDraft, IsShort};
 ghost use Rattle.ded_syntax.specs.DraftViews.{seen_head, seen_draft};
-ghost use Rattle.ded_syntax.specs.Items.{capped_of, left, AreSymbols};
+ghost use Rattle.ded_syntax.specs.Items.{left, AreSymbols};
+ghost use Rattle.ded_syntax.specs.Literals.{capped_reader};
 ghost use Rattle.ded_syntax.specs.Meaning.{Means, MeansDeep};
 ghost use Rattle.ded_syntax.specs.Spelling.{IsRead, IsLeastIn};
 
 use crate::draft::{Draft, Head};
 use crate::item::{Rest, has_long_literal, has_long_name, items_of};
-use crate::long::has_long_row;
+use crate::long::is_unfit;
 use crate::statement::draft;
 use ded_grammar::{ReadFault, formula_of, is_formula};
 use ded_lex::{LexFault, tokens};
@@ -35,9 +36,9 @@ fn is_spelled(draft: &Draft) -> bool
 /// The draft that the items spell, with pieces that spell a formula where it has pieces.
 fn spelled_draft(alloc: Global, items: Rest<'_>) -> Result<Draft, ReadFault>
     requires few { length (left items) ≤ 65536 }
-    ensures read { IfOk result (λ d. draft_at capped_of (left items.entry) ≡ Some (seen_draft d)) }
+    ensures read { IfOk result (λ d. draft_at capped_reader (left items.entry) ≡ Some (seen_draft d)) }
     ensures scanned { IfOk result (λ d. scans (seen_draft d) ≡ true) }
-    ensures unread { IfErr result (λ e. e ≡ NotRead → HasDraft capped_of (left items.entry) → ⊥) }
+    ensures unread { IfErr result (λ e. e ≡ NotRead → HasDraft capped_reader (left items.entry) → ⊥) }
 {
     let draft = draft(alloc, items)?;
     if is_spelled(&draft) {
@@ -79,16 +80,16 @@ fn command_of(alloc: Global, draft: Draft) -> Result<Command, Refusal>
 /// The refusal of the items, which spell the draft, for the first kind of thing that is too long in them: a name, a
 /// number, or a normal row. None where nothing is.
 fn long_refusal(items: Rest<'_>, draft: &Draft) -> Option<Refusal>
-    requires read { draft_at capped_of (left items) ≡ Some (seen_draft draft.now) }
+    requires read { draft_at capped_reader (left items) ≡ Some (seen_draft draft.now) }
     requires scanned { scans (seen_draft draft.now) ≡ true }
-    ensures some { IfSome result (λ r. (language : LanguageForm) (bytes : List ℕ) → AreSymbols bytes (left items.entry) → IsLeastIn r language bytes) }
+    ensures some { IfSome result (λ r. (language : LanguageForm) (bytes : List ℕ) → AreSymbols language bytes (left items.entry) → IsLeastIn r language bytes) }
     ensures none { IfNone result (IsShort (left items.entry) (seen_draft draft.now)) }
 {
     if has_long_name(items.bytes, items.items) {
         Some(Refusal::LongName)
     } else if has_long_literal(items.bytes, items.items) {
         Some(Refusal::LongNumber)
-    } else if has_long_row(draft) {
+    } else if is_unfit(draft) {
         Some(Refusal::LongNumber)
     } else {
         None
@@ -98,8 +99,8 @@ fn long_refusal(items: Rest<'_>, draft: &Draft) -> Option<Refusal>
 /// The command that the items spell, or the least refusal that applies to them.
 fn command_by(alloc: Global, items: Rest<'_>) -> Result<Command, Refusal>
     requires few { length (left items) ≤ 65536 }
-    ensures read { IfOk result (λ c. (language : LanguageForm) (bytes : List ℕ) → AreSymbols bytes (left items.entry) → IsRead language bytes (command_form c)) }
-    ensures refused { IfErr result (λ r. r ≢ refusal.Memory → (language : LanguageForm) (bytes : List ℕ) → AreSymbols bytes (left items.entry) → IsLeastIn r language bytes) }
+    ensures read { IfOk result (λ c. (language : LanguageForm) (bytes : List ℕ) → AreSymbols language bytes (left items.entry) → IsRead language bytes (command_form c)) }
+    ensures refused { IfErr result (λ r. r ≢ refusal.Memory → (language : LanguageForm) (bytes : List ℕ) → AreSymbols language bytes (left items.entry) → IsLeastIn r language bytes) }
 {
     let draft = match spelled_draft(alloc, items) {
         Ok(draft) => draft,
@@ -129,7 +130,7 @@ pub fn read_command(alloc: Global, bytes: &[u8], language: Language) -> Result<C
         Err(LexFault::NoToken) => return Err(Refusal::Syntax),
         Err(LexFault::Memory) => return Err(Refusal::Memory),
     };
-    let Ok(items) = items_of(alloc, bytes, tokens.list()) else {
+    let Ok(items) = items_of(alloc, bytes, tokens.list(), language) else {
         return Err(Refusal::Memory);
     };
     command_by(

@@ -3,7 +3,8 @@ ghost use Rattle.std.specs.Prelude.{◌≡◌, ◌≤◌, ◌<◌, ℕ, length, 
 ghost use Rattle.ded_grammar.specs.declared.fault.ReadFault.TheVariants.{NotRead};
 ghost use Rattle.ded_model.specs.Command.{command_form};
 ghost use Rattle.ded_model.specs.Form.{form};
-ghost use Rattle.ded_syntax.specs.Items.{capped_of, left};
+ghost use Rattle.ded_syntax.specs.Items.{left};
+ghost use Rattle.ded_syntax.specs.Literals.{capped_reader};
 ghost use Rattle.ded_syntax.specs.AtomReading.{brace_at};
 ghost use Rattle.ded_syntax.specs.CommandReading.{plain, ended, open_at, columns_at, heading_at, empty_at, open_brace_at, forms_at, braces_at, colon_at, define_at, formed_at};
 ghost use Rattle.ded_syntax.specs.DraftViews.{seen_head, seen_draft};
@@ -125,8 +126,8 @@ fn brace(rest: Rest<'_>) -> Option<(bool, Rest<'_>)>
 /// The comparisons of an insert, up to the closing brace, and what stands behind that.
 fn comparisons(alloc: Global, items: Rest<'_>) -> Result<(Vec<Formula>, Rest<'_>), ReadFault>
     requires few { length (left items) ≤ 65536 }
-    ensures read { IfOk result (λ x. forms_at capped_of (left items.entry) ≡ Some (map form x.0.items, left x.1)) }
-    ensures unread { IfErr result (λ e. e ≡ NotRead → forms_at capped_of (left items.entry) ≡ None) }
+    ensures read { IfOk result (λ x. forms_at capped_reader (left items.entry) ≡ Some (map form x.0.items, left x.1)) }
+    ensures unread { IfErr result (λ e. e ≡ NotRead → forms_at capped_reader (left items.entry) ≡ None) }
 {
     let mut list = Vec::new(alloc);
     let mut rest = items;
@@ -152,8 +153,8 @@ fn comparisons(alloc: Global, items: Rest<'_>) -> Result<(Vec<Formula>, Rest<'_>
 /// memory.
 pub fn braces(alloc: Global, rest: Rest<'_>) -> Result<(Vec<Formula>, Rest<'_>), ReadFault>
     requires few { length (left rest) ≤ 65536 }
-    ensures read { IfOk result (λ x. braces_at capped_of (left rest.entry) ≡ Some (map form x.0.items, left x.1)) }
-    ensures unread { IfErr result (λ e. e ≡ NotRead → braces_at capped_of (left rest.entry) ≡ None) }
+    ensures read { IfOk result (λ x. braces_at capped_reader (left rest.entry) ≡ Some (map form x.0.items, left x.1)) }
+    ensures unread { IfErr result (λ e. e ≡ NotRead → braces_at capped_reader (left rest.entry) ≡ None) }
 {
     if let Some(rest) = empty(rest) {
         return Ok((Vec::new(alloc), rest));
@@ -209,8 +210,8 @@ pub fn ended(command: Command, rest: Rest<'_>) -> Result<Draft, ReadFault>
 /// `NotRead` only where what stands behind the head isn't pieces of a formula, otherwise out of memory.
 pub fn formed(alloc: Global, head: Head, rest: Rest<'_>) -> Result<Draft, ReadFault>
     requires few { length (left rest) ≤ 65536 }
-    ensures read { IfOk result (λ d. formed_at capped_of (seen_head head) (left rest.entry) ≡ Some (seen_draft d)) }
-    ensures unread { IfErr result (λ e. e ≡ NotRead → formed_at capped_of (seen_head head) (left rest.entry) ≡ None) }
+    ensures read { IfOk result (λ d. formed_at capped_reader (seen_head head) (left rest.entry) ≡ Some (seen_draft d)) }
+    ensures unread { IfErr result (λ e. e ≡ NotRead → formed_at capped_reader (seen_head head) (left rest.entry) ≡ None) }
 {
     Ok(Draft::Formed(head, pieces(alloc, rest)?))
 }

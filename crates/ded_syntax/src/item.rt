@@ -1,11 +1,14 @@
 //! What the reader sees of the tokens of bytes.
-ghost use Rattle.std.specs.Prelude.{◌≡◌, ℕ, List, map, IfOk};
+ghost use Rattle.std.specs.Prelude.{◌≡◌, ◌≤◌, ◌<◌, ◌^◌, ℕ, List, map, length, IfOk};
 ghost use Rattle.std.specs.List.{list_any};
 ghost use Rattle.ded_lex.specs.Tokens.{lexeme, token_text};
-ghost use Rattle.ded_syntax.specs.Symbols.{symbol, formula_word, command_word, is_unused, unused_word, word_symbol, sum_sign, other_sign, sign_symbol};
+ghost use Rattle.ded_syntax.specs.Literals.{capped};
+ghost use Rattle.ded_syntax.specs.Symbols.{symbol, formula_word, command_word, is_unused, unused_word, word_symbol, sum_sign, other_sign, slash_symbol, sign_symbol, decimal_symbol, number_from};
 ghost use Rattle.ded_syntax.specs.Items.{capped_of, seen, symbols, is_long_name, is_long_literal};
 
+use crate::decimal::decimal_of;
 use ded_lex::{Token, TokenKind};
+use ded_model::command::Language;
 use ded_model::formula::CompareOp;
 use ded_model::limits;
 use ded_model::memory::NoMemory;
@@ -44,10 +47,12 @@ pub enum Item {
     Word(Keyword),
     Name(Token),
     Number(Token),
+    Decimal(Token),
     Quoted(Token),
     Plus,
     Minus,
     Times,
+    Slash,
     Open,
     Close,
     OpenBrace,
@@ -81,13 +86,21 @@ pub fn text(bytes: &[u8], token: Token) -> &[u8]
 }
 
 /// The least number that is too great for a command.
-const TOO_GREAT: u64 = limits::GREATEST_NUMBER + 1;
+pub const TOO_GREAT: u64 = limits::GREATEST_NUMBER + 1;
 
 /// The number for which digits stand, or 2^63, the least that is too great for a command, where it is above that.
 pub fn value_of(digits: &[u8]) -> u64
     ensures { result ≡ capped_of digits.now }
 {
-    let mut value = 0u64;
+    value_behind(0, digits)
+}
+
+/// The number for which the digits stand behind those that stand for the value, or 2^63 where it is above that.
+pub fn value_behind(value: u64, digits: &[u8]) -> u64
+    requires { value ≤ 2 ^ 63 }
+    ensures { result ≡ capped (number_from value digits.now) }
+{
+    let mut value = value;
     for byte in digits {
         value = value
             .saturating_mul(10)
@@ -240,35 +253,66 @@ fn other_sign(text: &[u8]) -> Item
     }
 }
 
-/// The item of a sign.
-fn sign_item(text: &[u8]) -> Item
-    ensures { (bytes : List ℕ) → seen bytes result ≡ sign_symbol text.now }
+/// The item of the sign of quotients, which stands in commands of language 2 alone.
+fn slash(language: Language) -> Item
+    ensures { (bytes : List ℕ) → seen bytes result ≡ slash_symbol language }
 {
-    sum_sign(other_sign(text), text)
+    match language {
+        Language::Two => Item::Slash,
+        Language::Opening | Language::One => Item::Word(Keyword::Unused),
+    }
+}
+
+/// The item of a sign.
+fn sign_item(text: &[u8], language: Language) -> Item
+    ensures { (bytes : List ℕ) → seen bytes result ≡ sign_symbol language text.now }
+{
+    let other = if text == b"/".as_slice() {
+        slash(language)
+    } else {
+        other_sign(text)
+    };
+    sum_sign(other, text)
+}
+
+/// The item of a decimal, which stands in commands of language 2 alone.
+fn decimal_item(bytes: &[u8], token: Token, language: Language) -> Item
+    ensures { seen bytes.now result ≡ decimal_symbol language (token_text bytes.now token) }
+{
+    match language {
+        Language::Two => Item::Decimal(token),
+        Language::Opening | Language::One => Item::Word(Keyword::Unused),
+    }
 }
 
 /// The item of a token.
-fn item_of(bytes: &[u8], token: Token) -> Item
-    ensures { seen bytes.now result ≡ symbol (lexeme bytes.now token) }
+fn item_of(bytes: &[u8], token: Token, language: Language) -> Item
+    ensures { seen bytes.now result ≡ symbol language (lexeme bytes.now token) }
 {
     match token.kind {
         TokenKind::Word => word_item(bytes, token),
         TokenKind::Number => Item::Number(token),
-        TokenKind::Sign => sign_item(text(bytes, token)),
+        TokenKind::Decimal => decimal_item(bytes, token, language),
+        TokenKind::Sign => sign_item(text(bytes, token), language),
         TokenKind::Quoted => Item::Quoted(token),
     }
 }
 
-/// The items of the tokens, one for each.
+/// What the tokens are in the language, one item for each.
 ///
 /// # Errors
 /// Out of memory.
-pub fn items_of(alloc: Global, bytes: &[u8], tokens: &[Token]) -> Result<Vec<Item>, NoMemory>
-    ensures { IfOk result (λ items. symbols bytes.now items.items ≡ map symbol (map (lexeme bytes.now) tokens.now)) }
+pub fn items_of(
+    alloc: Global,
+    bytes: &[u8],
+    tokens: &[Token],
+    language: Language,
+) -> Result<Vec<Item>, NoMemory>
+    ensures { IfOk result (λ items. symbols bytes.now items.items ≡ map (symbol language) (map (lexeme bytes.now) tokens.now)) }
 {
     let mut items = Vec::with_capacity(alloc, tokens.len())?;
     for token in tokens {
-        items.push(item_of(bytes, *token))?;
+        items.push(item_of(bytes, *token, language))?;
     }
     Ok(items)
 }
@@ -295,12 +339,16 @@ pub fn has_long_name(bytes: &[u8], items: &[Item]) -> bool
     false
 }
 
-/// Whether the item is a number above 2^63 - 1.
+/// Whether the item is a number above 2^63 - 1, or a decimal whose digits without the point or power of ten is above that.
 fn is_long_literal(bytes: &[u8], item: Item) -> bool
     ensures { result ≡ is_long_literal (seen bytes.now item) }
 {
     match item {
         Item::Number(token) => value_of(text(bytes, token)) >= TOO_GREAT,
+        Item::Decimal(token) => {
+            let (number, power) = decimal_of(text(bytes, token));
+            number >= TOO_GREAT || power >= TOO_GREAT
+        }
         _ => false,
     }
 }

@@ -1,8 +1,12 @@
 //! From the bytes of a statement to its command.
 //!
 //! [`read_command`] answers the command that the bytes spell, or the least refusal that bytes alone decide. The grammar
-//! stands in `specs/` over symbols (`Symbols`, `Operands`, `Atoms`, `Commands`), with what each part means; `Spelling`
-//! says when bytes spell a command, and when a refusal applies.
+//! stands in `specs/` over symbols (`Symbols`, `Literals`, `Operands`, `Atoms`, `Commands`), with what each part means;
+//! `Spelling` says when bytes spell a command in a language, and when a refusal applies. The languages differ in the symbols
+//! that lexemes are: what a language doesn't have is a symbol that stands in no command.
+//!
+//! The sums of a comparison are over the common denominator of its literals. Where that or a literal over it is too long, the
+//! reader marks the comparison by sums over 2^63, and goes on, since a refusal of less number may apply.
 //!
 //! Answers are exact both ways, so what is spelled is read, and what is read is spelled. Reading goes from left to
 //! right, by loops, up to the pieces of a formula; `ded_grammar` makes its tree of them. The crate stands on `ded_lex`
@@ -12,12 +16,15 @@
 mod arguments;
 mod atom;
 mod command;
+mod decimal;
 mod draft;
 mod item;
 mod laws;
 mod long;
 mod operand;
 mod pieces;
+mod scalar;
+mod side;
 mod statement;
 mod sum;
 

@@ -1,5 +1,5 @@
 //! Comparisons and commands whose normal rows have a number above 2^63 - 1 in magnitude.
-ghost use Rattle.std.specs.Prelude.{◌≡◌, ◌-ℤ◌, ◌∷◌, unsigned_abs};
+ghost use Rattle.std.specs.Prelude.{◌≡◌, ◌-ℤ◌, ◌∷◌, ◌||◌, unsigned_abs};
 ghost use Rattle.std.specs.List.{list_any};
 ghost use Rattle.ded_grammar.specs.Forms.{piece_form, piece_forms};
 ghost use Rattle.ded_grammar.specs.Trees.{piece_atom};
@@ -8,11 +8,12 @@ ghost use Rattle.ded_model.specs.Form.{form, forms};
 ghost use Rattle.ded_model.specs.Logic.{some_atom, some_atom_of};
 ghost use Rattle.ded_num.specs.Gcd.{gcd_from, gcd_all};
 ghost use Rattle.ded_num.specs.Length.{IsWithin, IsShort};
-ghost use Rattle.ded_model.specs.LongRows.{denominator_of, coefficient, parts_over, constant_of, difference_over, differences_over, row_coefs_over, row_coefs, row_constant, is_nonzero, is_long_over, is_long_row, is_quoted, is_long_comparison, is_long_atom, has_long_row};
-ghost use Rattle.ded_syntax.specs.Drafts.{long_draft};
+ghost use Rattle.ded_model.specs.LongRows.{denominator_of, coefficient, parts_over, constant_of, difference_over, differences_over, row_coefs_over, row_coefs, row_constant, is_nonzero, is_long_over, is_long_row, is_quoted, is_long_comparison};
+ghost use Rattle.ded_syntax.specs.Drafts.{some_in_draft};
+ghost use Rattle.ded_syntax.specs.Marks.{is_marked, is_unfit_atom, some_in};
 ghost use Rattle.ded_syntax.specs.DraftViews.{seen_draft};
 
-use crate::arguments::some_long_argument;
+use crate::arguments::{is_marked, some_unfit_argument};
 use crate::draft::Draft;
 use ded_grammar::Piece;
 use ded_model::command::Command;
@@ -22,7 +23,7 @@ use ded_model::name::Name;
 use ded_num::gcd;
 
 /// The least number that is too great for a row.
-const TOO_GREAT: u128 = limits::GREATEST_NUMBER as u128 + 1;
+pub const TOO_GREAT: u128 = limits::GREATEST_NUMBER as u128 + 1;
 
 // ---- rows by names
 
@@ -253,17 +254,24 @@ fn is_long_comparison(left: &Operand, right: &Operand) -> bool
     !is_quoted(left) && !is_quoted(right) && is_long_row(left, right)
 }
 
+/// Whether a side of a comparison is a sum over 2^63, or its normal row has a number above 2^63 - 1 in magnitude.
+fn is_unfit_comparison(left: &Operand, right: &Operand) -> bool
+    ensures { result ≡ (is_marked left.now || is_marked right.now) || is_long_comparison left.now right.now }
+{
+    is_marked(left) || is_marked(right) || is_long_comparison(left, right)
+}
+
 // ---- formulas
 
-/// Whether a comparison or an argument of the formula has a row with a number above 2^63 - 1 in magnitude.
+/// Whether a comparison or an argument of the formula has literals or a row that are too long.
 #[cycle(long)]
 fn has_long_atom(formula: &Formula) -> bool
-    ensures { result ≡ some_atom is_long_atom (form formula.now) }
+    ensures { result ≡ some_atom is_unfit_atom (form formula.now) }
 {
     match formula {
         Formula::True | Formula::False => false,
-        Formula::Compare(left, _, right) => is_long_comparison(left, right),
-        Formula::Member(_, operands) => some_long_argument(&operands.list),
+        Formula::Compare(left, _, right) => is_unfit_comparison(left, right),
+        Formula::Member(_, operands) => some_unfit_argument(&operands.list),
         Formula::Not(part) | Formula::Exists(_, part) | Formula::Forall(_, part) => {
             has_long_atom(part)
         }
@@ -272,10 +280,10 @@ fn has_long_atom(formula: &Formula) -> bool
     }
 }
 
-/// Whether a comparison or an argument of one of the formulas has a row with a number above 2^63 - 1 in magnitude.
+/// Whether a comparison or an argument of one of the formulas has literals or a row that are too long.
 #[cycle(long)]
 fn some_long_atom(formulas: &Vec<Formula>) -> bool
-    ensures { result ≡ some_atom_of is_long_atom (forms formulas.now.items) }
+    ensures { result ≡ some_atom_of is_unfit_atom (forms formulas.now.items) }
 {
     for formula in formulas {
         if has_long_atom(formula) {
@@ -285,10 +293,9 @@ fn some_long_atom(formulas: &Vec<Formula>) -> bool
     false
 }
 
-/// Whether the piece is a formula of which a comparison or an argument has a row with a number above 2^63 - 1 in
-/// magnitude.
+/// Whether the piece is a formula of which a comparison or an argument has literals or a row that are too long.
 fn is_long_piece(piece: &Piece) -> bool
-    ensures { result ≡ piece_atom is_long_atom (piece_form piece.now) }
+    ensures { result ≡ piece_atom is_unfit_atom (piece_form piece.now) }
 {
     match piece {
         Piece::Atom(formula) => has_long_atom(formula),
@@ -296,9 +303,9 @@ fn is_long_piece(piece: &Piece) -> bool
     }
 }
 
-/// Whether a comparison or an argument of one of the pieces has a row with a number above 2^63 - 1 in magnitude.
+/// Whether a comparison or an argument of one of the pieces has literals or a row that are too long.
 fn some_long_piece(pieces: &[Piece]) -> bool
-    ensures { result ≡ list_any (piece_atom is_long_atom) (piece_forms pieces.now) }
+    ensures { result ≡ list_any (piece_atom is_unfit_atom) (piece_forms pieces.now) }
 {
     for piece in pieces {
         if is_long_piece(piece) {
@@ -308,9 +315,9 @@ fn some_long_piece(pieces: &[Piece]) -> bool
     false
 }
 
-/// Whether a comparison or an argument of the command has a row with a number above 2^63 - 1 in magnitude.
+/// Whether a comparison or an argument of the command has literals or a row that are too long.
 fn is_long_command(command: &Command) -> bool
-    ensures { result ≡ has_long_row (command_form command.now) }
+    ensures { result ≡ some_in is_unfit_atom (command_form command.now) }
 {
     match command {
         Command::Insert(_, formulas) => some_long_atom(formulas),
@@ -322,9 +329,10 @@ fn is_long_command(command: &Command) -> bool
     }
 }
 
-/// Whether a comparison or an argument of the draft has a row with a number above 2^63 - 1 in magnitude.
-pub fn has_long_row(draft: &Draft) -> bool
-    ensures { result ≡ long_draft (seen_draft draft.now) }
+/// Whether a comparison or an argument of the draft has literals that are too long over their common denominator, which the reader
+/// marks by a sum over 2^63, or a row with a number above 2^63 - 1 in magnitude.
+pub fn is_unfit(draft: &Draft) -> bool
+    ensures { result ≡ some_in_draft is_unfit_atom (seen_draft draft.now) }
 {
     match draft {
         Draft::Plain(command) => is_long_command(command),

@@ -1,179 +1,26 @@
-//! Operands: quoted texts, names, and sums.
-ghost use Rattle.std.specs.Prelude.{◌≡◌, ◌≤◌, ◌<◌, ◌^◌, ◌-◌, ◌*◌, length, Some, None, IfSome, IfNone, IfOk, IfErr};
-ghost use Rattle.ded_grammar.specs.declared.fault.ReadFault.TheVariants.{NotRead};
+//! Operands, from the sides that are read, over the common denominator of their literals.
+ghost use Rattle.std.specs.Prelude.{◌≡◌, ◌≤◌, ◌<◌, ℕ, ◌^◌, ◌++◌, ◌/◌, ◌*◌, length, IfOk};
+ghost use Rattle.std.specs.List.{list_any, AllByRecursion};
 ghost use Rattle.ded_lex.specs.Tokens.{quoted_value};
-ghost use Rattle.ded_syntax.specs.Items.{capped_of, left};
-ghost use Rattle.ded_syntax.specs.OperandReading.{behind_number, product_at, sign_at, totalled, summed_at, number_at, name_at, quoted_at, minus_at, behind_name, operand_by_minus, operand_at};
-ghost use Rattle.ded_syntax.specs.Views.{seen_factor, seen_totals, IsBounded, AddsProduct};
+ghost use Rattle.ded_syntax.specs.Literals.{capped, capped_reader, lcm, capped_from, is_long_over, are_long_over, numerator_over, marked_numerator};
+ghost use Rattle.ded_syntax.specs.Operands.{literals, literals_of, no_sums, added, total_from, operand_over, denominator_of, argument_of};
+ghost use Rattle.ded_syntax.specs.Views.{seen_literal, seen_part, seen_parts, seen_side, seen_totals, AreSmall, ArePositive, IsFit, IsBounded};
 
-use crate::item::{Item, Rest, text, value_of};
+use crate::scalar::{Literal, divided};
+use crate::side::{Part, Side};
 use crate::sum::{Totals, add, as_sum};
-use ded_grammar::ReadFault;
 use ded_model::formula::Operand;
+use ded_model::limits;
 use ded_model::memory::NoMemory;
 use ded_model::name::Name;
+use ded_num::gcd;
 use std::alloc::Global;
 
-/// A number and the name that it multiplies, if any.
-#[derive(Clone, Copy, Debug)]
-pub struct Factor<'a> {
-    pub number: u64,
-    pub name: Option<&'a [u8]>,
-}
+/// The least denominator that is too great for a command.
+const TOO_GREAT: u64 = limits::GREATEST_NUMBER + 1;
 
-/// The name with which the rest begins, and what stands behind it; none where the rest begins with no name.
-pub fn name(rest: Rest<'_>) -> Option<(&[u8], Rest<'_>)>
-    ensures some { IfSome result (λ x. name_at (left rest.entry) ≡ Some (x.0.now, left x.1)) }
-    ensures none { IfNone result (name_at (left rest.entry) ≡ None) }
-    ensures low { IfSome result (λ x. length (left x.1) < length (left rest.entry)) }
-{
-    match rest.items {
-        [Item::Name(name), items @ ..] => Some((text(rest.bytes, *name), Rest { items, ..rest })),
-        _ => None,
-    }
-}
-
-/// The digits of the number with which the rest begins, and what stands behind them; none where the rest begins with no
-/// number.
-pub fn number(rest: Rest<'_>) -> Option<(&[u8], Rest<'_>)>
-    ensures some { IfSome result (λ x. number_at (left rest.entry) ≡ Some (x.0.now, left x.1)) }
-    ensures none { IfNone result (number_at (left rest.entry) ≡ None) }
-    ensures low { IfSome result (λ x. length (left x.1) < length (left rest.entry)) }
-{
-    match rest.items {
-        [Item::Number(digits), items @ ..] => {
-            Some((text(rest.bytes, *digits), Rest { items, ..rest }))
-        }
-        _ => None,
-    }
-}
-
-/// The text with its quotes with which the rest begins, and what stands behind it; none where the rest begins with no
-/// such text.
-fn quoted(rest: Rest<'_>) -> Option<(&[u8], Rest<'_>)>
-    ensures some { IfSome result (λ x. quoted_at (left rest.entry) ≡ Some (quoted_value x.0.now, left x.1)) }
-    ensures none { IfNone result (quoted_at (left rest.entry) ≡ None) }
-    ensures low { IfSome result (λ x. length (left x.1) < length (left rest.entry)) }
-{
-    match rest.items {
-        [Item::Quoted(quoted), items @ ..] => {
-            Some((text(rest.bytes, *quoted), Rest { items, ..rest }))
-        }
-        _ => None,
-    }
-}
-
-/// What stands behind a minus sign; none where the rest begins with no such sign.
-fn minus(rest: Rest<'_>) -> Option<Rest<'_>>
-    ensures some { IfSome result (λ x. minus_at (left rest.entry) ≡ Some (left x)) }
-    ensures none { IfNone result (minus_at (left rest.entry) ≡ None) }
-    ensures low { IfSome result (λ x. length (left x) < length (left rest.entry)) }
-{
-    match rest.items {
-        [Item::Minus, items @ ..] => Some(Rest { items, ..rest }),
-        _ => None,
-    }
-}
-
-/// The sign of a further product, true where the product is taken away, and what stands behind the sign; none where the
-/// rest begins with no such sign.
-fn sign(rest: Rest<'_>) -> Option<(bool, Rest<'_>)>
-    ensures some { IfSome result (λ x. sign_at (left rest.entry) ≡ Some (x.0, left x.1)) }
-    ensures none { IfNone result (sign_at (left rest.entry) ≡ None) }
-    ensures low { IfSome result (λ x. length (left x.1) < length (left rest.entry)) }
-{
-    match rest.items {
-        [Item::Plus, items @ ..] => Some((false, Rest { items, ..rest })),
-        [Item::Minus, items @ ..] => Some((true, Rest { items, ..rest })),
-        _ => None,
-    }
-}
-
-/// The factor of a number that stands before, with the name that it multiplies where `*` and a name follow, and what
-/// stands behind it. None where `*` follows without a name.
-fn behind_number(number: u64, rest: Rest<'_>) -> Option<(Factor<'_>, Rest<'_>)>
-    ensures some { IfSome result (λ x. behind_number number (left rest.entry) ≡ Some (seen_factor x.0, left x.1)) }
-    ensures none { IfNone result (behind_number number (left rest.entry) ≡ None) }
-    ensures low { IfSome result (λ x. (x.0.number ≡ number) × (length (left x.1) ≤ length (left rest.entry))) }
-{
-    match rest.items {
-        [Item::Times, Item::Name(name), items @ ..] => {
-            let name = Some(text(rest.bytes, *name));
-            Some((Factor { number, name }, Rest { items, ..rest }))
-        }
-        [Item::Times, ..] => None,
-        _ => Some((Factor { number, name: None }, rest)),
-    }
-}
-
-/// The product with which the rest begins, and what stands behind it; none where the rest begins with no product.
-fn product(rest: Rest<'_>) -> Option<(Factor<'_>, Rest<'_>)>
-    ensures some { IfSome result (λ x. product_at capped_of (left rest.entry) ≡ Some (seen_factor x.0, left x.1)) }
-    ensures none { IfNone result (product_at capped_of (left rest.entry) ≡ None) }
-    ensures low { IfSome result (λ x. (x.0.number ≤ 2 ^ 63) × (length (left x.1) < length (left rest.entry))) }
-{
-    if let Some((digits, rest)) = number(rest) {
-        return behind_number(value_of(digits), rest);
-    }
-    let (name, rest) = name(rest)?;
-    let factor = Factor {
-        number: 1,
-        name: Some(name),
-    };
-    Some((factor, rest))
-}
-
-/// Adds the product with which the rest begins to the totals, or takes it away from them, and gives what stands behind
-/// it.
-fn next<'a>(
-    alloc: Global,
-    totals: &mut Totals,
-    minus: bool,
-    rest: Rest<'a>,
-) -> Result<Rest<'a>, ReadFault>
-    requires bound { IsBounded (2 ^ 100) (seen_totals totals.now) }
-    ensures read { IfOk result (λ x. AddsProduct minus (left rest.entry) (seen_totals totals.old) (seen_totals totals.new) (left x)) }
-    ensures unread { IfErr result (λ e. e ≡ NotRead → product_at capped_of (left rest.entry) ≡ None) }
-    ensures low { IfOk result (λ x. length (left x) < length (left rest.entry)) }
-{
-    let Some((factor, rest)) = product(rest) else {
-        return Err(ReadFault::NotRead);
-    };
-    add(alloc, totals, minus, factor)?;
-    Ok(rest)
-}
-
-/// Adds all further products to the totals, or takes them away by their signs, and gives what stands behind them.
-fn more<'a>(alloc: Global, totals: &mut Totals, items: Rest<'a>) -> Result<Rest<'a>, ReadFault>
-    requires few { length (left items) ≤ 65536 }
-    requires bound { IsBounded ((65537 - length (left items)) * 2 ^ 63) (seen_totals totals.now) }
-    ensures read { IfOk result (λ x. totalled capped_of (seen_totals totals.old) (left items.entry) ≡ Some (seen_totals totals.new, left x)) }
-    ensures unread { IfErr result (λ e. e ≡ NotRead → totalled capped_of (seen_totals totals.old) (left items.entry) ≡ None) }
-    ensures low { IfOk result (λ x. length (left x) ≤ length (left items.entry)) }
-    ensures bound { IfOk result (λ x. IsBounded (2 ^ 100) (seen_totals totals.new)) }
-{
-    let mut rest = items;
-    while let Some((minus, after)) = sign(rest) {
-        rest = next(alloc, totals, minus, after)?;
-    }
-    Ok(rest)
-}
-
-/// The sum with which the rest begins, whose first product is taken away or not, and what stands behind it.
-fn summed(alloc: Global, minus: bool, rest: Rest<'_>) -> Result<(Operand, Rest<'_>), ReadFault>
-    requires few { length (left rest) ≤ 65536 }
-    ensures read { IfOk result (λ x. summed_at capped_of minus (left rest.entry) ≡ Some (x.0, left x.1)) }
-    ensures unread { IfErr result (λ e. e ≡ NotRead → summed_at capped_of minus (left rest.entry) ≡ None) }
-    ensures low { IfOk result (λ x. length (left x.1) < length (left rest.entry)) }
-{
-    let mut totals = Totals {
-        parts: Vec::new(alloc),
-        constant: 0,
-    };
-    let rest = next(alloc, &mut totals, minus, rest)?;
-    let rest = more(alloc, &mut totals, rest)?;
-    Ok((as_sum(totals), rest))
-}
+/// The greatest numerator over a common denominator.
+const GREATEST_NUMERATOR: u128 = 1 << 96;
 
 /// A name of these bytes.
 ///
@@ -200,54 +47,173 @@ fn quoted_of(alloc: Global, text: &[u8]) -> Result<Name, NoMemory>
     Ok(Name { bytes })
 }
 
-/// The name alone, with which the items begin, where no sign follows it, and otherwise the sum that it begins; then
-/// what stands behind that.
-fn behind_name<'a>(
-    alloc: Global,
-    items: Rest<'a>,
-    name: &'a [u8],
-    rest: Rest<'a>,
-) -> Result<(Operand, Rest<'a>), ReadFault>
-    requires few { length (left items) ≤ 65536 }
-    requires low { length (left rest) < length (left items) }
-    ensures read { IfOk result (λ x. behind_name capped_of (left items.entry) (name.now, left rest.entry) (sign_at (left rest.entry)) ≡ Some (x.0, left x.1)) }
-    ensures unread { IfErr result (λ e. e ≡ NotRead → behind_name capped_of (left items.entry) (name.now, left rest.entry) (sign_at (left rest.entry)) ≡ None) }
-    ensures low { IfOk result (λ x. length (left x.1) < length (left items.entry)) }
+// ---- what sums are over
+
+/// The least common multiple of the numbers, or 2^63 where it is above that.
+fn lcm(a: u64, b: u64) -> u64
+    requires positive_a { 0 < a }
+    requires positive_b { 0 < b }
+    ensures positive { 0 < result }
+    ensures value { result ≡ capped (lcm a b) }
 {
-    match sign(rest) {
-        Some(_) => summed(alloc, false, items),
-        None => Ok((Operand::Single(name_of(alloc, name)?), rest)),
+    let by = gcd(i128::from(a), i128::from(b)).unsigned_abs();
+    let multiple = u128::from(divided(a, by)) * u128::from(b);
+    multiple.min(u128::from(TOO_GREAT)) as u64
+}
+
+/// The least common multiple of the number and the denominators of the parts, or 2^63 where it is above that.
+fn lcm_with(over: u64, parts: &[Part<'_>]) -> u64
+    requires over { 0 < over }
+    requires parts { ArePositive parts.now }
+    ensures positive { 0 < result }
+    ensures value { result ≡ capped_from over (literals_of (seen_parts parts.now)) }
+{
+    let mut common = over;
+    for part in parts {
+        common = lcm(common, part.factor.literal.denominator);
+    }
+    common
+}
+
+/// The numerator of the literal over the number, 0 where that is 2^63 or above.
+fn numerator(over: u64, literal: Literal) -> u128
+    ensures { result ≡ marked_numerator over (seen_literal literal) }
+{
+    if over >= TOO_GREAT {
+        return 0;
+    }
+    u128::from(literal.numerator) * u128::from(divided(over, u128::from(literal.denominator)))
+}
+
+/// Whether the numerator of the literal over the number is above 2^96.
+fn is_long_over(over: u64, literal: Literal) -> bool
+    ensures { result ≡ is_long_over over (seen_literal literal) }
+{
+    let times = divided(over, u128::from(literal.denominator));
+    u128::from(literal.numerator) * u128::from(times) > GREATEST_NUMERATOR
+}
+
+/// Whether the numerator of a literal of the parts over the number is above 2^96.
+fn some_long_over(over: u64, parts: &[Part<'_>]) -> bool
+    ensures { result ≡ list_any (is_long_over over) (literals_of (seen_parts parts.now)) }
+{
+    for part in parts {
+        if is_long_over(over, part.factor.literal) {
+            return true;
+        }
+    }
+    false
+}
+
+/// The parts of a sum; none of another side.
+fn parts_of<'a, 'b>(side: &'a Side<'b>) -> &'a [Part<'b>]
+    ensures literals { literals_of (seen_parts result.now) ≡ literals (seen_side side.now) }
+    ensures positive { (n : ℕ) → IsFit side.now n → ArePositive result.now }
+{
+    match side {
+        Side::Sum(parts) => parts,
+        Side::Quoted(_) | Side::Name(_) => &[],
     }
 }
 
-/// The operand with which the rest begins, which is no quoted text, and what stands behind it.
-fn unquoted(alloc: Global, rest: Rest<'_>) -> Result<(Operand, Rest<'_>), ReadFault>
-    requires few { length (left rest) ≤ 65536 }
-    ensures read { IfOk result (λ x. operand_by_minus capped_of (left rest.entry) (minus_at (left rest.entry)) ≡ Some (x.0, left x.1)) }
-    ensures unread { IfErr result (λ e. e ≡ NotRead → operand_by_minus capped_of (left rest.entry) (minus_at (left rest.entry)) ≡ None) }
-    ensures low { IfOk result (λ x. length (left x.1) < length (left rest.entry)) }
+/// Whether the number is above 2^63 - 1, or the numerator of a literal of the parts over it is above 2^96.
+#[tactic(auto, using(crate::proofs::LongLists::any_split))]
+fn are_long_over(over: u64, first: &[Part<'_>], second: &[Part<'_>]) -> bool
+    ensures { result ≡ are_long_over over (literals_of (seen_parts first.now) ++ literals_of (seen_parts second.now)) }
 {
-    if let Some(behind) = minus(rest) {
-        return summed(alloc, true, behind);
-    }
-    match name(rest) {
-        Some((name, behind)) => behind_name(alloc, rest, name, behind),
-        None => summed(alloc, false, rest),
+    over >= TOO_GREAT || some_long_over(over, first) || some_long_over(over, second)
+}
+
+/// What sums are over that have the literals of both sides: their common denominator, or 2^63 where that is above 2^63 - 1 or a
+/// literal over it is too long.
+fn denominator_of(left: &Side<'_>, right: &Side<'_>) -> u64
+    requires left { IsFit left.now 65536 }
+    requires right { IsFit right.now 65536 }
+    ensures positive { 0 < result }
+    ensures value { result ≡ denominator_of capped_reader (seen_side left.now) (seen_side right.now) }
+    ensures small { AreSmall result (literals (seen_side left.now)) × AreSmall result (literals (seen_side right.now)) }
+{
+    let (first, second) = (parts_of(left), parts_of(right));
+    let over = lcm_with(lcm_with(1, first), second);
+    if are_long_over(over, first, second) {
+        TOO_GREAT
+    } else {
+        over
     }
 }
 
-/// The operand with which the rest begins, and what stands behind it.
+// ---- operands
+
+/// Adds the part to the totals over the number, or takes it away from them.
+fn add_part(alloc: Global, totals: &mut Totals, over: u64, part: &Part<'_>) -> Result<(), NoMemory>
+    requires bounded { IsBounded (2 ^ 111) (seen_totals totals.now) }
+    requires small { marked_numerator over (seen_literal part.now.factor.literal) ≤ 2 ^ 96 }
+    ensures { IfOk result (λ _. seen_totals totals.new ≡ added marked_numerator over (seen_totals totals.old) (seen_part part.now)) }
+{
+    let number = numerator(over, part.factor.literal);
+    add(alloc, totals, part.minus, number, part.factor.name)
+}
+
+/// The sum of the parts over the number.
+fn summed(alloc: Global, over: u64, parts: &[Part<'_>]) -> Result<Totals, NoMemory>
+    requires small { AreSmall over (literals_of (seen_parts parts.now)) }
+    requires few { length parts.now ≤ 2 ^ 15 }
+    ensures value { IfOk result (λ t. seen_totals t ≡ total_from marked_numerator over no_sums (seen_parts parts.now)) }
+    ensures bounded { IfOk result (λ t. IsBounded (2 ^ 111) (seen_totals t)) }
+{
+    let mut totals = Totals {
+        parts: Vec::new(alloc),
+        constant: 0,
+    };
+    for part in parts {
+        add_part(alloc, &mut totals, over, part)?;
+    }
+    Ok(totals)
+}
+
+/// The operand that the side is, with its sum over the number.
+fn operand_over(alloc: Global, over: u64, side: &Side<'_>) -> Result<Operand, NoMemory>
+    requires small { AreSmall over (literals (seen_side side.now)) }
+    requires positive { 0 < over }
+    requires fit { IsFit side.now 65536 }
+    ensures { IfOk result (λ o. o ≡ operand_over capped_reader over (seen_side side.now)) }
+{
+    match side {
+        Side::Quoted(text) => Ok(Operand::Quoted(quoted_of(alloc, text)?)),
+        Side::Name(name) => Ok(Operand::Single(name_of(alloc, name)?)),
+        Side::Sum(parts) => Ok(as_sum(over, summed(alloc, over, parts)?)),
+    }
+}
+
+/// The operands that both sides of a comparison are, over the common denominator of their literals.
 ///
 /// # Errors
-/// `NotRead` only where the rest begins with no operand, otherwise out of memory.
-pub fn operand(alloc: Global, rest: Rest<'_>) -> Result<(Operand, Rest<'_>), ReadFault>
-    requires few { length (left rest) ≤ 65536 }
-    ensures read { IfOk result (λ x. operand_at capped_of (left rest.entry) ≡ Some (x.0, left x.1)) }
-    ensures unread { IfErr result (λ e. e ≡ NotRead → operand_at capped_of (left rest.entry) ≡ None) }
-    ensures low { IfOk result (λ x. length (left x.1) < length (left rest.entry)) }
+/// Out of memory.
+pub fn operands_of(
+    alloc: Global,
+    left: &Side<'_>,
+    right: &Side<'_>,
+) -> Result<(Operand, Operand), NoMemory>
+    requires left { IsFit left.now 65536 }
+    requires right { IsFit right.now 65536 }
+    ensures left { IfOk result (λ o. o.0 ≡ operand_over capped_reader (denominator_of capped_reader (seen_side left.now) (seen_side right.now)) (seen_side left.now)) }
+    ensures right { IfOk result (λ o. o.1 ≡ operand_over capped_reader (denominator_of capped_reader (seen_side left.now) (seen_side right.now)) (seen_side right.now)) }
 {
-    match quoted(rest) {
-        Some((text, behind)) => Ok((Operand::Quoted(quoted_of(alloc, text)?), behind)),
-        None => unquoted(alloc, rest),
-    }
+    let over = denominator_of(left, right);
+    Ok((
+        operand_over(alloc, over, left)?,
+        operand_over(alloc, over, right)?,
+    ))
+}
+
+/// The operand that the side is as an argument, over the common denominator of its literals.
+///
+/// # Errors
+/// Out of memory.
+pub fn argument_of(alloc: Global, side: &Side<'_>) -> Result<Operand, NoMemory>
+    requires fit { IsFit side.now 65536 }
+    ensures { IfOk result (λ o. o ≡ argument_of capped_reader (seen_side side.now)) }
+{
+    let none = Side::Sum(Vec::new(alloc));
+    operand_over(alloc, denominator_of(side, &none), side)
 }

@@ -2,7 +2,8 @@
 ghost use Rattle.std.specs.Prelude.{◌≡◌, ◌≤◌, ◌<◌, length, Some, None, IfSome, IfNone, IfOk, IfErr};
 ghost use Rattle.ded_grammar.specs.declared.fault.ReadFault.TheVariants.{NotRead};
 ghost use Rattle.ded_grammar.specs.Forms.{piece_form, piece_forms};
-ghost use Rattle.ded_syntax.specs.Items.{capped_of, left};
+ghost use Rattle.ded_syntax.specs.Items.{left};
+ghost use Rattle.ded_syntax.specs.Literals.{capped_reader};
 ghost use Rattle.ded_syntax.specs.AtomReading.{keyword_at, parenthesis_at, word_piece, quantifier_of, word_at, piece_by_parenthesis, piece_at, pieces_at};
 
 use crate::atom::{atom, column};
@@ -85,8 +86,8 @@ fn word(alloc: Global, word: Keyword, rest: Rest<'_>) -> Result<(Piece, Rest<'_>
 /// The piece with which the rest begins, where that is no reserved word, and what stands behind it.
 fn other(alloc: Global, rest: Rest<'_>) -> Result<(Piece, Rest<'_>), ReadFault>
     requires few { length (left rest) ≤ 65536 }
-    ensures read { IfOk result (λ x. piece_by_parenthesis capped_of (left rest.entry) (parenthesis_at (left rest.entry)) ≡ Some (piece_form x.0, left x.1)) }
-    ensures unread { IfErr result (λ e. e ≡ NotRead → piece_by_parenthesis capped_of (left rest.entry) (parenthesis_at (left rest.entry)) ≡ None) }
+    ensures read { IfOk result (λ x. piece_by_parenthesis capped_reader (left rest.entry) (parenthesis_at (left rest.entry)) ≡ Some (piece_form x.0, left x.1)) }
+    ensures unread { IfErr result (λ e. e ≡ NotRead → piece_by_parenthesis capped_reader (left rest.entry) (parenthesis_at (left rest.entry)) ≡ None) }
     ensures low { IfOk result (λ x. length (left x.1) < length (left rest.entry)) }
 {
     if let Some(found) = parenthesis(rest) {
@@ -99,8 +100,8 @@ fn other(alloc: Global, rest: Rest<'_>) -> Result<(Piece, Rest<'_>), ReadFault>
 /// The piece with which the rest begins, and what stands behind it.
 fn piece(alloc: Global, rest: Rest<'_>) -> Result<(Piece, Rest<'_>), ReadFault>
     requires few { length (left rest) ≤ 65536 }
-    ensures read { IfOk result (λ x. piece_at capped_of (left rest.entry) ≡ Some (piece_form x.0, left x.1)) }
-    ensures unread { IfErr result (λ e. e ≡ NotRead → piece_at capped_of (left rest.entry) ≡ None) }
+    ensures read { IfOk result (λ x. piece_at capped_reader (left rest.entry) ≡ Some (piece_form x.0, left x.1)) }
+    ensures unread { IfErr result (λ e. e ≡ NotRead → piece_at capped_reader (left rest.entry) ≡ None) }
     ensures low { IfOk result (λ x. length (left x.1) < length (left rest.entry)) }
 {
     match keyword(rest) {
@@ -115,8 +116,8 @@ fn piece(alloc: Global, rest: Rest<'_>) -> Result<(Piece, Rest<'_>), ReadFault>
 /// `NotRead` only where the items aren't pieces, otherwise out of memory.
 pub fn pieces(alloc: Global, items: Rest<'_>) -> Result<Vec<Piece>, ReadFault>
     requires few { length (left items) ≤ 65536 }
-    ensures read { IfOk result (λ list. pieces_at capped_of (left items.entry) ≡ Some (piece_forms list.items)) }
-    ensures unread { IfErr result (λ e. e ≡ NotRead → pieces_at capped_of (left items.entry) ≡ None) }
+    ensures read { IfOk result (λ list. pieces_at capped_reader (left items.entry) ≡ Some (piece_forms list.items)) }
+    ensures unread { IfErr result (λ e. e ≡ NotRead → pieces_at capped_reader (left items.entry) ≡ None) }
 {
     let mut list = Vec::new(alloc);
     let mut rest = items;

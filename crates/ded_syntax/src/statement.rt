@@ -1,14 +1,16 @@
 //! What a statement is, up to the tree of its formula.
 ghost use Rattle.std.specs.Prelude.{◌≡◌, ◌≤◌, length, Some, None, IfOk, IfErr};
 ghost use Rattle.ded_grammar.specs.declared.fault.ReadFault.TheVariants.{NotRead};
-ghost use Rattle.ded_syntax.specs.Items.{capped_of, left};
+ghost use Rattle.ded_syntax.specs.Items.{left};
+ghost use Rattle.ded_syntax.specs.Literals.{capped_reader};
 ghost use Rattle.ded_syntax.specs.CommandReading.{query_head, explain_head, last_name, relation_draft, insert_draft, delete_draft, view_draft, over_draft, draft_behind, draft_at};
 ghost use Rattle.ded_syntax.specs.DraftViews.{seen_draft};
 
 use crate::draft::{Draft, Head, braces, colon, define, ended, formed, heading};
 use crate::item::{Keyword, Rest, value_of};
-use crate::operand::{name, name_of, number};
+use crate::operand::name_of;
 use crate::pieces::keyword;
+use crate::side::{name, number};
 use ded_grammar::ReadFault;
 use ded_model::command::Command;
 use ded_model::name::Name;
@@ -41,8 +43,8 @@ fn relation(alloc: Global, rest: Rest<'_>) -> Result<Draft, ReadFault>
 /// The draft of a command whose word `insert` stands before the rest.
 fn insert(alloc: Global, rest: Rest<'_>) -> Result<Draft, ReadFault>
     requires few { length (left rest) ≤ 65536 }
-    ensures read { IfOk result (λ d. insert_draft capped_of (left rest.entry) ≡ Some (seen_draft d)) }
-    ensures unread { IfErr result (λ e. e ≡ NotRead → insert_draft capped_of (left rest.entry) ≡ None) }
+    ensures read { IfOk result (λ d. insert_draft capped_reader (left rest.entry) ≡ Some (seen_draft d)) }
+    ensures unread { IfErr result (λ e. e ≡ NotRead → insert_draft capped_reader (left rest.entry) ≡ None) }
 {
     let Some((name, rest)) = name(rest) else {
         return Err(ReadFault::NotRead);
@@ -54,8 +56,8 @@ fn insert(alloc: Global, rest: Rest<'_>) -> Result<Draft, ReadFault>
 
 /// The draft of a command whose word `delete` stands before the rest.
 fn delete(alloc: Global, rest: Rest<'_>) -> Result<Draft, ReadFault>
-    ensures read { IfOk result (λ d. delete_draft capped_of (left rest.entry) ≡ Some (seen_draft d)) }
-    ensures unread { IfErr result (λ e. e ≡ NotRead → delete_draft capped_of (left rest.entry) ≡ None) }
+    ensures read { IfOk result (λ d. delete_draft capped_reader (left rest.entry) ≡ Some (seen_draft d)) }
+    ensures unread { IfErr result (λ e. e ≡ NotRead → delete_draft capped_reader (left rest.entry) ≡ None) }
 {
     let Some((name, rest)) = name(rest) else {
         return Err(ReadFault::NotRead);
@@ -70,8 +72,8 @@ fn delete(alloc: Global, rest: Rest<'_>) -> Result<Draft, ReadFault>
 /// The draft of a command whose word `view` stands before the rest.
 fn view(alloc: Global, rest: Rest<'_>) -> Result<Draft, ReadFault>
     requires few { length (left rest) ≤ 65536 }
-    ensures read { IfOk result (λ d. view_draft capped_of (left rest.entry) ≡ Some (seen_draft d)) }
-    ensures unread { IfErr result (λ e. e ≡ NotRead → view_draft capped_of (left rest.entry) ≡ None) }
+    ensures read { IfOk result (λ d. view_draft capped_reader (left rest.entry) ≡ Some (seen_draft d)) }
+    ensures unread { IfErr result (λ e. e ≡ NotRead → view_draft capped_reader (left rest.entry) ≡ None) }
 {
     let Some((name, rest)) = name(rest) else {
         return Err(ReadFault::NotRead);
@@ -87,8 +89,8 @@ fn view(alloc: Global, rest: Rest<'_>) -> Result<Draft, ReadFault>
 /// The draft of a command whose word `query` stands before the rest.
 fn query(alloc: Global, rest: Rest<'_>) -> Result<Draft, ReadFault>
     requires few { length (left rest) ≤ 65536 }
-    ensures read { IfOk result (λ d. over_draft capped_of query_head (left rest.entry) ≡ Some (seen_draft d)) }
-    ensures unread { IfErr result (λ e. e ≡ NotRead → over_draft capped_of query_head (left rest.entry) ≡ None) }
+    ensures read { IfOk result (λ d. over_draft capped_reader query_head (left rest.entry) ≡ Some (seen_draft d)) }
+    ensures unread { IfErr result (λ e. e ≡ NotRead → over_draft capped_reader query_head (left rest.entry) ≡ None) }
 {
     let (heading, rest) = heading(alloc, rest)?;
     let Some(rest) = colon(rest) else {
@@ -100,8 +102,8 @@ fn query(alloc: Global, rest: Rest<'_>) -> Result<Draft, ReadFault>
 /// The draft of a command whose word `explain` stands before the rest.
 fn explain(alloc: Global, rest: Rest<'_>) -> Result<Draft, ReadFault>
     requires few { length (left rest) ≤ 65536 }
-    ensures read { IfOk result (λ d. over_draft capped_of explain_head (left rest.entry) ≡ Some (seen_draft d)) }
-    ensures unread { IfErr result (λ e. e ≡ NotRead → over_draft capped_of explain_head (left rest.entry) ≡ None) }
+    ensures read { IfOk result (λ d. over_draft capped_reader explain_head (left rest.entry) ≡ Some (seen_draft d)) }
+    ensures unread { IfErr result (λ e. e ≡ NotRead → over_draft capped_reader explain_head (left rest.entry) ≡ None) }
 {
     let (heading, rest) = heading(alloc, rest)?;
     let Some(rest) = colon(rest) else {
@@ -113,8 +115,8 @@ fn explain(alloc: Global, rest: Rest<'_>) -> Result<Draft, ReadFault>
 /// The draft of the command that begins with the word and goes on with the rest.
 fn behind(alloc: Global, word: Keyword, rest: Rest<'_>) -> Result<Draft, ReadFault>
     requires few { length (left rest) ≤ 65536 }
-    ensures read { IfOk result (λ d. draft_behind capped_of word (left rest.entry) ≡ Some (seen_draft d)) }
-    ensures unread { IfErr result (λ e. e ≡ NotRead → draft_behind capped_of word (left rest.entry) ≡ None) }
+    ensures read { IfOk result (λ d. draft_behind capped_reader word (left rest.entry) ≡ Some (seen_draft d)) }
+    ensures unread { IfErr result (λ e. e ≡ NotRead → draft_behind capped_reader word (left rest.entry) ≡ None) }
 {
     match word {
         Keyword::Relation => relation(alloc, rest),
@@ -138,8 +140,8 @@ fn behind(alloc: Global, word: Keyword, rest: Rest<'_>) -> Result<Draft, ReadFau
 /// `NotRead` only where the items spell no draft, otherwise out of memory.
 pub fn draft(alloc: Global, items: Rest<'_>) -> Result<Draft, ReadFault>
     requires few { length (left items) ≤ 65536 }
-    ensures read { IfOk result (λ d. draft_at capped_of (left items.entry) ≡ Some (seen_draft d)) }
-    ensures unread { IfErr result (λ e. e ≡ NotRead → draft_at capped_of (left items.entry) ≡ None) }
+    ensures read { IfOk result (λ d. draft_at capped_reader (left items.entry) ≡ Some (seen_draft d)) }
+    ensures unread { IfErr result (λ e. e ≡ NotRead → draft_at capped_reader (left items.entry) ≡ None) }
 {
     match keyword(items) {
         Some((word, rest)) => behind(alloc, word, rest),

@@ -1,11 +1,10 @@
 //! Sums of products, each coefficient added up.
-ghost use Rattle.std.specs.Prelude.{◌≡◌, ◌≤◌, ◌<◌, ◌^◌, ◌+ℤ◌, unsigned_abs, IfOk};
+ghost use Rattle.std.specs.Prelude.{◌≡◌, ◌≤◌, ◌<◌, ◌^◌, ◌+ℤ◌, unsigned_abs, IfOk, option_map};
 ghost use Rattle.std.specs.List.{AllByRecursion};
 ghost use Rattle.std.specs.Str.{bytes_eq};
-ghost use Rattle.ded_syntax.specs.Operands.{put, signed, add_factor, as_sum};
-ghost use Rattle.ded_syntax.specs.Views.{seen_factor, seen_totals, IsBounded};
+ghost use Rattle.ded_syntax.specs.Operands.{put, put_at, signed, as_sum};
+ghost use Rattle.ded_syntax.specs.Views.{seen_totals, IsBounded};
 
-use crate::operand::Factor;
 use ded_model::formula::{Operand, Parts, Term};
 use ded_model::memory::NoMemory;
 use ded_model::name::Name;
@@ -20,18 +19,19 @@ pub struct Totals {
 
 /// The sum of two numbers.
 fn sum(a: i128, b: i128) -> i128
-    requires small_a { unsigned_abs a ≤ 2 ^ 100 }
-    requires small_b { unsigned_abs b ≤ 2 ^ 100 }
+    requires small_a { unsigned_abs a ≤ 2 ^ 111 }
+    requires small_b { unsigned_abs b ≤ 2 ^ 111 }
     ensures { result ≡ a +ℤ b }
 {
     a + b
 }
 
 /// The number, or its negative where it is taken away.
-fn signed(minus: bool, number: u64) -> i128
+fn signed(minus: bool, number: u128) -> i128
+    requires { number ≤ 2 ^ 96 }
     ensures { result ≡ signed minus number }
 {
-    let number = i128::from(number);
+    let number = number as i128;
     if minus { -number } else { number }
 }
 
@@ -49,8 +49,8 @@ fn put(
     name: &[u8],
     amount: i128,
 ) -> Result<(), NoMemory>
-    requires small { AllByRecursion (λ c. unsigned_abs c.1 ≤ 2 ^ 100) parts.now.items }
-    requires amount { unsigned_abs amount ≤ 2 ^ 100 }
+    requires small { AllByRecursion (λ c. unsigned_abs c.1 ≤ 2 ^ 111) parts.now.items }
+    requires amount { unsigned_abs amount ≤ 2 ^ 111 }
     ensures { IfOk result (λ _. parts.new.items ≡ put parts.old.items name.now amount) }
 {
     for i in 0..parts.len() {
@@ -68,7 +68,7 @@ fn put(
     Ok(())
 }
 
-/// Adds the factor to the totals, or takes it away from them.
+/// Adds the number to the coefficient of the name or to the constant, or takes it away.
 ///
 /// # Errors
 /// Out of memory.
@@ -76,14 +76,15 @@ pub fn add(
     alloc: Global,
     totals: &mut Totals,
     minus: bool,
-    factor: Factor<'_>,
+    number: u128,
+    name: Option<&[u8]>,
 ) -> Result<(), NoMemory>
-    requires small { IsBounded (2 ^ 100) (seen_totals totals.now) }
-    requires number { factor.number ≤ 2 ^ 63 }
-    ensures { IfOk result (λ _. seen_totals totals.new ≡ add_factor (seen_totals totals.old) minus (seen_factor factor.entry)) }
+    requires small { IsBounded (2 ^ 111) (seen_totals totals.now) }
+    requires number { number ≤ 2 ^ 96 }
+    ensures { IfOk result (λ _. seen_totals totals.new ≡ put_at (seen_totals totals.old) (option_map (λ n. n.now) name.entry) (signed minus number)) }
 {
-    let amount = signed(minus, factor.number);
-    match factor.name {
+    let amount = signed(minus, number);
+    match name {
         Some(name) => put(alloc, &mut totals.parts, name, amount),
         None => {
             totals.constant = sum(totals.constant, amount);
@@ -92,14 +93,15 @@ pub fn add(
     }
 }
 
-/// The sum that the totals make, over 1.
-pub fn as_sum(totals: Totals) -> Operand
-    requires { IsBounded (2 ^ 100) (seen_totals totals) }
-    ensures { result ≡ as_sum (seen_totals totals) }
+/// The sum that the totals make over the number.
+pub fn as_sum(over: u64, totals: Totals) -> Operand
+    requires over { 0 < over }
+    requires bounded { IsBounded (2 ^ 111) (seen_totals totals) }
+    ensures { result ≡ as_sum over (seen_totals totals) }
 {
     Operand::Sum(Term {
         parts: Parts { list: totals.parts },
         constant: totals.constant,
-        over: 1,
+        over: i128::from(over),
     })
 }

@@ -1,10 +1,9 @@
-use Rattle.std.proofs.Common.{◌≡◌, ◌∙◌, ap, ap₂, arith, subst, sym, length, true, false}
+use Rattle.std.proofs.Common.{◌≡◌, ◌∙◌, ap, ap₂, subst, sym, length, true, false}
 use Rattle.std.proofs.lemmas.Result.{IfOk-weaker}
 use Rattle.ded_box.specs.Boxes.{AreIntervals, IsCover, hulls, has_values}
 use Rattle.ded_box.proofs.Covers.{cover_of_full, cover_of_first, cover_of_second, hulls-length, hulls-intervals}
-use Rattle.ded_box.proofs.Places.{hulls_more, hulls_done}
 use Rattle.ded_box.proofs.bound_box.cover.Goals as goal
-use Rattle.ded_box.proofs.bound_box.cover.Goals.{After-loop-i}
+use Rattle.ded_box.proofs.bound_box.cover.Goals.{In_ok-hulls}
 
 pub returns-then-not-are_full-clause-cover : goal.returns-then-not-are_full-clause-cover
 returns-then-not-are_full-clause-cover c =
@@ -18,17 +17,9 @@ returns-then-not-are_full-2-clause-cover c =
     let is : IsCover c.args.a.now c.args.b.now c.args.a.now = cover_of_first c.args.a.now c.args.b.now c.spans-second.ensures.intervals none in
     IfOk-weaker c.copy-then-not-are_full-2.result (λ x. x ≡ c.args.a.now) (IsCover c.args.a.now c.args.b.now) (λ x e. subst (IsCover c.args.a.now c.args.b.now) (sym e) is) c.copy-then-not-are_full-2.ensures
 
-pub loop-i-preserved : goal.loop-i-preserved
-loop-i-preserved c =
-    let same : length c.spans-first.result.now ≡ length c.spans-second.result.now = ap length c.spans-first.ensures.spans ∙ c.requires ∙ ap length (sym c.spans-second.ensures.spans) in
-    hulls_more c.spans-first.result.now c.spans-second.result.now c.loop-i.list.items c.push.new.self.items c.loop-i.i c.index-first-i.result c.index-second-i.result c.hull.result
-    (omega arith) same c.index-first-i.is c.index-second-i.is c.hull.ensures c.loop-i.invariant c.in_ok-push.ensures.items
-
--- all places are done
-done : (c : After-loop-i) → c.loop-i.list.items ≡ hulls c.args.a.now c.args.b.now
-done c =
-    let same : length c.spans-first.result.now ≡ length c.spans-second.result.now = ap length c.spans-first.ensures.spans ∙ c.requires ∙ ap length (sym c.spans-second.ensures.spans) in
-    c.loop-i.invariant ∙ hulls_done c.spans-first.result.now c.spans-second.result.now c.loop-i.i (omega arith) same ∙ ap₂ hulls c.spans-first.ensures.spans c.spans-second.ensures.spans
+-- the list is that of the boxes' intervals
+done : (c : In_ok-hulls) → c.in_ok-hulls.field-0.items ≡ hulls c.args.a.now c.args.b.now
+done c = c.in_ok-hulls.ensures ∙ ap₂ hulls c.spans-first.ensures.spans c.spans-second.ensures.spans
 
 pub invariant_of-result : goal.invariant_of-result
 invariant_of-result c = subst AreIntervals (sym (done c)) (hulls-intervals c.args.a.now c.args.b.now c.spans-first.ensures.intervals c.spans-second.ensures.intervals)

@@ -1,10 +1,10 @@
-use Rattle.std.proofs.Common.{List, ℕ, sym, subst}
-use Rattle.ded_model.specs.Row.{Atom}
-use Rattle.ded_catalog.specs.Relations.{IsIndex}
-use Rattle.ded_catalog.proofs.Indexed.{moved}
+use Rattle.ded_catalog.specs.Relations.{IsIndexOf}
+use Rattle.ded_model.specs.declared.name.Column.{Column}
+use Rattle.std.proofs.Common.{List, sym, subst}
+use Rattle.ded_catalog.proofs.Indexing.{index_copied}
 use Rattle.ded_catalog.proofs.copying.copy_relation.Goals as goal
 
 pub invariant_of-result : goal.invariant_of-result
 invariant_of-result c =
-    subst (λ (ts : List (ℕ × List Atom)). IsIndex c.in_ok-copy-2.field-0 ts) (sym c.in_ok-copy_tuples.ensures)
-    (moved c.relation.inside.hulls c.in_ok-copy-2.field-0 c.relation.inside.tuples.entries c.in_ok-copy-2.ensures c.relation.invariant)
+    subst (λ (cs : List Column). IsIndexOf cs c.in_ok-copy-2.field-0 c.in_ok-copy_tuples.field-0.entries) (sym c.in_ok-copy.ensures)
+    (index_copied c.relation.inside.heading c.relation.inside.index c.in_ok-copy-2.field-0 c.relation.inside.tuples.entries c.in_ok-copy_tuples.field-0.entries c.in_ok-copy_tuples.ensures c.in_ok-copy-2.ensures c.relation.invariant)

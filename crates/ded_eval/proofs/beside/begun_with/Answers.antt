@@ -1,5 +1,5 @@
 use Rattle.std.proofs.Common.{◌++◌, ◌∷◌, [], ◌∙◌, ap}
-use Rattle.ded_eval.proofs.RowsBeside.{begun_some}
+use Rattle.ded_eval.proofs.Evaluated.{begun_some}
 use Rattle.ded_eval.proofs.beside.begun_with.Goals as goal
 
 pub returns : goal.returns

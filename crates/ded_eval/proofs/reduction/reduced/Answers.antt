@@ -1,7 +1,7 @@
 use Rattle.std.proofs.lemmas.Result.{IfOk-weaker}
 use Rattle.ded_model.specs.Normal.{IsNormalTuple}
-use Rattle.ded_reduce.specs.Reductions.{IsSublist}
-use Rattle.ded_reduce.proofs.Sublists.{sublist_all}
+use Rattle.ded_model.specs.Sublists.{IsSublist}
+use Rattle.ded_model.proofs.Sublists.{sublist_all}
 use Rattle.ded_eval.specs.Kept.{IsReducedTuple}
 use Rattle.ded_eval.proofs.TupleParts.{parts_slots, parts_lines}
 use Rattle.ded_eval.proofs.Reducing.{parts_distinct}
@@ -25,9 +25,9 @@ returns-clause-lines c =
 pub returns-clause-normal : goal.returns-clause-normal
 returns-clause-normal c =
     IfOk-weaker c.distinct_tuples-2.result (λ ts. IsSublist ts c.in_ok-each_reduced.field-0) _
-    (λ ts z. sublist_all IsNormalTuple ts c.in_ok-each_reduced.field-0 z c.in_ok-each_reduced.ensures.normal) c.distinct_tuples-2.ensures.kept
+    (λ ts z. sublist_all _ IsNormalTuple ts c.in_ok-each_reduced.field-0 z c.in_ok-each_reduced.ensures.normal) c.distinct_tuples-2.ensures.kept
 
 pub returns-clause-reduced : goal.returns-clause-reduced
 returns-clause-reduced c =
     IfOk-weaker c.distinct_tuples-2.result (λ ts. IsSublist ts c.in_ok-each_reduced.field-0) _
-    (λ ts z. sublist_all IsReducedTuple ts c.in_ok-each_reduced.field-0 z c.in_ok-each_reduced.ensures.reduced) c.distinct_tuples-2.ensures.kept
+    (λ ts z. sublist_all _ IsReducedTuple ts c.in_ok-each_reduced.field-0 z c.in_ok-each_reduced.ensures.reduced) c.distinct_tuples-2.ensures.kept

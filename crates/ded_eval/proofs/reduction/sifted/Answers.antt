@@ -9,7 +9,8 @@ use Rattle.ded_theory.specs.Both.{by_kind, IsByKind}
 use Rattle.ded_theory.specs.Conjunctions.{IsWide}
 use Rattle.ded_theory.specs.Verdicts.{HoldsNowhere}
 use Rattle.ded_elimination.specs.LinearAtoms.{IsLinearAtom}
-use Rattle.ded_reduce.specs.Reductions.{IsSublist, IfGone, IfKept}
+use Rattle.ded_model.specs.Sublists.{IsSublist}
+use Rattle.ded_reduce.specs.Reductions.{IfGone, IfKept}
 use Rattle.ded_eval.proofs.Conjunctive.{normal-is}
 use Rattle.ded_eval.proofs.TupleParts.{normal_part}
 use Rattle.ded_eval.proofs.Sifted.{sifted_gone, sifted_kept}

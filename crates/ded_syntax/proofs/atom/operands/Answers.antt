@@ -1,26 +1,26 @@
 use Rattle.std.proofs.Common.{sym, ap, ◌∙◌, arith, length}
 use Rattle.std.specs.Prelude.{Bool, Some}
 use Rattle.std.proofs.lemmas.List.{length-map}
-use Rattle.ded_syntax.specs.Items.{capped_of, seen, left}
-use Rattle.ded_syntax.specs.OperandReading.{operand_at}
-use Rattle.ded_syntax.specs.AtomReading.{comma_at}
+use Rattle.ded_syntax.specs.Items.{seen, left}
+use Rattle.ded_syntax.specs.AtomReading.{argument_at, comma_at}
+use Rattle.ded_syntax.specs.Literals.{capped_reader}
 use Rattle.ded_syntax.proofs.ListLoops.{list_on, list_done, list_breaks}
 use Rattle.ded_syntax.proofs.atom.operands.Goals as goal
 
 pub returns-in_default-clause-unread : goal.returns-in_default-clause-unread
 returns-in_default-clause-unread c = λ other.
     sym c.loop.invariant.same
-    ∙ list_breaks (operand_at capped_of) comma_at (length (left c.args.items)) c.loop.counter _ _ _ (omega (arith, c.loop-test.true, length-map c.args.items.items.now (seen c.args.items.bytes.now))) c.in_ok-next.ensures.read c.in_default.ensures.none
+    ∙ list_breaks (argument_at capped_reader) comma_at (length (left c.args.items)) c.loop.counter _ _ _ (omega (arith, c.loop-test.true, length-map c.args.items.items.now (seen c.args.items.bytes.now))) c.in_ok-next.ensures.read c.in_default.ensures.none
 
 pub returns-then-not-goes_on-clause-read : goal.returns-then-not-goes_on-clause-read
 returns-then-not-goes_on-clause-read c =
     sym c.loop.invariant.same
-    ∙ list_done (operand_at capped_of) comma_at (length (left c.args.items)) c.loop.counter _ _ _ _ _ (omega (arith, c.loop-test.true, length-map c.args.items.items.now (seen c.args.items.bytes.now))) c.in_ok-next.ensures.read (c.in-Some.ensures.some ∙ ap (λ (b : Bool). Some (b, left c.in-Some.behind)) c.if-not-goes_on.true) c.in_ok-push.ensures.items
+    ∙ list_done (argument_at capped_reader) comma_at (length (left c.args.items)) c.loop.counter _ _ _ _ _ (omega (arith, c.loop-test.true, length-map c.args.items.items.now (seen c.args.items.bytes.now))) c.in_ok-next.ensures.read (c.in-Some.ensures.some ∙ ap (λ (b : Bool). Some (b, left c.in-Some.behind)) c.if-not-goes_on.true) c.in_ok-push.ensures.items
 
 pub loop-preserved : goal.loop-preserved
 loop-preserved c = record {
   same =
-      list_on (operand_at capped_of) comma_at (length (left c.args.items)) c.loop.counter _ _ _ _ _ (omega (arith, c.loop-test.true, length-map c.args.items.items.now (seen c.args.items.bytes.now))) c.in_ok-next.ensures.read (c.in-Some.ensures.some ∙ ap (λ (b : Bool). Some (b, left c.in-Some.behind)) c.if-not-goes_on.false) c.in_ok-push.ensures.items
+      list_on (argument_at capped_reader) comma_at (length (left c.args.items)) c.loop.counter _ _ _ _ _ (omega (arith, c.loop-test.true, length-map c.args.items.items.now (seen c.args.items.bytes.now))) c.in_ok-next.ensures.read (c.in-Some.ensures.some ∙ ap (λ (b : Bool). Some (b, left c.in-Some.behind)) c.if-not-goes_on.false) c.in_ok-push.ensures.items
       ∙ c.loop.invariant.same;
   low = omega (arith, c.loop.invariant.low, c.in_ok-next.ensures.low, c.in-Some.ensures.low);
 }

@@ -26,9 +26,9 @@ returns-in-None-clause-read c =
     let short = c.in-None.ensures.none in
     if_ok c.command_of.result
     (λ (x : Command). (depth : ℕ) × Means (seen_draft c.in-Ok.draft) (command_form x) depth × (depth ≤ 64))
-    (λ (x : Command). (language : Language) (bytes : List ℕ) → AreSymbols bytes (left c.args.items) → IsRead language bytes (command_form x))
+    (λ (x : Command). (language : Language) (bytes : List ℕ) → AreSymbols language bytes (left c.args.items) → IsRead language bytes (command_form x))
     (λ x m language bytes are.
-    is_read language bytes (left c.args.items) are (seen_draft c.in-Ok.draft) c.in-Ok.ensures.read c.in-Ok.ensures.scanned short.names short.literals short.rows (command_form x) m.0 m.1 m.2)
+    is_read language bytes (left c.args.items) are (seen_draft c.in-Ok.draft) c.in-Ok.ensures.read c.in-Ok.ensures.scanned short.names short.literals short.marks short.rows (command_form x) m.0 m.1 m.2)
     c.command_of.ensures.made
 
 pub returns-in-None-clause-refused : goal.returns-in-None-clause-refused
@@ -36,9 +36,9 @@ returns-in-None-clause-refused c =
     let short = c.in-None.ensures.none in
     if_err c.command_of.result
     (λ (r : Refusal). r ≢ Memory → (r ≡ Deep) × MeansDeep (seen_draft c.in-Ok.draft))
-    (λ (r : Refusal). r ≢ Memory → (language : Language) (bytes : List ℕ) → AreSymbols bytes (left c.args.items) → IsLeastIn r language bytes)
+    (λ (r : Refusal). r ≢ Memory → (language : Language) (bytes : List ℕ) → AreSymbols language bytes (left c.args.items) → IsLeastIn r language bytes)
     (λ r h other language bytes are.
     let m = h other in
     subst (λ (q : Refusal). IsLeastIn q language bytes) (sym m.0)
-    (is_deep language bytes (left c.args.items) are (seen_draft c.in-Ok.draft) c.in-Ok.ensures.read c.in-Ok.ensures.scanned short.names short.literals short.rows m.1.0 m.1.1 m.1.2 m.1.3))
+    (is_deep language bytes (left c.args.items) are (seen_draft c.in-Ok.draft) c.in-Ok.ensures.read c.in-Ok.ensures.scanned short.names short.literals short.marks short.rows m.1.0 m.1.1 m.1.2 m.1.3))
     c.command_of.ensures.refused

@@ -17,21 +17,21 @@ returns-in-Err-NoToken-clause-refused c = λ other. no_token c.args.language c.a
 
 pub command_by-requires : goal.command_by-requires
 command_by-requires c = record {
-  few = omega (arith, few_items c.args.bytes.now _ _ c.deref.result.now c.requires c.in-Ok.ensures.tokens c.list.ensures (ap (symbols c.args.bytes.now) c.deref.ensures.value ∙ c.in-Ok-items_of.ensures), length-map c.deref.result.now (seen c.args.bytes.now));
+  few = omega (arith, few_items c.args.language c.args.bytes.now _ _ c.deref.result.now c.requires c.in-Ok.ensures.tokens c.list.ensures (ap (symbols c.args.bytes.now) c.deref.ensures.value ∙ c.in-Ok-items_of.ensures), length-map c.deref.result.now (seen c.args.bytes.now));
 }
 
 pub returns-clause-read : goal.returns-clause-read
 returns-clause-read c =
     if_ok c.command_by.result
-    (λ (x : Command). (language : Language) (bytes : List ℕ) → AreSymbols bytes (symbols c.args.bytes.now c.deref.result.now) → IsRead language bytes (command_form x))
+    (λ (x : Command). (language : Language) (bytes : List ℕ) → AreSymbols language bytes (symbols c.args.bytes.now c.deref.result.now) → IsRead language bytes (command_form x))
     (λ (x : Command). IsRead c.args.language c.args.bytes.now (command_form x))
-    (λ x h. h c.args.language c.args.bytes.now (symbols_are c.args.bytes.now _ _ c.deref.result.now c.in-Ok.ensures.tokens c.list.ensures (ap (symbols c.args.bytes.now) c.deref.ensures.value ∙ c.in-Ok-items_of.ensures)))
+    (λ x h. h c.args.language c.args.bytes.now (symbols_are c.args.language c.args.bytes.now _ _ c.deref.result.now c.in-Ok.ensures.tokens c.list.ensures (ap (symbols c.args.bytes.now) c.deref.ensures.value ∙ c.in-Ok-items_of.ensures)))
     c.command_by.ensures.read
 
 pub returns-clause-refused : goal.returns-clause-refused
 returns-clause-refused c =
     if_err c.command_by.result
-    (λ (r : Refusal). r ≢ Memory → (language : Language) (bytes : List ℕ) → AreSymbols bytes (symbols c.args.bytes.now c.deref.result.now) → IsLeastIn r language bytes)
+    (λ (r : Refusal). r ≢ Memory → (language : Language) (bytes : List ℕ) → AreSymbols language bytes (symbols c.args.bytes.now c.deref.result.now) → IsLeastIn r language bytes)
     (λ (r : Refusal). r ≢ Memory → IsLeastIn r c.args.language c.args.bytes.now)
-    (λ r h other. h other c.args.language c.args.bytes.now (symbols_are c.args.bytes.now _ _ c.deref.result.now c.in-Ok.ensures.tokens c.list.ensures (ap (symbols c.args.bytes.now) c.deref.ensures.value ∙ c.in-Ok-items_of.ensures)))
+    (λ r h other. h other c.args.language c.args.bytes.now (symbols_are c.args.language c.args.bytes.now _ _ c.deref.result.now c.in-Ok.ensures.tokens c.list.ensures (ap (symbols c.args.bytes.now) c.deref.ensures.value ∙ c.in-Ok-items_of.ensures)))
     c.command_by.ensures.refused

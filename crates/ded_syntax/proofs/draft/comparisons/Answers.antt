@@ -1,26 +1,27 @@
 use Rattle.std.proofs.Common.{sym, ap, ◌∙◌, arith, length}
 use Rattle.std.specs.Prelude.{Bool, Some, map}
 use Rattle.std.proofs.lemmas.List.{length-map, map_push}
-use Rattle.ded_syntax.specs.Items.{capped_of, seen, left}
+use Rattle.ded_syntax.specs.Items.{seen, left}
 use Rattle.ded_model.specs.Form.{form}
 use Rattle.ded_syntax.specs.AtomReading.{brace_at, compare_at}
+use Rattle.ded_syntax.specs.Literals.{capped_reader}
 use Rattle.ded_syntax.proofs.ListLoops.{list_on, list_done, list_breaks}
 use Rattle.ded_syntax.proofs.draft.comparisons.Goals as goal
 
 pub returns-in_default-clause-unread : goal.returns-in_default-clause-unread
 returns-in_default-clause-unread c = λ other.
     sym c.loop.invariant.same
-    ∙ list_breaks (compare_at capped_of) brace_at (length (left c.args.items)) c.loop.counter _ _ _ (omega (arith, c.loop-test.true, length-map c.args.items.items.now (seen c.args.items.bytes.now))) c.in_ok-next.ensures.read c.in_default.ensures.none
+    ∙ list_breaks (compare_at capped_reader) brace_at (length (left c.args.items)) c.loop.counter _ _ _ (omega (arith, c.loop-test.true, length-map c.args.items.items.now (seen c.args.items.bytes.now))) c.in_ok-next.ensures.read c.in_default.ensures.none
 
 pub returns-then-not-goes_on-clause-read : goal.returns-then-not-goes_on-clause-read
 returns-then-not-goes_on-clause-read c =
     sym c.loop.invariant.same
-    ∙ list_done (compare_at capped_of) brace_at (length (left c.args.items)) c.loop.counter _ _ _ _ _ (omega (arith, c.loop-test.true, length-map c.args.items.items.now (seen c.args.items.bytes.now))) c.in_ok-next.ensures.read (c.in-Some.ensures.some ∙ ap (λ (b : Bool). Some (b, left c.in-Some.behind)) c.if-not-goes_on.true) (ap (map form) c.in_ok-push.ensures.items ∙ map_push form c.loop.list.items c.in_ok-next.next)
+    ∙ list_done (compare_at capped_reader) brace_at (length (left c.args.items)) c.loop.counter _ _ _ _ _ (omega (arith, c.loop-test.true, length-map c.args.items.items.now (seen c.args.items.bytes.now))) c.in_ok-next.ensures.read (c.in-Some.ensures.some ∙ ap (λ (b : Bool). Some (b, left c.in-Some.behind)) c.if-not-goes_on.true) (ap (map form) c.in_ok-push.ensures.items ∙ map_push form c.loop.list.items c.in_ok-next.next)
 
 pub loop-preserved : goal.loop-preserved
 loop-preserved c = record {
   same =
-      list_on (compare_at capped_of) brace_at (length (left c.args.items)) c.loop.counter _ _ _ _ _ (omega (arith, c.loop-test.true, length-map c.args.items.items.now (seen c.args.items.bytes.now))) c.in_ok-next.ensures.read (c.in-Some.ensures.some ∙ ap (λ (b : Bool). Some (b, left c.in-Some.behind)) c.if-not-goes_on.false) (ap (map form) c.in_ok-push.ensures.items ∙ map_push form c.loop.list.items c.in_ok-next.next)
+      list_on (compare_at capped_reader) brace_at (length (left c.args.items)) c.loop.counter _ _ _ _ _ (omega (arith, c.loop-test.true, length-map c.args.items.items.now (seen c.args.items.bytes.now))) c.in_ok-next.ensures.read (c.in-Some.ensures.some ∙ ap (λ (b : Bool). Some (b, left c.in-Some.behind)) c.if-not-goes_on.false) (ap (map form) c.in_ok-push.ensures.items ∙ map_push form c.loop.list.items c.in_ok-next.next)
       ∙ c.loop.invariant.same;
   low = omega (arith, c.loop.invariant.low, c.in_ok-next.ensures.low, c.in-Some.ensures.low);
 }

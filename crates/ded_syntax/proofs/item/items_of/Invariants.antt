@@ -6,4 +6,4 @@ use Rattle.ded_syntax.specs.Items.{symbols}
 use Rattle.ded_syntax.proofs.item.items_of.Given as goal
 
 abbrev pub invariant-loop-token : goal.invariant-loop-token
-invariant-loop-token l = symbols l.bytes l.items.items ≡ map symbol (map (lexeme l.bytes) (take l.token-index l.tokens))
+invariant-loop-token l = symbols l.bytes l.items.items ≡ map (symbol l.language) (map (lexeme l.bytes) (take l.token-index l.tokens))

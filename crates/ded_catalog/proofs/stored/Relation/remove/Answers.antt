@@ -1,11 +1,10 @@
-use Rattle.std.proofs.Common.{◌≡◌, ◌==◌, List, sym, ap, ◌∙◌, subst, true≢false, arith}
+use Rattle.std.proofs.Common.{◌≡◌, ◌==◌, sym, ap, ◌∙◌, true≢false, arith}
 use Rattle.std.specs.BTreeMap.{is_at}
 use Rattle.std.specs.List.{list_any}
 use Rattle.std.specs.Map.{remove_entry}
 use Rattle.std.specs.Ordering.{nat_cmp}
-use Rattle.ded_hull.specs.declared.entry.Entry.{Entry}
-use Rattle.ded_catalog.specs.Relations.{Relation, IsIndex}
-use Rattle.ded_catalog.proofs.Indexed.{taken_out}
+use Rattle.ded_catalog.specs.Relations.{Relation}
+use Rattle.ded_catalog.proofs.Indexing.{index_taken_out}
 use Rattle.ded_catalog.proofs.Numbers.{above_none, removes}
 use Rattle.ded_catalog.proofs.stored.Relation.remove.Goals as goal
 
@@ -16,11 +15,15 @@ prove-unreachable-requires c =
 
 pub invariant_of-self : goal.invariant_of-self
 invariant_of-self c =
-    subst (λ (es : List Entry). IsIndex es c.remove.new.self.entries) (sym c.remove-2.ensures)
-    (taken_out c.args.number c.self.inside.hulls c.self.inside.tuples.entries c.remove.new.self.entries (ap (λ (r : Relation). list_any (λ t. t.0 == c.args.number) r.tuples.entries) c.self.view_is ∙ c.requires.present)
-    c.remove.ensures.entries c.remove.ensures.updates.1 c.self.invariant)
+    index_taken_out c.self.inside.heading c.self.inside.index c.remove-in-Some.new.self c.args.number c.self.inside.tuples.entries c.remove.new.self.entries (ap (λ (r : Relation). list_any (λ t. t.0 == c.args.number) r.tuples.entries) c.self.view_is ∙ c.requires.present)
+    c.remove.ensures.entries c.remove.ensures.updates.1 c.self.invariant c.remove-in-Some.ensures
 
-pub returns : goal.returns
-returns c =
+pub returns-in-Some : goal.returns-in-Some
+returns-in-Some c =
+    removes c.args.self.now _ c.args.number c.requires.present (ap (λ (r : Relation). r.heading) c.self.view_is) (ap (λ (r : Relation). r.inserts) c.self.view_is)
+    (c.remove.ensures.entries ∙ ap (λ (r : Relation). remove_entry (is_at (nat_cmp c.args.number)) r.tuples.entries) c.self.view_is)
+
+pub returns-in_default : goal.returns-in_default
+returns-in_default c =
     removes c.args.self.now _ c.args.number c.requires.present (ap (λ (r : Relation). r.heading) c.self.view_is) (ap (λ (r : Relation). r.inserts) c.self.view_is)
     (c.remove.ensures.entries ∙ ap (λ (r : Relation). remove_entry (is_at (nat_cmp c.args.number)) r.tuples.entries) c.self.view_is)

@@ -1,0 +1,87 @@
+-- The whole index of a relation's tuples, after an insert, a refused one, a delete and a copy, and what it finds.
+use Rattle.std.proofs.Common.{◌≡◌, ℕ, ◌==◌, nat_eq, true, false, List, [], ◌∷◌, ◌++◌, None, sym, ap, ◌∙◌, subst}
+use Rattle.std.specs.BTreeMap.{is_at}
+use Rattle.std.specs.BTreeSet.{BTreeSet}
+use Rattle.std.specs.List.{Contains, list_any}
+use Rattle.std.specs.List.Sorted.{IsStrictlyIncreasing}
+use Rattle.std.specs.Map.{lookup, remove_entry}
+use Rattle.std.specs.Ordering.{nat_cmp}
+use Rattle.ded_model.specs.declared.name.Column.{Column}
+use Rattle.ded_model.specs.Row.{Atom}
+use Rattle.ded_model.proofs.Lists.{Every, Some, every-append}
+use Rattle.ded_hull.specs.declared.window.Window.{Window}
+use Rattle.ded_hull.specs.declared.entry.Entry.{Entry}
+use Rattle.ded_hull.specs.Entries.{IsComplete}
+use Rattle.ded_catalog.specs.declared.index.Index.{Index}
+use Rattle.ded_catalog.specs.Relations.{IsEntryOf, IsIndex, IsIndexOf, IsCopied, IsIndexed, IsUndone, IsUnindexed, Finds}
+use Rattle.ded_catalog.specs.Texts.{text_in, code, key, IsThere, Keeps}
+use Rattle.ded_catalog.proofs.Indexed.{IsFree, moved, pushed, undone, taken_out, missed, taken_free}
+use Rattle.ded_catalog.proofs.Picked.{Misses}
+
+-- ---- keys of texts
+
+there_kept : (ks : ℕ × ℕ) (cs : List Column) (k : ℕ) (s r : BTreeSet ℕ) (t : ℕ × List Atom) → nat_eq t.0 k ≡ false → Keeps k s r → IsThere ks cs s t → IsThere ks cs r t
+there_kept ks cs k s r t free keeps h = record { fits = h.fits; keys = λ i is. keeps (code ks i (text_in i t.1)) t.0 h.fits free (h.keys i is) }
+
+texts_kept : (ks : ℕ × ℕ) (cs : List Column) (k : ℕ) (s r : BTreeSet ℕ) (ts : List (ℕ × List Atom)) → IsFree k ts → Keeps k s r → Every (IsThere ks cs s) ts → Every (IsThere ks cs r) ts
+texts_kept ks cs k s r [] free keeps h = tt
+texts_kept ks cs k s r (t ∷ ts) free keeps h = (there_kept ks cs k s r t free.0 keeps h.0, texts_kept ks cs k s r ts free.1 keeps h.1)
+
+-- an index with other texts of the same hashing
+with_texts : (cs : List Column) (x y : Index) (ts : List (ℕ × List Atom)) → y.texts.keys ≡ x.texts.keys → Every (IsThere x.texts.keys cs y.texts.set) ts → Every (IsThere y.texts.keys cs y.texts.set) ts
+with_texts cs x y ts e h = subst (λ ks. Every (IsThere ks cs y.texts.set) ts) (sym e) h
+
+-- ---- what is done
+
+pub index_pushed : (cs : List Column) (old new : Index) (k : ℕ) (t : List Atom) (ts us : List (ℕ × List Atom)) → IsFree k ts → IsIndexOf cs old ts → IsIndexed cs (k, t) old new → us ≡ ts ++ (k, t) ∷ [] → IsIndexOf cs new us
+index_pushed cs old new k t ts us free h x e = record {
+  reaches = pushed old.hulls new.hulls ts us (k, t) h.reaches x.reaches e;
+  texts = with_texts cs old new us x.keys (subst (Every (IsThere old.texts.keys cs new.texts.set)) (sym e) (every-append (IsThere old.texts.keys cs new.texts.set) ts ((k, t) ∷ []) (texts_kept old.texts.keys cs k old.texts.set new.texts.set ts free x.keeps h.texts) (x.there, tt)));
+}
+
+pub index_undone : (cs : List Column) (old new : Index) (k : ℕ) (ts : List (ℕ × List Atom)) → IsFree k ts → IsIndexOf cs old ts → IsUndone k old new → IsIndexOf cs new ts
+index_undone cs old new k ts free h x = record {
+  reaches = subst (λ (es : List Entry). IsIndex es ts) (sym x.reaches) h.reaches;
+  texts = with_texts cs old new ts x.keys (texts_kept old.texts.keys cs k old.texts.set new.texts.set ts free x.keeps h.texts);
+}
+
+-- the insert that found no memory for the tuple
+pub index_taken_back : (cs : List Column) (old mid new : Index) (k : ℕ) (t : List Atom) (ts us : List (ℕ × List Atom)) → IsFree k ts → us ≡ ts → IsIndexOf cs old ts → IsIndexed cs (k, t) old mid → IsUnindexed k mid new → IsIndexOf cs new us
+index_taken_back cs old mid new k t ts us free e h x u = record {
+  reaches = subst (λ (es : List Entry). IsIndex es us) (sym u.reaches) (undone k old.hulls mid.hulls ts us t free e h.reaches x.reaches);
+  texts = subst (Every (IsThere new.texts.keys cs new.texts.set)) (sym e) (with_texts cs mid new ts u.keys (texts_kept mid.texts.keys cs k mid.texts.set new.texts.set ts free u.keeps (with_texts cs old mid ts x.keys (texts_kept old.texts.keys cs k old.texts.set mid.texts.set ts free x.keeps h.texts))));
+}
+
+-- what a map does that gives up the number
+pub index_taken_out : (cs : List Column) (old new : Index) (k : ℕ) (ts us : List (ℕ × List Atom)) → list_any (λ t. t.0 == k) ts ≡ true → us ≡ remove_entry (is_at (nat_cmp k)) ts → lookup (is_at (nat_cmp k)) us ≡ None → IsIndexOf cs old ts → IsUnindexed k old new → IsIndexOf cs new us
+index_taken_out cs old new k ts us present is gone h u =
+    let free = taken_free k ts us present is gone in
+    record {
+      reaches = subst (λ (es : List Entry). IsIndex es us) (sym u.reaches) (taken_out k old.hulls ts us present is gone h.reaches);
+      texts = with_texts cs old new us u.keys (texts_kept old.texts.keys cs k old.texts.set new.texts.set us free.0 u.keeps (free.1 (IsThere old.texts.keys cs old.texts.set) h.texts));
+    }
+
+pub index_copied : (cs : List Column) (old new : Index) (ts us : List (ℕ × List Atom)) → us ≡ ts → IsCopied old new → IsIndexOf cs old ts → IsIndexOf cs new us
+index_copied cs old new ts us e x h = subst (IsIndexOf cs new) (sym e) (record {
+  reaches = moved old.hulls new.hulls ts x.reaches h.reaches;
+  texts = with_texts cs old new ts x.keys (each ts h.texts);
+})
+  where
+    one : (t : ℕ × List Atom) → IsThere old.texts.keys cs old.texts.set t → IsThere old.texts.keys cs new.texts.set t
+    one t h = record { fits = h.fits; keys = λ i is. ap (λ qs. list_any (is_at (nat_cmp (key (code old.texts.keys i (text_in i t.1)) t.0))) qs) x.set ∙ h.keys i is }
+
+    each : (ts : List (ℕ × List Atom)) → Every (IsThere old.texts.keys cs old.texts.set) ts → Every (IsThere old.texts.keys cs new.texts.set) ts
+    each [] h = tt
+    each (t ∷ ts) h = (one t h.0, each ts h.1)
+
+-- ---- what is found
+
+pub finds_reaches : (w : Window) (cs : List Column) (x : Index) (ids : List ℕ) → IsStrictlyIncreasing ids → IsComplete w.limits.items x.hulls ids → Finds w cs x ids
+finds_reaches w cs x ids up complete = record { ascending = up; missed = λ t s there none. missed w x.hulls ids t complete s none }
+
+pub index_misses : (w : Window) (cs : List Column) (x : Index) (ids : List ℕ) (ts : List (ℕ × List Atom)) → Finds w cs x ids → IsIndexOf cs x ts → Misses w (Contains ids) ts
+index_misses w cs x ids ts f h = each ts h.reaches.all h.texts
+  where
+    each : (ts : List (ℕ × List Atom)) → Every (λ t. Some (IsEntryOf t) x.hulls) ts → Every (IsThere x.texts.keys cs x.texts.set) ts → Misses w (Contains ids) ts
+    each [] a b = tt
+    each (t ∷ ts) a b = (f.missed t a.0 b.0, each ts a.1 b.1)

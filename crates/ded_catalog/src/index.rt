@@ -1,0 +1,116 @@
+//! An index of the tuples of a relation.
+ghost use Rattle.std.specs.Prelude.{◌≡◌, [], IfOk, IfSome, OnOk, OnErr};
+ghost use Rattle.ded_catalog.specs.Relations.{IsCopied, IsIndexed, IsUndone, IsUnindexed, Finds};
+
+use crate::ends::reach_of;
+use crate::texts::Texts;
+use ded_hull::{Hulls, Window};
+use ded_model::memory::NoMemory;
+use ded_model::name::Heading;
+use ded_model::tuple::Tuple;
+use std::alloc::Global;
+
+/// How many tuples with a text are few.
+const FEW: usize = 64;
+
+/// The tuples of a relation by their reaches, and by the texts that they fix.
+#[derive(Drop)]
+pub(crate) struct Index {
+    pub hulls: Hulls,
+    pub texts: Texts,
+}
+
+impl Index {
+    /// An index of no tuples, which hashes texts with the keys.
+    pub(crate) fn new(alloc: Global, keys: (u64, u64)) -> Index
+        ensures hulls { result.hulls ≡ [] }
+        ensures texts { result.texts.set.keys ≡ [] }
+    {
+        Index {
+            hulls: Hulls::new(alloc),
+            texts: Texts::new(alloc, keys),
+        }
+    }
+
+    /// An index of the same tuples.
+    ///
+    /// # Errors
+    /// Out of memory.
+    pub(crate) fn copy(&self, alloc: Global) -> Result<Index, NoMemory>
+        ensures { IfOk result (IsCopied self.now) }
+    {
+        Ok(Index {
+            hulls: self.hulls.copy(alloc)?,
+            texts: self.texts.copy()?,
+        })
+    }
+
+    /// Adds a tuple over the columns under its number.
+    ///
+    /// # Errors
+    /// Out of memory; nothing of the number is left then.
+    pub(crate) fn insert(
+        &mut self,
+        heading: &Heading,
+        number: u32,
+        tuple: &Tuple,
+    ) -> Result<(), NoMemory>
+        ensures indexed { OnOk result (IsIndexed heading.now (number, tuple.now) self.old self.new) }
+        ensures undone { OnErr result (IsUndone number self.old self.new) }
+    {
+        let added = self.add(heading, number, tuple);
+        if added.is_err() {
+            self.texts.remove(heading, number, tuple);
+        }
+        added
+    }
+
+    /// Adds a tuple over the columns under its number.
+    ///
+    /// # Errors
+    /// Out of memory; some keys of it may be left then.
+    fn add(&mut self, heading: &Heading, number: u32, tuple: &Tuple) -> Result<(), NoMemory>
+        ensures indexed { OnOk result (IsIndexed heading.now (number, tuple.now) self.old self.new) }
+        ensures undone { OnErr result (IsUndone number self.old self.new) }
+    {
+        self.texts.insert(heading, number, tuple)?;
+        let reach = reach_of(tuple, heading.columns.len())?;
+        self.hulls.insert(number, reach)
+    }
+
+    /// Takes out a tuple over the columns. It does not allocate.
+    pub(crate) fn remove(&mut self, heading: &Heading, number: u32, tuple: &Tuple)
+        ensures { IsUnindexed number self.old self.new }
+    {
+        self.hulls.remove(number);
+        self.texts.remove(heading, number, tuple);
+    }
+
+    /// The numbers of the tuples over the columns that may hold in the window, ascending. None where the index doesn't tell them
+    /// apart from the others.
+    ///
+    /// # Errors
+    /// Out of memory.
+    pub(crate) fn find(
+        &self,
+        alloc: Global,
+        heading: &Heading,
+        window: &Window,
+        count: usize,
+    ) -> Result<Option<Vec<u32>>, NoMemory>
+        ensures { IfOk result (λ found. IfSome found (λ ids. Finds window.now heading.now self.now ids.items)) }
+    {
+        let most = if window.limits.is_empty() {
+            FEW + count / 4
+        } else {
+            FEW
+        };
+        if let Some(found) = self.texts.find(alloc, heading, &window.texts, most)? {
+            return Ok(Some(found));
+        }
+        if window.limits.is_empty() {
+            return Ok(None);
+        }
+        Ok(Some(self.hulls.find(alloc, &window.limits)?))
+    }
+}

@@ -1,0 +1,22 @@
+use Rattle.std.proofs.Common.{sym, ◌∙◌, subst}
+use Rattle.std.specs.List.{AllByRecursion}
+use Rattle.std.proofs.lemmas.Result.{IfOk-weaker}
+use Rattle.ded_model.specs.Normal.{IsNormalTheme}
+use Rattle.ded_model.specs.PlanForm.{plan_form}
+use Rattle.ded_elimination.specs.LinearAtoms.{IsLinearAtom}
+use Rattle.ded_theory.specs.Both.{IsByKind}
+use Rattle.ded_eval.proofs.Conjunctive.{normal-is}
+use Rattle.ded_eval.proofs.RowsRead.{evaluable_any}
+use Rattle.ded_eval.proofs.TuplesWritten.{within_tuple}
+use Rattle.ded_eval.proofs.atoms.eval_within.Goals as goal
+
+pub evaluate_within-requires-clause-plan : goal.evaluate_within-requires-clause-plan
+evaluate_within-requires-clause-plan g c = evaluable_any (g.R.Relations.catalogue c.args.relations.now) (plan_form c.args.plan.now) c.requires
+
+pub evaluate_within-requires-clause-window : goal.evaluate_within-requires-clause-window
+evaluate_within-requires-clause-window g c = subst (AllByRecursion (IsByKind IsLinearAtom IsNormalTheme)) (sym c.deref.ensures.value) (normal-is c.within.inside.atoms.items c.within.invariant)
+
+pub returns-clause-is : goal.returns-clause-is
+returns-clause-is g c =
+    IfOk-weaker c.evaluate_within.result _ _
+    (λ r k. within_tuple (g.R.Relations.catalogue c.args.relations.now) (plan_form c.args.plan.now) c.args.within.now c.deref.result.now _ _ _ (c.deref.ensures.value ∙ c.within.view_is) k) c.evaluate_within.ensures.is

@@ -1,0 +1,14 @@
+use Rattle.std.proofs.Common.{take, sym, subst}
+use Rattle.ded_algebra.specs.Evaluation.{IsMet}
+use Rattle.ded_keep.specs.Remaining.{IsApart}
+use Rattle.ded_keep.proofs.Covered.{taken_to}
+use Rattle.ded_keep.proofs.Leaving.{apart_none, apart_more}
+use Rattle.ded_keep.proofs.removing.is_apart.Goals as goal
+
+pub loop-other-init : goal.loop-other-init
+loop-other-init g c = apart_none c.args.tuple.now
+
+pub loop-other-preserved : goal.loop-other-preserved
+loop-other-preserved g c =
+    subst (IsApart c.args.tuple.now) (sym (taken_to c.args.lost.now c.loop-other.other-index c.other-item.result c.loop-other-test.true c.other-item.is))
+    (apart_more c.args.tuple.now (take c.loop-other.other-index c.args.lost.now) c.other-item.result (subst (IsMet c.args.tuple.now c.other-item.result) c.in_default.is c.in_ok-meet.ensures) c.loop-other.invariant)

@@ -1,0 +1,218 @@
+//! Kept tuples where a relation loses a tuple.
+ghost use Rattle.std.specs.Prelude.{◌≡◌, ◌↔◌, ◌⊎◌, true, false, IsTrue, None, IfOk, OnOk, IsErrOf, [], ◌∷◌, ◌++◌};
+ghost use Rattle.ded_model.specs.declared.memory.Refused.TheVariants.{Wide};
+ghost use Rattle.ded_model.specs.Catalogue.{Catalogue, PlanHolds, GivenHolds};
+ghost use Rattle.ded_model.specs.Entries.{entry_of};
+ghost use Rattle.ded_model.specs.Measure.{stored_measures, plan_clashes};
+ghost use Rattle.ded_model.specs.PlanForm.{plan_form};
+ghost use Rattle.ded_model.specs.Point.{Point, IsPoint};
+ghost use Rattle.ded_model.specs.Row.{tuple_holds, tuples_hold};
+ghost use Rattle.ded_algebra.specs.Evaluation.{IsAnyAtom, IsEvaluable};
+ghost use Rattle.ded_keep.specs.Additive.{is_additive};
+ghost use Rattle.ded_keep.specs.Adding.{with_alone, IsAddition};
+ghost use Rattle.ded_keep.specs.Remaining.{IsApart, AreApart, IsParted, AreOfBoth, AddsPiece, IsWithin, AreLeft, IsRemaining};
+
+use crate::alone::tuples_alone;
+use crate::behind::put_behind;
+use ded_algebra::{Evaluate, Relations};
+use ded_model::laws::sameness::equal_tuples;
+use ded_model::memory::{NoMemory, Refused};
+use ded_model::name::{Heading, Name};
+use ded_model::plan::Plan;
+use ded_model::tuple::{Tuple, Tuples};
+use std::alloc::Global;
+
+/// Tuples that are left of `kept` where `changed` loses the tuple `gone`: those at whose points the plan with `gone` alone as the
+/// tuples of `changed` doesn't hold, as they are, and of each other one what the plan gives within it over what is given after.
+/// So where `kept` held exactly where the plan did, they hold exactly where the plan does after, if each other name that the plan
+/// scans means what is given of it before and after. The closure and the interior of `changed` are such names.
+/// The plan is additive in `changed`, whose heading is `heading`. The other relations don't give `changed`, and give each other name
+/// that the plan scans, with tuples over columns of the sorts of the scan's slots; and so do those after, which give `changed` too.
+///
+/// # Errors
+/// `Wide` only where the plan clashes with `gone` alone as the tuples of `changed`, or over what is given after; otherwise out of
+/// memory. `kept` is lost then.
+pub fn remove_tuple<E: Evaluate, R: Relations, A: Relations>(
+    alloc: Global,
+    engine: &E,
+    plan: &Plan,
+    changed: &Name,
+    heading: &Heading,
+    kept: Tuples,
+    gone: &Tuple,
+    others: &R,
+    after: &A,
+) -> Result<Tuples, Refused>
+    requires additive { is_additive changed.now (plan_form plan.now) ≡ true }
+    requires apart { entry_of (R.catalogue others.now).entries changed.now ≡ None }
+    requires evaluable { IsEvaluable IsAnyAtom (with_alone (R.catalogue others.now) changed.now heading.now gone.now) (plan_form plan.now) }
+    requires after { IsEvaluable IsAnyAtom (A.catalogue after.now) (plan_form plan.now) }
+    ensures is { IfOk result (IsRemaining (with_alone (R.catalogue others.now) changed.now heading.now gone.now) (A.catalogue after.now) (plan_form plan.now) kept) }
+    ensures removes { IfOk result (λ ts. (b d : Catalogue) → IsAddition (R.catalogue others.now) d b changed.now heading.now gone.now (plan_form plan.now)
+        → ((p : Point) → IsPoint p → GivenHolds (A.catalogue after.now) (plan_form plan.now) p ↔ PlanHolds d (plan_form plan.now) p)
+        → ((p : Point) → IsPoint p → IsTrue (tuples_hold kept p) ↔ PlanHolds b (plan_form plan.now) p)
+        → (p : Point) → IsPoint p → IsTrue (tuples_hold ts p) ↔ PlanHolds d (plan_form plan.now) p) }
+    ensures wide { IsErrOf result Wide → (plan_clashes (stored_measures (with_alone (R.catalogue others.now) changed.now heading.now gone.now)) (plan_form plan.now) ≡ true)
+        ⊎ (plan_clashes (stored_measures (A.catalogue after.now)) (plan_form plan.now) ≡ true) }
+{
+    others.formed();
+    let lost = tuples_alone(alloc, engine, plan, changed, heading, gone, others)?;
+    let parted = part_kept(alloc, engine, kept, &lost.list)?;
+    left_of(alloc, engine, plan, parted, &lost.list, after)
+}
+
+/// Kept tuples: those that meet no lost one, and the others.
+#[derive(Drop)]
+struct Parted {
+    apart: Tuples,
+    near: Tuples,
+}
+
+/// The kept tuples, parted into those that are found to meet no lost one and the others.
+///
+/// # Errors
+/// Out of memory.
+fn part_kept<E: Evaluate>(
+    alloc: Global,
+    engine: &E,
+    kept: Tuples,
+    lost: &[Tuple],
+) -> Result<Parted, NoMemory>
+    ensures { IfOk result (λ s. IsParted lost.now kept s.apart s.near) }
+{
+    let mut apart = Vec::new(alloc);
+    let mut near = Vec::new(alloc);
+    for tuple in kept.list {
+        if is_apart(alloc, engine, &tuple, lost)? {
+            apart.push(tuple)?;
+        } else {
+            near.push(tuple)?;
+        }
+    }
+    Ok(Parted {
+        apart: Tuples { list: apart },
+        near: Tuples { list: near },
+    })
+}
+
+/// Whether the tuple is found to hold nowhere with one of the lost ones.
+fn is_apart<E: Evaluate>(
+    alloc: Global,
+    engine: &E,
+    tuple: &Tuple,
+    lost: &[Tuple],
+) -> Result<bool, NoMemory>
+    ensures { IfOk result (λ b. b ≡ true → IsApart tuple.now lost.now) }
+{
+    for other in lost {
+        if let Some(_) = engine.meet(alloc, tuple, other)? {
+            return Ok(false);
+        }
+    }
+    Ok(true)
+}
+
+/// What is left of the kept tuples: those apart as they are, and of the others what the plan gives within them.
+///
+/// # Errors
+/// `Wide` only where the plan clashes over the given relations, otherwise out of memory.
+fn left_of<E: Evaluate, A: Relations>(
+    alloc: Global,
+    engine: &E,
+    plan: &Plan,
+    parted: Parted,
+    lost: &[Tuple],
+    after: &A,
+) -> Result<Tuples, Refused>
+    requires evaluable { IsEvaluable IsAnyAtom (A.catalogue after.now) (plan_form plan.now) }
+    requires apart { AreApart parted.apart lost.now }
+    ensures is { IfOk result (AreLeft (A.catalogue after.now) (plan_form plan.now) lost.now (parted.apart ++ parted.near)) }
+    ensures wide { IsErrOf result Wide → plan_clashes (stored_measures (A.catalogue after.now)) (plan_form plan.now) ≡ true }
+{
+    let mut list = parted.apart.list;
+    for tuple in parted.near.list {
+        let pieces = plan_within(alloc, engine, plan, tuple, after)?;
+        put_behind(alloc, engine, &mut list, pieces)?;
+    }
+    Ok(Tuples { list })
+}
+
+/// What the plan gives within the tuple: the tuple itself, where the plan holds wherever it does, and else its pieces.
+///
+/// # Errors
+/// `Wide` only where the plan clashes over the given relations, otherwise out of memory.
+fn plan_within<E: Evaluate, A: Relations>(
+    alloc: Global,
+    engine: &E,
+    plan: &Plan,
+    tuple: Tuple,
+    after: &A,
+) -> Result<Tuples, Refused>
+    requires { IsEvaluable IsAnyAtom (A.catalogue after.now) (plan_form plan.now) }
+    ensures is { IfOk result (IsWithin (A.catalogue after.now) (plan_form plan.now) tuple) }
+    ensures wide { IsErrOf result Wide → plan_clashes (stored_measures (A.catalogue after.now)) (plan_form plan.now) ≡ true }
+{
+    let found = engine.evaluate_within(alloc, plan, after, &tuple)?;
+    let pieces = pieces_of(alloc, engine, &tuple, &found.list)?;
+    if has(&pieces.list, &tuple) {
+        return Ok(single(alloc, tuple)?);
+    }
+    Ok(pieces)
+}
+
+/// The tuple together with each of the list, without those that hold nowhere.
+fn pieces_of<E: Evaluate>(
+    alloc: Global,
+    engine: &E,
+    tuple: &Tuple,
+    list: &[Tuple],
+) -> Result<Tuples, NoMemory>
+    ensures { IfOk result (AreOfBoth tuple.now list.now) }
+{
+    let mut pieces = Vec::new(alloc);
+    for other in list {
+        push_met(alloc, engine, tuple, other, &mut pieces)?;
+    }
+    Ok(Tuples { list: pieces })
+}
+
+/// Adds the tuple of both, unless they hold nowhere together.
+///
+/// # Errors
+/// Out of memory.
+fn push_met<E: Evaluate>(
+    alloc: Global,
+    engine: &E,
+    tuple: &Tuple,
+    other: &Tuple,
+    pieces: &mut Vec<Tuple>,
+) -> Result<(), NoMemory>
+    ensures { OnOk result (AddsPiece tuple.now other.now pieces.old.items pieces.new.items) }
+{
+    match engine.meet(alloc, tuple, other)? {
+        Some(piece) => Ok(pieces.push(piece)?),
+        None => Ok(()),
+    }
+}
+
+/// Whether the tuple stands in the list.
+fn has(list: &[Tuple], tuple: &Tuple) -> bool
+    ensures { result ≡ true → (p : Point) → tuple_holds tuple.now p ≡ true → tuples_hold list.now p ≡ true }
+{
+    equal_tuples();
+    for other in list {
+        if *other == *tuple {
+            return true;
+        }
+    }
+    false
+}
+
+/// The list of the one tuple.
+fn single(alloc: Global, tuple: Tuple) -> Result<Tuples, NoMemory>
+    ensures { IfOk result (λ ts. ts ≡ tuple ∷ []) }
+{
+    let mut list = Vec::with_capacity(alloc, 1)?;
+    list.push(tuple)?;
+    Ok(Tuples { list })
+}
