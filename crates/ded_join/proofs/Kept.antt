@@ -1,7 +1,7 @@
 -- What is left of pairs without those that no point satisfies.
 --
 -- It is an operation like the pairs themselves, and pairs that are near stay so when some of them are left out.
-use Rattle.std.proofs.Common.{◌≡◌, ℕ, zero, suc, ◌+◌, ◌-◌, ◌<◌, ◌≤◌, ◌^◌, ◌⊎◌, Bool, ◌&&◌, ◌||◌, List, [], ◌∷◌, ◌++◌, Vec, Global, length, min, take, get_or, inl, inr, arith, refl, sym, ap, ◌∙◌, subst, append_assoc, append-nil}
+use Rattle.std.proofs.Common.{◌≡◌, ℕ, zero, suc, ◌+◌, ◌-◌, ◌<◌, ◌≤◌, ◌^◌, ◌⊎◌, Bool, ◌&&◌, ◌||◌, List, [], ◌∷◌, ◌++◌, length, min, get_or, inl, inr, arith, refl, sym, ap, ◌∙◌, subst, append_assoc, append-nil}
 use Rattle.std.specs.List.{AllPairs, AllByRecursion}
 use Rattle.std.specs.List.Sorted.{IsStrictlyIncreasing}
 use Rattle.std.proofs.lemmas.List.Elements.{All-from_recursion, recursion_from_All}
@@ -12,16 +12,13 @@ use Rattle.ded_model.specs.Cell.{conj_holds, HoldsSomewhere}
 use Rattle.ded_model.specs.Lines.{Line}
 use Rattle.ded_model.proofs.Members.{subset_trans}
 use Rattle.ded_theory.specs.Conjunctions.{IsWide}
-use Rattle.ded_genrel.specs.Lists.{conjs_hold, conjs_mention, conjs_lines, conjs_of, pairs_with, pairs}
+use Rattle.ded_genrel.specs.Lists.{conjs_hold, conjs_mention, conjs_lines, pairs_with, pairs}
 use Rattle.ded_genrel.specs.Operations.{IsOperation, IsMeet, IsInhabitedPart}
-use Rattle.ded_genrel.proofs.Items.{pairs-push, pairs_with-append, conjs_to}
 use Rattle.ded_genrel.proofs.Laws.{meet_is}
 use Rattle.ded_genrel.proofs.Inhabited.{inhabited_none, inhabited_kept, inhabited_dropped}
 use Rattle.ded_join.specs.Near.{AreNear, ArePicked, AreNearPairs, AreAllPairs}
 use Rattle.ded_join.specs.Picks.{picked}
-use Rattle.ded_join.specs.Kept.{AreKept, AreKeptAfter, IsCount, IsKeptMeet}
-use Rattle.ded_join.proofs.Joined.{IsPart, part_none, part-append, part_meets, picked_more}
-use Rattle.ded_join.proofs.Nearness.{near-push}
+use Rattle.ded_join.specs.Kept.{AreKept, IsCount, IsKeptMeet}
 
 -- the counts of two lists
 pub count-append : {A : Type 0} (xs ys : List (List A)) (a b c : ℕ) → IsCount xs a b → IsCount ys b c → IsCount (xs ++ ys) a c
@@ -83,35 +80,6 @@ module _ {A : Type 0} (h : A → Point → Bool) (m : A → Slot → Bool) (l : 
   kept_split (c ∷ xs) ys out (inr (more, e, w, r)) =
       let s = kept_split xs ys more r in
       record { front = c ∷ s.front; rest = s.rest; list = e ∙ ap (λ zs. c ∷ zs) s.list; first = inr (s.front, refl, w, s.first); second = s.second }
-
-  -- ---- at the end of a list
-
-  pub kept_none : (out : List (List A)) → AreKeptAfter h m l [] out out
-  kept_none out = record { kept = []; are = refl; list = sym (append-nil out) }
-
-  pub kept_more : (xs ys old mid new : List (List A)) → AreKeptAfter h m l xs old mid → AreKeptAfter h m l ys mid new → AreKeptAfter h m l (xs ++ ys) old new
-  kept_more xs ys old mid new a b = record {
-    kept = a.kept ++ b.kept;
-    are = kept-append xs ys a.kept b.kept a.are b.are;
-    list = b.list ∙ ap (λ zs. zs ++ b.kept) a.list ∙ append_assoc old a.kept b.kept;
-  }
-
-  -- the next conjunction of a list, and the next place
-  pub kept_to : (c : List A) (xs : List (Vec A Global)) (i : ℕ) (x : Vec A Global) (both old mid new : List (List A)) → i < length xs → x ≡ get_or xs i x → both ≡ (c ++ x.items) ∷ [] → AreKeptAfter h m l (pairs_with c (conjs_of (take i xs))) old mid
-      → AreKeptAfter h m l both mid new → AreKeptAfter h m l (pairs_with c (conjs_of (take (i + 1) xs))) old new
-  kept_to c xs i x both old mid new lt is e a b =
-      subst (λ all. AreKeptAfter h m l all old new) (sym (ap (pairs_with c) (conjs_to xs i x lt is) ∙ pairs_with-append c (conjs_of (take i xs)) (x.items ∷ [])))
-      (kept_more (pairs_with c (conjs_of (take i xs))) ((c ++ x.items) ∷ []) old mid new a (subst (λ one. AreKeptAfter h m l one mid new) e b))
-
-  pub kept_at : (c : List A) (cs : List (List A)) (js : List ℕ) (i d : ℕ) (both old mid new : List (List A)) → i < length js → both ≡ (c ++ get_or cs (get_or js i d) []) ∷ [] → AreKeptAfter h m l (picked c cs (take i js)) old mid → AreKeptAfter h m l both mid new
-      → AreKeptAfter h m l (picked c cs (take (i + 1) js)) old new
-  kept_at c cs js i d both old mid new lt e a b =
-      subst (λ all. AreKeptAfter h m l all old new) (sym (picked_more c cs js i d lt))
-      (kept_more (picked c cs (take i js)) ((c ++ get_or cs (get_or js i d) []) ∷ []) old mid new a (subst (λ one. AreKeptAfter h m l one mid new) e b))
-
-  -- after what is kept of other conjunctions
-  pub kept_next : (xs ys out new : List (List A)) → AreKept h m l xs out → AreKeptAfter h m l ys out new → AreKept h m l (xs ++ ys) new
-  kept_next xs ys out new k a = subst (AreKept h m l (xs ++ ys)) (sym a.list) (kept-append xs ys out a.kept k a.are)
 
   -- ---- what is kept is an operation
 
@@ -184,32 +152,6 @@ module _ {A : Type 0} (h : A → Point → Bool) (m : A → Slot → Bool) (l : 
   near_kept ss (b ∷ bs) cs all out (front, rest, e, p, n) k =
       let s = kept_split front rest out (subst (λ xs. AreKept h m l xs out) e k) in
       (s.front, s.rest, s.list, picked_kept ss b cs front s.front p s.first, near_kept ss bs cs rest s.rest n s.second)
-
-  -- ---- joins
-
-  -- what is kept of the pairs of the conjunctions so far
-  pub record IsKeptSoFar (ss : List Slot) (xs ys out : List (List A)) (old new : ℕ) : Type 0 where
-    pub met : List (List A)
-    pub part : IsPart h (pairs xs ys) met
-    pub near : AreNearPairs h m l ss xs ys met
-    pub kept : AreKept h m l met out
-    pub count : IsCount met old new
-
-  pub so_far_none : (ss : List Slot) (ys out : List (List A)) (n : ℕ) → out ≡ [] → n < 2 ^ 64 → IsKeptSoFar ss [] ys out n n
-  so_far_none ss ys out n e k = let none : List (List A) = [] in record { met = none; part = part_none h; near = refl; kept = e; count = count_none none n refl k }
-
-  pub so_far_more : (ss : List Slot) (xs ys out next : List (List A)) (c : List A) (added : List (List A)) (old mid new : ℕ) → IsKeptSoFar ss xs ys out old mid → IsPart h (pairs_with c ys) added → ArePicked h m l ss c ys added
-      → AreKeptAfter h m l added out next → IsCount added mid new → IsKeptSoFar ss (xs ++ c ∷ []) ys next old new
-  so_far_more ss xs ys out next c added old mid new r p q k n = record {
-    met = r.met ++ added;
-    part = subst (λ all. IsPart h all (r.met ++ added)) (sym (pairs-push xs ys c)) (part-append h (pairs xs ys) (pairs_with c ys) r.met added r.part p);
-    near = near-push h m l ss xs ys r.met c added r.near q;
-    kept = kept_next r.met added out next r.kept k;
-    count = count-append r.met added old mid new r.count n;
-  }
-
-  pub so_far_done : (ss : List Slot) (xs ys out : List (List A)) (old new : ℕ) → 0 < length ss → length ys < 2 ^ 32 → IsKeptSoFar ss xs ys out old new → IsKeptMeet h m l ss xs ys out old new
-  so_far_done ss xs ys out old new some few r = record { met = r.met; is = part_meets h m l xs ys r.met r.part; near = λ _ _. r.near; whole = no_whole ss xs ys r.met some few; kept = r.kept; count = r.count }
 
   -- all pairs, where no slots are given or the list is too long
   pub all_kept : (ss : List Slot) (xs ys out : List (List A)) (old new : ℕ) → (0 < length ss → length ys < 2 ^ 32 → ⊥) → AreKept h m l (pairs xs ys) out → IsCount (pairs xs ys) old new → IsKeptMeet h m l ss xs ys out old new

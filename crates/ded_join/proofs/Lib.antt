@@ -2,3 +2,4 @@ pub mod Indexed
 pub mod Joined
 pub mod Kept
 pub mod Nearness
+pub mod Taken

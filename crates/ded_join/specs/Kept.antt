@@ -1,5 +1,5 @@
 -- What is left of pairs of conjunctions without those that no point satisfies.
-use Rattle.std.specs.Prelude.{◌≡◌, ◌⊎◌, ◌+◌, ◌-◌, ◌<◌, ◌^◌, ℕ, Bool, List, [], ◌∷◌, ◌++◌, min, length}
+use Rattle.std.specs.Prelude.{◌≡◌, ◌⊎◌, ◌+◌, ◌-◌, ◌<◌, ◌^◌, ℕ, Bool, List, [], ◌∷◌, min, length}
 use Rattle.ded_model.specs.declared.slot.Slot.{Slot}
 use Rattle.ded_model.specs.Point.{Point}
 use Rattle.ded_model.specs.Cell.{conj_holds, HoldsSomewhere}
@@ -15,12 +15,6 @@ AreKept holds mentions lines [] out = out ≡ []
 AreKept holds mentions lines (c ∷ cs) out =
     (HoldsNowhere (conj_holds holds c) × AreKept holds mentions lines cs out)
     ⊎ ((rest : List (List _)) × (out ≡ c ∷ rest) × ((IsWide mentions lines c → ⊥) → HoldsSomewhere (conj_holds holds c)) × AreKept holds mentions lines cs rest)
-
--- what is kept of the conjunctions stands at the end
-pub record AreKeptAfter {A : Type 0} (holds : A → Point → Bool) (mentions : A → Slot → Bool) (lines : A → List Line) (cs old new : List (List A)) : Type 0 where
-  pub kept : List (List A)
-  pub are : AreKept holds mentions lines cs kept
-  pub list : new ≡ old ++ kept
 
 -- the first number grows by the count of conjunctions to the second, up to the greatest of 64 bits
 abbrev pub IsCount : {A : Type 0} → List (List A) → ℕ → ℕ → Type 0

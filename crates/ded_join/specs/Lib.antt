@@ -1,3 +1,4 @@
 pub mod Kept
 pub mod Near
 pub mod Picks
+pub mod Taken

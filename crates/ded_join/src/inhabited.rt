@@ -1,5 +1,5 @@
 //! Joins without pairs that no point satisfies.
-ghost use Rattle.std.specs.Prelude.{◌≡◌, ◌<◌, ◌^◌, ◌++◌, ◌∷◌, [], length, IfOk};
+ghost use Rattle.std.specs.Prelude.{◌<◌, ◌^◌, length, IfOk};
 ghost use Rattle.std.specs.List.{AllByRecursion};
 ghost use Rattle.ded_model.specs.Cell.{conj_holds, HoldsSomewhere};
 ghost use Rattle.ded_theory.specs.Conjunctions.{IsWide};
@@ -7,15 +7,16 @@ ghost use Rattle.ded_genrel.specs.Lists.{pairs, pairs_with};
 ghost use Rattle.ded_genrel.specs.Operations.{IsMeet};
 ghost use Rattle.ded_genrel.specs.Rounds.{AreRational};
 ghost use Rattle.ded_join.specs.Near.{AreNearPairs};
-ghost use Rattle.ded_join.specs.Picks.{picked};
-ghost use Rattle.ded_join.specs.Kept.{AreKept, AreKeptAfter, IsCount, IsKeptMeet};
+ghost use Rattle.ded_join.specs.Kept.{AreKept, IsCount, IsKeptMeet};
+ghost use Rattle.ded_join.specs.Taken.{AreTakenAfter};
+ghost use Rattle.ded_join.specs.declared.near.Taken.TheVariants as taken_pairs;
 
-use crate::indexing::index_of;
 use crate::joining::TOO_MANY;
-use ded_genrel::{GenRel, both_conjs, box_round};
+use crate::near::{Taken, near_pairs, push_both};
+use ded_genrel::GenRel;
 use ded_model::memory::NoMemory;
 use ded_model::slot::Slot;
-use ded_theory::{Theory, Verdict};
+use ded_theory::Theory;
 use std::alloc::Global;
 
 /// The join without pairs that no point satisfies: each that is kept is wide or holds somewhere. Where no slots are given, or the
@@ -41,7 +42,7 @@ pub fn join_inhabited<T: Theory>(
     if slots.is_empty() || b.list().len() >= TOO_MANY {
         meet_inhabited(alloc, a, b, met)
     } else {
-        near_inhabited(alloc, a, b, slots, met)
+        near_pairs(alloc, a, b, slots, Taken::Inhabited, met)
     }
 }
 
@@ -64,31 +65,6 @@ fn meet_inhabited<T: Theory>(
     Ok(out)
 }
 
-/// The join of two lists through an index over the second one, without pairs that no point satisfies.
-fn near_inhabited<T: Theory>(
-    alloc: Global,
-    a: &GenRel<T>,
-    b: &GenRel<T>,
-    slots: &[Slot],
-    met: &mut u64,
-) -> Result<GenRel<T>, NoMemory>
-    requires some { 0 < length slots.now }
-    requires few { length b.now < 2 ^ 32 }
-    requires rational { AreRational slots.now }
-    ensures { IfOk result (λ r. IsKeptMeet T.holds T.mentions T.lines slots.now a.now b.now r met.old met.new) }
-{
-    let index = index_of(alloc, b, slots)?;
-    let mut out = GenRel::new(alloc);
-    let mut count = *met;
-    for conj in a.list() {
-        let near = index.find(alloc, &box_round::<T>(alloc, conj, slots)?)?;
-        count = count.saturating_add(near.len() as u64);
-        push_near(alloc, &mut out, conj, b, &near)?;
-    }
-    *met = count;
-    Ok(out)
-}
-
 /// Sets the conjunction together with each one of the list at the end, but for pairs that no point satisfies.
 fn push_met<T: Theory>(
     alloc: Global,
@@ -97,48 +73,10 @@ fn push_met<T: Theory>(
     list: &GenRel<T>,
 ) -> Result<(), NoMemory>
     requires normal { AllByRecursion T.normal conj.now }
-    ensures { IfOk result (λ _. AreKeptAfter T.holds T.mentions T.lines (pairs_with conj.now list.now) out.old out.new) }
+    ensures { IfOk result (λ _. AreTakenAfter taken_pairs.Inhabited T.holds T.mentions T.lines (pairs_with conj.now list.now) out.old out.new) }
 {
     for more in list.list() {
-        push_both(alloc, out, conj, more)?;
+        push_both(alloc, out, conj, more, Taken::Inhabited)?;
     }
     Ok(())
-}
-
-/// Sets the conjunction together with each one that stands at one of the places in the list at the end, but for pairs
-/// that no point satisfies.
-fn push_near<T: Theory>(
-    alloc: Global,
-    out: &mut GenRel<T>,
-    conj: &[T::Atom],
-    list: &GenRel<T>,
-    places: &[u32],
-) -> Result<(), NoMemory>
-    requires normal { AllByRecursion T.normal conj.now }
-    requires places { AllByRecursion (λ j. j < length list.now) places.now }
-    ensures { IfOk result (λ _. AreKeptAfter T.holds T.mentions T.lines (picked conj.now list.now places.now) out.old out.new) }
-{
-    let conjs = list.list();
-    for place in places {
-        push_both(alloc, out, conj, &conjs[*place as usize])?;
-    }
-    Ok(())
-}
-
-/// Sets the two conjunctions together at the end, unless no point satisfies both.
-fn push_both<T: Theory>(
-    alloc: Global,
-    out: &mut GenRel<T>,
-    first: &[T::Atom],
-    second: &[T::Atom],
-) -> Result<(), NoMemory>
-    requires first { AllByRecursion T.normal first.now }
-    requires second { AllByRecursion T.normal second.now }
-    ensures { IfOk result (λ _. AreKeptAfter T.holds T.mentions T.lines ((first.now ++ second.now) ∷ []) out.old out.new) }
-{
-    let both = both_conjs::<T>(alloc, first, second)?;
-    match T::refute(alloc, &both)? {
-        Verdict::Empty => Ok(()),
-        _ => out.push(both),
-    }
 }

@@ -12,6 +12,7 @@
 mod indexing;
 mod inhabited;
 mod joining;
+mod near;
 
 pub use inhabited::join_inhabited;
 pub use joining::{join, join_counted};

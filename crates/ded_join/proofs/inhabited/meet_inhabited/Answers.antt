@@ -2,9 +2,12 @@ use Rattle.std.proofs.Common.{◌∙◌, ◌+◌, ◌-◌, ◌^◌, min, length,
 use Rattle.std.specs.List.{AllByRecursion}
 use Rattle.ded_genrel.specs.Lists.{conjs_of, pairs, pairs_with}
 use Rattle.ded_genrel.proofs.Items.{normal-at, conjs_to, pairs-push}
-use Rattle.ded_join.specs.Kept.{AreKept, AreKeptAfter, IsCount}
+use Rattle.ded_join.specs.Kept.{AreKept, IsCount}
+use Rattle.ded_join.specs.Taken.{AreTakenAfter}
+use Rattle.ded_join.specs.declared.near.Taken.TheVariants.{Inhabited}
 use Rattle.ded_join.proofs.Joined.{conjs_count}
-use Rattle.ded_join.proofs.Kept.{kept_next, count_none, count_with, count-append}
+use Rattle.ded_join.proofs.Kept.{count_none, count_with, count-append}
+use Rattle.ded_join.proofs.Taken.{taken_next}
 use Rattle.ded_join.proofs.inhabited.meet_inhabited.Goals as goal
 
 pub loop-conj-init : goal.loop-conj-init
@@ -22,9 +25,9 @@ loop-conj-preserved g c =
     let done = conjs_of (take c.loop-conj.conj-index c.list-conj-items.result.now) in
     let added = pairs_with x.items b in
     let next = ap (λ xs. pairs xs b) (conjs_to c.list-conj-items.result.now c.loop-conj.conj-index x c.loop-conj-test.true c.conj-item.is) ∙ pairs-push done b x.items in
-    let kept = subst (λ atoms. AreKeptAfter g.T.Theory.holds g.T.Theory.mentions g.T.Theory.lines (pairs_with atoms b) c.loop-conj.out c.push_met.new.out) c.deref.ensures.value c.in_ok-push_met.ensures in
+    let kept = subst (λ atoms. AreTakenAfter Inhabited g.T.Theory.holds g.T.Theory.mentions g.T.Theory.lines (pairs_with atoms b) c.loop-conj.out c.push_met.new.out) c.deref.ensures.value c.in_ok-push_met.ensures in
     let count = count_with x.items b c.loop-conj.count c.saturating_add-count.result (c.saturating_add-count.ensures ∙ ap (λ n. min (c.loop-conj.count + n) (2 ^ 64 - 1)) (sym (conjs_count c.list.result.now) ∙ ap length c.list.ensures.list)) in (
       subst (λ all. AreKept g.T.Theory.holds g.T.Theory.mentions g.T.Theory.lines all c.push_met.new.out) (sym next)
-          (kept_next g.T.Theory.holds g.T.Theory.mentions g.T.Theory.lines (pairs done b) added c.loop-conj.out c.push_met.new.out c.loop-conj.invariant.0 kept),
+          (taken_next g.T.Theory.holds g.T.Theory.mentions g.T.Theory.lines Inhabited (pairs done b) added c.loop-conj.out c.push_met.new.out c.loop-conj.invariant.0 kept),
       subst (λ all. IsCount all c.args.met.now c.saturating_add-count.result) (sym next) (count-append (pairs done b) added c.args.met.now c.loop-conj.count c.saturating_add-count.result c.loop-conj.invariant.1 count),
     )

@@ -1,7 +1,8 @@
 use Rattle.std.proofs.Common.{◌++◌, ◌∷◌, [], ap, sym, subst}
 use Rattle.std.specs.List.{AllByRecursion}
 use Rattle.ded_genrel.proofs.Items.{normal-at}
-use Rattle.ded_join.proofs.Kept.{kept_to}
+use Rattle.ded_join.specs.declared.near.Taken.TheVariants.{Inhabited}
+use Rattle.ded_join.proofs.Taken.{taken_to}
 use Rattle.ded_join.proofs.inhabited.push_met.Goals as goal
 
 pub push_both-requires-clause-second : goal.push_both-requires-clause-second
@@ -10,5 +11,5 @@ push_both-requires-clause-second g c =
 
 pub loop-more-preserved : goal.loop-more-preserved
 loop-more-preserved g c =
-    kept_to g.T.Theory.holds g.T.Theory.mentions g.T.Theory.lines c.args.conj.now c.list-more-items.result.now c.loop-more.more-index c.more-item.result ((c.args.conj.now ++ c.deref.result.now) ∷ []) c.args.out.now c.loop-more.out c.push_both.new.out
+    taken_to g.T.Theory.holds g.T.Theory.mentions g.T.Theory.lines Inhabited c.args.conj.now c.list-more-items.result.now c.loop-more.more-index c.more-item.result ((c.args.conj.now ++ c.deref.result.now) ∷ []) c.args.out.now c.loop-more.out c.push_both.new.out
     c.loop-more-test.true c.more-item.is (ap (λ ys. (c.args.conj.now ++ ys) ∷ []) c.deref.ensures.value) c.loop-more.invariant c.in_ok-push_both.ensures

@@ -1,7 +1,0 @@
-use Rattle.std.proofs.Common.{take}
-use Rattle.ded_join.specs.Picks.{picked}
-use Rattle.ded_join.specs.Kept.{AreKeptAfter}
-use Rattle.ded_join.proofs.inhabited.push_near.Given as goal
-
-abbrev pub invariant-loop-place : goal.invariant-loop-place
-invariant-loop-place g l = AreKeptAfter g.T.Theory.holds g.T.Theory.mentions g.T.Theory.lines (picked l.conj l.list (take l.place-index l.places)) l.fn.out l.out
