@@ -38,7 +38,7 @@ module _ (c : Catalogue) where
   every_rows (f ∷ fs) p y = and_from _ _ (sat_rows f p y.0) (every_rows fs p y.1)
 
   -- rows hold where they do
-  rows_sat : (f : PlanForm) (p : Point) → is_rows f ≡ true → rows_hold f p ≡ true → Sat (PlanAtomHolds (stored c)) f p
+  pub rows_sat : (f : PlanForm) (p : Point) → is_rows f ≡ true → rows_hold f p ≡ true → Sat (PlanAtomHolds (stored c)) f p
   rows_sat (atom (scan n ss)) p e y = absurd (true≢false (sym e))
   rows_sat (atom (rows t)) p e y = y
   rows_sat always p e y = absurd (true≢false (sym e))

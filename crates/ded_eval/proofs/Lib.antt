@@ -20,6 +20,8 @@ pub mod Reducing
 pub mod RowsBeside
 pub mod RowsRead
 pub mod Scanned
+pub mod ScannedFirst
+pub mod Shown
 pub mod Sifted
 pub mod Slotless
 pub mod Taken

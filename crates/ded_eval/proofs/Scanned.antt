@@ -38,7 +38,7 @@ use Rattle.ded_eval.proofs.Found.{IsLent}
 use Rattle.ded_eval.proofs.Windowed.{columns_within}
 
 -- tuples over columns mention the columns' slots
-over_columns : (Q : List Atom → Type 0) (h : List Column) (ts : List (List Atom)) (s : Slot) → AllByRecursion (λ t. IsTupleOver h t × Q t) ts → tuples_mention ts s ≡ true → stands_in (heading_slots 0 h) s ≡ true
+pub over_columns : (Q : List Atom → Type 0) (h : List Column) (ts : List (List Atom)) (s : Slot) → AllByRecursion (λ t. IsTupleOver h t × Q t) ts → tuples_mention ts s ≡ true → stands_in (heading_slots 0 h) s ≡ true
 unfolding tuples_mention
 over_columns Q h [] s o e = absurd (true≢false (sym e))
 over_columns Q h (t ∷ ts) s o e = ⊎_elim (λ (f : tuple_mentions t s ≡ true). o.0.0.slots s f) (λ f. over_columns Q h ts s o.1 f) (or_split (tuple_mentions t s) (tuples_mention ts s) e)

@@ -1,3 +1,4 @@
+pub mod Finding
 pub mod Given
 pub mod Joining
 pub mod Kept

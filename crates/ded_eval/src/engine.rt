@@ -1,11 +1,12 @@
 //! The evaluation as tuples.
-ghost use Rattle.std.specs.Prelude.{◌≡◌, true, IfOk, IsErrOf};
+ghost use Rattle.std.specs.Prelude.{◌≡◌, ◌∷◌, [], true, IfOk, IsErrOf};
 ghost use Rattle.ded_model.specs.Row.{tuples_hold, tuples_mention};
 ghost use Rattle.ded_model.specs.Lines.{tuples_lines};
 ghost use Rattle.ded_eval.specs.Reading.{IsWrittenAs};
 ghost use Rattle.ded_genrel.specs.Lists.{conjs_of};
 
 use crate::atoms::{eval, eval_within};
+use crate::finding::is_found;
 use crate::meeting::met;
 use crate::theories::Atoms;
 use ded_algebra::{Evaluate, Relations};
@@ -26,6 +27,9 @@ impl Evaluate for Engine {
         plan: &Plan,
         relations: &R,
     ) -> Result<Tuples, Refused> {
+        if is_found::<Atoms, R>(alloc, plan, relations)? {
+            return Ok(everywhere(alloc)?);
+        }
         let list = eval(alloc, plan, relations)?;
         Ok(tuples(alloc, list)?)
     }
@@ -49,6 +53,20 @@ impl Evaluate for Engine {
     ) -> Result<Option<Tuple>, NoMemory> {
         met(alloc, first, second)
     }
+}
+
+/// The tuple without atoms, which holds everywhere.
+///
+/// # Errors
+/// Out of memory.
+fn everywhere(alloc: Global) -> Result<Tuples, NoMemory>
+    ensures { IfOk result (λ ts. ts ≡ [] ∷ []) }
+{
+    let mut list = Vec::new(alloc);
+    list.push(Tuple {
+        atoms: Vec::new(alloc),
+    })?;
+    Ok(Tuples { list })
 }
 
 /// The normal tuples of the conjunctions of a list.

@@ -276,7 +276,10 @@ fn whole<T: Theory>(alloc: Global, list: Option<GenRel<T>>) -> Result<GenRel<T>,
 }
 
 /// The tuple, unless no point satisfies it.
-fn rows<T: OfTuples>(alloc: Global, tuple: &Tuple) -> Result<GenRel<T>, NoMemory>
+///
+/// # Errors
+/// Out of memory.
+pub(crate) fn rows<T: OfTuples>(alloc: Global, tuple: &Tuple) -> Result<GenRel<T>, NoMemory>
     requires { AllByRecursion T.reads tuple.now }
     ensures { IfOk result (λ r. (c : Catalogue) → IsEvaluation c (atom (rows tuple.now)) (conjs_hold T.holds r) (conjs_mention T.mentions r) (conjs_lines T.lines r)) }
 {

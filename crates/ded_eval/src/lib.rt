@@ -29,6 +29,7 @@ mod closed;
 mod engine;
 mod evaluation;
 mod extents;
+mod finding;
 mod given;
 pub mod laws;
 mod lookups;

@@ -10,6 +10,7 @@ ghost use Rattle.ded_model.specs.Point.{AreDistinctSlots};
 ghost use Rattle.ded_genrel.specs.Lists.{conjs_hold, conjs_mention, conjs_lines};
 ghost use Rattle.ded_model.specs.Cell.{conj_holds};
 ghost use Rattle.ded_algebra.specs.Evaluation.{IsScannedFrom, IsEvaluationWithin};
+ghost use Rattle.ded_eval.specs.Finding.{IsFoundIn};
 ghost use Rattle.ded_eval.specs.Scanning.{column_pairs};
 
 use crate::reading::{OfTuples, conjunctions};
@@ -39,6 +40,34 @@ pub(crate) fn scanned<T: OfTuples, R: Relations>(
     let columns = columns_window::<T>(alloc, window, &slots.list)?;
     match relations.near(alloc, name, &columns)? {
         Some(tuples) => {
+            let pairs = column_pairs(alloc, &slots.list)?;
+            conjunctions::<T>(alloc, &tuples)?.rename(&pairs)
+        }
+        None => unreachable!(),
+    }
+}
+
+/// The first tuples of a name that hold somewhere in the window, or are lent as such, up to `count` of them, with their columns read
+/// into the slots.
+///
+/// # Errors
+/// Out of memory.
+pub(crate) fn first_scanned<T: OfTuples, R: Relations>(
+    alloc: Global,
+    name: &Name,
+    slots: &Slots,
+    relations: &R,
+    window: &[T::Atom],
+    count: usize,
+) -> Result<GenRel<T>, NoMemory>
+    requires { IsScannedFrom T.reads (entry_of (R.catalogue relations.now).entries name.now) slots.now }
+    ensures { IfOk result (IsFoundIn T.holds (R.catalogue relations.now) (conj_holds T.holds window.now) (atom (scan name.now slots.now))) }
+{
+    relations.formed();
+    let columns = columns_window::<T>(alloc, window, &slots.list)?;
+    match relations.near(alloc, name, &columns)? {
+        Some(mut tuples) => {
+            tuples.truncate(count);
             let pairs = column_pairs(alloc, &slots.list)?;
             conjunctions::<T>(alloc, &tuples)?.rename(&pairs)
         }
