@@ -36,9 +36,9 @@ pub record SourceState : Type 0 where
 abbrev pub given_count : SourceState → ℕ → ℕ
 given_count s room = min (min room s.piece) (length s.left)
 
--- the bytes held, room for how many more, the most that a call takes, and which calls fail
+-- the contents, room for how many more, the most that a call takes, and which calls fail
 pub record SinkState : Type 0 where
-  pub held : List ℕ
+  pub contents : List ℕ
   pub room : ℕ
   pub piece : ℕ
   pub schedule : Schedule

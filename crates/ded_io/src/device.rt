@@ -35,7 +35,7 @@ pub trait Source {
 /// Where bytes go.
 pub trait Sink {
     /// The bytes that it holds, where it tells them.
-    ghost held: { Self → Option (List ℕ) };
+    ghost contents: { Self → Option (List ℕ) };
 
     /// How many faults it has counted. A call never lowers this.
     ghost faults: { Self → ℕ };
@@ -49,7 +49,7 @@ pub trait Sink {
     fn write(&mut self, bytes: &[u8]) -> Result<usize, Failed>
         ensures bound { TakesSome result bytes.now }
         ensures empty { bytes.now ≡ [] → result ≡ Ok 0 }
-        ensures bytes { WriteAppends (held self.old) (held self.new) result bytes.now }
+        ensures bytes { WriteAppends (contents self.old) (contents self.new) result bytes.now }
         ensures cause { HasCause (faults self.old) (faults self.new) result };
 }
 
@@ -58,7 +58,7 @@ pub trait Sink {
 /// # Errors
 /// `Failed` only where the sink's count of faults rose, and then it holds a front of the bytes.
 pub fn send<K: Sink>(sink: &mut K, bytes: &[u8]) -> Result<(), Failed>
-    ensures bytes { AddsAll (K.held sink.old) (K.held sink.new) result bytes.now }
+    ensures bytes { AddsAll (K.contents sink.old) (K.contents sink.new) result bytes.now }
     ensures cause { HasCause (K.faults sink.old) (K.faults sink.new) result }
 {
     let mut rest = bytes;

@@ -32,7 +32,7 @@ impl Model for BytesSink {
     ghost Value = { SinkState };
 
     ghost view = { λ s. record {
-      held = s.bytes.items;
+      contents = s.bytes.items;
       room = s.room;
       piece = s.piece;
       schedule = s.schedule;
@@ -53,7 +53,7 @@ impl BytesSink {
         fails: &[u64],
     ) -> Result<BytesSink, NoMemory>
         ensures { IfOk result (λ s. s ≡ record {
-          held = [];
+          contents = [];
           room = room;
           piece = max piece 1;
           schedule = new_schedule fails.now;
@@ -68,27 +68,27 @@ impl BytesSink {
     }
 
     /// The bytes that it holds.
-    pub fn held(&self) -> &[u8]
-        ensures { result.now ≡ self.now.held }
+    pub fn contents(&self) -> &[u8]
+        ensures { result.now ≡ self.now.contents }
     {
         &self.bytes
     }
 }
 
 impl Sink for BytesSink {
-    ghost held = { λ s. Some s.held };
+    ghost contents = { λ s. Some s.contents };
 
     ghost faults = { λ s. s.schedule.faults };
 
     fn write(&mut self, bytes: &[u8]) -> Result<usize, Failed>
         ensures bound { TakesSome result bytes.now }
         ensures empty { bytes.now ≡ [] → result ≡ Ok 0 }
-        ensures bytes { WriteAppends (Some self.old.held) (Some self.new.held) result bytes.now }
+        ensures bytes { WriteAppends (Some self.old.contents) (Some self.new.contents) result bytes.now }
         ensures cause { HasCause self.old.schedule.faults self.new.schedule.faults result }
         ensures unchanged { bytes.now ≡ [] → self.new ≡ self.old }
         ensures fails { 0 < length bytes.now → (IsErr result ↔ IsTrue (write_fails self.old)) }
         ensures count { IfOk result (λ n. n ≡ taken_count self.old (length bytes.now)) }
-        ensures held { self.new.held ≡ self.old.held ++ take (moved result) bytes.now }
+        ensures contents { self.new.contents ≡ self.old.contents ++ take (moved result) bytes.now }
         ensures room { self.new.room ≡ self.old.room - moved result }
         ensures piece { self.new.piece ≡ self.old.piece }
         ensures schedule { 0 < length bytes.now →
@@ -119,7 +119,7 @@ impl SureSink {
 }
 
 impl Sink for SureSink {
-    ghost held = { λ _. None };
+    ghost contents = { λ _. None };
 
     ghost faults = { λ _. 0 };
 

@@ -71,7 +71,7 @@ impl<W> StdSink<W> {
 }
 
 impl<W: Write> Sink for StdSink<W> {
-    ghost held = { λ s. W.contents (sink_writer s) };
+    ghost contents = { λ s. W.contents (sink_writer s) };
 
     ghost faults = { sink_faults };
 

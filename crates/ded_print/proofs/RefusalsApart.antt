@@ -13,7 +13,7 @@ use Rattle.ded_model.specs.PlanForm.{PlanForm}
 use Rattle.ded_model.specs.Row.{Atom}
 use Rattle.ded_model.specs.Refusals.{refusal_number, refusal_word}
 use Rattle.ded_print.specs.Boxes.{span_line, span_lines, rational_names, spans_text}
-use Rattle.ded_print.specs.Lines.{line_text, lines_text, counted_text, refusal_line, refusal_text}
+use Rattle.ded_print.specs.Lines.{line_text, lines_text, counted_text, refusal_line, script_text, refusal_text}
 use Rattle.ded_print.specs.Numbers.{number_text, count_text}
 use Rattle.ded_print.specs.Plans.{node_lines, plan_text}
 use Rattle.ded_print.specs.Quiet.{IsQuiet, AreQuiet}
@@ -60,6 +60,9 @@ no_answer columns ts r xs ys e = no_counted (codes "answer") (number_text (lengt
 
 pub no_plan : (f : PlanForm) (r : Refusal) (xs ys : List ℕ) → plan_text f ++ xs ≡ refusal_text r ++ ys → ⊥
 no_plan f r xs ys e = no_counted (codes "plan") (count_text (length (node_lines 0 f))) (node_lines 0 f) r xs ys (λ zs. refl) (closed_written (length (node_lines 0 f))) (λ f. omega (arith, f)) e
+
+pub no_script : (lines : List (List ℕ)) (r : Refusal) (xs ys : List ℕ) → script_text lines ++ xs ≡ refusal_text r ++ ys → ⊥
+no_script lines r xs ys e = no_counted (codes "dump") (number_text (length lines)) lines r xs ys (λ zs. refl) (closed_number (length lines)) (λ f. omega (arith, f)) e
 
 -- ---- boxes
 

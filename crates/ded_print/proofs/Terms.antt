@@ -1,5 +1,5 @@
 -- Terms and rows that are put piece by piece.
-use Rattle.std.proofs.Common.{◌≡◌, ℕ, suc, arith, ◌+◌, ◌<◌, List, ◌∷◌, ◌++◌, length, drop, drop-cons, get_or, refl, sym, ap, ◌∙◌, ⊎_elim, subst, Bool}
+use Rattle.std.proofs.Common.{◌≡◌, ℕ, suc, arith, ◌+◌, ◌<◌, List, [], ◌∷◌, ◌++◌, length, drop, drop-cons, get_or, refl, sym, ap, ◌∙◌, ⊎_elim, subst, Bool}
 use Rattle.std.specs.Prelude.{ℤ, pos, int_lt, unsigned_abs, codes, if◌then◌else◌, ◌==◌}
 use Rattle.std.proofs.lemmas.Bool.Decides.{eqb_tells}
 use lib.IntN.{neg_ℤ}
@@ -12,7 +12,7 @@ use Rattle.ded_model.specs.Row.{Atom}
 use Rattle.ded_print.specs.Gathering.{Output, Puts}
 use Rattle.ded_print.specs.Numbers.{number_text, integer_text}
 use Rattle.ded_model.specs.Quoting.{doubled, doubled_byte, quoted}
-use Rattle.ded_print.specs.Tuples.{Names, term_text, sign_text, signed, later_term_text, later_terms_text, op_text, sides_text, row_with_text, theme_text, tuple_text, atom_text, later_atoms_text}
+use Rattle.ded_print.specs.Tuples.{Names, term_text, sign_text, signed, later_term_text, later_terms_text, op_text, sides_text, row_with_text, unlike_sides_text, unlike_with_text, theme_text, tuple_text, atom_text, later_atoms_text}
 use Rattle.ded_print.proofs.Gathering.{puts_both}
 
 other : (m : ℕ) (x y : List ℕ) → (m ≡ 1 → ⊥) → (if m == 1 then x else y) ≡ y
@@ -64,6 +64,26 @@ comparison o0 o1 o2 o3 o4 names c cs coefs op constant y k turned op_bytes is si
     let number1 = subst (λ z. Puts o3 o4 (integer_text z)) last number in
     let whole : Puts o0 o4 (sides_text names turned c cs op constant) = puts_both o0 o1 o4 _ _ term1 (puts_both o1 o2 o4 _ _ terms (puts_both o2 o3 o4 _ _ compared1 number1)) in
     subst (λ z. Puts o0 o4 (row_with_text names z op constant)) (sym is) (subst (λ b. Puts o0 o4 (sides_text names b c cs op constant)) sign whole)
+
+-- a row with coefficients and with `!=`
+pub inequation : (o0 o1 o2 o3 o4 : Output) (names : Names) (c : Slot × ℤ) (cs coefs : List (Slot × ℤ)) (constant y k : ℤ) (turned : Bool)
+    → coefs ≡ c ∷ cs → turned ≡ int_lt c.1 (pos 0) → y ≡ signed turned c.1 → k ≡ neg_ℤ (signed turned constant)
+    → Puts o0 o1 (term_text names c.0 y) → Puts o1 o2 (later_terms_text names turned cs) → Puts o2 o3 (codes " != ") → Puts o3 o4 (integer_text k)
+    → Puts o0 o4 (unlike_with_text names coefs constant)
+inequation o0 o1 o2 o3 o4 names c cs coefs constant y k turned is sign first last term terms unlike number =
+    let term1 = subst (λ z. Puts o0 o1 (term_text names c.0 z)) first term in
+    let number1 = subst (λ z. Puts o3 o4 (integer_text z)) last number in
+    let whole : Puts o0 o4 (unlike_sides_text names turned c cs constant) = puts_both o0 o1 o4 _ _ term1 (puts_both o1 o2 o4 _ _ terms (puts_both o2 o3 o4 _ _ unlike number1)) in
+    subst (λ z. Puts o0 o4 (unlike_with_text names z constant)) (sym is) (subst (λ b. Puts o0 o4 (unlike_sides_text names b c cs constant)) sign whole)
+
+-- a row without coefficients
+pub no_sum : (a b c : Output) (names : Names) (coefs : List (Slot × ℤ)) (constant k : ℤ) → length coefs ≡ 0 → k ≡ neg_ℤ constant
+    → Puts a b (codes "0 != ") → Puts b c (integer_text k) → Puts a c (unlike_with_text names coefs constant)
+no_sum a b c names [] constant k none last unlike number = puts_both a b c _ _ unlike (subst (λ z. Puts b c (integer_text z)) last number)
+no_sum a b c names (s ∷ coefs) constant k none last unlike number = absurd (some (length coefs) none)
+  where
+    some : (n : ℕ) → suc n ≡ 0 → ⊥
+    some n e = omega (arith, e)
 
 -- one more byte of a quoted text
 pub next_byte : (start now next : Output) (all text : List ℕ) (i d : ℕ) → i < length text

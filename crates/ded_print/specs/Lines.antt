@@ -1,5 +1,5 @@
 -- Lines, and the replies that are one line.
-use Rattle.std.specs.Prelude.{ℕ, Bool, true, false, List, [], ◌∷◌, ◌++◌, codes, ◌==◌, if◌then◌else◌}
+use Rattle.std.specs.Prelude.{ℕ, Bool, true, false, List, [], ◌∷◌, ◌++◌, length, codes, ◌==◌, if◌then◌else◌}
 use Rattle.std.specs.List.{flat_map}
 use Rattle.ded_model.specs.declared.command.Refusal.{Refusal}
 use Rattle.ded_model.specs.Refusals.{refusal_number, refusal_word}
@@ -16,6 +16,10 @@ lines_text lines = flat_map line_text lines
 -- a line of the kind of reply and, as a text, the count of the lines after it, these lines, and `end`
 abbrev pub counted_text : List ℕ → List ℕ → List (List ℕ) → List ℕ
 counted_text kind count lines = line_text (kind ++ (32 ∷ count)) ++ (lines_text lines ++ line_text (codes "end"))
+
+-- `dump K`, where K is the count of the script's lines, and these
+abbrev pub script_text : List (List ℕ) → List ℕ
+script_text lines = counted_text (codes "dump") (number_text (length lines)) lines
 
 -- `ok`
 abbrev pub done_text : List ℕ

@@ -78,6 +78,19 @@ row_with_text names (c ∷ cs) op constant = sides_text names (int_lt c.1 (pos 0
 abbrev pub row_text : Names → LinearConstraint → List ℕ
 row_text names r = row_with_text names r.coefs r.op r.constant
 
+-- the terms, `!=`, and the constant with its sign turned; where the first coefficient is negative all signs are turned
+abbrev pub unlike_sides_text : Names → Bool → Slot × ℤ → List (Slot × ℤ) → ℤ → List ℕ
+unlike_sides_text names turned c cs constant = term_text names c.0 (signed turned c.1) ++ (later_terms_text names turned cs ++ (codes " != " ++ integer_text (neg_ℤ (signed turned constant))))
+
+-- a sum without terms is 0
+abbrev pub unlike_with_text : Names → List (Slot × ℤ) → ℤ → List ℕ
+unlike_with_text names [] constant = codes "0 != " ++ integer_text (neg_ℤ constant)
+unlike_with_text names (c ∷ cs) constant = unlike_sides_text names (int_lt c.1 (pos 0)) c cs constant
+
+-- that the sum of a row isn't 0: the row with `!=` in the place of its sign
+abbrev pub unlike_text : Names → LinearConstraint → List ℕ
+unlike_text names r = unlike_with_text names r.coefs r.constant
+
 -- ---- text atoms
 
 -- `n = 'a'`, `n != 'a'`, `n = m`, `n != m`

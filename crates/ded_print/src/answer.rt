@@ -20,7 +20,7 @@ use ded_model::tuple::{Tuple, Tuples};
 /// # Errors
 /// `Failed` only where the sink's count of faults rose.
 pub fn print_answer<K: Sink>(answer: &Answer, sink: &mut K) -> Result<(), Failed>
-    ensures bytes { AddsAll (K.held sink.old) (K.held sink.new) result
+    ensures bytes { AddsAll (K.contents sink.old) (K.contents sink.new) result
         (answer_text answer.now.heading answer.now.tuples) }
     ensures cause { HasCause (K.faults sink.old) (K.faults sink.new) result }
 {
@@ -45,8 +45,8 @@ fn put_answer<N: SlotNames, K: Sink>(
     sink: &mut K,
 )
     ensures { Puts
-        (output (K.held sink.old) (K.faults sink.old) gathered.old)
-        (output (K.held sink.new) (K.faults sink.new) gathered.new)
+        (output (K.contents sink.old) (K.faults sink.old) gathered.old)
+        (output (K.contents sink.new) (K.faults sink.new) gathered.new)
         (counted_text (codes "answer") (number_text (length tuples.now)) (map (tuple_text (N.names names.now)) tuples.now)) }
 {
     gathered.put(sink, b"answer ");
@@ -64,8 +64,8 @@ fn put_tuple_lines<N: SlotNames, K: Sink>(
     sink: &mut K,
 )
     ensures { Puts
-        (output (K.held sink.old) (K.faults sink.old) gathered.old)
-        (output (K.held sink.new) (K.faults sink.new) gathered.new)
+        (output (K.contents sink.old) (K.faults sink.old) gathered.old)
+        (output (K.contents sink.new) (K.faults sink.new) gathered.new)
         (lines_text (map (tuple_text (N.names names.now)) tuples.now)) }
 {
     for tuple in tuples {
@@ -81,8 +81,8 @@ fn put_tuple_line<N: SlotNames, K: Sink>(
     sink: &mut K,
 )
     ensures { Puts
-        (output (K.held sink.old) (K.faults sink.old) gathered.old)
-        (output (K.held sink.new) (K.faults sink.new) gathered.new)
+        (output (K.contents sink.old) (K.faults sink.old) gathered.old)
+        (output (K.contents sink.new) (K.faults sink.new) gathered.new)
         (line_text (tuple_text (N.names names.now) tuple.now)) }
 {
     put_atoms(atoms_of(tuple), names, gathered, sink);

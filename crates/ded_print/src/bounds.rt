@@ -24,7 +24,7 @@ use ded_num::{gcd, quotient};
 /// # Errors
 /// `Failed` only where the sink's count of faults rose.
 pub fn print_box<K: Sink>(heading: &Heading, reply: &BoxReply, sink: &mut K) -> Result<(), Failed>
-    ensures bytes { AddsAll (K.held sink.old) (K.held sink.new) result (box_text heading.now reply.now) }
+    ensures bytes { AddsAll (K.contents sink.old) (K.contents sink.new) result (box_text heading.now reply.now) }
     ensures cause { HasCause (K.faults sink.old) (K.faults sink.new) result }
 {
     match reply {
@@ -40,7 +40,7 @@ fn print_spans<K: Sink>(
     spans: &[(Bound, Bound)],
     sink: &mut K,
 ) -> Result<(), Failed>
-    ensures bytes { AddsAll (K.held sink.old) (K.held sink.new) result (spans_text columns.now spans.now) }
+    ensures bytes { AddsAll (K.contents sink.old) (K.contents sink.new) result (spans_text columns.now spans.now) }
     ensures cause { HasCause (K.faults sink.old) (K.faults sink.new) result }
 {
     let mut gathered = Gathered::new();
@@ -56,8 +56,8 @@ fn put_spans<K: Sink>(
     sink: &mut K,
 )
     ensures { Puts
-        (output (K.held sink.old) (K.faults sink.old) gathered.old)
-        (output (K.held sink.new) (K.faults sink.new) gathered.new)
+        (output (K.contents sink.old) (K.faults sink.old) gathered.old)
+        (output (K.contents sink.new) (K.faults sink.new) gathered.new)
         (spans_text columns.now spans.now) }
 {
     let mut next = 0;
@@ -79,8 +79,8 @@ fn is_rational(column: &Column) -> bool
 /// Puts the bounds of a column on a line.
 fn put_span<K: Sink>(name: &Name, span: (Bound, Bound), gathered: &mut Gathered, sink: &mut K)
     ensures { Puts
-        (output (K.held sink.old) (K.faults sink.old) gathered.old)
-        (output (K.held sink.new) (K.faults sink.new) gathered.new)
+        (output (K.contents sink.old) (K.faults sink.old) gathered.old)
+        (output (K.contents sink.new) (K.faults sink.new) gathered.new)
         (line_text (span_line name.now span)) }
 {
     gathered.put(sink, name_bytes(name));
@@ -94,8 +94,8 @@ fn put_span<K: Sink>(name: &Name, span: (Bound, Bound), gathered: &mut Gathered,
 /// Puts a lower bound after its bracket.
 fn put_lower<K: Sink>(bound: Bound, gathered: &mut Gathered, sink: &mut K)
     ensures { Puts
-        (output (K.held sink.old) (K.faults sink.old) gathered.old)
-        (output (K.held sink.new) (K.faults sink.new) gathered.new)
+        (output (K.contents sink.old) (K.faults sink.old) gathered.old)
+        (output (K.contents sink.new) (K.faults sink.new) gathered.new)
         (lower_text bound) }
 {
     match bound {
@@ -114,8 +114,8 @@ fn put_lower<K: Sink>(bound: Bound, gathered: &mut Gathered, sink: &mut K)
 /// Puts an upper bound before its bracket.
 fn put_upper<K: Sink>(bound: Bound, gathered: &mut Gathered, sink: &mut K)
     ensures { Puts
-        (output (K.held sink.old) (K.faults sink.old) gathered.old)
-        (output (K.held sink.new) (K.faults sink.new) gathered.new)
+        (output (K.contents sink.old) (K.faults sink.old) gathered.old)
+        (output (K.contents sink.new) (K.faults sink.new) gathered.new)
         (upper_text bound) }
 {
     match bound {
@@ -132,10 +132,10 @@ fn put_upper<K: Sink>(bound: Bound, gathered: &mut Gathered, sink: &mut K)
 }
 
 /// Puts a fraction in lowest terms.
-fn put_fraction<K: Sink>(value: Frac, gathered: &mut Gathered, sink: &mut K)
+pub(crate) fn put_fraction<K: Sink>(value: Frac, gathered: &mut Gathered, sink: &mut K)
     ensures { Puts
-        (output (K.held sink.old) (K.faults sink.old) gathered.old)
-        (output (K.held sink.new) (K.faults sink.new) gathered.new)
+        (output (K.contents sink.old) (K.faults sink.old) gathered.old)
+        (output (K.contents sink.new) (K.faults sink.new) gathered.new)
         (fraction_text value) }
 {
     let by = gcd(value.num, value.den);
@@ -150,8 +150,8 @@ fn put_fraction<K: Sink>(value: Frac, gathered: &mut Gathered, sink: &mut K)
 /// Puts a fraction that is in lowest terms: the numerator, and the denominator where it isn't 1.
 fn put_lowest<K: Sink>(num: i128, den: i128, gathered: &mut Gathered, sink: &mut K)
     ensures { Puts
-        (output (K.held sink.old) (K.faults sink.old) gathered.old)
-        (output (K.held sink.new) (K.faults sink.new) gathered.new)
+        (output (K.contents sink.old) (K.faults sink.old) gathered.old)
+        (output (K.contents sink.new) (K.faults sink.new) gathered.new)
         (lowest_text num den) }
 {
     put_integer(num, gathered, sink);

@@ -35,8 +35,8 @@ impl Count {
     /// Puts the count in decimal.
     pub(crate) fn put<K: Sink>(&self, gathered: &mut Gathered, sink: &mut K)
         ensures { Puts
-            (output (K.held sink.old) (K.faults sink.old) gathered.old)
-            (output (K.held sink.new) (K.faults sink.new) gathered.new)
+            (output (K.contents sink.old) (K.faults sink.old) gathered.old)
+            (output (K.contents sink.new) (K.faults sink.new) gathered.new)
             (reverse self.now.digits.items) }
     {
         put_reversed(self.digits.as_slice(), gathered, sink);
@@ -61,8 +61,8 @@ fn add_one(digits: &mut [u8]) -> bool
 /// Puts the bytes in reverse, the last one first.
 fn put_reversed<K: Sink>(bytes: &[u8], gathered: &mut Gathered, sink: &mut K)
     ensures { Puts
-        (output (K.held sink.old) (K.faults sink.old) gathered.old)
-        (output (K.held sink.new) (K.faults sink.new) gathered.new)
+        (output (K.contents sink.old) (K.faults sink.old) gathered.old)
+        (output (K.contents sink.new) (K.faults sink.new) gathered.new)
         (reverse bytes.now) }
 {
     if let Some((first, rest)) = bytes.split_first() {

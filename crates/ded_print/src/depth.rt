@@ -17,8 +17,8 @@ pub(crate) enum Depth<'a> {
 /// Puts the indentation of a line, two blanks for each level of its depth.
 pub(crate) fn put_indent<K: Sink>(depth: &Depth<'_>, gathered: &mut Gathered, sink: &mut K)
     ensures { Puts
-        (output (K.held sink.old) (K.faults sink.old) gathered.old)
-        (output (K.held sink.new) (K.faults sink.new) gathered.new)
+        (output (K.contents sink.old) (K.faults sink.old) gathered.old)
+        (output (K.contents sink.new) (K.faults sink.new) gathered.new)
         (indent (levels depth.now)) }
 {
     if let Depth::Below(above) = depth {

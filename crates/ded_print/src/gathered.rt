@@ -30,8 +30,8 @@ impl Gathered {
     /// Puts the bytes after those that were put before. Those that wait go to the sink where there is no room for more.
     pub(crate) fn put<K: Sink>(&mut self, sink: &mut K, bytes: &[u8])
         ensures { Puts
-            (output (K.held sink.old) (K.faults sink.old) self.old)
-            (output (K.held sink.new) (K.faults sink.new) self.new)
+            (output (K.contents sink.old) (K.faults sink.old) self.old)
+            (output (K.contents sink.new) (K.faults sink.new) self.new)
             bytes.now }
     {
         if self.keep(bytes) {
@@ -56,8 +56,8 @@ impl Gathered {
     /// Sends the bytes that wait, where nothing failed so far. None waits then.
     fn flush<K: Sink>(&mut self, sink: &mut K)
         ensures puts { Puts
-            (output (K.held sink.old) (K.faults sink.old) self.old)
-            (output (K.held sink.new) (K.faults sink.new) self.new)
+            (output (K.contents sink.old) (K.faults sink.old) self.old)
+            (output (K.contents sink.new) (K.faults sink.new) self.new)
             [] }
         ensures none { self.new.pending.items ≡ [] }
     {
@@ -71,8 +71,8 @@ impl Gathered {
     /// `Failed` only where the sink's count of faults rose since the first bytes were put.
     pub(crate) fn finish<K: Sink>(self, sink: &mut K) -> Result<(), Failed>
         ensures { Finishes
-            (output (K.held sink.old) (K.faults sink.old) self)
-            (K.held sink.new)
+            (output (K.contents sink.old) (K.faults sink.old) self)
+            (K.contents sink.new)
             (K.faults sink.new)
             result }
     {
@@ -84,9 +84,9 @@ impl Gathered {
 fn send_after<K: Sink>(so_far: Result<(), Failed>, sink: &mut K, bytes: &[u8]) -> Result<(), Failed>
     ensures { SendsAfter
         so_far
-        (K.held sink.old)
+        (K.contents sink.old)
         (K.faults sink.old)
-        (K.held sink.new)
+        (K.contents sink.new)
         (K.faults sink.new)
         result
         bytes.now }

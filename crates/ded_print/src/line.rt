@@ -15,7 +15,7 @@ use ded_model::command::Refusal;
 /// # Errors
 /// `Failed` only where the sink's count of faults rose.
 pub fn print_done<K: Sink>(sink: &mut K) -> Result<(), Failed>
-    ensures bytes { AddsAll (K.held sink.old) (K.held sink.new) result done_text }
+    ensures bytes { AddsAll (K.contents sink.old) (K.contents sink.new) result done_text }
     ensures cause { HasCause (K.faults sink.old) (K.faults sink.new) result }
 {
     send(sink, b"ok\n")
@@ -26,7 +26,7 @@ pub fn print_done<K: Sink>(sink: &mut K) -> Result<(), Failed>
 /// # Errors
 /// `Failed` only where the sink's count of faults rose.
 pub fn print_truth<K: Sink>(holds: bool, sink: &mut K) -> Result<(), Failed>
-    ensures bytes { AddsAll (K.held sink.old) (K.held sink.new) result (truth_text holds) }
+    ensures bytes { AddsAll (K.contents sink.old) (K.contents sink.new) result (truth_text holds) }
     ensures cause { HasCause (K.faults sink.old) (K.faults sink.new) result }
 {
     send(sink, truth_bytes(holds))
@@ -37,7 +37,7 @@ pub fn print_truth<K: Sink>(holds: bool, sink: &mut K) -> Result<(), Failed>
 /// # Errors
 /// `Failed` only where the sink's count of faults rose.
 pub fn print_number<K: Sink>(number: u64, sink: &mut K) -> Result<(), Failed>
-    ensures bytes { AddsAll (K.held sink.old) (K.held sink.new) result (number_reply_text number) }
+    ensures bytes { AddsAll (K.contents sink.old) (K.contents sink.new) result (number_reply_text number) }
     ensures cause { HasCause (K.faults sink.old) (K.faults sink.new) result }
 {
     let mut gathered = Gathered::new();
@@ -48,8 +48,8 @@ pub fn print_number<K: Sink>(number: u64, sink: &mut K) -> Result<(), Failed>
 /// Puts the number that a tuple was given on a line.
 fn put_number_line<K: Sink>(number: u64, gathered: &mut Gathered, sink: &mut K)
     ensures { Puts
-        (output (K.held sink.old) (K.faults sink.old) gathered.old)
-        (output (K.held sink.new) (K.faults sink.new) gathered.new)
+        (output (K.contents sink.old) (K.faults sink.old) gathered.old)
+        (output (K.contents sink.new) (K.faults sink.new) gathered.new)
         (number_reply_text number) }
 {
     gathered.put(sink, b"tuple ");
@@ -62,7 +62,7 @@ fn put_number_line<K: Sink>(number: u64, gathered: &mut Gathered, sink: &mut K)
 /// # Errors
 /// `Failed` only where the sink's count of faults rose.
 pub fn print_refusal<K: Sink>(refusal: &Refusal, sink: &mut K) -> Result<(), Failed>
-    ensures bytes { AddsAll (K.held sink.old) (K.held sink.new) result (refusal_text refusal.now) }
+    ensures bytes { AddsAll (K.contents sink.old) (K.contents sink.new) result (refusal_text refusal.now) }
     ensures cause { HasCause (K.faults sink.old) (K.faults sink.new) result }
 {
     send(sink, refusal_bytes(*refusal))

@@ -17,8 +17,8 @@ pub(crate) trait SlotNames {
     /// Puts the name of the slot.
     fn put_name<K: Sink>(&self, slot: Slot, gathered: &mut Gathered, sink: &mut K)
         ensures { Puts
-            (output (K.held sink.old) (K.faults sink.old) gathered.old)
-            (output (K.held sink.new) (K.faults sink.new) gathered.new)
+            (output (K.contents sink.old) (K.faults sink.old) gathered.old)
+            (output (K.contents sink.new) (K.faults sink.new) gathered.new)
             (names self.now slot) };
 }
 

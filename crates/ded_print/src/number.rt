@@ -10,8 +10,8 @@ use itoa::Buffer;
 /// Puts a number of a tuple or a count.
 pub(crate) fn put_natural<K: Sink>(number: u64, gathered: &mut Gathered, sink: &mut K)
     ensures { Puts
-        (output (K.held sink.old) (K.faults sink.old) gathered.old)
-        (output (K.held sink.new) (K.faults sink.new) gathered.new)
+        (output (K.contents sink.old) (K.faults sink.old) gathered.old)
+        (output (K.contents sink.new) (K.faults sink.new) gathered.new)
         (number_text number) }
 {
     let mut buffer = Buffer::new();
@@ -21,8 +21,8 @@ pub(crate) fn put_natural<K: Sink>(number: u64, gathered: &mut Gathered, sink: &
 /// Puts a coefficient's magnitude.
 pub(crate) fn put_magnitude<K: Sink>(number: u128, gathered: &mut Gathered, sink: &mut K)
     ensures { Puts
-        (output (K.held sink.old) (K.faults sink.old) gathered.old)
-        (output (K.held sink.new) (K.faults sink.new) gathered.new)
+        (output (K.contents sink.old) (K.faults sink.old) gathered.old)
+        (output (K.contents sink.new) (K.faults sink.new) gathered.new)
         (number_text number) }
 {
     let mut buffer = Buffer::new();
@@ -32,8 +32,8 @@ pub(crate) fn put_magnitude<K: Sink>(number: u128, gathered: &mut Gathered, sink
 /// Puts a constant, with `-` before a negative one.
 pub(crate) fn put_integer<K: Sink>(number: i128, gathered: &mut Gathered, sink: &mut K)
     ensures { Puts
-        (output (K.held sink.old) (K.faults sink.old) gathered.old)
-        (output (K.held sink.new) (K.faults sink.new) gathered.new)
+        (output (K.contents sink.old) (K.faults sink.old) gathered.old)
+        (output (K.contents sink.new) (K.faults sink.new) gathered.new)
         (integer_text number) }
 {
     let mut buffer = Buffer::new();

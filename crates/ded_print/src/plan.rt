@@ -27,7 +27,7 @@ use ded_model::slot::{Slot, Slots, Sort};
 /// # Errors
 /// `Failed` only where the sink's count of faults rose.
 pub fn print_plan<K: Sink>(plan: &Plan, sink: &mut K) -> Result<(), Failed>
-    ensures bytes { AddsAll (K.held sink.old) (K.held sink.new) result (plan_text (plan_form plan.now)) }
+    ensures bytes { AddsAll (K.contents sink.old) (K.contents sink.new) result (plan_text (plan_form plan.now)) }
     ensures cause { HasCause (K.faults sink.old) (K.faults sink.new) result }
 {
     let mut gathered = Gathered::new();
@@ -38,8 +38,8 @@ pub fn print_plan<K: Sink>(plan: &Plan, sink: &mut K) -> Result<(), Failed>
 /// Puts a plan: the count of its nodes, the nodes, and the end.
 fn put_plan<K: Sink>(plan: &Plan, gathered: &mut Gathered, sink: &mut K)
     ensures { Puts
-        (output (K.held sink.old) (K.faults sink.old) gathered.old)
-        (output (K.held sink.new) (K.faults sink.new) gathered.new)
+        (output (K.contents sink.old) (K.faults sink.old) gathered.old)
+        (output (K.contents sink.new) (K.faults sink.new) gathered.new)
         (plan_text (plan_form plan.now)) }
 {
     gathered.put(sink, b"plan ");
@@ -52,8 +52,8 @@ fn put_plan<K: Sink>(plan: &Plan, gathered: &mut Gathered, sink: &mut K)
 /// Puts how many nodes the plan has, of more than 64 digits the last 64.
 fn put_count<K: Sink>(plan: &Plan, gathered: &mut Gathered, sink: &mut K)
     ensures { Puts
-        (output (K.held sink.old) (K.faults sink.old) gathered.old)
-        (output (K.held sink.new) (K.faults sink.new) gathered.new)
+        (output (K.contents sink.old) (K.faults sink.old) gathered.old)
+        (output (K.contents sink.new) (K.faults sink.new) gathered.new)
         (count_text (length (node_lines 0 (plan_form plan.now)))) }
 {
     let mut count = Count::new();
@@ -92,8 +92,8 @@ fn count_parts(parts: &Vec<Plan>, count: &mut Count)
 #[cycle(lines)]
 fn put_node<K: Sink>(plan: &Plan, depth: &Depth<'_>, gathered: &mut Gathered, sink: &mut K)
     ensures { Puts
-        (output (K.held sink.old) (K.faults sink.old) gathered.old)
-        (output (K.held sink.new) (K.faults sink.new) gathered.new)
+        (output (K.contents sink.old) (K.faults sink.old) gathered.old)
+        (output (K.contents sink.new) (K.faults sink.new) gathered.new)
         (lines_text (node_lines (levels depth.now) (plan_form plan.now))) }
 {
     put_indent(depth, gathered, sink);
@@ -116,8 +116,8 @@ fn put_node<K: Sink>(plan: &Plan, depth: &Depth<'_>, gathered: &mut Gathered, si
 #[cycle(lines)]
 fn put_parts<K: Sink>(parts: &Vec<Plan>, depth: &Depth<'_>, gathered: &mut Gathered, sink: &mut K)
     ensures { Puts
-        (output (K.held sink.old) (K.faults sink.old) gathered.old)
-        (output (K.held sink.new) (K.faults sink.new) gathered.new)
+        (output (K.contents sink.old) (K.faults sink.old) gathered.old)
+        (output (K.contents sink.new) (K.faults sink.new) gathered.new)
         (lines_text (part_lines (levels depth.now) (plan_forms parts.now.items))) }
 {
     for part in parts {
@@ -128,8 +128,8 @@ fn put_parts<K: Sink>(parts: &Vec<Plan>, depth: &Depth<'_>, gathered: &mut Gathe
 /// Puts what a node is, without its parts.
 fn put_node_text<K: Sink>(plan: &Plan, gathered: &mut Gathered, sink: &mut K)
     ensures { Puts
-        (output (K.held sink.old) (K.faults sink.old) gathered.old)
-        (output (K.held sink.new) (K.faults sink.new) gathered.new)
+        (output (K.contents sink.old) (K.faults sink.old) gathered.old)
+        (output (K.contents sink.new) (K.faults sink.new) gathered.new)
         (node_text (plan_form plan.now)) }
 {
     match plan {
@@ -169,8 +169,8 @@ fn sort_bytes(sort: Sort) -> &'static [u8]
 /// Puts the scan of a relation: its name, and the slots in parentheses.
 fn put_scan<K: Sink>(name: &Name, slots: &Slots, gathered: &mut Gathered, sink: &mut K)
     ensures { Puts
-        (output (K.held sink.old) (K.faults sink.old) gathered.old)
-        (output (K.held sink.new) (K.faults sink.new) gathered.new)
+        (output (K.contents sink.old) (K.faults sink.old) gathered.old)
+        (output (K.contents sink.new) (K.faults sink.new) gathered.new)
         (plan_atom_text (scan name.now slots.now)) }
 {
     gathered.put(sink, b"scan ");
@@ -183,8 +183,8 @@ fn put_scan<K: Sink>(name: &Name, slots: &Slots, gathered: &mut Gathered, sink: 
 /// Puts the slots between commas.
 fn put_slots<K: Sink>(slots: &[Slot], gathered: &mut Gathered, sink: &mut K)
     ensures { Puts
-        (output (K.held sink.old) (K.faults sink.old) gathered.old)
-        (output (K.held sink.new) (K.faults sink.new) gathered.new)
+        (output (K.contents sink.old) (K.faults sink.old) gathered.old)
+        (output (K.contents sink.new) (K.faults sink.new) gathered.new)
         (slots_text slots.now) }
 {
     if let Some((first, later)) = slots.split_first() {
@@ -196,8 +196,8 @@ fn put_slots<K: Sink>(slots: &[Slot], gathered: &mut Gathered, sink: &mut K)
 /// Puts each slot after a comma and a blank.
 fn put_later_slots<K: Sink>(slots: &[Slot], gathered: &mut Gathered, sink: &mut K)
     ensures { Puts
-        (output (K.held sink.old) (K.faults sink.old) gathered.old)
-        (output (K.held sink.new) (K.faults sink.new) gathered.new)
+        (output (K.contents sink.old) (K.faults sink.old) gathered.old)
+        (output (K.contents sink.new) (K.faults sink.new) gathered.new)
         (later_slots_text slots.now) }
 {
     for slot in slots {

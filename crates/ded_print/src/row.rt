@@ -3,7 +3,7 @@ ghost use Rattle.std.specs.Prelude.{◌≡◌};
 ghost use Rattle.ded_num.specs.Length.{IsShort};
 ghost use Rattle.ded_model.specs.Coefs.{AreCoefs};
 ghost use Rattle.ded_print.specs.Gathering.{output, Puts};
-ghost use Rattle.ded_print.specs.Tuples.{signed, term_text, sign_text, later_term_text, later_terms_text, op_text, row_with_text, row_text};
+ghost use Rattle.ded_print.specs.Tuples.{signed, term_text, sign_text, later_term_text, later_terms_text, op_text, row_with_text, row_text, unlike_with_text, unlike_text};
 
 use crate::gathered::Gathered;
 use crate::naming::SlotNames;
@@ -20,8 +20,8 @@ pub(crate) fn put_row<N: SlotNames, K: Sink>(
     sink: &mut K,
 )
     ensures { Puts
-        (output (K.held sink.old) (K.faults sink.old) gathered.old)
-        (output (K.held sink.new) (K.faults sink.new) gathered.new)
+        (output (K.contents sink.old) (K.faults sink.old) gathered.old)
+        (output (K.contents sink.new) (K.faults sink.new) gathered.new)
         (row_text (N.names names.now) row.now) }
 {
     put_comparison(
@@ -46,8 +46,8 @@ fn put_comparison<N: SlotNames, K: Sink>(
     requires coefs { AreCoefs coefs.now }
     requires constant { IsShort constant }
     ensures { Puts
-        (output (K.held sink.old) (K.faults sink.old) gathered.old)
-        (output (K.held sink.new) (K.faults sink.new) gathered.new)
+        (output (K.contents sink.old) (K.faults sink.old) gathered.old)
+        (output (K.contents sink.new) (K.faults sink.new) gathered.new)
         (row_with_text (N.names names.now) coefs.now op constant) }
 {
     let Some((&(slot, a), later)) = coefs.split_first() else {
@@ -59,6 +59,52 @@ fn put_comparison<N: SlotNames, K: Sink>(
     put_later_terms(later, turned, names, gathered, sink);
     gathered.put(sink, op_bytes(turned, op));
     put_integer(turned_if(true, turned_if(turned, constant)), gathered, sink);
+}
+
+/// Puts a row with `!=` in the place of its sign.
+pub(crate) fn put_unlike<N: SlotNames, K: Sink>(
+    row: &Row,
+    names: &N,
+    gathered: &mut Gathered,
+    sink: &mut K,
+)
+    ensures { Puts
+        (output (K.contents sink.old) (K.faults sink.old) gathered.old)
+        (output (K.contents sink.new) (K.faults sink.new) gathered.new)
+        (unlike_text (N.names names.now) row.now) }
+{
+    put_inequation(row.coefs.list(), row.constant, names, gathered, sink);
+}
+
+/// Puts a row with `!=` in the place of its sign that is given by its parts.
+fn put_inequation<N: SlotNames, K: Sink>(
+    coefs: &[(Slot, i128)],
+    constant: i128,
+    names: &N,
+    gathered: &mut Gathered,
+    sink: &mut K,
+)
+    requires coefs { AreCoefs coefs.now }
+    requires constant { IsShort constant }
+    ensures { Puts
+        (output (K.contents sink.old) (K.faults sink.old) gathered.old)
+        (output (K.contents sink.new) (K.faults sink.new) gathered.new)
+        (unlike_with_text (N.names names.now) coefs.now constant) }
+{
+    let Some((&(slot, a), later)) = coefs.split_first() else {
+        gathered.put(sink, b"0 != ");
+        put_integer(turned_if(true, constant), gathered, sink);
+        return;
+    };
+    let reversed = a < 0;
+    put_term(slot, turned_if(reversed, a), names, gathered, sink);
+    put_later_terms(later, reversed, names, gathered, sink);
+    gathered.put(sink, b" != ");
+    put_integer(
+        turned_if(true, turned_if(reversed, constant)),
+        gathered,
+        sink,
+    );
 }
 
 /// The number, or its negative where all signs are turned.
@@ -92,8 +138,8 @@ fn put_term<N: SlotNames, K: Sink>(
     sink: &mut K,
 )
     ensures { Puts
-        (output (K.held sink.old) (K.faults sink.old) gathered.old)
-        (output (K.held sink.new) (K.faults sink.new) gathered.new)
+        (output (K.contents sink.old) (K.faults sink.old) gathered.old)
+        (output (K.contents sink.new) (K.faults sink.new) gathered.new)
         (term_text (N.names names.now) slot a) }
 {
     let magnitude = a.unsigned_abs();
@@ -122,8 +168,8 @@ fn put_later_term<N: SlotNames, K: Sink>(
     sink: &mut K,
 )
     ensures { Puts
-        (output (K.held sink.old) (K.faults sink.old) gathered.old)
-        (output (K.held sink.new) (K.faults sink.new) gathered.new)
+        (output (K.contents sink.old) (K.faults sink.old) gathered.old)
+        (output (K.contents sink.new) (K.faults sink.new) gathered.new)
         (later_term_text (N.names names.now) slot a) }
 {
     gathered.put(sink, sign_bytes(a));
@@ -140,8 +186,8 @@ fn put_later_terms<N: SlotNames, K: Sink>(
 )
     requires { AreCoefs coefs.now }
     ensures { Puts
-        (output (K.held sink.old) (K.faults sink.old) gathered.old)
-        (output (K.held sink.new) (K.faults sink.new) gathered.new)
+        (output (K.contents sink.old) (K.faults sink.old) gathered.old)
+        (output (K.contents sink.new) (K.faults sink.new) gathered.new)
         (later_terms_text (N.names names.now) turned coefs.now) }
 {
     for (slot, a) in coefs {

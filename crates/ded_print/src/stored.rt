@@ -24,7 +24,7 @@ pub fn print_stored<K: Sink>(
     stored: &[(u32, Tuple)],
     sink: &mut K,
 ) -> Result<(), Failed>
-    ensures bytes { AddsAll (K.held sink.old) (K.held sink.new) result (stored_text heading.now stored.now) }
+    ensures bytes { AddsAll (K.contents sink.old) (K.contents sink.new) result (stored_text heading.now stored.now) }
     ensures cause { HasCause (K.faults sink.old) (K.faults sink.new) result }
 {
     let mut gathered = Gathered::new();
@@ -41,8 +41,8 @@ fn put_stored<N: SlotNames, K: Sink>(
     sink: &mut K,
 )
     ensures { Puts
-        (output (K.held sink.old) (K.faults sink.old) gathered.old)
-        (output (K.held sink.new) (K.faults sink.new) gathered.new)
+        (output (K.contents sink.old) (K.faults sink.old) gathered.old)
+        (output (K.contents sink.new) (K.faults sink.new) gathered.new)
         (counted_text (codes "tuples") (number_text (length stored.now)) (map (stored_line (N.names names.now)) stored.now)) }
 {
     gathered.put(sink, b"tuples ");
@@ -60,8 +60,8 @@ fn put_stored_lines<N: SlotNames, K: Sink>(
     sink: &mut K,
 )
     ensures { Puts
-        (output (K.held sink.old) (K.faults sink.old) gathered.old)
-        (output (K.held sink.new) (K.faults sink.new) gathered.new)
+        (output (K.contents sink.old) (K.faults sink.old) gathered.old)
+        (output (K.contents sink.new) (K.faults sink.new) gathered.new)
         (lines_text (map (stored_line (N.names names.now)) stored.now)) }
 {
     for tuple in stored {
@@ -77,8 +77,8 @@ fn put_stored_line<N: SlotNames, K: Sink>(
     sink: &mut K,
 )
     ensures { Puts
-        (output (K.held sink.old) (K.faults sink.old) gathered.old)
-        (output (K.held sink.new) (K.faults sink.new) gathered.new)
+        (output (K.contents sink.old) (K.faults sink.old) gathered.old)
+        (output (K.contents sink.new) (K.faults sink.new) gathered.new)
         (line_text (stored_line (N.names names.now) numbered.now)) }
 {
     put_natural(u64::from(numbered.0), gathered, sink);

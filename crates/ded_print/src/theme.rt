@@ -17,8 +17,8 @@ pub(crate) fn put_theme<N: SlotNames, K: Sink>(
     sink: &mut K,
 )
     ensures { Puts
-        (output (K.held sink.old) (K.faults sink.old) gathered.old)
-        (output (K.held sink.new) (K.faults sink.new) gathered.new)
+        (output (K.contents sink.old) (K.faults sink.old) gathered.old)
+        (output (K.contents sink.new) (K.faults sink.new) gathered.new)
         (theme_text (N.names names.now) atom.now) }
 {
     match atom {
@@ -46,10 +46,10 @@ pub(crate) fn put_theme<N: SlotNames, K: Sink>(
 }
 
 /// Puts a text between quotes, each quote inside it twice.
-fn put_quoted<K: Sink>(text: &[u8], gathered: &mut Gathered, sink: &mut K)
+pub(crate) fn put_quoted<K: Sink>(text: &[u8], gathered: &mut Gathered, sink: &mut K)
     ensures { Puts
-        (output (K.held sink.old) (K.faults sink.old) gathered.old)
-        (output (K.held sink.new) (K.faults sink.new) gathered.new)
+        (output (K.contents sink.old) (K.faults sink.old) gathered.old)
+        (output (K.contents sink.new) (K.faults sink.new) gathered.new)
         (quoted text.now) }
 {
     gathered.put(sink, b"'");
@@ -60,8 +60,8 @@ fn put_quoted<K: Sink>(text: &[u8], gathered: &mut Gathered, sink: &mut K)
 /// Puts a text, each quote twice.
 fn put_doubled<K: Sink>(text: &[u8], gathered: &mut Gathered, sink: &mut K)
     ensures { Puts
-        (output (K.held sink.old) (K.faults sink.old) gathered.old)
-        (output (K.held sink.new) (K.faults sink.new) gathered.new)
+        (output (K.contents sink.old) (K.faults sink.old) gathered.old)
+        (output (K.contents sink.new) (K.faults sink.new) gathered.new)
         (doubled text.now) }
 {
     for byte in text {
@@ -72,8 +72,8 @@ fn put_doubled<K: Sink>(text: &[u8], gathered: &mut Gathered, sink: &mut K)
 /// Puts a byte, twice where it is a quote.
 fn put_byte<K: Sink>(byte: u8, gathered: &mut Gathered, sink: &mut K)
     ensures { Puts
-        (output (K.held sink.old) (K.faults sink.old) gathered.old)
-        (output (K.held sink.new) (K.faults sink.new) gathered.new)
+        (output (K.contents sink.old) (K.faults sink.old) gathered.old)
+        (output (K.contents sink.new) (K.faults sink.new) gathered.new)
         (doubled_byte byte) }
 {
     if byte == b'\'' {

@@ -18,7 +18,7 @@ use ded_model::tuple::{Atom, BothAtom, Tuple};
 /// # Errors
 /// `Failed` only where the sink's count of faults rose.
 pub fn print_tuple<K: Sink>(heading: &Heading, tuple: &Tuple, sink: &mut K) -> Result<(), Failed>
-    ensures bytes { AddsAll (K.held sink.old) (K.held sink.new) result
+    ensures bytes { AddsAll (K.contents sink.old) (K.contents sink.new) result
         (tuple_text (column_names heading.now) tuple.now) }
     ensures cause { HasCause (K.faults sink.old) (K.faults sink.new) result }
 {
@@ -50,8 +50,8 @@ pub(crate) fn put_atoms<N: SlotNames, K: Sink>(
     sink: &mut K,
 )
     ensures { Puts
-        (output (K.held sink.old) (K.faults sink.old) gathered.old)
-        (output (K.held sink.new) (K.faults sink.new) gathered.new)
+        (output (K.contents sink.old) (K.faults sink.old) gathered.old)
+        (output (K.contents sink.new) (K.faults sink.new) gathered.new)
         (tuple_text (N.names names.now) atoms.now) }
 {
     let Some((first, later)) = atoms.split_first() else {
@@ -72,8 +72,8 @@ fn put_later_atoms<N: SlotNames, K: Sink>(
     sink: &mut K,
 )
     ensures { Puts
-        (output (K.held sink.old) (K.faults sink.old) gathered.old)
-        (output (K.held sink.new) (K.faults sink.new) gathered.new)
+        (output (K.contents sink.old) (K.faults sink.old) gathered.old)
+        (output (K.contents sink.new) (K.faults sink.new) gathered.new)
         (later_atoms_text (N.names names.now) atoms.now) }
 {
     for atom in atoms {
@@ -85,8 +85,8 @@ fn put_later_atoms<N: SlotNames, K: Sink>(
 /// Puts an atom: a row or a text atom.
 fn put_atom<N: SlotNames, K: Sink>(atom: &Atom, names: &N, gathered: &mut Gathered, sink: &mut K)
     ensures { Puts
-        (output (K.held sink.old) (K.faults sink.old) gathered.old)
-        (output (K.held sink.new) (K.faults sink.new) gathered.new)
+        (output (K.contents sink.old) (K.faults sink.old) gathered.old)
+        (output (K.contents sink.new) (K.faults sink.new) gathered.new)
         (atom_text (N.names names.now) atom.now) }
 {
     match atom {

@@ -19,7 +19,7 @@ pub(crate) struct Text {
 }
 
 impl Sink for Text {
-    ghost held = { λ t. Some (text_bytes t) };
+    ghost contents = { λ t. Some (text_bytes t) };
 
     ghost faults = { text_faults };
 

@@ -6,10 +6,10 @@ use Rattle.ded_io.proofs.device.send.Given as goal
 -- what isn't left was taken, and no call failed
 abbrev pub invariant-loop-rest : goal.invariant-loop-rest
 invariant-loop-rest g l =
-    let held = g.K.Sink.held in
+    let contents = g.K.Sink.contents in
     let faults = g.K.Sink.faults in
     record {
-      sent : Sent (held l.fn.sink) (held l.sink) l.fn.bytes l.rest;
+      sent : Sent (contents l.fn.sink) (contents l.sink) l.fn.bytes l.rest;
       done : faults l.sink ≡ faults l.fn.sink;
     }
 

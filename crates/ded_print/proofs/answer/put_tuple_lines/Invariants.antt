@@ -8,7 +8,7 @@ use Rattle.ded_print.proofs.answer.put_tuple_lines.Given as goal
 abbrev pub invariant-loop-tuple : goal.invariant-loop-tuple
 invariant-loop-tuple g l =
     let names = g.N.SlotNames.names l.names in
-    let held = g.K.Sink.held in
+    let contents = g.K.Sink.contents in
     let faults = g.K.Sink.faults in
-    (end : Output) → Puts (output (held l.sink) (faults l.sink) l.gathered) end (lines_text (map (tuple_text names) (drop l.tuple-index l.tuples)))
-    → Puts (output (held l.fn.sink) (faults l.fn.sink) l.fn.gathered) end (lines_text (map (tuple_text names) l.tuples))
+    (end : Output) → Puts (output (contents l.sink) (faults l.sink) l.gathered) end (lines_text (map (tuple_text names) (drop l.tuple-index l.tuples)))
+    → Puts (output (contents l.fn.sink) (faults l.fn.sink) l.fn.gathered) end (lines_text (map (tuple_text names) l.tuples))

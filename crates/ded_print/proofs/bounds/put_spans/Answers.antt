@@ -7,13 +7,13 @@ use Rattle.ded_print.proofs.bounds.put_spans.Goals.{then-is_rational+then-next-s
 
 pub loop-column-preserved : goal.loop-column-preserved
 loop-column-preserved g c =
-    let start = output (g.K.Sink.held c.args.sink.now) (g.K.Sink.faults c.args.sink.now) c.args.gathered.now in
-    let now = output (g.K.Sink.held c.loop-column.sink) (g.K.Sink.faults c.loop-column.sink) c.loop-column.gathered in
+    let start = output (g.K.Sink.contents c.args.sink.now) (g.K.Sink.faults c.args.sink.now) c.args.gathered.now in
+    let now = output (g.K.Sink.contents c.loop-column.sink) (g.K.Sink.faults c.loop-column.sink) c.loop-column.gathered in
     let columns = c.args.columns.now in
     let spans = c.args.spans.now in
     elim c.if-is_rational.branch [
       | then-is_rational+then-next-spans w ↦
-          let next = output (g.K.Sink.held w.put_span.new.sink) (g.K.Sink.faults w.put_span.new.sink) w.put_span.new.gathered in
+          let next = output (g.K.Sink.contents w.put_span.new.sink) (g.K.Sink.faults w.put_span.new.sink) w.put_span.new.gathered in
           rw w.gathered-is (rw w.sink-is
           (next_span start now columns columns spans spans c.loop-column.column-index c.loop-column.next c.column-item.result c.loop-column-test.true c.column-item.is c.loop-column.invariant
           next c.if-is_rational.next w.index-spans-next.result w.next-is (sym c.is_rational.ensures ∙ w.if-is_rational.true) w.if-next-spans.true w.index-spans-next.is w.put_span.ensures))

@@ -6,7 +6,7 @@ use Rattle.ded_print.proofs.bounds.put_spans.Given as goal
 
 abbrev pub invariant-loop-column : goal.invariant-loop-column
 invariant-loop-column g l =
-    let held = g.K.Sink.held in
+    let contents = g.K.Sink.contents in
     let faults = g.K.Sink.faults in
-    (end : Output) → Puts (output (held l.sink) (faults l.sink) l.gathered) end (spans_text (drop l.column-index l.columns) (drop l.next l.spans))
-    → Puts (output (held l.fn.sink) (faults l.fn.sink) l.fn.gathered) end (spans_text l.columns l.spans)
+    (end : Output) → Puts (output (contents l.sink) (faults l.sink) l.gathered) end (spans_text (drop l.column-index l.columns) (drop l.next l.spans))
+    → Puts (output (contents l.fn.sink) (faults l.fn.sink) l.fn.gathered) end (spans_text l.columns l.spans)

@@ -59,7 +59,7 @@ put_node-returns-in-Join g t c =
 
 pub put_parts-loop-part-preserved : goal.put_parts-loop-part-preserved
 put_parts-loop-part-preserved g t c =
-    let start = output (g.K.Sink.held c.args.sink.now) (g.K.Sink.faults c.args.sink.now) c.args.gathered.now in
-    let now = output (g.K.Sink.held c.loop-part.sink) (g.K.Sink.faults c.loop-part.sink) c.loop-part.gathered in
-    let next = output (g.K.Sink.held c.put_node.new.sink) (g.K.Sink.faults c.put_node.new.sink) c.put_node.new.gathered in
+    let start = output (g.K.Sink.contents c.args.sink.now) (g.K.Sink.faults c.args.sink.now) c.args.gathered.now in
+    let now = output (g.K.Sink.contents c.loop-part.sink) (g.K.Sink.faults c.loop-part.sink) c.loop-part.gathered in
+    let next = output (g.K.Sink.contents c.put_node.new.sink) (g.K.Sink.faults c.put_node.new.sink) c.put_node.new.gathered in
     next_part start now next (levels c.args.depth.now) c.deref-part-items.result.now c.loop-part.part-index c.part-item.result c.loop-part-test.true c.part-item.is c.loop-part.invariant c.put_node.ensures

@@ -9,7 +9,7 @@ use Rattle.ded_print.proofs.plan.+lines.Given as goal
 
 abbrev pub invariant-put_parts-loop-part : goal.invariant-put_parts-loop-part
 invariant-put_parts-loop-part g l =
-    let held = g.K.Sink.held in
+    let contents = g.K.Sink.contents in
     let faults = g.K.Sink.faults in
-    (end : Output) → Puts (output (held l.sink) (faults l.sink) l.gathered) end (lines_text (part_lines (levels l.depth) (plan_forms (drop l.part-index l.part-items))))
-    → Puts (output (held l.fn.sink) (faults l.fn.sink) l.fn.gathered) end (lines_text (part_lines (levels l.depth) (plan_forms l.part-items)))
+    (end : Output) → Puts (output (contents l.sink) (faults l.sink) l.gathered) end (lines_text (part_lines (levels l.depth) (plan_forms (drop l.part-index l.part-items))))
+    → Puts (output (contents l.fn.sink) (faults l.fn.sink) l.fn.gathered) end (lines_text (part_lines (levels l.depth) (plan_forms l.part-items)))

@@ -6,7 +6,7 @@ use Rattle.ded_print.proofs.plan.put_later_slots.Given as goal
 
 abbrev pub invariant-loop-slot : goal.invariant-loop-slot
 invariant-loop-slot g l =
-    let held = g.K.Sink.held in
+    let contents = g.K.Sink.contents in
     let faults = g.K.Sink.faults in
-    (end : Output) → Puts (output (held l.sink) (faults l.sink) l.gathered) end (later_slots_text (drop l.slot-index l.slots))
-    → Puts (output (held l.fn.sink) (faults l.fn.sink) l.fn.gathered) end (later_slots_text l.slots)
+    (end : Output) → Puts (output (contents l.sink) (faults l.sink) l.gathered) end (later_slots_text (drop l.slot-index l.slots))
+    → Puts (output (contents l.fn.sink) (faults l.fn.sink) l.fn.gathered) end (later_slots_text l.slots)

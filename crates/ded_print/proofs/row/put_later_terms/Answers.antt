@@ -18,9 +18,9 @@ loop-slot-preserved g c =
     let none : Slot × ℤ = (record { number = 0; sort = Rat }, pos 0) in
     let there = c.loop-slot-test.true in
     let here = get_or coefs i none in
-    let start = output (g.K.Sink.held c.args.sink.now) (g.K.Sink.faults c.args.sink.now) c.args.gathered.now in
-    let now = output (g.K.Sink.held c.loop-slot.sink) (g.K.Sink.faults c.loop-slot.sink) c.loop-slot.gathered in
-    let next = output (g.K.Sink.held c.put_later_term.new.sink) (g.K.Sink.faults c.put_later_term.new.sink) c.put_later_term.new.gathered in
+    let start = output (g.K.Sink.contents c.args.sink.now) (g.K.Sink.faults c.args.sink.now) c.args.gathered.now in
+    let now = output (g.K.Sink.contents c.loop-slot.sink) (g.K.Sink.faults c.loop-slot.sink) c.loop-slot.gathered in
+    let next = output (g.K.Sink.contents c.put_later_term.new.sink) (g.K.Sink.faults c.put_later_term.new.sink) c.put_later_term.new.gathered in
     let back = to_z-of_z w128 c.turned_if.result (fits_signed_from_abs w128 c.turned_if.result c.turned_if.ensures.short) in
     let read = to_z-of_z w128 here.1 (fits_signed_from_abs w128 here.1 (short_here coefs i none there c.loop-slot.invariant.kept)) in
     record {

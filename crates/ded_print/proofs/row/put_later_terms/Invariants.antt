@@ -8,10 +8,10 @@ use Rattle.ded_print.proofs.row.put_later_terms.Given as goal
 abbrev pub invariant-loop-slot : goal.invariant-loop-slot
 invariant-loop-slot g l =
     let names = g.N.SlotNames.names l.names in
-    let held = g.K.Sink.held in
+    let contents = g.K.Sink.contents in
     let faults = g.K.Sink.faults in
     record {
-      goes : (end : Output) → Puts (output (held l.sink) (faults l.sink) l.gathered) end (later_terms_text names l.turned (drop l.slot-index l.coefs))
-          → Puts (output (held l.fn.sink) (faults l.fn.sink) l.fn.gathered) end (later_terms_text names l.turned l.coefs);
+      goes : (end : Output) → Puts (output (contents l.sink) (faults l.sink) l.gathered) end (later_terms_text names l.turned (drop l.slot-index l.coefs))
+          → Puts (output (contents l.fn.sink) (faults l.fn.sink) l.fn.gathered) end (later_terms_text names l.turned l.coefs);
       kept : AreCoefs (drop l.slot-index l.coefs);
     }
