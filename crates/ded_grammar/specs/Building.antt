@@ -1,47 +1,47 @@
--- Reading a formula, as a function on pieces, with room for some levels of nesting.
+-- Reading a formula, as a function on terminals, with room for some levels of nesting.
 use Rattle.std.specs.Prelude.{ℕ, suc, ◌+◌, max, List, [], ◌∷◌, length, Option, Some, None, if◌then◌else◌, nat_lt}
 use Rattle.std.proofs.Common.{zero}
 use Rattle.ded_model.specs.Form.{Form}
 use Rattle.ded_model.specs.Logic.{negation, implies}
-use Rattle.ded_grammar.specs.Trees.{PieceForm, nay, conjunct, disjunct, arrow, opening, closing, binder, leaf, quantified, all_of, any_of}
+use Rattle.ded_grammar.specs.Trees.{TerminalForm, nay, conjunct, disjunct, arrow, opening, closing, binder, leaf, quantified, all_of, any_of}
 
 infixl 10 ◌>>=◌
 abbrev pub ◌>>=◌ : {A B : Type 0} → Option A → (A → Option B) → Option B
 None >>= f = None
 (Some x) >>= f = f x
 
--- a formula, its nesting, and the pieces after it
+-- a formula, its nesting, and the terminals after it
 abbrev pub Found : Type 0
-Found = Form × ℕ × List PieceForm
+Found = Form × ℕ × List TerminalForm
 
 abbrev pub Reader : Type 0
-Reader = List PieceForm → Option Found
+Reader = List TerminalForm → Option Found
 
 abbrev pub nothing : Reader
 nothing ps = None
 
 -- behind the closing sign
-abbrev pub after_closing : List PieceForm → Option (List PieceForm)
+abbrev pub after_closing : List TerminalForm → Option (List TerminalForm)
 after_closing (closing ∷ ps) = Some ps
 after_closing ps = None
 
 abbrev pub closed : Found → Option Found
 closed x = after_closing x.2 >>= λ ps. Some (x.0, x.1, ps)
 
--- the members of a chain, the greatest nesting, and the pieces after it
+-- the members of a chain, the greatest nesting, and the terminals after it
 abbrev pub Chain : Type 0
-Chain = List Form × ℕ × List PieceForm
+Chain = List Form × ℕ × List TerminalForm
 
 -- what stands behind the sign that goes on with a chain
-abbrev pub after_conjunct : List PieceForm → Option (List PieceForm)
+abbrev pub after_conjunct : List TerminalForm → Option (List TerminalForm)
 after_conjunct (conjunct ∷ ps) = Some ps
 after_conjunct ps = None
 
-abbrev pub after_disjunct : List PieceForm → Option (List PieceForm)
+abbrev pub after_disjunct : List TerminalForm → Option (List TerminalForm)
 after_disjunct (disjunct ∷ ps) = Some ps
 after_disjunct ps = None
 
-abbrev pub after_arrow : List PieceForm → Option (List PieceForm)
+abbrev pub after_arrow : List TerminalForm → Option (List TerminalForm)
 after_arrow (arrow ∷ ps) = Some ps
 after_arrow ps = None
 
@@ -50,7 +50,7 @@ abbrev pub onto : Found → Chain → Chain
 onto x c = (x.0 ∷ c.0, max x.1 c.1, c.2)
 
 -- up to so many members
-abbrev pub chain : Reader → (List PieceForm → Option (List PieceForm)) → ℕ → List PieceForm → Option Chain
+abbrev pub chain : Reader → (List TerminalForm → Option (List TerminalForm)) → ℕ → List TerminalForm → Option Chain
 chain read sign zero ps = None
 chain read sign (suc n) ps = read ps >>= λ x. elim (sign x.2) [ None ↦ Some (x.0 ∷ [], x.1, x.2) | Some more ↦ chain read sign n more >>= λ c. Some (onto x c) ]
 
@@ -61,7 +61,7 @@ abbrev pub either_by : Reader → Reader
 either_by one ps = chain (both_by one) after_disjunct (length ps) ps >>= λ c. Some (any_of c.0, c.1, c.2)
 
 -- behind the left side of an arrow, or where there is none
-abbrev pub after_left : ℕ → Reader → Found → Option (List PieceForm) → Option Found
+abbrev pub after_left : ℕ → Reader → Found → Option (List TerminalForm) → Option Found
 after_left k right x None = Some x
 after_left k right x (Some more) = if nat_lt (x.1 + 1) k then (right more >>= λ y. Some (implies x.0 y.0, max x.1 y.1 + 1, y.2)) else None
 

@@ -1,19 +1,19 @@
--- The piece that a value of the program stands for.
+-- The terminal that a value of the program stands for.
 use Rattle.std.specs.Prelude.{List, map}
 use Rattle.ded_model.specs.Form.{form}
-use Rattle.ded_grammar.specs.declared.piece.Piece.{Piece}
-use Rattle.ded_grammar.specs.declared.piece.Piece.TheVariants.{Not, And, Or, Implies, Open, Close, Bind, Atom}
-use Rattle.ded_grammar.specs.Trees.{PieceForm, nay, conjunct, disjunct, arrow, opening, closing, binder, leaf}
+use Rattle.ded_grammar.specs.declared.terminal.Terminal.{Terminal}
+use Rattle.ded_grammar.specs.declared.terminal.Terminal.TheVariants.{Not, And, Or, Implies, Open, Close, Bind, Atom}
+use Rattle.ded_grammar.specs.Trees.{TerminalForm, nay, conjunct, disjunct, arrow, opening, closing, binder, leaf}
 
-abbrev pub piece_form : Piece → PieceForm
-piece_form Not = nay
-piece_form And = conjunct
-piece_form Or = disjunct
-piece_form Implies = arrow
-piece_form Open = opening
-piece_form Close = closing
-piece_form (Bind q c) = binder q c
-piece_form (Atom f) = leaf (form f)
+abbrev pub terminal_form : Terminal → TerminalForm
+terminal_form Not = nay
+terminal_form And = conjunct
+terminal_form Or = disjunct
+terminal_form Implies = arrow
+terminal_form Open = opening
+terminal_form Close = closing
+terminal_form (Bind q c) = binder q c
+terminal_form (Atom f) = leaf (form f)
 
-abbrev pub piece_forms : List Piece → List PieceForm
-piece_forms items = map piece_form items
+abbrev pub terminal_forms : List Terminal → List TerminalForm
+terminal_forms items = map terminal_form items

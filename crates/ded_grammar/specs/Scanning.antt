@@ -1,11 +1,11 @@
--- Whether pieces spell a formula, found from left to right with a count of what is open.
+-- Whether terminals spell a formula, found from left to right with a count of what is open.
 use Rattle.std.specs.Prelude.{ℕ, suc, Bool, false, List, [], ◌∷◌, ◌==◌, Option, Some, None}
 use Rattle.ded_grammar.specs.declared.scan.Spot.{Spot}
 use Rattle.ded_grammar.specs.declared.scan.Spot.TheVariants.{Start, Within, After}
-use Rattle.ded_grammar.specs.Trees.{PieceForm, nay, conjunct, disjunct, arrow, opening, closing, binder, leaf}
+use Rattle.ded_grammar.specs.Trees.{TerminalForm, nay, conjunct, disjunct, arrow, opening, closing, binder, leaf}
 
 -- Start: a unit is to come. Within: the body of a quantifier. After: a unit stands before.
-abbrev pub stepped : Spot → ℕ → PieceForm → Option (Spot × ℕ)
+abbrev pub stepped : Spot → ℕ → TerminalForm → Option (Spot × ℕ)
 stepped Start n nay = Some (Start, n)
 stepped Start n opening = Some (Start, suc n)
 stepped Start n (binder q c) = Some (Within, n)
@@ -22,6 +22,6 @@ abbrev pub finished : Spot → ℕ → Bool
 finished After n = n == 0
 finished s n = false
 
-abbrev pub scan : Spot → ℕ → List PieceForm → Bool
+abbrev pub scan : Spot → ℕ → List TerminalForm → Bool
 scan s n [] = finished s n
 scan s n (p ∷ ps) = elim (stepped s n p) [ None ↦ false | Some x ↦ scan x.0 x.1 ps ]

@@ -1,22 +1,22 @@
--- The grammar of formulas over pieces: atoms, quantifiers with their columns, and the signs between them.
+-- The grammar of formulas over terminals: atoms, quantifiers with their columns, and the signs between them.
 use Rattle.std.specs.Prelude.{ℕ, ◌+◌, max, Bool, false, List, [], ◌∷◌, ◌++◌}
 use Rattle.ded_model.specs.declared.name.Column.{Column}
 use Rattle.ded_model.specs.Point.{name}
 use Rattle.ded_model.specs.Form.{Form, FormAtom}
 use Rattle.ded_model.specs.Logic.{always, negation, every_of, some_of, implies, exists, forall, logics, some_atom}
-use Rattle.ded_grammar.specs.declared.piece.Quantifier.{Quantifier}
-use Rattle.ded_grammar.specs.declared.piece.Quantifier.TheVariants.{Exists, Forall}
+use Rattle.ded_grammar.specs.declared.terminal.Quantifier.{Quantifier}
+use Rattle.ded_grammar.specs.declared.terminal.Quantifier.TheVariants.{Exists, Forall}
 
 -- a sign between formulas, a quantifier with its variable, or a formula that has no formula inside
-pub data PieceForm : Type 0 where
-  nay : PieceForm
-  conjunct : PieceForm
-  disjunct : PieceForm
-  arrow : PieceForm
-  opening : PieceForm
-  closing : PieceForm
-  binder : Quantifier → Column → PieceForm
-  leaf : Form → PieceForm
+pub data TerminalForm : Type 0 where
+  nay : TerminalForm
+  conjunct : TerminalForm
+  disjunct : TerminalForm
+  arrow : TerminalForm
+  opening : TerminalForm
+  closing : TerminalForm
+  binder : Quantifier → Column → TerminalForm
+  leaf : Form → TerminalForm
 
 -- formula = either [ "implies" formula ]
 -- either = both ( "or" both )*
@@ -47,27 +47,27 @@ mutual
     bound_again : Quantifier → Column → Body → Body
     around : Whole → Body
 
--- the pieces, in order
+-- the terminals, in order
 abbrev mutual
-  pub spell : Whole → List PieceForm
+  pub spell : Whole → List TerminalForm
   spell (only e) = spell_either e
   spell (follows e w) = spell_either e ++ arrow ∷ spell w
 
-  pub spell_either : Either → List PieceForm
+  pub spell_either : Either → List TerminalForm
   spell_either (either_last b) = spell_both b
   spell_either (either_more b e) = spell_both b ++ disjunct ∷ spell_either e
 
-  pub spell_both : Both → List PieceForm
+  pub spell_both : Both → List TerminalForm
   spell_both (both_last u) = spell_one u
   spell_both (both_more u b) = spell_one u ++ conjunct ∷ spell_both b
 
-  pub spell_one : One → List PieceForm
+  pub spell_one : One → List TerminalForm
   spell_one (negated u) = nay ∷ spell_one u
   spell_one (bound q c b) = binder q c ∷ spell_body b
   spell_one (grouped w) = opening ∷ spell w ++ closing ∷ []
   spell_one (plain f) = leaf f ∷ []
 
-  pub spell_body : Body → List PieceForm
+  pub spell_body : Body → List TerminalForm
   spell_body (bound_again q c b) = binder q c ∷ spell_body b
   spell_body (around w) = opening ∷ spell w ++ closing ∷ []
 
@@ -133,7 +133,7 @@ abbrev mutual
   nesting_body (bound_again q c b) = nesting_body b + 1
   nesting_body (around w) = nesting w
 
--- whether the piece is an atom that passes the test
-abbrev pub piece_atom : (FormAtom → Bool) → PieceForm → Bool
-piece_atom test (leaf f) = some_atom test f
-piece_atom test p = false
+-- whether the terminal is an atom that passes the test
+abbrev pub terminal_atom : (FormAtom → Bool) → TerminalForm → Bool
+terminal_atom test (leaf f) = some_atom test f
+terminal_atom test p = false

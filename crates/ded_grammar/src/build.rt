@@ -3,73 +3,73 @@ ghost use Rattle.std.specs.Prelude.{◌≡◌, ◌<◌, ◌≤◌, length, IfOk,
 ghost use Rattle.ded_grammar.specs.declared.fault.ReadFault.TheVariants as faults;
 ghost use Rattle.ded_model.specs.Form.{form};
 ghost use Rattle.ded_model.specs.Logic.{negation, implies};
-ghost use Rattle.ded_grammar.specs.Forms.{piece_form, piece_forms};
+ghost use Rattle.ded_grammar.specs.Forms.{terminal_form, terminal_forms};
 ghost use Rattle.ded_grammar.specs.Trees.{all_of, any_of, quantified};
 ghost use Rattle.ded_grammar.specs.Building.{after_closing, after_conjunct, after_disjunct, after_arrow, closed, both_by, either_by, read_one, read_body, read_whole};
 ghost use Rattle.ded_grammar.specs.Gives.{Gives, GivesAfter};
 
 use crate::fault::ReadFault;
-use crate::piece::{Piece, Quantifier};
+use crate::terminal::{Quantifier, Terminal};
 use ded_model::formula::Formula;
 use ded_model::name::Column;
 use std::alloc::Global;
 
-/// The first piece and those behind it, or none where there is no piece.
-fn first(pieces: &[Piece]) -> Option<(&Piece, &[Piece])>
-    ensures some { IfSome result (λ x. piece_forms pieces.now ≡ piece_form x.0.now ∷ piece_forms x.1.now) }
-    ensures none { IfNone result (piece_forms pieces.now ≡ []) }
+/// The first terminal and those behind it, or none where there is no terminal.
+fn first(terminals: &[Terminal]) -> Option<(&Terminal, &[Terminal])>
+    ensures some { IfSome result (λ x. terminal_forms terminals.now ≡ terminal_form x.0.now ∷ terminal_forms x.1.now) }
+    ensures none { IfNone result (terminal_forms terminals.now ≡ []) }
 {
-    pieces.split_first()
+    terminals.split_first()
 }
 
-/// The pieces behind a closing parenthesis, or none where they begin with no such piece.
-fn after_closing(pieces: &[Piece]) -> Option<&[Piece]>
-    ensures { GivesAfter (λ rest. rest.now) result (after_closing (piece_forms pieces.now)) }
+/// The terminals behind a closing parenthesis, or none where they begin with no such terminal.
+fn after_closing(terminals: &[Terminal]) -> Option<&[Terminal]>
+    ensures { GivesAfter (λ rest. rest.now) result (after_closing (terminal_forms terminals.now)) }
 {
-    match pieces.split_first() {
-        Some((Piece::Close, rest)) => Some(rest),
+    match terminals.split_first() {
+        Some((Terminal::Close, rest)) => Some(rest),
         _ => None,
     }
 }
 
-/// The pieces behind an `and`, or none where they begin with no such piece.
-fn after_conjunct(pieces: &[Piece]) -> Option<&[Piece]>
-    ensures { GivesAfter (λ rest. rest.now) result (after_conjunct (piece_forms pieces.now)) }
+/// The terminals behind an `and`, or none where they begin with no such terminal.
+fn after_conjunct(terminals: &[Terminal]) -> Option<&[Terminal]>
+    ensures { GivesAfter (λ rest. rest.now) result (after_conjunct (terminal_forms terminals.now)) }
 {
-    match pieces.split_first() {
-        Some((Piece::And, rest)) => Some(rest),
+    match terminals.split_first() {
+        Some((Terminal::And, rest)) => Some(rest),
         _ => None,
     }
 }
 
-/// The pieces behind an `or`, or none where they begin with no such piece.
-fn after_disjunct(pieces: &[Piece]) -> Option<&[Piece]>
-    ensures { GivesAfter (λ rest. rest.now) result (after_disjunct (piece_forms pieces.now)) }
+/// The terminals behind an `or`, or none where they begin with no such terminal.
+fn after_disjunct(terminals: &[Terminal]) -> Option<&[Terminal]>
+    ensures { GivesAfter (λ rest. rest.now) result (after_disjunct (terminal_forms terminals.now)) }
 {
-    match pieces.split_first() {
-        Some((Piece::Or, rest)) => Some(rest),
+    match terminals.split_first() {
+        Some((Terminal::Or, rest)) => Some(rest),
         _ => None,
     }
 }
 
-/// The pieces behind an `implies`, or none where they begin with no such piece.
-fn after_arrow(pieces: &[Piece]) -> Option<&[Piece]>
-    ensures { GivesAfter (λ rest. rest.now) result (after_arrow (piece_forms pieces.now)) }
+/// The terminals behind an `implies`, or none where they begin with no such terminal.
+fn after_arrow(terminals: &[Terminal]) -> Option<&[Terminal]>
+    ensures { GivesAfter (λ rest. rest.now) result (after_arrow (terminal_forms terminals.now)) }
 {
-    match pieces.split_first() {
-        Some((Piece::Implies, rest)) => Some(rest),
+    match terminals.split_first() {
+        Some((Terminal::Implies, rest)) => Some(rest),
         _ => None,
     }
 }
 
-/// The formula in parentheses and its nesting, as given, and the pieces behind the closing parenthesis. `NotRead` where
-/// the rest begins with no such piece.
+/// The formula in parentheses and its nesting, as given, and the terminals behind the closing parenthesis. `NotRead` where
+/// the rest begins with no such terminal.
 fn closed(
     part: Formula,
     nesting: u32,
-    rest: &[Piece],
-) -> Result<(Formula, u32, &[Piece]), ReadFault>
-    ensures read { Gives (λ x. (form x.0, x.1, piece_forms x.2.now)) result (closed (form part, nesting, piece_forms rest.now)) }
+    rest: &[Terminal],
+) -> Result<(Formula, u32, &[Terminal]), ReadFault>
+    ensures read { Gives (λ x. (form x.0, x.1, terminal_forms x.2.now)) result (closed (form part, nesting, terminal_forms rest.now)) }
     ensures same { IfOk result (λ x. x.1 ≡ nesting) }
 {
     match after_closing(rest) {
@@ -142,29 +142,33 @@ fn quantified(
     }
 }
 
-/// Reads one unit, of a nesting below the room: its formula, its nesting, and the pieces behind it.
+/// Reads one unit, of a nesting below the room: its formula, its nesting, and the terminals behind it.
 #[cycle(read)]
-fn one(alloc: Global, pieces: &[Piece], room: u32) -> Result<(Formula, u32, &[Piece]), ReadFault>
-    ensures read { Gives (λ x. (form x.0, x.1, piece_forms x.2.now)) result (read_one room (piece_forms pieces.now)) }
+fn one(
+    alloc: Global,
+    terminals: &[Terminal],
+    room: u32,
+) -> Result<(Formula, u32, &[Terminal]), ReadFault>
+    ensures read { Gives (λ x. (form x.0, x.1, terminal_forms x.2.now)) result (read_one room (terminal_forms terminals.now)) }
     ensures low { IfOk result (λ x. x.1 < room) }
 {
     if room == 0 {
         return Err(ReadFault::NotRead);
     }
-    let Some((piece, rest)) = first(pieces) else {
+    let Some((terminal, rest)) = first(terminals) else {
         return Err(ReadFault::NotRead);
     };
-    match piece {
-        Piece::Not => {
+    match terminal {
+        Terminal::Not => {
             let (part, nesting, rest) = one(alloc, rest, room - 1)?;
             Ok((negated(alloc, part)?, nesting + 1, rest))
         }
-        Piece::Open => {
+        Terminal::Open => {
             let (part, nesting, rest) = whole(alloc, rest, room - 1)?;
             let (part, nesting, rest) = closed(part, nesting, rest)?;
             Ok((part, nesting + 1, rest))
         }
-        Piece::Bind(quantifier, column) => {
+        Terminal::Bind(quantifier, column) => {
             let (part, nesting, rest) = body(alloc, rest, room - 1)?;
             Ok((
                 quantified(alloc, *quantifier, column, part)?,
@@ -172,29 +176,35 @@ fn one(alloc: Global, pieces: &[Piece], room: u32) -> Result<(Formula, u32, &[Pi
                 rest,
             ))
         }
-        Piece::Atom(atom) => Ok((atom.copy()?, 0, rest)),
-        Piece::And | Piece::Or | Piece::Implies | Piece::Close => Err(ReadFault::NotRead),
+        Terminal::Atom(atom) => Ok((atom.copy()?, 0, rest)),
+        Terminal::And | Terminal::Or | Terminal::Implies | Terminal::Close => Err(
+            ReadFault::NotRead,
+        ),
     }
 }
 
-/// Reads the body of a quantifier, of a nesting below the room: its formula, its nesting, and the pieces behind it.
+/// Reads the body of a quantifier, of a nesting below the room: its formula, its nesting, and the terminals behind it.
 #[cycle(read)]
-fn body(alloc: Global, pieces: &[Piece], room: u32) -> Result<(Formula, u32, &[Piece]), ReadFault>
-    ensures read { Gives (λ x. (form x.0, x.1, piece_forms x.2.now)) result (read_body room (piece_forms pieces.now)) }
+fn body(
+    alloc: Global,
+    terminals: &[Terminal],
+    room: u32,
+) -> Result<(Formula, u32, &[Terminal]), ReadFault>
+    ensures read { Gives (λ x. (form x.0, x.1, terminal_forms x.2.now)) result (read_body room (terminal_forms terminals.now)) }
     ensures low { IfOk result (λ x. x.1 < room) }
 {
     if room == 0 {
         return Err(ReadFault::NotRead);
     }
-    let Some((piece, rest)) = first(pieces) else {
+    let Some((terminal, rest)) = first(terminals) else {
         return Err(ReadFault::NotRead);
     };
-    match piece {
-        Piece::Open => {
+    match terminal {
+        Terminal::Open => {
             let (part, nesting, rest) = whole(alloc, rest, room)?;
             closed(part, nesting, rest)
         }
-        Piece::Bind(quantifier, column) => {
+        Terminal::Bind(quantifier, column) => {
             let (part, nesting, rest) = body(alloc, rest, room - 1)?;
             Ok((
                 quantified(alloc, *quantifier, column, part)?,
@@ -202,24 +212,31 @@ fn body(alloc: Global, pieces: &[Piece], room: u32) -> Result<(Formula, u32, &[P
                 rest,
             ))
         }
-        Piece::Not | Piece::And | Piece::Or | Piece::Implies | Piece::Close | Piece::Atom(_) => {
-            Err(ReadFault::NotRead)
-        }
+        Terminal::Not
+        | Terminal::And
+        | Terminal::Or
+        | Terminal::Implies
+        | Terminal::Close
+        | Terminal::Atom(_) => { Err(ReadFault::NotRead) }
     }
 }
 
-/// Reads units with `and` between them, of nestings below the room: their conjunction, its nesting, and the pieces
+/// Reads units with `and` between them, of nestings below the room: their conjunction, its nesting, and the terminals
 /// behind it.
 #[cycle(read)]
-fn both(alloc: Global, pieces: &[Piece], room: u32) -> Result<(Formula, u32, &[Piece]), ReadFault>
-    ensures read { Gives (λ x. (form x.0, x.1, piece_forms x.2.now)) result (both_by (read_one room) (piece_forms pieces.now)) }
+fn both(
+    alloc: Global,
+    terminals: &[Terminal],
+    room: u32,
+) -> Result<(Formula, u32, &[Terminal]), ReadFault>
+    ensures read { Gives (λ x. (form x.0, x.1, terminal_forms x.2.now)) result (both_by (read_one room) (terminal_forms terminals.now)) }
     ensures low { IfOk result (λ x. x.1 < room) }
 {
     let mut parts = Vec::new(alloc);
     let mut nesting = 0;
-    let mut rest = pieces;
-    // Each member has a piece at least.
-    for _ in 0..pieces.len() {
+    let mut rest = terminals;
+    // Each member has a terminal at least.
+    for _ in 0..terminals.len() {
         let (part, inner, after) = one(alloc, rest, room)?;
         parts.push(part)?;
         nesting = inner.max(nesting);
@@ -232,17 +249,21 @@ fn both(alloc: Global, pieces: &[Piece], room: u32) -> Result<(Formula, u32, &[P
 }
 
 /// Reads conjunctions with `or` between them, of nestings below the room: their disjunction, its nesting, and the
-/// pieces behind it.
+/// terminals behind it.
 #[cycle(read)]
-fn either(alloc: Global, pieces: &[Piece], room: u32) -> Result<(Formula, u32, &[Piece]), ReadFault>
-    ensures read { Gives (λ x. (form x.0, x.1, piece_forms x.2.now)) result (either_by (read_one room) (piece_forms pieces.now)) }
+fn either(
+    alloc: Global,
+    terminals: &[Terminal],
+    room: u32,
+) -> Result<(Formula, u32, &[Terminal]), ReadFault>
+    ensures read { Gives (λ x. (form x.0, x.1, terminal_forms x.2.now)) result (either_by (read_one room) (terminal_forms terminals.now)) }
     ensures low { IfOk result (λ x. x.1 < room) }
 {
     let mut parts = Vec::new(alloc);
     let mut nesting = 0;
-    let mut rest = pieces;
-    // Each member has a piece at least.
-    for _ in 0..pieces.len() {
+    let mut rest = terminals;
+    // Each member has a terminal at least.
+    for _ in 0..terminals.len() {
         let (part, inner, after) = both(alloc, rest, room)?;
         parts.push(part)?;
         nesting = inner.max(nesting);
@@ -254,23 +275,23 @@ fn either(alloc: Global, pieces: &[Piece], room: u32) -> Result<(Formula, u32, &
     Err(ReadFault::NotRead)
 }
 
-/// Reads a formula, of a nesting below the room: the formula, its nesting, and the pieces behind it.
+/// Reads a formula, of a nesting below the room: the formula, its nesting, and the terminals behind it.
 ///
 /// # Errors
-/// `NotRead` only where the pieces begin with no formula of such a nesting, otherwise out of memory.
+/// `NotRead` only where the terminals begin with no formula of such a nesting, otherwise out of memory.
 #[cycle(read)]
 pub fn whole(
     alloc: Global,
-    pieces: &[Piece],
+    terminals: &[Terminal],
     room: u32,
-) -> Result<(Formula, u32, &[Piece]), ReadFault>
-    ensures read { Gives (λ x. (form x.0, x.1, piece_forms x.2.now)) result (read_whole room (piece_forms pieces.now)) }
+) -> Result<(Formula, u32, &[Terminal]), ReadFault>
+    ensures read { Gives (λ x. (form x.0, x.1, terminal_forms x.2.now)) result (read_whole room (terminal_forms terminals.now)) }
     ensures low { IfOk result (λ x. x.1 < room) }
 {
     if room == 0 {
         return Err(ReadFault::NotRead);
     }
-    let (left, outer, rest) = either(alloc, pieces, room)?;
+    let (left, outer, rest) = either(alloc, terminals, room)?;
     let Some(more) = after_arrow(rest) else {
         return Ok((left, outer, rest));
     };

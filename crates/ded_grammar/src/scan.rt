@@ -1,10 +1,10 @@
-//! Whether pieces spell a formula.
+//! Whether terminals spell a formula.
 ghost use Rattle.std.specs.Prelude.{◌≡◌, ◌<◌, ◌^◌, Option, Some, None, IfSome, IfNone, IsTrue, ◌↔◌};
 ghost use Rattle.ded_grammar.specs.Trees.{Whole, spell};
-ghost use Rattle.ded_grammar.specs.Forms.{piece_form, piece_forms};
+ghost use Rattle.ded_grammar.specs.Forms.{terminal_form, terminal_forms};
 ghost use Rattle.ded_grammar.specs.Scanning.{stepped, scan};
 
-use crate::piece::Piece;
+use crate::terminal::Terminal;
 
 /// What stands before a place in a formula.
 #[derive(Clone, Copy, PartialEq, Eq, Debug)]
@@ -17,33 +17,33 @@ pub enum Spot {
     After,
 }
 
-/// What stands before the place behind the piece, and how many parentheses are open there; none where no formula has
-/// the piece at such a spot.
-fn step(spot: Spot, opened: u64, piece: &Piece) -> Option<(Spot, u64)>
+/// What stands before the place behind the terminal, and how many parentheses are open there; none where no formula has
+/// the terminal at such a spot.
+fn step(spot: Spot, opened: u64, terminal: &Terminal) -> Option<(Spot, u64)>
     requires { opened < 2 ^ 63 }
-    ensures { result ≡ stepped spot opened (piece_form piece.now) }
+    ensures { result ≡ stepped spot opened (terminal_form terminal.now) }
 {
     match spot {
         Spot::Start => {
-            match piece {
-                Piece::Not => Some((Spot::Start, opened)),
-                Piece::Open => Some((Spot::Start, opened + 1)),
-                Piece::Bind(_, _) => Some((Spot::Within, opened)),
-                Piece::Atom(_) => Some((Spot::After, opened)),
-                Piece::And | Piece::Or | Piece::Implies | Piece::Close => None,
+            match terminal {
+                Terminal::Not => Some((Spot::Start, opened)),
+                Terminal::Open => Some((Spot::Start, opened + 1)),
+                Terminal::Bind(_, _) => Some((Spot::Within, opened)),
+                Terminal::Atom(_) => Some((Spot::After, opened)),
+                Terminal::And | Terminal::Or | Terminal::Implies | Terminal::Close => None,
             }
         }
         Spot::Within => {
-            match piece {
-                Piece::Open => Some((Spot::Start, opened + 1)),
-                Piece::Bind(_, _) => Some((Spot::Within, opened)),
+            match terminal {
+                Terminal::Open => Some((Spot::Start, opened + 1)),
+                Terminal::Bind(_, _) => Some((Spot::Within, opened)),
                 _ => None,
             }
         }
         Spot::After => {
-            match piece {
-                Piece::And | Piece::Or | Piece::Implies => Some((Spot::Start, opened)),
-                Piece::Close => {
+            match terminal {
+                Terminal::And | Terminal::Or | Terminal::Implies => Some((Spot::Start, opened)),
+                Terminal::Close => {
                     if opened == 0 {
                         return None;
                     }
@@ -55,14 +55,14 @@ fn step(spot: Spot, opened: u64, piece: &Piece) -> Option<(Spot, u64)>
     }
 }
 
-/// Whether the pieces may follow one another from the start of a formula to its end, where no parenthesis is open.
-fn scanned(pieces: &[Piece]) -> bool
-    ensures { result ≡ scan Spot.Start 0 (piece_forms pieces.now) }
+/// Whether the terminals may follow one another from the start of a formula to its end, where no parenthesis is open.
+fn scanned(terminals: &[Terminal]) -> bool
+    ensures { result ≡ scan Spot.Start 0 (terminal_forms terminals.now) }
 {
     let mut spot = Spot::Start;
     let mut opened = 0;
-    for piece in pieces {
-        let Some((next, count)) = step(spot, opened, piece) else {
+    for terminal in terminals {
+        let Some((next, count)) = step(spot, opened, terminal) else {
             return false;
         };
         spot = next;
@@ -71,9 +71,9 @@ fn scanned(pieces: &[Piece]) -> bool
     spot == Spot::After && opened == 0
 }
 
-/// Whether the pieces spell a formula, whatever its nesting.
-pub fn is_formula(pieces: &[Piece]) -> bool
-    ensures { IsTrue result ↔ ((tree : Whole) × (spell tree ≡ piece_forms pieces.now)) }
+/// Whether the terminals spell a formula, whatever its nesting.
+pub fn is_formula(terminals: &[Terminal]) -> bool
+    ensures { IsTrue result ↔ ((tree : Whole) × (spell tree ≡ terminal_forms terminals.now)) }
 {
-    scanned(pieces)
+    scanned(terminals)
 }

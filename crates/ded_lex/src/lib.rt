@@ -8,7 +8,7 @@
 //! [`tokens`] gives the tokens of bytes with the places where they stand, exactly where the bytes are tokens, blanks
 //! and comments (`specs/Tokens.antt`); there is one list at most. What a token says, a word, the digits of a number,
 //! the value of a quoted text or a sign, is the `lexeme` of its kind and its bytes. That a word is reserved is not
-//! decided here.
+//! decided here. [`front_of`] gives the first token or gap alone, and needs no memory.
 //!
 //! The laws of the definitions are the contracts of functions that do nothing. The crate stands on `ded_model` for
 //! `NoMemory` alone.
@@ -22,6 +22,7 @@ mod splitter;
 mod state;
 mod token;
 
+pub use front::{Front, front_of};
 pub use laws::{
     blank_bytes_have_no_token, cut_goes_on, each_input_is_cut, one_cut, one_token_list,
     piece_stays_whole, tokens_say_what_bytes_say, tokens_stand_in_order,

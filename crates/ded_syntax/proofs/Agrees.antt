@@ -6,12 +6,12 @@ use Rattle.ded_model.specs.declared.formula.Operand.{Operand}
 use Rattle.ded_model.specs.Command.{CommandForm, insert, delete}
 use Rattle.ded_model.specs.Form.{Form, compare, member}
 use Rattle.ded_model.specs.Logic.{atom, logics}
-use Rattle.ded_grammar.specs.Trees.{PieceForm, nay, conjunct, disjunct, arrow, opening, closing, binder, leaf}
+use Rattle.ded_grammar.specs.Trees.{TerminalForm, nay, conjunct, disjunct, arrow, opening, closing, binder, leaf}
 use Rattle.ded_syntax.specs.Symbols.{Symbol, Name, Number, Decimal, Times, Close, CloseBrace, Relation, number_of, decimal_number, decimal_power}
 use Rattle.ded_syntax.specs.Literals.{Scalar, whole, quotient, decimal, spell_scalar, Literal, lowest, literal, marked, capped, capped_reader}
 use Rattle.ded_syntax.specs.Operands.{Product, scaled, constant, lone, Side, text, sum, spell_product, spell_more, spell_side, Part, Factor, factor, add_factor, add_all, Reading, as_reading, single, reading_of, literals, operand_over, argument_of}
-use Rattle.ded_syntax.specs.Atoms.{compared, argument, spell_rest, Comparison, spell_comparison, comparison_form, Atom, truth, relates, belongs, spell_atom, atom_form, IsPiece, ArePieces}
-use Rattle.ded_syntax.specs.Commands.{Plain, defines, inserts_none, inserts, deletes, drops, keeps, shows, boxes, spell_plain, plain_form, spell_prefix, SpellsCommand}
+use Rattle.ded_syntax.specs.Atoms.{compared, argument, spell_rest, Comparison, spell_comparison, comparison_form, Atom, truth, relates, belongs, spell_atom, atom_form, IsTerminal, AreTerminals}
+use Rattle.ded_syntax.specs.Commands.{Plain, opens, defines, inserts_none, inserts, deletes, drops, keeps, shows, boxes, dumps, spell_plain, plain_form, spell_prefix, SpellsCommand}
 use Rattle.ded_syntax.proofs.Denominators.{side_some, both_some, denominators_same}
 
 -- the two read the number as one
@@ -98,23 +98,24 @@ atom_alike (truth false) h = refl
 atom_alike (relates c) h = comparison_alike c h
 atom_alike (belongs n s ss) h = ap (λ (os : List Operand). atom (member n os)) (list_alike spell_side (argument capped_reader) (argument marked) Close argument_alike s ss h.1.1)
 
-piece_alike : (p : PieceForm) (front : List Symbol) → Agree front → IsPiece capped_reader front p → IsPiece marked front p
-piece_alike (leaf f) front h (a, e, m) = (a, e, sym (atom_alike a (subst Agree e h)) ∙ m)
-piece_alike nay front h is = is
-piece_alike conjunct front h is = is
-piece_alike disjunct front h is = is
-piece_alike arrow front h is = is
-piece_alike opening front h is = is
-piece_alike closing front h is = is
-piece_alike (binder q c) front h is = is
+terminal_alike : (p : TerminalForm) (front : List Symbol) → Agree front → IsTerminal capped_reader front p → IsTerminal marked front p
+terminal_alike (leaf f) front h (a, e, m) = (a, e, sym (atom_alike a (subst Agree e h)) ∙ m)
+terminal_alike nay front h is = is
+terminal_alike conjunct front h is = is
+terminal_alike disjunct front h is = is
+terminal_alike arrow front h is = is
+terminal_alike opening front h is = is
+terminal_alike closing front h is = is
+terminal_alike (binder q c) front h is = is
 
-pieces_alike : (ps : List PieceForm) (ts : List Symbol) → Agree ts → ArePieces capped_reader ts ps → ArePieces marked ts ps
-pieces_alike [] ts h e = e
-pieces_alike (p ∷ ps) ts h (front, rest, e, is, more) =
+terminals_alike : (ps : List TerminalForm) (ts : List Symbol) → Agree ts → AreTerminals capped_reader ts ps → AreTerminals marked ts ps
+terminals_alike [] ts h e = e
+terminals_alike (p ∷ ps) ts h (front, rest, e, is, more) =
     let both = split (Alike capped (λ n. n)) front rest (subst (Agree) e h) in
-    (front, rest, e, piece_alike p front both.0 is, pieces_alike ps rest both.1 more)
+    (front, rest, e, terminal_alike p front both.0 is, terminals_alike ps rest both.1 more)
 
 plain_alike : (p : Plain) → Agree (spell_plain p) → plain_form capped_reader p ≡ plain_form marked p
+plain_alike (opens d two) all = refl
 plain_alike (defines n h) all = refl
 plain_alike (inserts_none n) all = refl
 plain_alike (inserts n c cs) all = ap (λ (fs : List Form). insert n (logics fs)) (list_alike spell_comparison (comparison_form capped_reader) (comparison_form marked) CloseBrace comparison_alike c cs all.1.1.1)
@@ -123,9 +124,10 @@ plain_alike (drops n) all = refl
 plain_alike (keeps n) all = refl
 plain_alike (shows n) all = refl
 plain_alike (boxes n) all = refl
+plain_alike dumps all = refl
 
 pub command_alike : (ts : List Symbol) (c : CommandForm) (depth : ℕ) → Agree ts → SpellsCommand capped_reader ts c depth → SpellsCommand marked ts c depth
 command_alike ts c depth h (inl s) = inl (record { plain = s.plain; spelled = s.spelled; means = s.means ∙ plain_alike s.plain (subst (Agree) s.spelled h); flat = s.flat })
 command_alike ts c depth h (inr s) =
     let both = split (Alike capped (λ n. n)) (spell_prefix s.before) s.rest (subst (Agree) s.spelled h) in
-    inr (record { before = s.before; rest = s.rest; spelled = s.spelled; formula = s.formula; spells = record { pieces = s.spells.pieces; are = pieces_alike s.spells.pieces s.rest both.1 s.spells.are; spells = s.spells.spells }; means = s.means })
+    inr (record { before = s.before; rest = s.rest; spelled = s.spelled; formula = s.formula; spells = record { terminals = s.spells.terminals; are = terminals_alike s.spells.terminals s.rest both.1 s.spells.are; spells = s.spells.spells }; means = s.means })

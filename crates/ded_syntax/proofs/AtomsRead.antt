@@ -15,7 +15,7 @@ use Rattle.ded_syntax.specs.Literals.{whole, quotient, decimal, Reader}
 use Rattle.ded_syntax.specs.Operands.{scaled, constant, lone, Side, text, sum, spell_side, Reading, reading_of, argument_of}
 use Rattle.ded_syntax.specs.Atoms.{compared, argument, spell_rest, Comparison, spell_comparison, comparison_form, Atom, truth, relates, belongs, spell_atom, atom_form, spell_column}
 use Rattle.ded_syntax.specs.OperandReading.{side_at}
-use Rattle.ded_syntax.specs.AtomReading.{comma_at, brace_at, relation_at, compare_at, argument_at, operands_at, atom_at, column_at, as_leaf, piece_at}
+use Rattle.ded_syntax.specs.AtomReading.{comma_at, brace_at, relation_at, compare_at, argument_at, operands_at, atom_at, column_at, as_leaf, terminal_at}
 use Rattle.ded_syntax.proofs.OperandsRead.{Stops, side_read}
 use Rattle.ded_syntax.proofs.ListsRead.{ReadsItems, list_read, few_items, list_tail}
 
@@ -71,8 +71,8 @@ operands_read value s ss rest =
 
 -- ---- atoms
 
--- a comparison is read as a piece, whatever its first symbol
-begins : (value : Reader) (l : Side) (op : CompareOp) (ts : List Symbol) → piece_at value (spell_side l ++ (Relation op ∷ ts)) ≡ as_leaf (compare_at value (spell_side l ++ (Relation op ∷ ts)))
+-- a comparison is read as a terminal, whatever its first symbol
+begins : (value : Reader) (l : Side) (op : CompareOp) (ts : List Symbol) → terminal_at value (spell_side l ++ (Relation op ∷ ts)) ≡ as_leaf (compare_at value (spell_side l ++ (Relation op ∷ ts)))
 begins value (text s) op ts = refl
 begins value (sum true p ps) op ts = refl
 begins value (sum false (scaled (whole d) n) ps) op ts = refl
@@ -85,11 +85,11 @@ begins value (sum false (lone n) []) op ts = refl
 begins value (sum false (lone n) ((true, p) ∷ ps)) op ts = refl
 begins value (sum false (lone n) ((false, p) ∷ ps)) op ts = refl
 
-pub atom_read : (value : Reader) (a : Atom) (rest : List Symbol) → Stops rest → piece_at value (spell_atom a ++ rest) ≡ Some (leaf (atom_form value a), rest)
+pub atom_read : (value : Reader) (a : Atom) (rest : List Symbol) → Stops rest → terminal_at value (spell_atom a ++ rest) ≡ Some (leaf (atom_form value a), rest)
 atom_read value (truth true) rest h = refl
 atom_read value (truth false) rest h = refl
 atom_read value (relates c) rest h =
-    ap (piece_at value) (spell_behind c rest)
+    ap (terminal_at value) (spell_behind c rest)
     ∙ begins value c.left c.op (spell_side c.right ++ rest)
     ∙ ap as_leaf (sides_read value c.left c.right c.op rest h)
 atom_read value (belongs n s ss) rest h =

@@ -1,24 +1,24 @@
 -- Commands: what is spelled is read.
-use Rattle.std.proofs.Common.{◌≡◌, inl, inr, ℕ, true, false, List, [], ◌∷◌, ◌++◌, length, map, refl, sym, ap, ◌∙◌, append_assoc}
-use Rattle.std.specs.Prelude.{Option, Some}
+use Rattle.std.proofs.Common.{◌≡◌, inl, inr, ℕ, Bool, true, false, List, [], ◌∷◌, ◌++◌, length, map, refl, sym, ap, ◌∙◌, append_assoc}
+use Rattle.std.specs.Prelude.{Option, Some, None, if◌then◌else◌}
 use Rattle.std.proofs.lemmas.List.{append-nil}
 use Rattle.ded_model.specs.declared.name.Column.{Column}
-use Rattle.ded_model.specs.Command.{CommandForm, relation, insert}
+use Rattle.ded_model.specs.Command.{CommandForm, header, relation, insert}
 use Rattle.ded_model.specs.Form.{Form}
 use Rattle.ded_model.specs.Logic.{logics}
-use Rattle.ded_grammar.specs.Trees.{PieceForm}
+use Rattle.ded_grammar.specs.Trees.{TerminalForm}
 use Rattle.ded_grammar.specs.Building.{◌>>=◌}
 use Rattle.ded_syntax.specs.Symbols.{Symbol, Open, Close, OpenBrace, CloseBrace, Colon, Define, Relation}
 use Rattle.ded_syntax.specs.Literals.{whole, quotient, decimal, Reader}
 use Rattle.ded_syntax.specs.Operands.{scaled, constant, lone, Side, text, sum, spell_side}
 use Rattle.ded_syntax.specs.Atoms.{spell_rest, Comparison, spell_comparison, comparison_form, spell_column}
-use Rattle.ded_syntax.specs.Commands.{Columns, spell_heading, heading, Plain, defines, inserts_none, inserts, deletes, drops, keeps, shows, boxes, spell_plain, plain_form, Prefix, views, asks, queries, explains, spell_prefix, prefix_form, SpellsCommand}
-use Rattle.ded_syntax.specs.AtomReading.{comma_at, brace_at, list_at, compare_at, column_at, pieces_at}
+use Rattle.ded_syntax.specs.Commands.{Columns, spell_heading, heading, Plain, opens, defines, inserts_none, inserts, deletes, drops, keeps, shows, boxes, dumps, spell_plain, plain_form, Prefix, views, asks, queries, explains, spell_prefix, prefix_form, SpellsCommand}
+use Rattle.ded_syntax.specs.AtomReading.{comma_at, brace_at, list_at, compare_at, column_at, terminals_at}
 use Rattle.ded_syntax.specs.CommandReading.{Head, view_head, ask_head, query_head, explain_head, head_form, Draft, plain, formed, heading_at, braces_at, ended, colon_at, define_at, formed_at, draft_at}
 use Rattle.ded_syntax.specs.Meaning.{Means}
 use Rattle.ded_syntax.proofs.ListsRead.{list_read, few_items, list_tail}
 use Rattle.ded_syntax.proofs.AtomsRead.{comparisons_listed, columns_listed}
-use Rattle.ded_syntax.proofs.PiecesRead.{pieces_read, spelled_scans}
+use Rattle.ded_syntax.proofs.TerminalsRead.{terminals_read, spelled_scans}
 
 pub same_list : {A : Type 0} (xs : List A) → map (λ (x : A). x) xs ≡ xs
 same_list [] = refl
@@ -55,6 +55,7 @@ braces_read value c cs =
     (few_items spell_comparison (comparison_form value) (compare_at value) brace_at CloseBrace c cs [])
 
 pub plain_read : (value : Reader) (p : Plain) → draft_at value (spell_plain p) ≡ Some (plain (plain_form value p))
+plain_read value (opens d two) = ap (λ (b : Bool). if b then ended (plain header) [] else None) two
 plain_read value (defines n h) = ap (λ (o : Option (List Column × List Symbol)). o >>= λ h. ended (plain (relation n h.0)) h.1) (whole_heading_read h)
 plain_read value (inserts_none n) = refl
 plain_read value (inserts n c cs) = ap (λ (o : Option (List Form × List Symbol)). o >>= λ fs. ended (plain (insert n (logics fs.0))) fs.1) (braces_read value c cs)
@@ -63,6 +64,7 @@ plain_read value (drops n) = refl
 plain_read value (keeps n) = refl
 plain_read value (shows n) = refl
 plain_read value (boxes n) = refl
+plain_read value dumps = refl
 
 abbrev pub head_of : Prefix → Head
 head_of (views n h) = view_head n (heading h)
@@ -76,16 +78,16 @@ prefix_is_head asks f = refl
 prefix_is_head (queries h) f = refl
 prefix_is_head (explains h) f = refl
 
-formed_read : (value : Reader) (h : Head) (rest : List Symbol) (ps : List PieceForm) → pieces_at value rest ≡ Some ps → formed_at value h rest ≡ Some (formed h ps)
-formed_read value h rest ps e = ap (λ (o : Option (List PieceForm)). o >>= λ ps. Some (formed h ps)) e
+formed_read : (value : Reader) (h : Head) (rest : List Symbol) (ps : List TerminalForm) → terminals_at value rest ≡ Some ps → formed_at value h rest ≡ Some (formed h ps)
+formed_read value h rest ps e = ap (λ (o : Option (List TerminalForm)). o >>= λ ps. Some (formed h ps)) e
 
-over_read : (value : Reader) (make : List Column → Head) (h : Columns) (rest : List Symbol) (ps : List PieceForm) → pieces_at value rest ≡ Some ps → (heading_at ((spell_heading h ++ Colon ∷ []) ++ rest) >>= λ h. colon_at h.1 >>= formed_at value (make h.0)) ≡ Some (formed (make (heading h)) ps)
+over_read : (value : Reader) (make : List Column → Head) (h : Columns) (rest : List Symbol) (ps : List TerminalForm) → terminals_at value rest ≡ Some ps → (heading_at ((spell_heading h ++ Colon ∷ []) ++ rest) >>= λ h. colon_at h.1 >>= formed_at value (make h.0)) ≡ Some (formed (make (heading h)) ps)
 over_read value make h rest ps e =
     ap (λ (l : List Symbol). heading_at l >>= λ h. colon_at h.1 >>= formed_at value (make h.0)) (append_assoc (spell_heading h) (Colon ∷ []) rest)
     ∙ ap (λ (o : Option (List Column × List Symbol)). o >>= λ h. colon_at h.1 >>= formed_at value (make h.0)) (heading_read h (Colon ∷ rest))
     ∙ formed_read value (make (heading h)) rest ps e
 
-pub prefix_read : (value : Reader) (p : Prefix) (rest : List Symbol) (ps : List PieceForm) → pieces_at value rest ≡ Some ps → draft_at value (spell_prefix p ++ rest) ≡ Some (formed (head_of p) ps)
+pub prefix_read : (value : Reader) (p : Prefix) (rest : List Symbol) (ps : List TerminalForm) → terminals_at value rest ≡ Some ps → draft_at value (spell_prefix p ++ rest) ≡ Some (formed (head_of p) ps)
 prefix_read value (views n h) rest ps e =
     ap (λ (l : List Symbol). heading_at l >>= λ h. define_at h.1 >>= formed_at value (view_head n h.0)) (append_assoc (spell_heading h) (Define ∷ []) rest)
     ∙ ap (λ (o : Option (List Column × List Symbol)). o >>= λ h. define_at h.1 >>= formed_at value (view_head n h.0)) (heading_read h (Define ∷ rest))
@@ -101,8 +103,8 @@ IsDrafted value ts c depth = (d : Draft) × (draft_at value ts ≡ Some d) × Me
 pub command_read : (value : Reader) (ts : List Symbol) (c : CommandForm) (depth : ℕ) → SpellsCommand value ts c depth → IsDrafted value ts c depth
 command_read value ts c depth (inl s) = (plain (plain_form value s.plain), ap (draft_at value) s.spelled ∙ plain_read value s.plain, (s.means, s.flat))
 command_read value ts c depth (inr s) =
-    let ps = s.spells.pieces in (
+    let ps = s.spells.terminals in (
       formed (head_of s.before) ps,
-      ap (draft_at value) s.spelled ∙ prefix_read value s.before s.rest ps (pieces_read value s.rest ps (spelled_scans ps s.formula depth s.spells.spells) s.spells.are),
+      ap (draft_at value) s.spelled ∙ prefix_read value s.before s.rest ps (terminals_read value s.rest ps (spelled_scans ps s.formula depth s.spells.spells) s.spells.are),
       (s.formula, s.spells.spells, s.means ∙ prefix_is_head s.before s.formula),
     )

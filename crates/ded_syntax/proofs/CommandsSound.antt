@@ -1,9 +1,9 @@
 -- Commands: what is read is spelled.
-use Rattle.std.proofs.Common.{◌≡◌, inl, inr, ℕ, List, [], ◌∷◌, ◌++◌, length, refl, sym, ap, subst, ◌∙◌, append_assoc}
-use Rattle.std.specs.Prelude.{Some}
+use Rattle.std.proofs.Common.{◌≡◌, inl, inr, ℕ, Bool, true, false, List, [], ◌∷◌, ◌++◌, length, refl, sym, ap, subst, ◌∙◌, append_assoc}
+use Rattle.std.specs.Prelude.{◌==◌, Some, None, if◌then◌else◌}
 use Rattle.std.proofs.lemmas.List.{append-nil}
 use Rattle.ded_model.specs.declared.name.Column.{Column}
-use Rattle.ded_model.specs.Command.{CommandForm, relation, insert, delete, drop, keep, show, box_of}
+use Rattle.ded_model.specs.Command.{CommandForm, header, relation, insert, delete, drop, keep, show, box_of, dump}
 use Rattle.ded_model.specs.Form.{Form}
 use Rattle.ded_model.specs.Logic.{logics}
 use Rattle.ded_grammar.specs.Building.{◌>>=◌}
@@ -11,15 +11,15 @@ use Rattle.ded_syntax.specs.declared.item.Keyword.{Keyword}
 use Rattle.ded_syntax.specs.declared.item.Keyword.TheVariants as words
 use Rattle.ded_syntax.specs.Symbols.{Symbol, number_of, Word, Name, Number, Open, Close, OpenBrace, CloseBrace, Colon, Define}
 use Rattle.ded_syntax.specs.Literals.{Reader}
-use Rattle.ded_syntax.specs.Atoms.{spell_comparison, comparison_form, spell_column, ArePieces}
-use Rattle.ded_syntax.specs.Commands.{Columns, spell_heading, heading, Plain, defines, inserts_none, inserts, deletes, drops, keeps, shows, boxes, spell_plain, plain_form, Prefix, views, asks, queries, explains, spell_prefix, SpellsCommand}
+use Rattle.ded_syntax.specs.Atoms.{spell_comparison, comparison_form, spell_column, AreTerminals}
+use Rattle.ded_syntax.specs.Commands.{Columns, spell_heading, heading, Plain, opens, defines, inserts_none, inserts, deletes, drops, keeps, shows, boxes, dumps, spell_plain, plain_form, Prefix, views, asks, queries, explains, spell_prefix, SpellsCommand}
 use Rattle.ded_syntax.specs.OperandReading.{name_at, number_at}
-use Rattle.ded_syntax.specs.AtomReading.{comma_at, brace_at, list_at, compare_at, column_at, pieces_at}
-use Rattle.ded_syntax.specs.CommandReading.{Head, view_head, ask_head, query_head, explain_head, head_form, Draft, plain, formed, heading_at, braces_at, ended, colon_at, define_at, formed_at, last_name, named_draft, relation_draft, insert_draft, delete_draft, view_draft, over_draft, draft_behind, draft_at}
+use Rattle.ded_syntax.specs.AtomReading.{comma_at, brace_at, list_at, compare_at, column_at, terminals_at}
+use Rattle.ded_syntax.specs.CommandReading.{Head, view_head, ask_head, query_head, explain_head, head_form, Draft, plain, formed, heading_at, braces_at, ended, colon_at, define_at, formed_at, last_name, named_draft, header_by, header_draft, relation_draft, insert_draft, delete_draft, view_draft, over_draft, draft_behind, draft_at}
 use Rattle.ded_syntax.specs.Meaning.{Means}
 use Rattle.ded_syntax.proofs.Binds.{bind_some, some_same}
 use Rattle.ded_syntax.proofs.ListsRead.{list_sound, list_tail}
-use Rattle.ded_syntax.proofs.PiecesSound.{comparisons_sound, columns_sound, pieces_sound}
+use Rattle.ded_syntax.proofs.TerminalsSound.{comparisons_sound, columns_sound, terminals_sound}
 use Rattle.ded_syntax.proofs.CommandsRead.{same_list, head_of, prefix_is_head, IsDrafted}
 
 name_sound : (ts : List Symbol) (x : List ℕ × List Symbol) → name_at ts ≡ Some x → ts ≡ Name x.0 ∷ x.1
@@ -74,7 +74,7 @@ braces_sound value ts x e = absurd cc
 -- the symbols spell the draft
 abbrev pub IsDraft : Reader → List Symbol → Draft → Type 0
 IsDraft value ts (plain c) = (p : Plain) × (ts ≡ spell_plain p) × (c ≡ plain_form value p)
-IsDraft value ts (formed h ps) = (p : Prefix) × (rest : List Symbol) × (ts ≡ spell_prefix p ++ rest) × ArePieces value rest ps × (h ≡ head_of p)
+IsDraft value ts (formed h ps) = (p : Prefix) × (rest : List Symbol) × (ts ≡ spell_prefix p ++ rest) × AreTerminals value rest ps × (h ≡ head_of p)
 
 named_sound : (value : Reader) (w : Keyword) (make : List ℕ → CommandForm) (tree : List ℕ → Plain) (ts : List Symbol) (d : Draft) → ((n : List ℕ) → spell_plain (tree n) ≡ Word w ∷ Name n ∷ []) → ((n : List ℕ) → plain_form value (tree n) ≡ make n) → named_draft make ts ≡ Some d → IsDraft value (Word w ∷ ts) d
 named_sound value w make tree ts d spelled means e =
@@ -86,6 +86,22 @@ named_sound value w make tree ts d spelled means e =
       ap (λ (l : List Symbol). Word w ∷ l) (name_sound ts n.0 n.1 ∙ ap (λ (l : List Symbol). Name n.0.0 ∷ l) z.0) ∙ sym (spelled n.0.0),
       sym (means n.0.0),
     )
+
+header_sound : (value : Reader) (ts : List Symbol) (d : Draft) → header_draft ts ≡ Some d → IsDraft value (Word words.Dedale ∷ ts) d
+header_sound value ts d e =
+    let n = bind_some (number_at ts) header_by d e in
+    by n.0 (number_sound ts n.0 n.1) (number_of n.0.0 == 2) refl n.2
+  where
+    by : (x : List ℕ × List Symbol) → ts ≡ Number x.0 ∷ x.1 → (b : Bool) → (number_of x.0 == 2) ≡ b → (if b then ended (plain header) x.1 else None) ≡ Some d → IsDraft value (Word words.Dedale ∷ ts) d
+    by x is false two e = absurd cc
+    by x is true two e =
+        let z = ended_sound (plain header) d x.1 e in
+        subst (IsDraft value (Word words.Dedale ∷ ts)) z.1 (opens x.0 two, ap (λ (l : List Symbol). Word words.Dedale ∷ l) (is ∙ ap (λ (l : List Symbol). Number x.0 ∷ l) z.0), refl)
+
+dump_sound : (value : Reader) (ts : List Symbol) (d : Draft) → ended (plain dump) ts ≡ Some d → IsDraft value (Word words.Dump ∷ ts) d
+dump_sound value ts d e =
+    let z = ended_sound (plain dump) d ts e in
+    subst (IsDraft value (Word words.Dump ∷ ts)) z.1 (dumps, ap (λ (l : List Symbol). Word words.Dump ∷ l) z.0, refl)
 
 relation_sound : (value : Reader) (ts : List Symbol) (d : Draft) → relation_draft ts ≡ Some d → IsDraft value (Word words.Relation ∷ ts) d
 relation_sound value ts d e =
@@ -125,8 +141,8 @@ delete_sound value ts d e =
 -- a formula behind what stands before it
 formed_sound : (value : Reader) (ts rest : List Symbol) (p : Prefix) (h : Head) (d : Draft) → ts ≡ spell_prefix p ++ rest → h ≡ head_of p → formed_at value h rest ≡ Some d → IsDraft value ts d
 formed_sound value ts rest p h d is same e =
-    let b = bind_some (pieces_at value rest) (λ ps. Some (formed h ps)) d e in
-    subst (IsDraft value ts) (some_same _ d b.2) (p, rest, is, pieces_sound value rest b.0 b.1, same)
+    let b = bind_some (terminals_at value rest) (λ ps. Some (formed h ps)) d e in
+    subst (IsDraft value ts) (some_same _ d b.2) (p, rest, is, terminals_sound value rest b.0 b.1, same)
 
 view_sound : (value : Reader) (ts : List Symbol) (d : Draft) → view_draft value ts ≡ Some d → IsDraft value (Word words.View ∷ ts) d
 view_sound value ts d e =
@@ -150,6 +166,7 @@ over_sound value w make tree ts d spelled heads e =
     u.2
 
 behind_sound : (value : Reader) (w : Keyword) (ts : List Symbol) (d : Draft) → draft_behind value w ts ≡ Some d → IsDraft value (Word w ∷ ts) d
+behind_sound value words.Dedale ts d e = header_sound value ts d e
 behind_sound value words.Relation ts d e = relation_sound value ts d e
 behind_sound value words.Insert ts d e = insert_sound value ts d e
 behind_sound value words.Delete ts d e = delete_sound value ts d e
@@ -157,6 +174,7 @@ behind_sound value words.Drop ts d e = named_sound value words.Drop drop drops t
 behind_sound value words.Keep ts d e = named_sound value words.Keep keep keeps ts d (λ n. refl) (λ n. refl) e
 behind_sound value words.Show ts d e = named_sound value words.Show show shows ts d (λ n. refl) (λ n. refl) e
 behind_sound value words.BoxOf ts d e = named_sound value words.BoxOf box_of boxes ts d (λ n. refl) (λ n. refl) e
+behind_sound value words.Dump ts d e = dump_sound value ts d e
 behind_sound value words.View ts d e = view_sound value ts d e
 behind_sound value words.Ask ts d e = formed_sound value (Word words.Ask ∷ ts) ts asks ask_head d refl refl e
 behind_sound value words.Query ts d e = over_sound value words.Query query_head queries ts d (λ h. refl) (λ h. refl) e
@@ -171,7 +189,7 @@ draft_sound value ts d e = absurd cc
 pub draft_spells : (value : Reader) (ts : List Symbol) (d : Draft) (c : CommandForm) (depth : ℕ) → IsDraft value ts d → Means d c depth → SpellsCommand value ts c depth
 draft_spells value ts (plain k) c depth (p, e, m) (is, flat) = inl (record { plain = p; spelled = e; means = is ∙ m; flat = flat })
 draft_spells value ts (formed h ps) c depth (p, rest, e, are, same) (f, sp, is) =
-    inr (record { before = p; rest = rest; spelled = e; formula = f; spells = record { pieces = ps; are = are; spells = sp }; means = is ∙ ap (λ (k : Head). head_form k f) same ∙ sym (prefix_is_head p f) })
+    inr (record { before = p; rest = rest; spelled = e; formula = f; spells = record { terminals = ps; are = are; spells = sp }; means = is ∙ ap (λ (k : Head). head_form k f) same ∙ sym (prefix_is_head p f) })
 
 pub command_sound : (value : Reader) (ts : List Symbol) (c : CommandForm) (depth : ℕ) → IsDrafted value ts c depth → SpellsCommand value ts c depth
 command_sound value ts c depth (d, e, m) = draft_spells value ts d c depth (draft_sound value ts d e) m

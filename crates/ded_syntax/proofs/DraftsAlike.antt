@@ -16,7 +16,7 @@ use Rattle.ded_syntax.specs.Marks.{some_in}
 use Rattle.ded_syntax.specs.CommandReading.{Head, view_head, ask_head, query_head, explain_head, head_form, Draft, plain, formed, draft_at, scans}
 use Rattle.ded_syntax.specs.Drafts.{HasDraft, some_in_draft}
 use Rattle.ded_syntax.specs.Meaning.{Means}
-use Rattle.ded_syntax.proofs.PiecesRead.{pieces_read, spelled_scans}
+use Rattle.ded_syntax.proofs.TerminalsRead.{terminals_read, spelled_scans}
 use Rattle.ded_syntax.proofs.CommandsRead.{plain_read, prefix_read, head_of}
 use Rattle.ded_syntax.proofs.CommandsSound.{IsDraft, draft_sound}
 use Rattle.ded_syntax.proofs.AnyValue.{reshapes}
@@ -61,7 +61,7 @@ other_of value other ts (formed h ps) (p, rest, e, are, same) s =
     let q = reshapes value other ps rest are in
     let scanned = q.2 Start 0 ∙ s in (
       formed (head_of p) q.0,
-      ap (draft_at other) e ∙ prefix_read other p rest q.0 (pieces_read other rest q.0 scanned q.1),
+      ap (draft_at other) e ∙ prefix_read other p rest q.0 (terminals_read other rest q.0 scanned q.1),
       scanned,
     )
 

@@ -9,6 +9,7 @@ pub mod Decimals
 pub mod Denominators
 pub mod Drafted
 pub mod DraftsAlike
+pub mod Headers
 pub mod ListLoops
 pub mod ListsRead
 pub mod LongLists
@@ -16,13 +17,15 @@ pub mod LongSymbols
 pub mod Marked
 pub mod Numbers
 pub mod One
+pub mod OpeningAlike
 pub mod OperandsRead
 pub mod OperandsSound
-pub mod PieceLoops
-pub mod PiecesRead
-pub mod PiecesSound
+pub mod TerminalLoops
+pub mod TerminalsRead
+pub mod TerminalsSound
 pub mod PlainSums
 pub mod Refused
 pub mod Seen
 pub mod Totals
 pub mod Unfit
+pub mod UsedWords

@@ -11,7 +11,7 @@ use Rattle.ded_lex.specs.Lexemes as lexeme
 use Rattle.ded_model.specs.declared.formula.CompareOp.TheVariants as op
 use Rattle.ded_syntax.specs.declared.item.Keyword.{Keyword}
 use Rattle.ded_syntax.specs.declared.item.Keyword.TheVariants as words
-use Rattle.ded_syntax.specs.Symbols.{Symbol, Word, Name, Number, Decimal, Plus, Minus, Times, Open, Close, OpenBrace, CloseBrace, Comma, Colon, Define, Relation, formula_word, command_word, is_unused, unused_word, word_symbol, slash_symbol, sign_symbol, decimal_symbol, symbol, number_of, decimal_number, decimal_power}
+use Rattle.ded_syntax.specs.Symbols.{Symbol, Word, Name, Number, Decimal, Plus, Minus, Times, Open, Close, OpenBrace, CloseBrace, Comma, Colon, Define, Relation, formula_word, command_word, is_unused, unused_word, dedale_symbol, dump_symbol, language_word, word_symbol, slash_symbol, sign_symbol, decimal_symbol, symbol, number_of, decimal_number, decimal_power}
 use Rattle.ded_syntax.specs.Items.{is_long_name, is_long_literal}
 use Rattle.ded_syntax.specs.Literals.{capped}
 use Rattle.ded_syntax.specs.Spelling.{is_long_word, is_long_decimal, is_long_number}
@@ -81,16 +81,37 @@ unused_tells w other h = either (is_unused w) refl
         (unused_short w (codes "verify") _ refl
         (unused_short w (codes "begin") _ refl
         (unused_short w (codes "commit") _ refl
-        (unused_short w (codes "abort") _ refl
-        (unused_short w (codes "dump") _ refl
-        (λ f. short_word w (codes "dedale") f refl)))))))) e
+        (λ f. short_word w (codes "abort") f refl)))))) e
 
     either : (b : Bool) → is_unused w ≡ b → Tells w (if b then Word words.Unused else other)
     either true e = sym (short e)
     either false e = h
 
-word_tells : (w : List ℕ) → Tells w (word_symbol w)
-word_tells w = formula_tells w _ (command_tells w _ (unused_tells w (Name w) refl))
+dedale_tells : (language : Language) (w : List ℕ) → bytes_eq w (codes "dedale") ≡ true → Tells w (dedale_symbol language)
+dedale_tells Opening w e = sym (short_word w (codes "dedale") e refl)
+dedale_tells One w e = sym (short_word w (codes "dedale") e refl)
+dedale_tells Two w e = sym (short_word w (codes "dedale") e refl)
+
+dump_tells : (language : Language) (w : List ℕ) → bytes_eq w (codes "dump") ≡ true → Tells w (dump_symbol language)
+dump_tells Opening w e = sym (short_word w (codes "dump") e refl)
+dump_tells One w e = sym (short_word w (codes "dump") e refl)
+dump_tells Two w e = sym (short_word w (codes "dump") e refl)
+
+-- one more word of one language
+chosen_tells : (w k : List ℕ) (t other : Symbol) → (bytes_eq w k ≡ true → Tells w t) → Tells w other → Tells w (if bytes_eq w k then t else other)
+chosen_tells w k t other g h = either (bytes_eq w k) refl
+  where
+    either : (b : Bool) → bytes_eq w k ≡ b → Tells w (if b then t else other)
+    either true e = g e
+    either false e = h
+
+language_tells : (language : Language) (w : List ℕ) (other : Symbol) → Tells w other → Tells w (language_word language other w)
+language_tells language w other h =
+    chosen_tells w (codes "dedale") (dedale_symbol language) _ (dedale_tells language w)
+    (chosen_tells w (codes "dump") (dump_symbol language) _ (dump_tells language w) h)
+
+word_tells : (language : Language) (w : List ℕ) → Tells w (word_symbol language w)
+word_tells language w = formula_tells w _ (command_tells w _ (language_tells language w _ (unused_tells w (Name w) refl)))
 
 -- ---- signs and words that are no name or number
 
@@ -166,8 +187,18 @@ unused_literal s = either (is_unused s)
     either true = refl
     either false = refl
 
-literal_word : (s : List ℕ) → is_long_literal (word_symbol s) ≡ false
-literal_word s =
+dedale_literal : (language : Language) → is_long_literal (dedale_symbol language) ≡ false
+dedale_literal Opening = refl
+dedale_literal One = refl
+dedale_literal Two = refl
+
+dump_literal : (language : Language) → is_long_literal (dump_symbol language) ≡ false
+dump_literal Opening = refl
+dump_literal One = refl
+dump_literal Two = refl
+
+literal_word : (language : Language) (s : List ℕ) → is_long_literal (word_symbol language s) ≡ false
+literal_word language s =
     quiet_literal s (codes "and") (Word words.And) _ refl
     (quiet_literal s (codes "or") (Word words.Or) _ refl
     (quiet_literal s (codes "not") (Word words.Not) _ refl
@@ -187,7 +218,9 @@ literal_word s =
     (quiet_literal s (codes "query") (Word words.Query) _ refl
     (quiet_literal s (codes "show") (Word words.Show) _ refl
     (quiet_literal s (codes "box") (Word words.BoxOf) _ refl
-    (quiet_literal s (codes "explain") (Word words.Explain) _ refl (unused_literal s))))))))))))))))))))
+    (quiet_literal s (codes "explain") (Word words.Explain) _ refl
+    (quiet_literal s (codes "dedale") (dedale_symbol language) _ (dedale_literal language)
+    (quiet_literal s (codes "dump") (dump_symbol language) _ (dump_literal language) (unused_literal s))))))))))))))))))))))
 
 -- ---- lexemes
 
@@ -197,7 +230,7 @@ decimal_name One bs = refl
 decimal_name Two bs = refl
 
 symbol_name : (language : Language) (l : Lexeme) → is_long_name (symbol language l) ≡ is_long_word l
-symbol_name language (lexeme.Word w) = word_tells w
+symbol_name language (lexeme.Word w) = word_tells language w
 symbol_name language (lexeme.Number ds) = refl
 symbol_name language (lexeme.Decimal bs) = decimal_name language bs
 symbol_name language (lexeme.Quoted t) = refl
@@ -209,7 +242,7 @@ decimal_literal One bs = refl
 decimal_literal Two bs = refl
 
 symbol_literal : (language : Language) (l : Lexeme) → is_long_literal (symbol language l) ≡ is_long_number language l
-symbol_literal language (lexeme.Word w) = literal_word w
+symbol_literal language (lexeme.Word w) = literal_word language w
 symbol_literal language (lexeme.Number ds) = refl
 symbol_literal language (lexeme.Decimal bs) = decimal_literal language bs
 symbol_literal language (lexeme.Quoted t) = refl

@@ -8,13 +8,13 @@ use Rattle.ded_model.specs.declared.formula.CompareOp.{CompareOp}
 use Rattle.ded_model.specs.Command.{CommandForm, insert}
 use Rattle.ded_model.specs.Form.{Form, compare, member}
 use Rattle.ded_model.specs.Logic.{atom, logics, some_atom, some_atom_of}
-use Rattle.ded_grammar.specs.Trees.{PieceForm, nay, conjunct, disjunct, arrow, opening, closing, binder, leaf, piece_atom}
+use Rattle.ded_grammar.specs.Trees.{TerminalForm, nay, conjunct, disjunct, arrow, opening, closing, binder, leaf, terminal_atom}
 use Rattle.ded_grammar.proofs.Leaves.{spelled_atoms}
 use Rattle.ded_syntax.specs.Symbols.{Symbol}
 use Rattle.ded_syntax.specs.Literals.{Literal, common, exact, marked, are_long_over, numerator_over, marked_numerator}
 use Rattle.ded_syntax.specs.Operands.{Side, Part, Reading, quoted, named, parts, literals, Sums, signed, put_at, no_sums, total_from, as_sum, operand_over, reading_of}
-use Rattle.ded_syntax.specs.Atoms.{compared, Comparison, comparison_form, argument, Atom, truth, relates, belongs, atom_form, IsPiece, ArePieces}
-use Rattle.ded_syntax.specs.Commands.{Plain, defines, inserts_none, inserts, deletes, drops, keeps, shows, boxes, plain_form, views, asks, queries, explains, prefix_form, SpellsCommand}
+use Rattle.ded_syntax.specs.Atoms.{compared, Comparison, comparison_form, argument, Atom, truth, relates, belongs, atom_form, IsTerminal, AreTerminals}
+use Rattle.ded_syntax.specs.Commands.{Plain, opens, defines, inserts_none, inserts, deletes, drops, keeps, shows, boxes, dumps, plain_form, views, asks, queries, explains, prefix_form, SpellsCommand}
 use Rattle.ded_syntax.specs.Marks.{is_marked, is_marked_atom, has_mark}
 
 -- ---- over a denominator that isn't a mark
@@ -107,23 +107,23 @@ atom_exact (truth false) free = refl
 atom_exact (relates c) free = comparison_exact c free
 atom_exact (belongs n s ss) free = ap (λ (os : List Operand). atom (member n os)) (arguments_exact (s ∷ ss) free)
 
--- ---- pieces and commands
+-- ---- terminals and commands
 
-piece_exact : (p : PieceForm) (front : List Symbol) → piece_atom is_marked_atom p ≡ false → IsPiece marked front p → IsPiece exact front p
-piece_exact (leaf f) front free (a, e, m) = (a, e, sym (atom_exact a (ap (some_atom is_marked_atom) m ∙ free)) ∙ m)
-piece_exact nay front free is = is
-piece_exact conjunct front free is = is
-piece_exact disjunct front free is = is
-piece_exact arrow front free is = is
-piece_exact opening front free is = is
-piece_exact closing front free is = is
-piece_exact (binder q c) front free is = is
+terminal_exact : (p : TerminalForm) (front : List Symbol) → terminal_atom is_marked_atom p ≡ false → IsTerminal marked front p → IsTerminal exact front p
+terminal_exact (leaf f) front free (a, e, m) = (a, e, sym (atom_exact a (ap (some_atom is_marked_atom) m ∙ free)) ∙ m)
+terminal_exact nay front free is = is
+terminal_exact conjunct front free is = is
+terminal_exact disjunct front free is = is
+terminal_exact arrow front free is = is
+terminal_exact opening front free is = is
+terminal_exact closing front free is = is
+terminal_exact (binder q c) front free is = is
 
-pieces_exact : (ps : List PieceForm) (ts : List Symbol) → list_any (piece_atom is_marked_atom) ps ≡ false → ArePieces marked ts ps → ArePieces exact ts ps
-pieces_exact [] ts free e = e
-pieces_exact (p ∷ ps) ts free (front, rest, e, is, more) =
+terminals_exact : (ps : List TerminalForm) (ts : List Symbol) → list_any (terminal_atom is_marked_atom) ps ≡ false → AreTerminals marked ts ps → AreTerminals exact ts ps
+terminals_exact [] ts free e = e
+terminals_exact (p ∷ ps) ts free (front, rest, e, is, more) =
     let both = or_parts _ _ free in
-    (front, rest, e, piece_exact p front both.0 is, pieces_exact ps rest both.1 more)
+    (front, rest, e, terminal_exact p front both.0 is, terminals_exact ps rest both.1 more)
 
 comparisons_exact : (cs : List Comparison) → some_atom_of is_marked_atom (logics (map (comparison_form marked) cs)) ≡ false → map (comparison_form marked) cs ≡ map (comparison_form exact) cs
 comparisons_exact [] free = refl
@@ -132,6 +132,7 @@ comparisons_exact (c ∷ cs) free =
     ap₂ (λ (x : Form) (xs : List Form). x ∷ xs) (comparison_exact c both.0) (comparisons_exact cs both.1)
 
 plain_exact : (p : Plain) → has_mark (plain_form marked p) ≡ false → plain_form marked p ≡ plain_form exact p
+plain_exact (opens d two) free = refl
 plain_exact (defines n h) free = refl
 plain_exact (inserts_none n) free = refl
 plain_exact (inserts n c cs) free = ap (λ (fs : List Form). insert n (logics fs)) (comparisons_exact (c ∷ cs) free)
@@ -140,6 +141,7 @@ plain_exact (drops n) free = refl
 plain_exact (keeps n) free = refl
 plain_exact (shows n) free = refl
 plain_exact (boxes n) free = refl
+plain_exact dumps free = refl
 
 prefix_marks : (p : _) (f : Form) → has_mark (prefix_form p f) ≡ some_atom is_marked_atom f
 prefix_marks (views n h) f = refl
@@ -151,13 +153,13 @@ pub command_exact : (ts : List Symbol) (c : CommandForm) (depth : ℕ) → has_m
 command_exact ts c depth free (inl s) =
     inl (record { plain = s.plain; spelled = s.spelled; means = s.means ∙ plain_exact s.plain (ap has_mark (sym s.means) ∙ free); flat = s.flat })
 command_exact ts c depth free (inr s) =
-    let atoms = spelled_atoms is_marked_atom s.spells.pieces s.formula depth s.spells.spells in
+    let atoms = spelled_atoms is_marked_atom s.spells.terminals s.formula depth s.spells.spells in
     let none = atoms ∙ sym (prefix_marks s.before s.formula) ∙ ap has_mark (sym s.means) ∙ free in
     inr (record {
       before = s.before;
       rest = s.rest;
       spelled = s.spelled;
       formula = s.formula;
-      spells = record { pieces = s.spells.pieces; are = pieces_exact s.spells.pieces s.rest none s.spells.are; spells = s.spells.spells };
+      spells = record { terminals = s.spells.terminals; are = terminals_exact s.spells.terminals s.rest none s.spells.are; spells = s.spells.spells };
       means = s.means;
     })

@@ -11,13 +11,13 @@ use Rattle.ded_model.specs.Command.{CommandForm}
 use Rattle.ded_model.specs.Form.{Form}
 use Rattle.ded_model.specs.Logic.{AllAtomsOf, logics}
 use Rattle.ded_model.specs.Plain.{AreOnce, IsPlainOperand, ArePlainOperands, ShareDenominator, IsPlainAtom, IsPlain, IsPlainCommand}
-use Rattle.ded_grammar.specs.Trees.{PieceForm, nay, conjunct, disjunct, arrow, opening, closing, binder, leaf}
-use Rattle.ded_grammar.proofs.Carried.{PieceHas, PiecesHave, spelled_has}
+use Rattle.ded_grammar.specs.Trees.{TerminalForm, nay, conjunct, disjunct, arrow, opening, closing, binder, leaf}
+use Rattle.ded_grammar.proofs.Carried.{TerminalHas, TerminalsHave, spelled_has}
 use Rattle.ded_syntax.specs.Symbols.{Symbol}
 use Rattle.ded_syntax.specs.Literals.{common, exact, numerator_over}
 use Rattle.ded_syntax.specs.Operands.{Side, Part, Reading, quoted, named, parts, reading_of, literals, Sums, signed, put, put_at, no_sums, total_from, operand_over}
-use Rattle.ded_syntax.specs.Atoms.{argument, Comparison, comparison_form, Atom, truth, relates, belongs, atom_form, IsPiece, ArePieces, SpellsFormula}
-use Rattle.ded_syntax.specs.Commands.{Plain, defines, inserts_none, inserts, deletes, drops, keeps, shows, boxes, plain_form, Prefix, views, asks, queries, explains, prefix_form, SpellsCommand}
+use Rattle.ded_syntax.specs.Atoms.{argument, Comparison, comparison_form, Atom, truth, relates, belongs, atom_form, IsTerminal, AreTerminals, SpellsFormula}
+use Rattle.ded_syntax.specs.Commands.{Plain, opens, defines, inserts_none, inserts, deletes, drops, keeps, shows, boxes, dumps, plain_form, Prefix, views, asks, queries, explains, prefix_form, SpellsCommand}
 use Rattle.ded_syntax.specs.Spelling.{Spells}
 use Rattle.ded_syntax.proofs.Denominators.{common_some, side_some, both_some}
 use Rattle.std.proofs.lemmas.Bool.{or_from}
@@ -91,26 +91,27 @@ plain_atom (belongs n s ss) = (plain_argument s, plain_arguments ss)
 
 -- ---- formulas
 
-plain_piece : (ts : List Symbol) (p : PieceForm) → IsPiece exact ts p → PieceHas IsPlainAtom p
-plain_piece ts nay h = tt
-plain_piece ts conjunct h = tt
-plain_piece ts disjunct h = tt
-plain_piece ts arrow h = tt
-plain_piece ts opening h = tt
-plain_piece ts closing h = tt
-plain_piece ts (binder q c) h = tt
-plain_piece ts (leaf f) h = subst IsPlain h.2 (plain_atom h.0)
+plain_terminal : (ts : List Symbol) (p : TerminalForm) → IsTerminal exact ts p → TerminalHas IsPlainAtom p
+plain_terminal ts nay h = tt
+plain_terminal ts conjunct h = tt
+plain_terminal ts disjunct h = tt
+plain_terminal ts arrow h = tt
+plain_terminal ts opening h = tt
+plain_terminal ts closing h = tt
+plain_terminal ts (binder q c) h = tt
+plain_terminal ts (leaf f) h = subst IsPlain h.2 (plain_atom h.0)
 
-plain_pieces : (ts : List Symbol) (ps : List PieceForm) → ArePieces exact ts ps → PiecesHave IsPlainAtom ps
-plain_pieces ts [] h = tt
-plain_pieces ts (p ∷ ps) h = (plain_piece h.0 p h.3, plain_pieces h.1 ps h.4)
+plain_terminals : (ts : List Symbol) (ps : List TerminalForm) → AreTerminals exact ts ps → TerminalsHave IsPlainAtom ps
+plain_terminals ts [] h = tt
+plain_terminals ts (p ∷ ps) h = (plain_terminal h.0 p h.3, plain_terminals h.1 ps h.4)
 
 plain_formula : (ts : List Symbol) (f : Form) (depth : ℕ) → SpellsFormula exact ts f depth → IsPlain f
-plain_formula ts f depth s = spelled_has IsPlainAtom s.pieces f depth s.spells (plain_pieces ts s.pieces s.are)
+plain_formula ts f depth s = spelled_has IsPlainAtom s.terminals f depth s.spells (plain_terminals ts s.terminals s.are)
 
 -- ---- commands
 
 plain_flat : (p : Plain) → IsPlainCommand (plain_form exact p)
+plain_flat (opens d two) = tt
 plain_flat (defines n h) = tt
 plain_flat (inserts_none n) = tt
 plain_flat (inserts n c cs) = (plain_comparison c, plain_comparisons cs)
@@ -119,6 +120,7 @@ plain_flat (drops n) = tt
 plain_flat (keeps n) = tt
 plain_flat (shows n) = tt
 plain_flat (boxes n) = tt
+plain_flat dumps = tt
 
 plain_before : (p : Prefix) (f : Form) → IsPlain f → IsPlainCommand (prefix_form p f)
 plain_before (views n h) f k = k

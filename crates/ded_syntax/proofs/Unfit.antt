@@ -5,7 +5,7 @@ use Rattle.ded_model.specs.Command.{CommandForm, header, relation, insert, delet
 use Rattle.ded_model.specs.Form.{FormAtom, compare, member}
 use Rattle.ded_model.specs.Logic.{Logic, atom, always, never, negation, every_of, some_of, implies, minus, exists, forall, Logics, none, also, some_atom, some_atom_of}
 use Rattle.ded_model.specs.LongRows.{is_long_argument, is_long_atom}
-use Rattle.ded_grammar.specs.Trees.{PieceForm, nay, conjunct, disjunct, arrow, opening, closing, binder, leaf, piece_atom}
+use Rattle.ded_grammar.specs.Trees.{TerminalForm, nay, conjunct, disjunct, arrow, opening, closing, binder, leaf, terminal_atom}
 use Rattle.ded_syntax.specs.CommandReading.{Draft, plain, formed}
 use Rattle.ded_syntax.specs.Drafts.{some_in_draft}
 use Rattle.ded_syntax.specs.Marks.{is_marked, is_marked_atom, is_unfit_argument, is_unfit_atom, some_in}
@@ -61,16 +61,16 @@ unfit_command dump = refl
 unfit_command (disjoint n m) = refl
 unfit_command (verify n m es) = refl
 
-piece_either : (p : PieceForm) → piece_atom is_unfit_atom p ≡ (piece_atom is_marked_atom p || piece_atom is_long_atom p)
-piece_either (leaf f) = unfit_form f
-piece_either nay = refl
-piece_either conjunct = refl
-piece_either disjunct = refl
-piece_either arrow = refl
-piece_either opening = refl
-piece_either closing = refl
-piece_either (binder q c) = refl
+terminal_either : (p : TerminalForm) → terminal_atom is_unfit_atom p ≡ (terminal_atom is_marked_atom p || terminal_atom is_long_atom p)
+terminal_either (leaf f) = unfit_form f
+terminal_either nay = refl
+terminal_either conjunct = refl
+terminal_either disjunct = refl
+terminal_either arrow = refl
+terminal_either opening = refl
+terminal_either closing = refl
+terminal_either (binder q c) = refl
 
 pub unfit_draft : (d : Draft) → some_in_draft is_unfit_atom d ≡ (some_in_draft is_marked_atom d || some_in_draft is_long_atom d)
 unfit_draft (plain c) = unfit_command c
-unfit_draft (formed h ps) = any_either (piece_atom is_unfit_atom) (piece_atom is_marked_atom) (piece_atom is_long_atom) piece_either ps
+unfit_draft (formed h ps) = any_either (terminal_atom is_unfit_atom) (terminal_atom is_marked_atom) (terminal_atom is_long_atom) terminal_either ps

@@ -1,4 +1,4 @@
--- Reading comparisons, members, columns and pieces, as functions on symbols.
+-- Reading comparisons, members, columns and terminals, as functions on symbols.
 use Rattle.std.specs.Prelude.{ℕ, suc, Bool, true, false, List, [], ◌∷◌, length, Option, Some, None}
 use Rattle.std.proofs.Common.{zero}
 use Rattle.ded_model.specs.declared.formula.Operand.{Operand}
@@ -8,9 +8,9 @@ use Rattle.ded_model.specs.declared.slot.Sort.{Sort}
 use Rattle.ded_model.specs.declared.slot.Sort.TheVariants.{Rat, Text}
 use Rattle.ded_model.specs.Form.{Form, member}
 use Rattle.ded_model.specs.Logic.{atom, always, never}
-use Rattle.ded_grammar.specs.declared.piece.Quantifier.{Quantifier}
-use Rattle.ded_grammar.specs.declared.piece.Quantifier.TheVariants.{Exists, Forall}
-use Rattle.ded_grammar.specs.Trees.{PieceForm, nay, conjunct, disjunct, arrow, opening, closing, binder, leaf}
+use Rattle.ded_grammar.specs.declared.terminal.Quantifier.{Quantifier}
+use Rattle.ded_grammar.specs.declared.terminal.Quantifier.TheVariants.{Exists, Forall}
+use Rattle.ded_grammar.specs.Trees.{TerminalForm, nay, conjunct, disjunct, arrow, opening, closing, binder, leaf}
 use Rattle.ded_grammar.specs.Building.{◌>>=◌}
 use Rattle.ded_syntax.specs.declared.item.Keyword.{Keyword}
 use Rattle.ded_syntax.specs.declared.item.Keyword.TheVariants as words
@@ -80,65 +80,65 @@ sort_at ts = (Rat, ts)
 abbrev pub column_at : List Symbol → Option (Column × List Symbol)
 column_at ts = name_at ts >>= λ n. Some (record { name = n.0; sort = (sort_at n.1).0 }, (sort_at n.1).1)
 
--- ---- pieces
+-- ---- terminals
 
-abbrev pub binder_at : Quantifier → List Symbol → Option (PieceForm × List Symbol)
+abbrev pub binder_at : Quantifier → List Symbol → Option (TerminalForm × List Symbol)
 binder_at q ts = column_at ts >>= λ x. Some (binder q x.0, x.1)
 
--- the words that are pieces by themselves
-abbrev pub word_piece : Keyword → Option PieceForm
-word_piece words.Not = Some nay
-word_piece words.And = Some conjunct
-word_piece words.Or = Some disjunct
-word_piece words.Implies = Some arrow
-word_piece words.True = Some (leaf always)
-word_piece words.False = Some (leaf never)
-word_piece w = None
+-- the words that are terminals by themselves
+abbrev pub word_terminal : Keyword → Option TerminalForm
+word_terminal words.Not = Some nay
+word_terminal words.And = Some conjunct
+word_terminal words.Or = Some disjunct
+word_terminal words.Implies = Some arrow
+word_terminal words.True = Some (leaf always)
+word_terminal words.False = Some (leaf never)
+word_terminal w = None
 
 abbrev pub quantifier_of : Keyword → Option Quantifier
 quantifier_of words.Exists = Some Exists
 quantifier_of words.Forall = Some Forall
 quantifier_of w = None
 
-abbrev pub piece_by_quantifier : List Symbol → Option Quantifier → Option (PieceForm × List Symbol)
-piece_by_quantifier ts None = None
-piece_by_quantifier ts (Some q) = binder_at q ts
+abbrev pub terminal_by_quantifier : List Symbol → Option Quantifier → Option (TerminalForm × List Symbol)
+terminal_by_quantifier ts None = None
+terminal_by_quantifier ts (Some q) = binder_at q ts
 
-abbrev pub piece_by_word : Keyword → List Symbol → Option PieceForm → Option (PieceForm × List Symbol)
-piece_by_word w ts None = piece_by_quantifier ts (quantifier_of w)
-piece_by_word w ts (Some p) = Some (p, ts)
+abbrev pub terminal_by_word : Keyword → List Symbol → Option TerminalForm → Option (TerminalForm × List Symbol)
+terminal_by_word w ts None = terminal_by_quantifier ts (quantifier_of w)
+terminal_by_word w ts (Some p) = Some (p, ts)
 
-abbrev pub word_at : Keyword → List Symbol → Option (PieceForm × List Symbol)
-word_at w ts = piece_by_word w ts (word_piece w)
+abbrev pub word_at : Keyword → List Symbol → Option (TerminalForm × List Symbol)
+word_at w ts = terminal_by_word w ts (word_terminal w)
 
-abbrev pub as_leaf : Option (Form × List Symbol) → Option (PieceForm × List Symbol)
+abbrev pub as_leaf : Option (Form × List Symbol) → Option (TerminalForm × List Symbol)
 as_leaf o = o >>= λ x. Some (leaf x.0, x.1)
 
 abbrev pub keyword_at : List Symbol → Option (Keyword × List Symbol)
 keyword_at (Word w ∷ ts) = Some (w, ts)
 keyword_at ts = None
 
-abbrev pub parenthesis_at : List Symbol → Option (PieceForm × List Symbol)
+abbrev pub parenthesis_at : List Symbol → Option (TerminalForm × List Symbol)
 parenthesis_at (Open ∷ ts) = Some (opening, ts)
 parenthesis_at (Close ∷ ts) = Some (closing, ts)
 parenthesis_at ts = None
 
-abbrev pub piece_by_parenthesis : Reader → List Symbol → Option (PieceForm × List Symbol) → Option (PieceForm × List Symbol)
-piece_by_parenthesis value ts None = as_leaf (atom_at value ts)
-piece_by_parenthesis value ts (Some x) = Some x
+abbrev pub terminal_by_parenthesis : Reader → List Symbol → Option (TerminalForm × List Symbol) → Option (TerminalForm × List Symbol)
+terminal_by_parenthesis value ts None = as_leaf (atom_at value ts)
+terminal_by_parenthesis value ts (Some x) = Some x
 
-abbrev pub piece_by_keyword : Reader → List Symbol → Option (Keyword × List Symbol) → Option (PieceForm × List Symbol)
-piece_by_keyword value ts None = piece_by_parenthesis value ts (parenthesis_at ts)
-piece_by_keyword value ts (Some w) = word_at w.0 w.1
+abbrev pub terminal_by_keyword : Reader → List Symbol → Option (Keyword × List Symbol) → Option (TerminalForm × List Symbol)
+terminal_by_keyword value ts None = terminal_by_parenthesis value ts (parenthesis_at ts)
+terminal_by_keyword value ts (Some w) = word_at w.0 w.1
 
-abbrev pub piece_at : Reader → List Symbol → Option (PieceForm × List Symbol)
-piece_at value ts = piece_by_keyword value ts (keyword_at ts)
+abbrev pub terminal_at : Reader → List Symbol → Option (TerminalForm × List Symbol)
+terminal_at value ts = terminal_by_keyword value ts (keyword_at ts)
 
--- up to so many pieces, which are all there is
-abbrev pub pieces_within : Reader → ℕ → List Symbol → Option (List PieceForm)
-pieces_within value k [] = Some []
-pieces_within value zero (t ∷ ts) = None
-pieces_within value (suc k) (t ∷ ts) = piece_at value (t ∷ ts) >>= λ x. pieces_within value k x.1 >>= λ ps. Some (x.0 ∷ ps)
+-- up to so many terminals, which are all there is
+abbrev pub terminals_within : Reader → ℕ → List Symbol → Option (List TerminalForm)
+terminals_within value k [] = Some []
+terminals_within value zero (t ∷ ts) = None
+terminals_within value (suc k) (t ∷ ts) = terminal_at value (t ∷ ts) >>= λ x. terminals_within value k x.1 >>= λ ps. Some (x.0 ∷ ps)
 
-abbrev pub pieces_at : Reader → List Symbol → Option (List PieceForm)
-pieces_at value ts = pieces_within value (length ts) ts
+abbrev pub terminals_at : Reader → List Symbol → Option (List TerminalForm)
+terminals_at value ts = terminals_within value (length ts) ts

@@ -7,9 +7,9 @@ use Rattle.ded_model.specs.declared.slot.Sort.{Sort}
 use Rattle.ded_model.specs.declared.slot.Sort.TheVariants.{Rat, Text}
 use Rattle.ded_model.specs.Form.{Form, compare, member}
 use Rattle.ded_model.specs.Logic.{atom, always, never}
-use Rattle.ded_grammar.specs.declared.piece.Quantifier.{Quantifier}
-use Rattle.ded_grammar.specs.declared.piece.Quantifier.TheVariants.{Exists, Forall}
-use Rattle.ded_grammar.specs.Trees.{PieceForm, nay, conjunct, disjunct, arrow, opening, closing, binder, leaf}
+use Rattle.ded_grammar.specs.declared.terminal.Quantifier.{Quantifier}
+use Rattle.ded_grammar.specs.declared.terminal.Quantifier.TheVariants.{Exists, Forall}
+use Rattle.ded_grammar.specs.Trees.{TerminalForm, nay, conjunct, disjunct, arrow, opening, closing, binder, leaf}
 use Rattle.ded_grammar.specs.Spelling.{Spells}
 use Rattle.ded_syntax.specs.declared.item.Keyword.TheVariants as words
 use Rattle.ded_syntax.specs.Symbols.{Symbol, Word, Name, Open, Close, Comma, Relation}
@@ -73,30 +73,30 @@ sort_symbols Text = Word words.Text ∷ []
 abbrev pub spell_column : Column → List Symbol
 spell_column c = Name c.name ∷ sort_symbols c.sort
 
--- ---- formulas, by their pieces
+-- ---- formulas, by their terminals
 
 abbrev pub quantifier_symbol : Quantifier → Symbol
 quantifier_symbol Exists = Word words.Exists
 quantifier_symbol Forall = Word words.Forall
 
--- these symbols spell the piece
-abbrev pub IsPiece : Reader → List Symbol → PieceForm → Type 0
-IsPiece value ts nay = ts ≡ Word words.Not ∷ []
-IsPiece value ts conjunct = ts ≡ Word words.And ∷ []
-IsPiece value ts disjunct = ts ≡ Word words.Or ∷ []
-IsPiece value ts arrow = ts ≡ Word words.Implies ∷ []
-IsPiece value ts opening = ts ≡ Open ∷ []
-IsPiece value ts closing = ts ≡ Close ∷ []
-IsPiece value ts (binder q c) = ts ≡ quantifier_symbol q ∷ spell_column c
-IsPiece value ts (leaf f) = (a : Atom) × (ts ≡ spell_atom a) × (atom_form value a ≡ f)
+-- these symbols spell the terminal
+abbrev pub IsTerminal : Reader → List Symbol → TerminalForm → Type 0
+IsTerminal value ts nay = ts ≡ Word words.Not ∷ []
+IsTerminal value ts conjunct = ts ≡ Word words.And ∷ []
+IsTerminal value ts disjunct = ts ≡ Word words.Or ∷ []
+IsTerminal value ts arrow = ts ≡ Word words.Implies ∷ []
+IsTerminal value ts opening = ts ≡ Open ∷ []
+IsTerminal value ts closing = ts ≡ Close ∷ []
+IsTerminal value ts (binder q c) = ts ≡ quantifier_symbol q ∷ spell_column c
+IsTerminal value ts (leaf f) = (a : Atom) × (ts ≡ spell_atom a) × (atom_form value a ≡ f)
 
--- the pieces, one after the other
-abbrev pub ArePieces : Reader → List Symbol → List PieceForm → Type 0
-ArePieces value ts [] = ts ≡ []
-ArePieces value ts (p ∷ ps) = (front : List Symbol) × (rest : List Symbol) × (ts ≡ front ++ rest) × IsPiece value front p × ArePieces value rest ps
+-- the terminals, one after the other
+abbrev pub AreTerminals : Reader → List Symbol → List TerminalForm → Type 0
+AreTerminals value ts [] = ts ≡ []
+AreTerminals value ts (p ∷ ps) = (front : List Symbol) × (rest : List Symbol) × (ts ≡ front ++ rest) × IsTerminal value front p × AreTerminals value rest ps
 
 -- the symbols spell the formula, with this nesting
 pub record SpellsFormula (value : Reader) (ts : List Symbol) (f : Form) (depth : ℕ) : Type 0 where
-  pub pieces : List PieceForm
-  pub are : ArePieces value ts pieces
-  pub spells : Spells pieces f depth
+  pub terminals : List TerminalForm
+  pub are : AreTerminals value ts terminals
+  pub spells : Spells terminals f depth

@@ -1,11 +1,11 @@
 -- Reading commands up to the tree of their formula, as functions on symbols.
-use Rattle.std.specs.Prelude.{ℕ, Bool, true, List, [], ◌∷◌, length, Option, Some, None}
+use Rattle.std.specs.Prelude.{ℕ, ◌==◌, if◌then◌else◌, Bool, true, List, [], ◌∷◌, length, Option, Some, None}
 use Rattle.ded_model.specs.declared.name.Column.{Column}
-use Rattle.ded_model.specs.Command.{CommandForm, relation, insert, delete, drop, view, keep, ask, query, show, box_of, explain}
+use Rattle.ded_model.specs.Command.{CommandForm, header, relation, insert, delete, drop, view, keep, ask, query, show, box_of, explain, dump}
 use Rattle.ded_model.specs.Form.{Form}
 use Rattle.ded_model.specs.Logic.{logics}
 use Rattle.ded_grammar.specs.declared.scan.Spot.TheVariants.{Start}
-use Rattle.ded_grammar.specs.Trees.{PieceForm}
+use Rattle.ded_grammar.specs.Trees.{TerminalForm}
 use Rattle.ded_grammar.specs.Scanning.{scan}
 use Rattle.ded_grammar.specs.Building.{◌>>=◌}
 use Rattle.ded_syntax.specs.declared.item.Keyword.{Keyword}
@@ -13,7 +13,7 @@ use Rattle.ded_syntax.specs.declared.item.Keyword.TheVariants as words
 use Rattle.ded_syntax.specs.Symbols.{Symbol, number_of, Open, CloseBrace, OpenBrace, Colon, Define}
 use Rattle.ded_syntax.specs.Literals.{Reader}
 use Rattle.ded_syntax.specs.OperandReading.{name_at, number_at}
-use Rattle.ded_syntax.specs.AtomReading.{comma_at, brace_at, list_at, compare_at, column_at, keyword_at, pieces_at}
+use Rattle.ded_syntax.specs.AtomReading.{comma_at, brace_at, list_at, compare_at, column_at, keyword_at, terminals_at}
 
 -- what stands before a formula
 pub data Head : Type 0 where
@@ -29,10 +29,10 @@ head_form ask_head f = ask f
 head_form (query_head h) f = query h f
 head_form (explain_head h) f = explain h f
 
--- a command without a formula, or with the pieces of one
+-- a command without a formula, or with the terminals of one
 pub data Draft : Type 0 where
   plain : CommandForm → Draft
-  formed : Head → List PieceForm → Draft
+  formed : Head → List TerminalForm → Draft
 
 abbrev pub open_at : List Symbol → Option (List Symbol)
 open_at (Open ∷ ts) = Some ts
@@ -77,9 +77,9 @@ abbrev pub define_at : List Symbol → Option (List Symbol)
 define_at (Define ∷ ts) = Some ts
 define_at ts = None
 
--- the pieces of a formula behind a head
+-- the terminals of a formula behind a head
 abbrev pub formed_at : Reader → Head → List Symbol → Option Draft
-formed_at value h ts = pieces_at value ts >>= λ ps. Some (formed h ps)
+formed_at value h ts = terminals_at value ts >>= λ ps. Some (formed h ps)
 
 -- a name with nothing behind it
 abbrev pub last_name : List Symbol → Option (List ℕ)
@@ -88,6 +88,13 @@ last_name ts = name_at ts >>= λ n. ended n.0 n.1
 -- a command that is a name
 abbrev pub named_draft : (List ℕ → CommandForm) → List Symbol → Option Draft
 named_draft make ts = last_name ts >>= λ n. Some (plain (make n))
+
+-- the header, where the digits stand for 2
+abbrev pub header_by : List ℕ × List Symbol → Option Draft
+header_by x = if number_of x.0 == 2 then ended (plain header) x.1 else None
+
+abbrev pub header_draft : List Symbol → Option Draft
+header_draft ts = number_at ts >>= header_by
 
 abbrev pub relation_draft : List Symbol → Option Draft
 relation_draft ts = name_at ts >>= λ n. heading_at n.1 >>= λ h. ended (plain (relation n.0 h.0)) h.1
@@ -106,6 +113,7 @@ abbrev pub over_draft : Reader → (List Column → Head) → List Symbol → Op
 over_draft value make ts = heading_at ts >>= λ h. colon_at h.1 >>= formed_at value (make h.0)
 
 abbrev pub draft_behind : Reader → Keyword → List Symbol → Option Draft
+draft_behind value words.Dedale ts = header_draft ts
 draft_behind value words.Relation ts = relation_draft ts
 draft_behind value words.Insert ts = insert_draft value ts
 draft_behind value words.Delete ts = delete_draft value ts
@@ -113,6 +121,7 @@ draft_behind value words.Drop ts = named_draft drop ts
 draft_behind value words.Keep ts = named_draft keep ts
 draft_behind value words.Show ts = named_draft show ts
 draft_behind value words.BoxOf ts = named_draft box_of ts
+draft_behind value words.Dump ts = ended (plain dump) ts
 draft_behind value words.View ts = view_draft value ts
 draft_behind value words.Ask ts = formed_at value ask_head ts
 draft_behind value words.Query ts = over_draft value query_head ts
@@ -122,7 +131,7 @@ draft_behind value w ts = None
 abbrev pub draft_at : Reader → List Symbol → Option Draft
 draft_at value ts = keyword_at ts >>= λ w. draft_behind value w.0 w.1
 
--- whether the pieces of a draft spell a formula
+-- whether the terminals of a draft spell a formula
 abbrev pub scans : Draft → Bool
 scans (plain c) = true
 scans (formed h ps) = scan Start 0 ps

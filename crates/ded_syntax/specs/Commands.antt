@@ -1,7 +1,7 @@
 -- The grammar of commands.
-use Rattle.std.specs.Prelude.{◌≡◌, ◌⊎◌, ℕ, List, [], ◌∷◌, ◌++◌, map}
+use Rattle.std.specs.Prelude.{◌≡◌, ◌⊎◌, ℕ, ◌==◌, true, List, [], ◌∷◌, ◌++◌, map}
 use Rattle.ded_model.specs.declared.name.Column.{Column}
-use Rattle.ded_model.specs.Command.{CommandForm, relation, insert, delete, drop, view, keep, ask, query, show, box_of, explain}
+use Rattle.ded_model.specs.Command.{CommandForm, header, relation, insert, delete, drop, view, keep, ask, query, show, box_of, explain, dump}
 use Rattle.ded_model.specs.Form.{Form}
 use Rattle.ded_model.specs.Logic.{logics}
 use Rattle.ded_syntax.specs.declared.item.Keyword.TheVariants as words
@@ -21,11 +21,15 @@ abbrev pub heading : Columns → List Column
 heading h = h.first ∷ h.rest
 
 -- a command without a formula
--- command = "relation" name heading
+-- command = "dedale" number
+--   | "relation" name heading
 --   | "insert" name "{" [ compare ( "," compare )* ] "}"
 --   | "delete" name number
 --   | "drop" name | "keep" name | "show" name | "box" name
+--   | "dump"
+-- The number of the header is 2.
 pub data Plain : Type 0 where
+  opens : (d : List ℕ) → (number_of d == 2) ≡ true → Plain
   defines : List ℕ → Columns → Plain
   inserts_none : List ℕ → Plain
   inserts : List ℕ → Comparison → List Comparison → Plain
@@ -34,8 +38,10 @@ pub data Plain : Type 0 where
   keeps : List ℕ → Plain
   shows : List ℕ → Plain
   boxes : List ℕ → Plain
+  dumps : Plain
 
 abbrev pub spell_plain : Plain → List Symbol
+spell_plain (opens d two) = Word words.Dedale ∷ Number d ∷ []
 spell_plain (defines n h) = Word words.Relation ∷ Name n ∷ spell_heading h
 spell_plain (inserts_none n) = Word words.Insert ∷ Name n ∷ OpenBrace ∷ CloseBrace ∷ []
 spell_plain (inserts n c cs) = Word words.Insert ∷ Name n ∷ OpenBrace ∷ spell_comparison c ++ (spell_rest spell_comparison cs ++ CloseBrace ∷ [])
@@ -44,8 +50,10 @@ spell_plain (drops n) = Word words.Drop ∷ Name n ∷ []
 spell_plain (keeps n) = Word words.Keep ∷ Name n ∷ []
 spell_plain (shows n) = Word words.Show ∷ Name n ∷ []
 spell_plain (boxes n) = Word words.BoxOf ∷ Name n ∷ []
+spell_plain dumps = Word words.Dump ∷ []
 
 abbrev pub plain_form : Reader → Plain → CommandForm
+plain_form value (opens d two) = header
 plain_form value (defines n h) = relation n (heading h)
 plain_form value (inserts_none n) = insert n (logics [])
 plain_form value (inserts n c cs) = insert n (logics (comparison_form value c ∷ map (comparison_form value) cs))
@@ -54,6 +62,7 @@ plain_form value (drops n) = drop n
 plain_form value (keeps n) = keep n
 plain_form value (shows n) = show n
 plain_form value (boxes n) = box_of n
+plain_form value dumps = dump
 
 -- what stands before the formula of a command that has one
 -- command = .. | "view" name heading ":=" formula

@@ -1,6 +1,6 @@
 -- The draft that a value of the reader stands for.
 use Rattle.ded_model.specs.Command.{command_form}
-use Rattle.ded_grammar.specs.Forms.{piece_forms}
+use Rattle.ded_grammar.specs.Forms.{terminal_forms}
 use Rattle.ded_syntax.specs.declared.draft.Head.{Head}
 use Rattle.ded_syntax.specs.declared.draft.Head.TheVariants as head
 use Rattle.ded_syntax.specs.declared.draft.Draft.{Draft}
@@ -15,4 +15,4 @@ seen_head (head.Explain h) = reading.explain_head h
 
 abbrev pub seen_draft : Draft → reading.Draft
 seen_draft (draft.Plain c) = reading.plain (command_form c)
-seen_draft (draft.Formed h ps) = reading.formed (seen_head h) (piece_forms ps.items)
+seen_draft (draft.Formed h ps) = reading.formed (seen_head h) (terminal_forms ps.items)

@@ -4,6 +4,7 @@ pub mod CommandReading
 pub mod Commands
 pub mod DraftViews
 pub mod Drafts
+pub mod Headers
 pub mod Items
 pub mod Literals
 pub mod Marks

@@ -4,10 +4,10 @@ use Rattle.std.specs.List.{list_any}
 use Rattle.ded_lex.specs.Lexemes.{Lexeme, Word, Number, Decimal, Quoted, Sign}
 use Rattle.ded_lex.specs.Tokens.{AreLexemes}
 use Rattle.ded_model.specs.declared.command.Language.{Language}
-use Rattle.ded_model.specs.declared.command.Language.TheVariants.{Two}
+use Rattle.ded_model.specs.declared.command.Language.TheVariants.{Opening, Two}
 use Rattle.ded_model.specs.declared.command.Refusal.{Refusal}
 use Rattle.ded_model.specs.declared.command.Refusal.TheVariants.{Syntax, LongName, LongNumber, Deep}
-use Rattle.ded_model.specs.Command.{CommandForm}
+use Rattle.ded_model.specs.Command.{CommandForm, header}
 use Rattle.ded_model.specs.Refusals.{refusal_number}
 use Rattle.ded_syntax.specs.Symbols.{symbol, number_of, decimal_number, decimal_power}
 use Rattle.ded_syntax.specs.Literals.{exact, marked}
@@ -22,6 +22,10 @@ pub record Spells (language : Language) (bytes : List ℕ) (c : CommandForm) (de
   pub lexemes : List Lexeme
   pub are : AreLexemes bytes lexemes
   pub command : SpellsCommand exact (map (symbol language) lexemes) c depth
+
+-- the bytes spell the header, which no other language has
+abbrev pub IsHeader : List ℕ → Type 0
+IsHeader bytes = Spells Opening bytes header 0
 
 -- ---- what is refused
 

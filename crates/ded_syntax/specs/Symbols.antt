@@ -4,7 +4,7 @@ use Rattle.std.specs.Str.{bytes_eq}
 use Rattle.ded_lex.specs.Lexemes.{Lexeme}
 use Rattle.ded_lex.specs.Lexemes as lexeme
 use Rattle.ded_model.specs.declared.command.Language.{Language}
-use Rattle.ded_model.specs.declared.command.Language.TheVariants.{Two}
+use Rattle.ded_model.specs.declared.command.Language.TheVariants.{Opening, Two}
 use Rattle.ded_model.specs.declared.formula.CompareOp.{CompareOp}
 use Rattle.ded_model.specs.declared.formula.CompareOp.TheVariants as op
 use Rattle.ded_syntax.specs.declared.item.Keyword.{Keyword}
@@ -69,16 +69,31 @@ is_unused w =
     || (bytes_eq w (codes "verify")
     || (bytes_eq w (codes "begin")
     || (bytes_eq w (codes "commit")
-    || (bytes_eq w (codes "abort")
-    || (bytes_eq w (codes "dump")
-    || (bytes_eq w (codes "dedale")))))))))
+    || bytes_eq w (codes "abort"))))))
 
 abbrev pub unused_word : Symbol → List ℕ → Symbol
 unused_word other w = if is_unused w then Word keyword.Unused else other
 
+-- the word of the header, which stands in no command of another language
+abbrev pub dedale_symbol : Language → Symbol
+dedale_symbol Opening = Word keyword.Dedale
+dedale_symbol _ = Word keyword.Unused
+
+-- the same of the word of dumps
+abbrev pub dump_symbol : Language → Symbol
+dump_symbol Two = Word keyword.Dump
+dump_symbol _ = Word keyword.Unused
+
+-- the words that stand in commands of one language alone; any other goes on with `other`
+abbrev pub language_word : Language → Symbol → List ℕ → Symbol
+language_word language other w =
+    if bytes_eq w (codes "dedale") then dedale_symbol language
+    else (if bytes_eq w (codes "dump") then dump_symbol language
+    else other)
+
 -- a word that isn't reserved is a name
-abbrev pub word_symbol : List ℕ → Symbol
-word_symbol w = formula_word (command_word (unused_word (Name w) w) w) w
+abbrev pub word_symbol : Language → List ℕ → Symbol
+word_symbol language w = formula_word (command_word (language_word language (unused_word (Name w) w) w) w) w
 
 -- the signs of sums and comparisons
 abbrev pub sum_sign : Symbol → List ℕ → Symbol
@@ -121,7 +136,7 @@ decimal_symbol _ bs = Word keyword.Unused
 
 -- what the lexeme is in the language
 abbrev pub symbol : Language → Lexeme → Symbol
-symbol language (lexeme.Word w) = word_symbol w
+symbol language (lexeme.Word w) = word_symbol language w
 symbol language (lexeme.Number digits) = Number digits
 symbol language (lexeme.Decimal bs) = decimal_symbol language bs
 symbol language (lexeme.Quoted value) = Quoted value

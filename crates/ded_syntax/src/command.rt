@@ -23,17 +23,17 @@ use ded_model::command::{Command, Language, Refusal};
 use ded_model::formula::Formula;
 use std::alloc::Global;
 
-/// Whether the pieces of the draft spell a formula, where it has pieces.
+/// Whether the terminals of the draft spell a formula, where it has terminals.
 fn is_spelled(draft: &Draft) -> bool
     ensures { result ≡ scans (seen_draft draft.now) }
 {
     match draft {
         Draft::Plain(_) => true,
-        Draft::Formed(_, pieces) => is_formula(pieces),
+        Draft::Formed(_, terminals) => is_formula(terminals),
     }
 }
 
-/// The draft that the items spell, with pieces that spell a formula where it has pieces.
+/// The draft that the items spell, with terminals that spell a formula where it has terminals.
 fn spelled_draft(alloc: Global, items: Rest<'_>) -> Result<Draft, ReadFault>
     requires few { length (left items) ≤ 65536 }
     ensures read { IfOk result (λ d. draft_at capped_reader (left items.entry) ≡ Some (seen_draft d)) }
@@ -68,8 +68,8 @@ fn command_of(alloc: Global, draft: Draft) -> Result<Command, Refusal>
 {
     match draft {
         Draft::Plain(command) => Ok(command),
-        Draft::Formed(head, pieces) => {
-            match formula_of(alloc, &pieces) {
+        Draft::Formed(head, terminals) => {
+            match formula_of(alloc, &terminals) {
                 Ok(formula) => Ok(headed(head, formula)),
                 Err(refusal) => Err(refusal),
             }
@@ -118,8 +118,10 @@ fn command_by(alloc: Global, items: Rest<'_>) -> Result<Command, Refusal>
 /// # Errors
 /// The least refusal that applies to the bytes: `Syntax` where they spell no command, whatever its nesting; `LongName`
 /// where a name has more than 64 bytes; `LongNumber` where a number, or a number of the normal row of a comparison or
-/// an argument, is above 2^63 - 1 in magnitude; `Deep` where the nesting is above 64. `Memory` where there is no
-/// memory.
+/// an argument, is above 2^63 - 1 in magnitude, and in language 2 besides where a decimal's digits without the point, its
+/// power of ten, or the common denominator of a comparison's or an argument's literals is above 2^63 - 1, or the numerator
+/// of such a literal over their common denominator is above 2^96; `Deep` where the nesting is above 64. `Memory` where
+/// there is no memory.
 pub fn read_command(alloc: Global, bytes: &[u8], language: Language) -> Result<Command, Refusal>
     requires { length bytes.now ≤ 65536 }
     ensures read { IfOk result (λ c. IsRead language bytes.now (command_form c)) }

@@ -11,8 +11,8 @@ ghost use Rattle.ded_syntax.specs.DraftViews.{seen_head, seen_draft};
 
 use crate::atom::{column, comma, comparison};
 use crate::item::{Item, Rest};
-use crate::pieces::pieces;
-use ded_grammar::{Piece, ReadFault};
+use crate::terminals::terminals;
+use ded_grammar::{ReadFault, Terminal};
 use ded_model::command::Command;
 use ded_model::formula::Formula;
 use ded_model::name::{Column, Heading, Name};
@@ -27,11 +27,11 @@ pub enum Head {
     Explain(Heading),
 }
 
-/// A command without a formula, or with the pieces of one.
+/// A command without a formula, or with the terminals of one.
 #[derive(Drop)]
 pub enum Draft {
     Plain(Command),
-    Formed(Head, Vec<Piece>),
+    Formed(Head, Vec<Terminal>),
 }
 
 /// What stands behind an opening parenthesis; none where the rest begins with no such item.
@@ -204,14 +204,14 @@ pub fn ended(command: Command, rest: Rest<'_>) -> Result<Draft, ReadFault>
     }
 }
 
-/// The draft of a head and the pieces of the formula behind it.
+/// The draft of a head and the terminals of the formula behind it.
 ///
 /// # Errors
-/// `NotRead` only where what stands behind the head isn't pieces of a formula, otherwise out of memory.
+/// `NotRead` only where what stands behind the head isn't terminals of a formula, otherwise out of memory.
 pub fn formed(alloc: Global, head: Head, rest: Rest<'_>) -> Result<Draft, ReadFault>
     requires few { length (left rest) ≤ 65536 }
     ensures read { IfOk result (λ d. formed_at capped_reader (seen_head head) (left rest.entry) ≡ Some (seen_draft d)) }
     ensures unread { IfErr result (λ e. e ≡ NotRead → formed_at capped_reader (seen_head head) (left rest.entry) ≡ None) }
 {
-    Ok(Draft::Formed(head, pieces(alloc, rest)?))
+    Ok(Draft::Formed(head, terminals(alloc, rest)?))
 }

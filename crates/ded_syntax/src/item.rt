@@ -3,7 +3,7 @@ ghost use Rattle.std.specs.Prelude.{◌≡◌, ◌≤◌, ◌<◌, ◌^◌, ℕ,
 ghost use Rattle.std.specs.List.{list_any};
 ghost use Rattle.ded_lex.specs.Tokens.{lexeme, token_text};
 ghost use Rattle.ded_syntax.specs.Literals.{capped};
-ghost use Rattle.ded_syntax.specs.Symbols.{symbol, formula_word, command_word, is_unused, unused_word, word_symbol, sum_sign, other_sign, slash_symbol, sign_symbol, decimal_symbol, number_from};
+ghost use Rattle.ded_syntax.specs.Symbols.{symbol, formula_word, command_word, is_unused, unused_word, dedale_symbol, dump_symbol, language_word, word_symbol, sum_sign, other_sign, slash_symbol, sign_symbol, decimal_symbol, number_from};
 ghost use Rattle.ded_syntax.specs.Items.{capped_of, seen, symbols, is_long_name, is_long_literal};
 
 use crate::decimal::decimal_of;
@@ -17,6 +17,7 @@ use std::alloc::Global;
 /// A reserved word.
 #[derive(Clone, Copy, Debug, PartialEq, Eq)]
 pub enum Keyword {
+    Dedale,
     Relation,
     Text,
     Insert,
@@ -29,6 +30,7 @@ pub enum Keyword {
     Show,
     BoxOf,
     Explain,
+    Dump,
     And,
     Or,
     Not,
@@ -179,8 +181,6 @@ fn is_unused(text: &[u8]) -> bool
         || text == b"begin".as_slice()
         || text == b"commit".as_slice()
         || text == b"abort".as_slice()
-        || text == b"dump".as_slice()
-        || text == b"dedale".as_slice()
 }
 
 /// The item of a reserved word that stands in no command, or the other item where the text isn't such a word.
@@ -194,13 +194,46 @@ fn unused_word(other: Item, text: &[u8]) -> Item
     }
 }
 
+/// The item of the header's word, which stands in commands of the opening language alone.
+fn dedale(language: Language) -> Item
+    ensures { (bytes : List ℕ) → seen bytes result ≡ dedale_symbol language }
+{
+    match language {
+        Language::Opening => Item::Word(Keyword::Dedale),
+        Language::One | Language::Two => Item::Word(Keyword::Unused),
+    }
+}
+
+/// The item of the word of dumps, which stands in commands of language 2 alone.
+fn dump(language: Language) -> Item
+    ensures { (bytes : List ℕ) → seen bytes result ≡ dump_symbol language }
+{
+    match language {
+        Language::Two => Item::Word(Keyword::Dump),
+        Language::Opening | Language::One => Item::Word(Keyword::Unused),
+    }
+}
+
+/// The item of a word that stands in commands of one language alone, or the other item where the text isn't such a word.
+fn language_word(language: Language, other: Item, text: &[u8]) -> Item
+    ensures { (bytes : List ℕ) → seen bytes result ≡ language_word language (seen bytes other) text.now }
+{
+    if text == b"dedale".as_slice() {
+        dedale(language)
+    } else if text == b"dump".as_slice() {
+        dump(language)
+    } else {
+        other
+    }
+}
+
 /// The item of a word: a reserved word, or a name.
-fn word_item(bytes: &[u8], token: Token) -> Item
-    ensures { seen bytes.now result ≡ word_symbol (token_text bytes.now token) }
+fn word_item(bytes: &[u8], token: Token, language: Language) -> Item
+    ensures { seen bytes.now result ≡ word_symbol language (token_text bytes.now token) }
 {
     let text = text(bytes, token);
-    let other = command_word(unused_word(Item::Name(token), text), text);
-    formula_word(other, text)
+    let other = language_word(language, unused_word(Item::Name(token), text), text);
+    formula_word(command_word(other, text), text)
 }
 
 /// The item of a sign in sums or between the sides of a comparison, or the other item where the text isn't such a sign.
@@ -286,11 +319,11 @@ fn decimal_item(bytes: &[u8], token: Token, language: Language) -> Item
 }
 
 /// The item of a token.
-fn item_of(bytes: &[u8], token: Token, language: Language) -> Item
+pub fn item_of(bytes: &[u8], token: Token, language: Language) -> Item
     ensures { seen bytes.now result ≡ symbol language (lexeme bytes.now token) }
 {
     match token.kind {
-        TokenKind::Word => word_item(bytes, token),
+        TokenKind::Word => word_item(bytes, token, language),
         TokenKind::Number => Item::Number(token),
         TokenKind::Decimal => decimal_item(bytes, token, language),
         TokenKind::Sign => sign_item(text(bytes, token), language),

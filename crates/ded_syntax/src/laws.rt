@@ -1,11 +1,12 @@
 //! Laws of the grammar. Each is the contract of a function that does nothing.
 ghost use Rattle.std.specs.Prelude.{◌≡◌, ◌⊎◌, List, ℕ};
 ghost use Rattle.ded_model.specs.declared.command.Language.{Language};
+ghost use Rattle.ded_model.specs.declared.command.Language.TheVariants.{Opening, One};
 ghost use Rattle.ded_model.specs.declared.command.Refusal.{Refusal};
 ghost use Rattle.ded_model.specs.declared.command.Refusal.TheVariants.{Syntax};
-ghost use Rattle.ded_model.specs.Command.{CommandForm};
+ghost use Rattle.ded_model.specs.Command.{CommandForm, header};
 ghost use Rattle.ded_model.specs.Plain.{IsPlainCommand};
-ghost use Rattle.ded_syntax.specs.Spelling.{Spells, AppliesIn, IsRead};
+ghost use Rattle.ded_syntax.specs.Spelling.{Spells, IsHeader, AppliesIn, IsRead};
 
 /// Bytes spell one command at most, with one nesting.
 pub fn one_command()
@@ -22,6 +23,19 @@ pub fn some_command()
     ensures read { (language : Language) (bytes : List ℕ) →
         ((refusal : Refusal) → AppliesIn refusal language bytes → ⊥) →
         (command : CommandForm) × IsRead language bytes command }
+{}
+
+/// What the plain language spells, the opening one spells as the same command, and it isn't the header; what applies to it in
+/// the opening language applies in the plain one. No refusal applies to the header, and whether bytes spell it is decided.
+pub fn opening_language()
+    ensures spelled { (bytes : List ℕ) (command : CommandForm) (depth : ℕ) →
+        Spells One bytes command depth → Spells Opening bytes command depth }
+    ensures other { (bytes : List ℕ) (command : CommandForm) (depth : ℕ) →
+        Spells One bytes command depth → IsHeader bytes → ⊥ }
+    ensures refused { (bytes : List ℕ) (command : CommandForm) (depth : ℕ) → Spells One bytes command depth →
+        (refusal : Refusal) → AppliesIn refusal Opening bytes → AppliesIn refusal One bytes }
+    ensures read { (bytes : List ℕ) → IsHeader bytes → IsRead Opening bytes header }
+    ensures decided { (bytes : List ℕ) → IsHeader bytes ⊎ (IsHeader bytes → ⊥) }
 {}
 
 /// In a command that is spelled each sum has each name once, and the sums of a comparison are over one denominator.

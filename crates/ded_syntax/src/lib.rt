@@ -9,7 +9,7 @@
 //! reader marks the comparison by sums over 2^63, and goes on, since a refusal of less number may apply.
 //!
 //! Answers are exact both ways, so what is spelled is read, and what is read is spelled. Reading goes from left to
-//! right, by loops, up to the pieces of a formula; `ded_grammar` makes its tree of them. The crate stands on `ded_lex`
+//! right, by loops, up to the terminals of a formula; `ded_grammar` makes its tree of them. The crate stands on `ded_lex`
 //! for tokens, on `ded_num` for divisors and on `ded_model` for commands.
 #![tactic(auto)]
 
@@ -18,15 +18,17 @@ mod atom;
 mod command;
 mod decimal;
 mod draft;
+mod header;
 mod item;
 mod laws;
 mod long;
 mod operand;
-mod pieces;
 mod scalar;
 mod side;
 mod statement;
 mod sum;
+mod terminals;
 
 pub use command::read_command;
-pub use laws::{one_command, some_command, spelled_sums};
+pub use header::is_header;
+pub use laws::{one_command, opening_language, some_command, spelled_sums};

@@ -1,8 +1,8 @@
 //! Comparisons and commands whose normal rows have a number above 2^63 - 1 in magnitude.
 ghost use Rattle.std.specs.Prelude.{◌≡◌, ◌-ℤ◌, ◌∷◌, ◌||◌, unsigned_abs};
 ghost use Rattle.std.specs.List.{list_any};
-ghost use Rattle.ded_grammar.specs.Forms.{piece_form, piece_forms};
-ghost use Rattle.ded_grammar.specs.Trees.{piece_atom};
+ghost use Rattle.ded_grammar.specs.Forms.{terminal_form, terminal_forms};
+ghost use Rattle.ded_grammar.specs.Trees.{terminal_atom};
 ghost use Rattle.ded_model.specs.Command.{command_form};
 ghost use Rattle.ded_model.specs.Form.{form, forms};
 ghost use Rattle.ded_model.specs.Logic.{some_atom, some_atom_of};
@@ -15,7 +15,7 @@ ghost use Rattle.ded_syntax.specs.DraftViews.{seen_draft};
 
 use crate::arguments::{is_marked, some_unfit_argument};
 use crate::draft::Draft;
-use ded_grammar::Piece;
+use ded_grammar::Terminal;
 use ded_model::command::Command;
 use ded_model::formula::{Formula, Operand, Parts, denominator};
 use ded_model::limits;
@@ -293,22 +293,22 @@ fn some_long_atom(formulas: &Vec<Formula>) -> bool
     false
 }
 
-/// Whether the piece is a formula of which a comparison or an argument has literals or a row that are too long.
-fn is_long_piece(piece: &Piece) -> bool
-    ensures { result ≡ piece_atom is_unfit_atom (piece_form piece.now) }
+/// Whether the terminal is a formula of which a comparison or an argument has literals or a row that are too long.
+fn is_long_terminal(terminal: &Terminal) -> bool
+    ensures { result ≡ terminal_atom is_unfit_atom (terminal_form terminal.now) }
 {
-    match piece {
-        Piece::Atom(formula) => has_long_atom(formula),
+    match terminal {
+        Terminal::Atom(formula) => has_long_atom(formula),
         _ => false,
     }
 }
 
-/// Whether a comparison or an argument of one of the pieces has literals or a row that are too long.
-fn some_long_piece(pieces: &[Piece]) -> bool
-    ensures { result ≡ list_any (piece_atom is_unfit_atom) (piece_forms pieces.now) }
+/// Whether a comparison or an argument of one of the terminals has literals or a row that are too long.
+fn some_long_terminal(terminals: &[Terminal]) -> bool
+    ensures { result ≡ list_any (terminal_atom is_unfit_atom) (terminal_forms terminals.now) }
 {
-    for piece in pieces {
-        if is_long_piece(piece) {
+    for terminal in terminals {
+        if is_long_terminal(terminal) {
             return true;
         }
     }
@@ -336,6 +336,6 @@ pub fn is_unfit(draft: &Draft) -> bool
 {
     match draft {
         Draft::Plain(command) => is_long_command(command),
-        Draft::Formed(_, pieces) => some_long_piece(pieces),
+        Draft::Formed(_, terminals) => some_long_terminal(terminals),
     }
 }

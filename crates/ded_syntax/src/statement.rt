@@ -3,14 +3,14 @@ ghost use Rattle.std.specs.Prelude.{◌≡◌, ◌≤◌, length, Some, None, If
 ghost use Rattle.ded_grammar.specs.declared.fault.ReadFault.TheVariants.{NotRead};
 ghost use Rattle.ded_syntax.specs.Items.{left};
 ghost use Rattle.ded_syntax.specs.Literals.{capped_reader};
-ghost use Rattle.ded_syntax.specs.CommandReading.{query_head, explain_head, last_name, relation_draft, insert_draft, delete_draft, view_draft, over_draft, draft_behind, draft_at};
+ghost use Rattle.ded_syntax.specs.CommandReading.{query_head, explain_head, last_name, header_draft, relation_draft, insert_draft, delete_draft, view_draft, over_draft, draft_behind, draft_at};
 ghost use Rattle.ded_syntax.specs.DraftViews.{seen_draft};
 
 use crate::draft::{Draft, Head, braces, colon, define, ended, formed, heading};
 use crate::item::{Keyword, Rest, value_of};
 use crate::operand::name_of;
-use crate::pieces::keyword;
 use crate::side::{name, number};
+use crate::terminals::keyword;
 use ded_grammar::ReadFault;
 use ded_model::command::Command;
 use ded_model::name::Name;
@@ -23,6 +23,17 @@ fn last_name(alloc: Global, rest: Rest<'_>) -> Result<Name, ReadFault>
 {
     match name(rest) {
         Some((name, rest)) if rest.items.is_empty() => Ok(name_of(alloc, name)?),
+        _ => Err(ReadFault::NotRead),
+    }
+}
+
+/// The draft of the header, whose word `dedale` stands before the rest.
+fn header(rest: Rest<'_>) -> Result<Draft, ReadFault>
+    ensures read { IfOk result (λ d. header_draft (left rest.entry) ≡ Some (seen_draft d)) }
+    ensures unread { IfErr result (λ e. e ≡ NotRead → header_draft (left rest.entry) ≡ None) }
+{
+    match number(rest) {
+        Some((digits, rest)) if value_of(digits) == 2 => ended(Command::Header, rest),
         _ => Err(ReadFault::NotRead),
     }
 }
@@ -119,6 +130,7 @@ fn behind(alloc: Global, word: Keyword, rest: Rest<'_>) -> Result<Draft, ReadFau
     ensures unread { IfErr result (λ e. e ≡ NotRead → draft_behind capped_reader word (left rest.entry) ≡ None) }
 {
     match word {
+        Keyword::Dedale => header(rest),
         Keyword::Relation => relation(alloc, rest),
         Keyword::Insert => insert(alloc, rest),
         Keyword::Delete => delete(alloc, rest),
@@ -126,6 +138,7 @@ fn behind(alloc: Global, word: Keyword, rest: Rest<'_>) -> Result<Draft, ReadFau
         Keyword::Keep => Ok(Draft::Plain(Command::Keep(last_name(alloc, rest)?))),
         Keyword::Show => Ok(Draft::Plain(Command::Show(last_name(alloc, rest)?))),
         Keyword::BoxOf => Ok(Draft::Plain(Command::BoxOf(last_name(alloc, rest)?))),
+        Keyword::Dump => ended(Command::Dump, rest),
         Keyword::View => view(alloc, rest),
         Keyword::Ask => formed(alloc, Head::Ask, rest),
         Keyword::Query => query(alloc, rest),

@@ -11,7 +11,7 @@ pub enum Quantifier {
 
 /// A sign between formulas, a quantifier with its variable, or a formula that has no formula inside.
 #[derive(Drop)]
-pub enum Piece {
+pub enum Terminal {
     Not,
     And,
     Or,

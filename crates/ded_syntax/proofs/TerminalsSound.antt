@@ -1,4 +1,4 @@
--- Comparisons, members, columns and pieces: what is read is spelled.
+-- Comparisons, members, columns and terminals: what is read is spelled.
 use Rattle.std.proofs.Common.{◌≡◌, ℕ, zero, suc, Bool, true, false, List, [], ◌∷◌, ◌++◌, length, refl, sym, ap, subst, ◌∙◌, append_assoc}
 use Rattle.std.specs.Prelude.{Some}
 use Rattle.ded_model.specs.declared.formula.CompareOp.{CompareOp}
@@ -6,18 +6,18 @@ use Rattle.ded_model.specs.declared.formula.Operand.{Operand}
 use Rattle.ded_model.specs.declared.name.Column.{Column}
 use Rattle.ded_model.specs.Form.{Form, member}
 use Rattle.ded_model.specs.Logic.{atom}
-use Rattle.ded_grammar.specs.declared.piece.Quantifier.{Quantifier}
-use Rattle.ded_grammar.specs.declared.piece.Quantifier.TheVariants.{Exists, Forall}
-use Rattle.ded_grammar.specs.Trees.{PieceForm, binder, leaf}
+use Rattle.ded_grammar.specs.declared.terminal.Quantifier.{Quantifier}
+use Rattle.ded_grammar.specs.declared.terminal.Quantifier.TheVariants.{Exists, Forall}
+use Rattle.ded_grammar.specs.Trees.{TerminalForm, binder, leaf}
 use Rattle.ded_grammar.specs.Building.{◌>>=◌}
 use Rattle.ded_syntax.specs.declared.item.Keyword.{Keyword}
 use Rattle.ded_syntax.specs.declared.item.Keyword.TheVariants as words
 use Rattle.ded_syntax.specs.Symbols.{Symbol, Word, Name, Open, Close, CloseBrace, Comma, Relation}
 use Rattle.ded_syntax.specs.Literals.{Reader}
 use Rattle.ded_syntax.specs.Operands.{Side, spell_side, Reading, reading_of, argument_of}
-use Rattle.ded_syntax.specs.Atoms.{compared, argument, Comparison, spell_comparison, comparison_form, Atom, truth, relates, belongs, spell_atom, atom_form, spell_column, sort_symbols, quantifier_symbol, IsPiece, ArePieces}
+use Rattle.ded_syntax.specs.Atoms.{compared, argument, Comparison, spell_comparison, comparison_form, Atom, truth, relates, belongs, spell_atom, atom_form, spell_column, sort_symbols, quantifier_symbol, IsTerminal, AreTerminals}
 use Rattle.ded_syntax.specs.OperandReading.{side_at}
-use Rattle.ded_syntax.specs.AtomReading.{comma_at, brace_at, relation_at, compare_at, argument_at, operands_at, atom_at, sort_at, column_at, binder_at, word_at, as_leaf, piece_at, pieces_within, pieces_at}
+use Rattle.ded_syntax.specs.AtomReading.{comma_at, brace_at, relation_at, compare_at, argument_at, operands_at, atom_at, sort_at, column_at, binder_at, word_at, as_leaf, terminal_at, terminals_within, terminals_at}
 use Rattle.ded_syntax.proofs.Binds.{bind_some, some_same}
 use Rattle.ded_syntax.proofs.OperandsSound.{side_sound}
 use Rattle.ded_syntax.proofs.ListsRead.{SoundItems, sign_of, list_sound, list_tail}
@@ -83,22 +83,22 @@ column_sound ts x e = absurd cc
 pub columns_sound : SoundItems spell_column (λ (c : Column). c) column_at comma_at Close
 columns_sound = record { item = column_sound; end = comma_end }
 
--- ---- pieces
+-- ---- terminals
 
--- these symbols, read as this piece, and those after them
-abbrev Found : Reader → List Symbol → PieceForm × List Symbol → Type 0
-Found value ts x = (front : List Symbol) × (ts ≡ front ++ x.1) × IsPiece value front x.0
+-- these symbols, read as this terminal, and those after them
+abbrev Found : Reader → List Symbol → TerminalForm × List Symbol → Type 0
+Found value ts x = (front : List Symbol) × (ts ≡ front ++ x.1) × IsTerminal value front x.0
 
-leaf_found : (value : Reader) (ts : List Symbol) (x : PieceForm × List Symbol) (a : Atom) (y : Form × List Symbol) → ts ≡ spell_atom a ++ y.1 → y.0 ≡ atom_form value a → Some (leaf y.0, y.1) ≡ Some x → Found value ts x
+leaf_found : (value : Reader) (ts : List Symbol) (x : TerminalForm × List Symbol) (a : Atom) (y : Form × List Symbol) → ts ≡ spell_atom a ++ y.1 → y.0 ≡ atom_form value a → Some (leaf y.0, y.1) ≡ Some x → Found value ts x
 leaf_found value ts x a y e m f = subst (Found value ts) (some_same _ x f) (spell_atom a, e, (a, refl, sym m))
 
-compare_found : (value : Reader) (ts : List Symbol) (x : PieceForm × List Symbol) → as_leaf (compare_at value ts) ≡ Some x → Found value ts x
+compare_found : (value : Reader) (ts : List Symbol) (x : TerminalForm × List Symbol) → as_leaf (compare_at value ts) ≡ Some x → Found value ts x
 compare_found value ts x e =
     let b = bind_some (compare_at value ts) (λ y. Some (leaf y.0, y.1)) x e in
     let c = compare_sound value ts b.0 b.1 in
     leaf_found value ts x (relates c.0) b.0 c.1 c.2 b.2
 
-membered : (value : Reader) (n : List ℕ) (ts : List Symbol) (x : PieceForm × List Symbol) → as_leaf (atom_at value (Name n ∷ Open ∷ ts)) ≡ Some x → Found value (Name n ∷ Open ∷ ts) x
+membered : (value : Reader) (n : List ℕ) (ts : List Symbol) (x : TerminalForm × List Symbol) → as_leaf (atom_at value (Name n ∷ Open ∷ ts)) ≡ Some x → Found value (Name n ∷ Open ∷ ts) x
 membered value n ts x e =
     let b = bind_some (atom_at value (Name n ∷ Open ∷ ts)) (λ y. Some (leaf y.0, y.1)) x e in
     let c = bind_some (operands_at value ts) (λ y. Some (atom (member n y.0), y.1)) b.0 b.1 in
@@ -109,19 +109,19 @@ membered value n ts x e =
     (sym (ap (λ (y : Form × List Symbol). y.0) same) ∙ ap (λ (q : List Operand). atom (member n q)) s.3)
     b.2
 
-named : (value : Reader) (n : List ℕ) (ts : List Symbol) (x : PieceForm × List Symbol) → as_leaf (atom_at value (Name n ∷ ts)) ≡ Some x → Found value (Name n ∷ ts) x
+named : (value : Reader) (n : List ℕ) (ts : List Symbol) (x : TerminalForm × List Symbol) → as_leaf (atom_at value (Name n ∷ ts)) ≡ Some x → Found value (Name n ∷ ts) x
 named value n [] x e = compare_found value (Name n ∷ []) x e
 named value n (Open ∷ ts) x e = membered value n ts x e
 named value n (t ∷ ts) x e = compare_found value (Name n ∷ t ∷ ts) x e
 
-binder_sound : (value : Reader) (q : Quantifier) (ts : List Symbol) (x : PieceForm × List Symbol) → binder_at q ts ≡ Some x → Found value (quantifier_symbol q ∷ ts) x
+binder_sound : (value : Reader) (q : Quantifier) (ts : List Symbol) (x : TerminalForm × List Symbol) → binder_at q ts ≡ Some x → Found value (quantifier_symbol q ∷ ts) x
 binder_sound value q ts x e =
     let b = bind_some (column_at ts) (λ y. Some (binder q y.0, y.1)) x e in
     let c = column_sound ts b.0 b.1 in
     subst (Found value (quantifier_symbol q ∷ ts)) (some_same _ x b.2)
     (quantifier_symbol q ∷ spell_column b.0.0, ap (λ (l : List Symbol). quantifier_symbol q ∷ l) (c.1 ∙ ap (λ (k : Column). spell_column k ++ b.0.1) (sym c.2)), refl)
 
-word_sound : (value : Reader) (w : Keyword) (ts : List Symbol) (x : PieceForm × List Symbol) → word_at w ts ≡ Some x → Found value (Word w ∷ ts) x
+word_sound : (value : Reader) (w : Keyword) (ts : List Symbol) (x : TerminalForm × List Symbol) → word_at w ts ≡ Some x → Found value (Word w ∷ ts) x
 word_sound value words.Not ts x e = subst (Found value (Word words.Not ∷ ts)) (some_same _ x e) (Word words.Not ∷ [], refl, refl)
 word_sound value words.And ts x e = subst (Found value (Word words.And ∷ ts)) (some_same _ x e) (Word words.And ∷ [], refl, refl)
 word_sound value words.Or ts x e = subst (Found value (Word words.Or ∷ ts)) (some_same _ x e) (Word words.Or ∷ [], refl, refl)
@@ -132,21 +132,21 @@ word_sound value words.True ts x e = subst (Found value (Word words.True ∷ ts)
 word_sound value words.False ts x e = subst (Found value (Word words.False ∷ ts)) (some_same _ x e) (Word words.False ∷ [], refl, (truth false, refl, refl))
 word_sound value w ts x e = absurd cc
 
-piece_sound : (value : Reader) (ts : List Symbol) (x : PieceForm × List Symbol) → piece_at value ts ≡ Some x → Found value ts x
-piece_sound value (Word w ∷ ts) x e = word_sound value w ts x e
-piece_sound value (Open ∷ ts) x e = subst (Found value (Open ∷ ts)) (some_same _ x e) (Open ∷ [], refl, refl)
-piece_sound value (Close ∷ ts) x e = subst (Found value (Close ∷ ts)) (some_same _ x e) (Close ∷ [], refl, refl)
-piece_sound value (Name n ∷ ts) x e = named value n ts x e
-piece_sound value ts x e = compare_found value ts x e
+terminal_sound : (value : Reader) (ts : List Symbol) (x : TerminalForm × List Symbol) → terminal_at value ts ≡ Some x → Found value ts x
+terminal_sound value (Word w ∷ ts) x e = word_sound value w ts x e
+terminal_sound value (Open ∷ ts) x e = subst (Found value (Open ∷ ts)) (some_same _ x e) (Open ∷ [], refl, refl)
+terminal_sound value (Close ∷ ts) x e = subst (Found value (Close ∷ ts)) (some_same _ x e) (Close ∷ [], refl, refl)
+terminal_sound value (Name n ∷ ts) x e = named value n ts x e
+terminal_sound value ts x e = compare_found value ts x e
 
-within_sound : (k : ℕ) (value : Reader) (ts : List Symbol) (ps : List PieceForm) → pieces_within value k ts ≡ Some ps → ArePieces value ts ps
-within_sound k value [] ps e = subst (ArePieces value []) (some_same _ ps e) refl
+within_sound : (k : ℕ) (value : Reader) (ts : List Symbol) (ps : List TerminalForm) → terminals_within value k ts ≡ Some ps → AreTerminals value ts ps
+within_sound k value [] ps e = subst (AreTerminals value []) (some_same _ ps e) refl
 within_sound zero value (t ∷ ts) ps e = absurd cc
 within_sound (suc k) value (t ∷ ts) ps e =
-    let b = bind_some (piece_at value (t ∷ ts)) (λ x. pieces_within value k x.1 >>= λ qs. Some (x.0 ∷ qs)) ps e in
-    let c = bind_some (pieces_within value k b.0.1) (λ qs. Some (b.0.0 ∷ qs)) ps b.2 in
-    let p = piece_sound value (t ∷ ts) b.0 b.1 in
-    subst (ArePieces value (t ∷ ts)) (some_same _ ps c.2) (p.0, b.0.1, p.1, p.2, within_sound k value b.0.1 c.0 c.1)
+    let b = bind_some (terminal_at value (t ∷ ts)) (λ x. terminals_within value k x.1 >>= λ qs. Some (x.0 ∷ qs)) ps e in
+    let c = bind_some (terminals_within value k b.0.1) (λ qs. Some (b.0.0 ∷ qs)) ps b.2 in
+    let p = terminal_sound value (t ∷ ts) b.0 b.1 in
+    subst (AreTerminals value (t ∷ ts)) (some_same _ ps c.2) (p.0, b.0.1, p.1, p.2, within_sound k value b.0.1 c.0 c.1)
 
-pub pieces_sound : (value : Reader) (ts : List Symbol) (ps : List PieceForm) → pieces_at value ts ≡ Some ps → ArePieces value ts ps
-pieces_sound value ts ps e = within_sound (length ts) value ts ps e
+pub terminals_sound : (value : Reader) (ts : List Symbol) (ps : List TerminalForm) → terminals_at value ts ≡ Some ps → AreTerminals value ts ps
+terminals_sound value ts ps e = within_sound (length ts) value ts ps e

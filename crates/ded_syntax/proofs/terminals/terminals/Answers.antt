@@ -1,11 +1,11 @@
 use Rattle.std.proofs.Common.{sym, ap, ◌∙◌, ◌<◌, arith, length}
 use Rattle.std.proofs.lemmas.List.{length-map, map_push}
 use Rattle.std.proofs.lemmas.Result.{err_from_is_err_and}
-use Rattle.ded_grammar.specs.Forms.{piece_form, piece_forms}
+use Rattle.ded_grammar.specs.Forms.{terminal_form, terminal_forms}
 use Rattle.ded_syntax.specs.Items.{seen, left}
 use Rattle.ded_syntax.specs.Literals.{capped_reader}
-use Rattle.ded_syntax.proofs.PieceLoops.{pieces_on, pieces_fail, not_none}
-use Rattle.ded_syntax.proofs.pieces.pieces.Goals as goal
+use Rattle.ded_syntax.proofs.TerminalLoops.{terminals_on, terminals_fail, not_none}
+use Rattle.ded_syntax.proofs.terminals.terminals.Goals as goal
 
 pub returns-in_err-next-clause-unread : goal.returns-in_err-next-clause-unread
 returns-in_err-next-clause-unread c =
@@ -13,12 +13,12 @@ returns-in_err-next-clause-unread c =
     let some : 0 < length (left c.loop.rest) = omega (arith, not_none c.loop.rest.items.now c.is_empty.result c.is_empty.ensures c.if-is_empty.false, length-map c.loop.rest.items.now (seen c.loop.rest.bytes.now)) in
     rw (p.1, p.2) (λ e.
     sym c.loop.invariant.same
-    ∙ pieces_fail capped_reader (length (left c.args.items)) c.loop.counter (piece_forms c.loop.list.items) (left c.loop.rest) (omega (arith, c.loop-test.true, length-map c.args.items.items.now (seen c.args.items.bytes.now))) some (c.in_err-next.ensures.unread e))
+    ∙ terminals_fail capped_reader (length (left c.args.items)) c.loop.counter (terminal_forms c.loop.list.items) (left c.loop.rest) (omega (arith, c.loop-test.true, length-map c.args.items.items.now (seen c.args.items.bytes.now))) some (c.in_err-next.ensures.unread e))
 
 pub loop-preserved : goal.loop-preserved
 loop-preserved c = record {
   same =
-      pieces_on capped_reader (length (left c.args.items)) c.loop.counter (piece_forms c.loop.list.items) _ _ _ (omega (arith, c.loop-test.true, length-map c.args.items.items.now (seen c.args.items.bytes.now))) c.in_ok-next.ensures.read (ap piece_forms c.in_ok-push.ensures.items ∙ map_push piece_form c.loop.list.items c.in_ok-next.next)
+      terminals_on capped_reader (length (left c.args.items)) c.loop.counter (terminal_forms c.loop.list.items) _ _ _ (omega (arith, c.loop-test.true, length-map c.args.items.items.now (seen c.args.items.bytes.now))) c.in_ok-next.ensures.read (ap terminal_forms c.in_ok-push.ensures.items ∙ map_push terminal_form c.loop.list.items c.in_ok-next.next)
       ∙ c.loop.invariant.same;
   low = omega (arith, c.loop.invariant.low, c.in_ok-next.ensures.low);
 }
