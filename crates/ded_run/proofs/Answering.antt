@@ -14,13 +14,13 @@ use Rattle.ded_model.specs.declared.command.Language.{Language}
 use Rattle.ded_model.specs.declared.command.Language.TheVariants.{Opening}
 use Rattle.ded_model.specs.Catalogue.{Catalogue}
 use Rattle.ded_session.specs.Replies.{ReplyForm, is_refusal, some_refusal}
-use Rattle.ded_session.specs.Runs.{Steps, empty_catalogue, next_language}
+use Rattle.ded_session.specs.Runs.{Steps, GoesOn, empty_catalogue, next_language}
 use Rattle.ded_session.specs.Steps.{Step}
 use Rattle.ded_run.specs.Texts.{text_of, texts}
 use Rattle.ded_run.specs.Outcome.{Concluded, WholesAnswered, Interrupted}
 use Rattle.ded_run.specs.declared.dialogue.Dialogue.{Dialogue}
 use Rattle.ded_run.specs.Streams.{SoFar, Stopped, Streamed, Grows, Breaks, spoken}
-use Rattle.ded_run.proofs.Steps.{some_steps}
+use Rattle.ded_run.proofs.Steps.{some_steps, not_opening, rest_goes_on}
 
 pub appends_nothing : (a : Option (List ℕ)) → Appends a a []
 appends_nothing None = tt
@@ -125,14 +125,14 @@ none_whole (p ∷ piece) after b = absurd (nothing b.is)
     nothing e = cc
 
 -- before the first byte
-pub starts : (limit silent left : ℕ) (language : Language) (c : Catalogue) (refused : Bool) (held : Option (List ℕ)) → language ≡ Opening → c ≡ empty_catalogue limit → refused ≡ false → left ≡ silent → SoFar limit silent left [] [] language c refused held held
-starts limit silent left language c refused held opening empty none all = record {
+pub starts : (limit silent left : ℕ) (language : Language) (c : Catalogue) (refused : Bool) (contents : Option (List ℕ)) → language ≡ Opening → c ≡ empty_catalogue limit → refused ≡ false → left ≡ silent → SoFar limit silent left [] [] language c refused contents contents
+starts limit silent left language c refused contents opening empty none all = record {
   pieces = [];
   cut = (none_whole, refl);
   replies = [];
   goes = λ statements more last steps. subst (λ (l : Language). Steps l (empty_catalogue limit) statements more last) opening (subst (λ (d : Catalogue). Steps language d statements more last) empty steps);
   counts = omega (arith, all);
-  written = subst (λ (rs : List ReplyForm). Appends held held (texts rs)) (sym (drop_none silent)) (appends_nothing held);
+  written = subst (λ (rs : List ReplyForm). Appends contents contents (texts rs)) (sym (drop_none silent)) (appends_nothing contents);
   refuses = sym none;
 }
 
@@ -152,32 +152,32 @@ byte_more limit silent left taken tail language c refused h0 h1 b s cut = record
 ended_first : (pieces : List (List ℕ)) (piece : List ℕ) (statements : List Statement) → map Whole pieces ++ (Whole piece ∷ statements) ≡ map Whole (pieces ++ piece ∷ []) ++ statements
 ended_first pieces piece statements = sym (ap (λ (l : List Statement). l ++ statements) (map-append Whole pieces (piece ∷ [])) ∙ append_assoc (map Whole pieces) (Whole piece ∷ []) statements)
 
-goes_behind : (limit silent left : ℕ) (taken piece : List ℕ) (language : Language) (c d : Catalogue) (refused : Bool) (h0 h1 : Option (List ℕ)) (reply : ReplyForm) (s : SoFar limit silent left taken piece language c refused h0 h1) → Step language c (Whole piece) reply d
-    → (statements : List Statement) (more : List ReplyForm) (last : Catalogue) → Steps (next_language language) d statements more last
+goes_behind : (limit silent left : ℕ) (taken piece : List ℕ) (language next : Language) (c d : Catalogue) (refused : Bool) (h0 h1 : Option (List ℕ)) (reply : ReplyForm) (s : SoFar limit silent left taken piece language c refused h0 h1) → Step language c (Whole piece) reply d → GoesOn language (Whole piece) next
+    → (statements : List Statement) (more : List ReplyForm) (last : Catalogue) → Steps next d statements more last
     → Steps Opening (empty_catalogue limit) (map Whole (s.pieces ++ piece ∷ []) ++ statements) ((s.replies ++ reply ∷ []) ++ more) last
-goes_behind limit silent left taken piece language c d refused h0 h1 reply s step statements more last steps =
+goes_behind limit silent left taken piece language next c d refused h0 h1 reply s step goes statements more last steps =
     subst (λ (ss : List Statement). Steps Opening (empty_catalogue limit) ss ((s.replies ++ reply ∷ []) ++ more) last) (ended_first s.pieces piece statements)
     (subst (λ (rs : List ReplyForm). Steps Opening (empty_catalogue limit) (map Whole s.pieces ++ (Whole piece ∷ statements)) rs last) (sym (append_assoc s.replies (reply ∷ []) more))
-    (s.goes (Whole piece ∷ statements) (reply ∷ more) last (d, step, steps)))
+    (s.goes (Whole piece ∷ statements) (reply ∷ more) last (d, next, step, goes, steps)))
 
 -- the byte that ends a piece, and its reply
-pub piece_ends : (limit silent left later : ℕ) (taken piece : List ℕ) (language next : Language) (c d : Catalogue) (refused now : Bool) (h0 h1 h2 : Option (List ℕ)) (b : ℕ) (reply : ReplyForm) → SoFar limit silent left taken piece language c refused h0 h1 → EndsPiece piece b → Step language c (Whole piece) reply d → next ≡ next_language language → now ≡ refused || is_refusal reply → later ≡ left - 1 → Appends h1 h2 (spoken left reply) → SoFar limit silent later (taken ++ b ∷ []) [] next d now h0 h2
+pub piece_ends : (limit silent left later : ℕ) (taken piece : List ℕ) (language next : Language) (c d : Catalogue) (refused now : Bool) (h0 h1 h2 : Option (List ℕ)) (b : ℕ) (reply : ReplyForm) → SoFar limit silent left taken piece language c refused h0 h1 → EndsPiece piece b → Step language c (Whole piece) reply d → GoesOn language (Whole piece) next → now ≡ refused || is_refusal reply → later ≡ left - 1 → Appends h1 h2 (spoken left reply) → SoFar limit silent later (taken ++ b ∷ []) [] next d now h0 h2
 piece_ends limit silent left later taken piece language next c d refused now h0 h1 h2 b reply s end step goes is next_counts write = record {
   pieces = s.pieces ++ piece ∷ [];
   cut = goes_on s.pieces taken piece (b ∷ []) (piece ∷ []) [] s.cut end.cut;
   replies = s.replies ++ reply ∷ [];
-  goes = λ statements more last steps. goes_behind limit silent left taken piece language c d refused h0 h1 reply s step statements more last (subst (λ (l : Language). Steps l d statements more last) goes steps);
+  goes = λ statements more last steps. goes_behind limit silent left taken piece language next c d refused h0 h1 reply s step goes statements more last steps;
   counts = counts_more silent left later s.replies reply s.counts next_counts;
   written = writes_more h0 h1 h2 silent left s.replies reply s.counts s.written write;
   refuses = refuses_more s.replies reply refused now s.refuses is;
 }
 
 -- the sink failed at that reply
-pub piece_stops : (limit silent left : ℕ) (taken piece : List ℕ) (language : Language) (c d : Catalogue) (refused : Bool) (h0 h1 h2 : Option (List ℕ)) (b : ℕ) (reply : ReplyForm) (unwritten : List ℕ) → SoFar limit silent left taken piece language c refused h0 h1 → EndsPiece piece b → Step language c (Whole piece) reply d → Sent h1 h2 (spoken left reply) unwritten → Stopped limit silent (taken ++ b ∷ []) h0 h2
-piece_stops limit silent left taken piece language c d refused h0 h1 h2 b reply unwritten s end step write = λ more.
+pub piece_stops : (limit silent left : ℕ) (taken piece : List ℕ) (language next : Language) (c d : Catalogue) (refused : Bool) (h0 h1 h2 : Option (List ℕ)) (b : ℕ) (reply : ReplyForm) (unwritten : List ℕ) → SoFar limit silent left taken piece language c refused h0 h1 → EndsPiece piece b → Step language c (Whole piece) reply d → GoesOn language (Whole piece) next → Sent h1 h2 (spoken left reply) unwritten → Stopped limit silent (taken ++ b ∷ []) h0 h2
+piece_stops limit silent left taken piece language next c d refused h0 h1 h2 b reply unwritten s end step goes write = λ more.
     let cut = goes_on s.pieces taken piece (b ∷ []) (piece ∷ []) [] s.cut end.cut in
     let coming = has_statements more in
-    let later = some_steps (next_language language) d coming.0 in
+    let later = some_steps next d coming.0 (not_opening language next (Whole piece) goes) in
     let unheard : List ℕ = texts (drop (left - 1) later.0) in
     record {
       replies = (s.replies ++ reply ∷ []) ++ later.0;
@@ -185,7 +185,7 @@ piece_stops limit silent left taken piece language c d refused h0 h1 h2 b reply 
       run = record {
         statements = map Whole (s.pieces ++ piece ∷ []) ++ coming.0;
         cut = statements_on (taken ++ b ∷ []) more (s.pieces ++ piece ∷ []) [] coming.0 cut coming.1;
-        steps = goes_behind limit silent left taken piece language c d refused h0 h1 reply s step coming.0 later.0 d later.1;
+        steps = goes_behind limit silent left taken piece language next c d refused h0 h1 reply s step goes coming.0 later.0 d later.1;
       };
       unwritten = unwritten ++ unheard;
       written = subst (λ (rs : List ReplyForm). Sent h0 h2 (texts (drop silent rs)) (unwritten ++ unheard)) (sym (append_assoc s.replies (reply ∷ []) later.0))
@@ -269,7 +269,7 @@ ends_rest limit silent left taken tail language c d refused now h0 h1 h2 reply s
   run = record {
     statements = map Whole s.pieces ++ pieces.Unfinished tail ∷ [];
     cut = record { pieces = s.pieces; rest = tail; cut = s.cut; are = inr (full, refl) };
-    steps = s.goes (pieces.Unfinished tail ∷ []) (reply ∷ []) d (d, step, refl);
+    steps = s.goes (pieces.Unfinished tail ∷ []) (reply ∷ []) d (d, next_language language, step, rest_goes_on language tail, refl);
   };
   written = writes_more h0 h1 h2 silent left s.replies reply s.counts s.written write;
   refuses = refuses_more s.replies reply refused now s.refuses is;
@@ -283,7 +283,7 @@ rest_stops limit silent left taken tail language c d refused h0 h1 h2 reply unwr
   run = record {
     statements = map Whole s.pieces ++ pieces.Unfinished tail ∷ [];
     cut = record { pieces = s.pieces; rest = tail; cut = s.cut; are = inr (full, refl) };
-    steps = s.goes (pieces.Unfinished tail ∷ []) (reply ∷ []) d (d, step, refl);
+    steps = s.goes (pieces.Unfinished tail ∷ []) (reply ∷ []) d (d, next_language language, step, rest_goes_on language tail, refl);
   };
   unwritten = unwritten ++ texts (drop (left - 1) []);
   written = front_of h0 h1 h2 silent left s.replies reply [] unwritten s.counts s.written write;

@@ -19,7 +19,7 @@ use Rattle.ded_print.proofs.Numerals.{glyph_is}
 use Rattle.ded_run.specs.Made.{below, joined, land_parts, land_insert, land_row, road_parts, corner_parts, other_corner_parts, corner_question, other_corner_question, road_insert, made_setup, made_questions, made_script, lines, Made, HalfMade}
 use Rattle.ded_run.specs.Outcome.{Concluded, Interrupted}
 use Rattle.ded_session.specs.Replies.{ReplyForm, some_refusal}
-use Rattle.ded_session.specs.Runs.{Steps, next_language, Run}
+use Rattle.ded_session.specs.Runs.{Steps, Run}
 
 -- ---- bytes in which no piece ends
 
@@ -206,7 +206,7 @@ steps_many : (language : Language) (c : Catalogue) (ss : List Statement) (replie
 steps_many language c [] [] d s = refl
 steps_many language c [] (r ∷ rs) d s = absurd s
 steps_many language c (x ∷ ss) [] d s = absurd s
-steps_many language c (x ∷ ss) (r ∷ rs) d s = ap suc (steps_many (next_language language) s.0 ss rs d s.2)
+steps_many language c (x ∷ ss) (r ∷ rs) d s = ap suc (steps_many s.1 s.0 ss rs d s.4)
 
 ends_many : (rest : List ℕ) (wholes statements : List Statement) → EndsIn rest wholes statements → length wholes ≤ length statements
 ends_many rest wholes statements (inl e) = omega (arith, ap length e.1)

@@ -36,15 +36,15 @@ whole_input (Some u) (Some v) xs P takes end p = subst P (sym (takes ∙ ap (λ 
 
 -- ---- how reading goes on
 
-pub fresh_streams : (limit silent : ℕ) (d : Dialogue) (held : Option (List ℕ)) → IsFresh limit silent d → Streamed limit silent d [] held held
-fresh_streams limit silent d held fresh = record { tail = []; since = fresh.since; so_far = starts limit silent d.silent _ _ d.refused held fresh.language fresh.catalogue fresh.refused fresh.left }
+pub fresh_streams : (limit silent : ℕ) (d : Dialogue) (contents : Option (List ℕ)) → IsFresh limit silent d → Streamed limit silent d [] contents contents
+fresh_streams limit silent d contents fresh = record { tail = []; since = fresh.since; so_far = starts limit silent d.silent _ _ d.refused contents fresh.language fresh.catalogue fresh.refused fresh.left }
 
-pub begins : (limit input_limit : ℕ) (d : Dialogue) (input held : Option (List ℕ)) → IsFresh limit 0 d → Reading limit input_limit input_limit d input input held held
-begins limit input_limit d input held fresh = record {
+pub begins : (limit input_limit : ℕ) (d : Dialogue) (input contents : Option (List ℕ)) → IsFresh limit 0 d → Reading limit input_limit input_limit d input input contents contents
+begins limit input_limit d input contents fresh = record {
   taken = [];
   takes = consumes_nothing input;
   counts = omega arith;
-  streamed = fresh_streams limit 0 d held fresh;
+  streamed = fresh_streams limit 0 d contents fresh;
 }
 
 -- a piece that fits was read and answered

@@ -1,18 +1,19 @@
 -- Statements that are refused by their length or their end, and that each statement has a reply.
-use Rattle.std.proofs.Common.{◌≡◌, ◌≤◌, ◌<◌, ℕ, List, [], ◌∷◌, length, take, refl, sym, ap, ⊎_elim, arith, subst}
+use Rattle.std.proofs.Common.{◌≡◌, ◌≤◌, ◌<◌, ℕ, List, [], ◌∷◌, length, take, refl, sym, ap, ◌∙◌, ⊎_elim, inl, inr, arith, subst}
 use Rattle.std.proofs.lemmas.List.{length-take}
 use Rattle.std.proofs.lemmas.Bool.Decides.{leb_tells}
 use Rattle.ded_lex.specs.Pieces.{Statement, Whole}
 use Rattle.ded_lex.specs.Pieces as pieces
 use Rattle.ded_model.specs.declared.command.Language.{Language}
+use Rattle.ded_model.specs.declared.command.Language.TheVariants.{Opening, One, Two}
 use Rattle.ded_model.specs.declared.command.Refusal.{Refusal}
 use Rattle.ded_model.specs.declared.command.Refusal.TheVariants.{LongStatement, Unfinished, Syntax, LongName, LongNumber, Deep, Many, Twice, Unknown, Taken, Kind, Arity, Unbound, WrongSort, Used, NoTuple, Full, Spent, Level, Wide, Memory}
 use Rattle.ded_model.specs.Catalogue.{Catalogue}
 use Rattle.ded_model.specs.Refusals.{refusal_number}
 use Rattle.ded_session.specs.Causes.{Applies, statement_bytes}
 use Rattle.ded_session.specs.Replies.{ReplyForm, refused}
-use Rattle.ded_session.specs.Runs.{Steps, next_language}
-use Rattle.ded_session.specs.Steps.{Step}
+use Rattle.ded_session.specs.Runs.{Steps, next_language, GoesOn}
+use Rattle.ded_session.specs.Steps.{Step, IsHeaderIn}
 
 -- one refusal alone has a number below 2
 first_refusal : (q : Refusal) → refusal_number q < 2 → q ≡ LongStatement
@@ -56,17 +57,61 @@ rest_step language c rest short = (record { applies = tt; least = λ q less appl
         let long : 65536 < length rest = subst (λ (r : Refusal). Applies r language (pieces.Unfinished rest) c) first applies in
         absurd (omega arith)
 
--- a reply that a statement may get, and that changes nothing
-some_step : (language : Language) (c : Catalogue) (s : Statement) → (reply : ReplyForm) × Step language c s reply c
-some_step language c (Whole piece) = ⊎_elim (λ t. (refused Memory, (t.1, refl))) (λ f. (refused LongStatement, long_step language c (Whole piece) f.1)) (leb_tells (length piece) 65536)
-some_step language c (pieces.Unfinished rest) = ⊎_elim (λ t. (refused Unfinished, rest_step language c rest t.1)) (λ f. (refused LongStatement, long_step language c (pieces.Unfinished rest) f.1)) (leb_tells (length rest) 65536)
+-- the language behind a statement isn't the opening one
+pub not_opening : (language next : Language) (s : Statement) → GoesOn language s next → next ≡ Opening → ⊥
+not_opening Opening next s (inl h) e = other (sym h.1 ∙ e)
+  where
+    other : Two ≡ Opening → ⊥
+    other k = cc
+not_opening Opening next s (inr h) e = other (sym h.1 ∙ e)
+  where
+    other : One ≡ Opening → ⊥
+    other k = cc
+not_opening One next s g e = other (sym g ∙ e)
+  where
+    other : One ≡ Opening → ⊥
+    other k = cc
+not_opening Two next s g e = other (sym g ∙ e)
+  where
+    other : Two ≡ Opening → ⊥
+    other k = cc
 
-pub some_steps : (language : Language) (c : Catalogue) (ss : List Statement) → (replies : List ReplyForm) × Steps language c ss replies c
-some_steps language c [] = ([], refl)
-some_steps language c (s ∷ ss) =
-    let first = some_step language c s in
-    let later = some_steps (next_language language) c ss in
-    (first.0 ∷ later.0, (c, first.1, later.1))
+-- there no statement is the header, and the language stays
+no_header : (language : Language) (s : Statement) → (language ≡ Opening → ⊥) → IsHeaderIn language s → ⊥
+no_header Opening s later h = later refl
+no_header One s later h = h
+no_header Two s later h = h
+
+goes_stays : (language : Language) (s : Statement) → (language ≡ Opening → ⊥) → GoesOn language s language
+goes_stays Opening s later = absurd (later refl)
+goes_stays One s later = refl
+goes_stays Two s later = refl
+
+-- behind a long piece, and behind a rest
+pub long_goes_on : (language next : Language) (piece : List ℕ) → 65536 < length piece → next ≡ next_language language → GoesOn language (Whole piece) next
+long_goes_on Opening next piece long e = inr ((λ h. let short = h.0 in omega (arith, long, short)), e)
+long_goes_on One next piece long e = e
+long_goes_on Two next piece long e = e
+
+pub rest_goes_on : (language : Language) (rest : List ℕ) → GoesOn language (pieces.Unfinished rest) (next_language language)
+rest_goes_on Opening rest = inr ((λ h. h), refl)
+rest_goes_on One rest = refl
+rest_goes_on Two rest = refl
+
+pub same_goes_on : (language next : Language) (kept piece : List ℕ) → kept ≡ piece → GoesOn language (Whole kept) next → GoesOn language (Whole piece) next
+same_goes_on language next kept piece same goes = subst (λ (l : List ℕ). GoesOn language (Whole l) next) same goes
+
+-- a reply that a statement behind the first one may get, and that changes nothing
+some_step : (language : Language) (c : Catalogue) (s : Statement) → (language ≡ Opening → ⊥) → (reply : ReplyForm) × Step language c s reply c
+some_step language c (Whole piece) later = ⊎_elim (λ t. (refused Memory, ((t.1, no_header language (Whole piece) later), refl))) (λ f. (refused LongStatement, long_step language c (Whole piece) f.1)) (leb_tells (length piece) 65536)
+some_step language c (pieces.Unfinished rest) later = ⊎_elim (λ t. (refused Unfinished, rest_step language c rest t.1)) (λ f. (refused LongStatement, long_step language c (pieces.Unfinished rest) f.1)) (leb_tells (length rest) 65536)
+
+pub some_steps : (language : Language) (c : Catalogue) (ss : List Statement) → (language ≡ Opening → ⊥) → (replies : List ReplyForm) × Steps language c ss replies c
+some_steps language c [] later = ([], refl)
+some_steps language c (s ∷ ss) later =
+    let first = some_step language c s later in
+    let others = some_steps language c ss later in
+    (first.0 ∷ others.0, (c, language, first.1, goes_stays language s later, others.1))
 
 -- a reply to a statement that is told only its length
 pub long_piece : (language : Language) (c d : Catalogue) (reply : ReplyForm) (s : Statement) → reply ≡ refused LongStatement → d ≡ c → 65536 < length (statement_bytes s) → Step language c s reply d

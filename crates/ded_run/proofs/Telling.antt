@@ -20,7 +20,7 @@ use Rattle.ded_model.specs.PlanForm.{PlanAtom, scan, rows, PlanForm}
 use Rattle.ded_model.specs.Point.{Key, slot, name, same_sort}
 use Rattle.ded_model.specs.Width.{rational_columns}
 use Rattle.ded_print.specs.Boxes.{box_text, rational_names}
-use Rattle.ded_print.specs.Lines.{LineReply, reply_line, reply_text, line_text, refusal_text}
+use Rattle.ded_print.specs.Lines.{LineReply, reply_line, reply_text, line_text, script_text, refusal_text}
 use Rattle.ded_print.specs.Lines as line
 use Rattle.ded_print.specs.Plans.{key_text}
 use Rattle.ded_print.specs.Quiet.{IsQuiet, AreQuiet, IsQuietPlan, AreQuietPlans}
@@ -28,12 +28,12 @@ use Rattle.ded_print.specs.Tuples.{answer_text, stored_text}
 use Rattle.ded_print.proofs.LineReplies.{first_line}
 use Rattle.ded_print.proofs.QuotedLines.{number_quiet}
 use Rattle.ded_print.proofs.QuotedTexts.{one_answer, one_box, one_plan}
-use Rattle.ded_print.proofs.RefusalsApart.{no_answer, no_box, no_nowhere, no_plan, no_rational}
+use Rattle.ded_print.proofs.RefusalsApart.{no_answer, no_box, no_nowhere, no_plan, no_rational, no_script}
 use Rattle.ded_print.proofs.Telling.{no_line}
 use Rattle.ded_run.specs.Texts.{text_of}
 use Rattle.ded_session.specs.Pairs.{FitsHeading, IsSlotKey, IsPlainPlan, ArePlainPlans, SpeaksPlainly, AreOfOneBox, AreOfOne}
 use Rattle.ded_session.specs.PlainNames.{ArePlainColumns, HasPlainNames}
-use Rattle.ded_session.specs.Replies.{ReplyForm, done, number, truth, tuples, stored, boxes, steps, refused}
+use Rattle.ded_session.specs.Replies.{ReplyForm, done, number, truth, tuples, stored, boxes, steps, script, refused}
 use Rattle.ded_session.specs.Steps.{Step}
 use Rattle.ded_session.proofs.Pairs.{plain_reply, two_replies}
 use Rattle.ded_model.proofs.Members.{or_split}
@@ -134,6 +134,7 @@ module _ (xs ys : List ℕ) where
   by_kinds (refused r) (stored k us) p q m e = absurd (no_line k us (line.refused r) ys xs (sym e))
   by_kinds (refused r) (boxes k b) p q m e = absurd (box_apart k b r ys xs (quiet_columns k q.0) q.1 (sym e))
   by_kinds (refused r) (steps g) p q m e = absurd (no_plan g r ys xs (sym e))
+  by_kinds (refused r) (script ks) p q m e = absurd (no_script ks r ys xs (sym e))
   by_kinds done (refused r) p q m e = lines line.done (line.refused r) e
   by_kinds done done p q m e = lines line.done line.done e
   by_kinds done (number k) p q m e = lines line.done (line.numbered k) e
@@ -167,6 +168,9 @@ module _ (xs ys : List ℕ) where
   by_kinds (steps f) (refused r) p q m e = absurd (no_plan f r xs ys e)
   by_kinds (steps f) (steps g) p q m e = one_plan f g xs ys (quiet_plan f p) (quiet_plan g q) e
   by_kinds (steps f) _ p q m e = absurd (true≢false (sym m))
+  by_kinds (script ls) (refused r) p q m e = absurd (no_script ls r xs ys e)
+  by_kinds (script ls) (script ks) p q m e = (ap script_text m, append_cancel_left (script_text ks) xs ys (ap (λ t. t ++ xs) (sym (ap script_text m)) ∙ e))
+  by_kinds (script ls) _ p q m e = absurd (true≢false (sym m))
 
 pub one_text : (l : Language) (c d e : Catalogue) (s : Statement) (reply other : ReplyForm) (xs ys : List ℕ) → HasPlainNames c → Step l c s reply d → Step l c s other e
     → text_of reply ++ xs ≡ text_of other ++ ys → (text_of reply ≡ text_of other) × (xs ≡ ys)

@@ -88,21 +88,21 @@ made_script n = lines (made_setup n ++ made_questions n)
 -- ---- a run over it
 
 -- Each statement has its reply, and the texts of the replies to the questions were written.
-pub record Made (limit size : ℕ) (held now : Option (List ℕ)) (refused : Bool) : Type 0 where
+pub record Made (limit size : ℕ) (contents now : Option (List ℕ)) (refused : Bool) : Type 0 where
   pub setup : List ReplyForm
   pub questions : List ReplyForm
   pub last : Catalogue
   pub run : Run limit (made_script size) (setup ++ questions) last
   pub counted : length setup ≡ length (made_setup size)
-  pub written : Appends held now (texts questions)
+  pub written : Appends contents now (texts questions)
   pub refuses : some_refusal (setup ++ questions) ≡ refused
 
 -- Of the texts of the replies to the questions a front was written.
-pub record HalfMade (limit size : ℕ) (held now : Option (List ℕ)) : Type 0 where
+pub record HalfMade (limit size : ℕ) (contents now : Option (List ℕ)) : Type 0 where
   pub setup : List ReplyForm
   pub questions : List ReplyForm
   pub last : Catalogue
   pub run : Run limit (made_script size) (setup ++ questions) last
   pub counted : length setup ≡ length (made_setup size)
   pub unwritten : List ℕ
-  pub written : Sent held now (texts questions) unwritten
+  pub written : Sent contents now (texts questions) unwritten

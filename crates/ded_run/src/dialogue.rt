@@ -59,8 +59,8 @@ impl Dialogue {
 
     /// Takes the next byte, and answers the statement that ends there, where one does.
     fn feed_byte<K: Sink>(&mut self, byte: u8, sink: &mut K) -> Result<(), Failed>
-        ensures grows { IfOk result (λ _. Grows self.old self.new (K.held sink.old) (K.held sink.new) (byte ∷ [])) }
-        ensures breaks { OnErr result (Breaks self.old (K.held sink.old) (K.held sink.new) (byte ∷ [])) }
+        ensures grows { IfOk result (λ _. Grows self.old self.new (K.contents sink.old) (K.contents sink.new) (byte ∷ [])) }
+        ensures breaks { OnErr result (Breaks self.old (K.contents sink.old) (K.contents sink.new) (byte ∷ [])) }
         ensures cause { HasCause (K.faults sink.old) (K.faults sink.new) result }
     {
         match self.splitter.feed(byte) {
@@ -90,8 +90,8 @@ impl Dialogue {
     /// # Errors
     /// `Failed` only where the sink's count of faults rose.
     pub fn feed<K: Sink>(&mut self, bytes: &[u8], sink: &mut K) -> Result<(), Failed>
-        ensures grows { IfOk result (λ _. Grows self.old self.new (K.held sink.old) (K.held sink.new) bytes.now) }
-        ensures breaks { OnErr result (Breaks self.old (K.held sink.old) (K.held sink.new) bytes.now) }
+        ensures grows { IfOk result (λ _. Grows self.old self.new (K.contents sink.old) (K.contents sink.new) bytes.now) }
+        ensures breaks { OnErr result (Breaks self.old (K.contents sink.old) (K.contents sink.new) bytes.now) }
         ensures cause { HasCause (K.faults sink.old) (K.faults sink.new) result }
     {
         for byte in bytes {
@@ -105,12 +105,12 @@ impl Dialogue {
     /// # Errors
     /// `Failed` only where the sink's count of faults rose.
     pub fn finish<K: Sink>(&mut self, sink: &mut K) -> Result<(), Failed>
-        ensures concluded { IfOk result (λ _. (limit silent : ℕ) (taken : List ℕ) (held : Option (List ℕ)) →
-            Streamed limit silent self.old taken held (K.held sink.old) →
-            Concluded limit silent taken held (K.held sink.new) self.new.refused) }
-        ensures stopped { OnErr result ((limit silent : ℕ) (taken : List ℕ) (held : Option (List ℕ)) →
-            Streamed limit silent self.old taken held (K.held sink.old) →
-            Interrupted limit silent taken held (K.held sink.new)) }
+        ensures concluded { IfOk result (λ _. (limit silent : ℕ) (taken : List ℕ) (contents : Option (List ℕ)) →
+            Streamed limit silent self.old taken contents (K.contents sink.old) →
+            Concluded limit silent taken contents (K.contents sink.new) self.new.refused) }
+        ensures stopped { OnErr result ((limit silent : ℕ) (taken : List ℕ) (contents : Option (List ℕ)) →
+            Streamed limit silent self.old taken contents (K.contents sink.old) →
+            Interrupted limit silent taken contents (K.contents sink.new)) }
         ensures cause { HasCause (K.faults sink.old) (K.faults sink.new) result }
     {
         match self.splitter.finish() {
@@ -144,7 +144,7 @@ fn answer<K: Sink>(
     requires { IsShortPiece piece }
     ensures replied { IsReplied piece.entry (language_in session.old) (catalogue_in session.old)
         (language_in session.new) (catalogue_in session.new) refused.old refused.new silent.old silent.new
-        (K.held sink.old) (K.held sink.new) result }
+        (K.contents sink.old) (K.contents sink.new) result }
     ensures cause { HasCause (K.faults sink.old) (K.faults sink.new) result }
 {
     let reply = session.step(piece);

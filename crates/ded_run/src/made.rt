@@ -24,8 +24,8 @@ enum Part<'a> {
 pub fn feed_script<K: Sink>(dialogue: &mut Dialogue, size: u32, sink: &mut K) -> Result<(), Failed>
     requires low { 1 ≤ size }
     requires high { size ≤ 100 }
-    ensures grows { IfOk result (λ _. Grows dialogue.old dialogue.new (K.held sink.old) (K.held sink.new) (made_script size)) }
-    ensures breaks { OnErr result (Breaks dialogue.old (K.held sink.old) (K.held sink.new) (made_script size)) }
+    ensures grows { IfOk result (λ _. Grows dialogue.old dialogue.new (K.contents sink.old) (K.contents sink.new) (made_script size)) }
+    ensures breaks { OnErr result (Breaks dialogue.old (K.contents sink.old) (K.contents sink.new) (made_script size)) }
     ensures cause { HasCause (K.faults sink.old) (K.faults sink.new) result }
 {
     dialogue.feed(
@@ -44,8 +44,8 @@ const VIEW: &[u8] =
 /// Feeds the inserts of all rectangles, row by row.
 fn feed_lands<K: Sink>(dialogue: &mut Dialogue, size: u32, sink: &mut K) -> Result<(), Failed>
     requires { size ≤ 100 }
-    ensures grows { IfOk result (λ _. Grows dialogue.old dialogue.new (K.held sink.old) (K.held sink.new) (lines (flat_map (land_row size) (below size)))) }
-    ensures breaks { OnErr result (Breaks dialogue.old (K.held sink.old) (K.held sink.new) (lines (flat_map (land_row size) (below size)))) }
+    ensures grows { IfOk result (λ _. Grows dialogue.old dialogue.new (K.contents sink.old) (K.contents sink.new) (lines (flat_map (land_row size) (below size)))) }
+    ensures breaks { OnErr result (Breaks dialogue.old (K.contents sink.old) (K.contents sink.new) (lines (flat_map (land_row size) (below size)))) }
     ensures cause { HasCause (K.faults sink.old) (K.faults sink.new) result }
 {
     for row in 0..size {
@@ -63,8 +63,8 @@ fn feed_land_row<K: Sink>(
 ) -> Result<(), Failed>
     requires row { row < 100 }
     requires size { size ≤ 100 }
-    ensures grows { IfOk result (λ _. Grows dialogue.old dialogue.new (K.held sink.old) (K.held sink.new) (lines (land_row size row))) }
-    ensures breaks { OnErr result (Breaks dialogue.old (K.held sink.old) (K.held sink.new) (lines (land_row size row))) }
+    ensures grows { IfOk result (λ _. Grows dialogue.old dialogue.new (K.contents sink.old) (K.contents sink.new) (lines (land_row size row))) }
+    ensures breaks { OnErr result (Breaks dialogue.old (K.contents sink.old) (K.contents sink.new) (lines (land_row size row))) }
     ensures cause { HasCause (K.faults sink.old) (K.faults sink.new) result }
 {
     for column in 0..size {
@@ -82,8 +82,8 @@ fn feed_land<K: Sink>(
 ) -> Result<(), Failed>
     requires row { row < 100 }
     requires column { column < 100 }
-    ensures grows { IfOk result (λ _. Grows dialogue.old dialogue.new (K.held sink.old) (K.held sink.new) (line (land_insert row column))) }
-    ensures breaks { OnErr result (Breaks dialogue.old (K.held sink.old) (K.held sink.new) (line (land_insert row column))) }
+    ensures grows { IfOk result (λ _. Grows dialogue.old dialogue.new (K.contents sink.old) (K.contents sink.new) (line (land_insert row column))) }
+    ensures breaks { OnErr result (Breaks dialogue.old (K.contents sink.old) (K.contents sink.new) (line (land_insert row column))) }
     ensures cause { HasCause (K.faults sink.old) (K.faults sink.new) result }
 {
     let parts = [
@@ -107,8 +107,8 @@ fn feed_land<K: Sink>(
 /// Feeds the inserts of all bands.
 fn feed_roads<K: Sink>(dialogue: &mut Dialogue, size: u32, sink: &mut K) -> Result<(), Failed>
     requires { size ≤ 100 }
-    ensures grows { IfOk result (λ _. Grows dialogue.old dialogue.new (K.held sink.old) (K.held sink.new) (lines (map road_insert (below size)))) }
-    ensures breaks { OnErr result (Breaks dialogue.old (K.held sink.old) (K.held sink.new) (lines (map road_insert (below size)))) }
+    ensures grows { IfOk result (λ _. Grows dialogue.old dialogue.new (K.contents sink.old) (K.contents sink.new) (lines (map road_insert (below size)))) }
+    ensures breaks { OnErr result (Breaks dialogue.old (K.contents sink.old) (K.contents sink.new) (lines (map road_insert (below size)))) }
     ensures cause { HasCause (K.faults sink.old) (K.faults sink.new) result }
 {
     for band in 0..size {
@@ -120,8 +120,8 @@ fn feed_roads<K: Sink>(dialogue: &mut Dialogue, size: u32, sink: &mut K) -> Resu
 /// Feeds the insert of a band.
 fn feed_road<K: Sink>(dialogue: &mut Dialogue, band: u32, sink: &mut K) -> Result<(), Failed>
     requires { band < 100 }
-    ensures grows { IfOk result (λ _. Grows dialogue.old dialogue.new (K.held sink.old) (K.held sink.new) (line (road_insert band))) }
-    ensures breaks { OnErr result (Breaks dialogue.old (K.held sink.old) (K.held sink.new) (line (road_insert band))) }
+    ensures grows { IfOk result (λ _. Grows dialogue.old dialogue.new (K.contents sink.old) (K.contents sink.new) (line (road_insert band))) }
+    ensures breaks { OnErr result (Breaks dialogue.old (K.contents sink.old) (K.contents sink.new) (line (road_insert band))) }
     ensures cause { HasCause (K.faults sink.old) (K.faults sink.new) result }
 {
     let parts = [
@@ -140,8 +140,8 @@ fn feed_road<K: Sink>(dialogue: &mut Dialogue, band: u32, sink: &mut K) -> Resul
 fn feed_questions<K: Sink>(dialogue: &mut Dialogue, size: u32, sink: &mut K) -> Result<(), Failed>
     requires low { 1 ≤ size }
     requires high { size ≤ 100 }
-    ensures grows { IfOk result (λ _. Grows dialogue.old dialogue.new (K.held sink.old) (K.held sink.new) (lines (made_questions size))) }
-    ensures breaks { OnErr result (Breaks dialogue.old (K.held sink.old) (K.held sink.new) (lines (made_questions size))) }
+    ensures grows { IfOk result (λ _. Grows dialogue.old dialogue.new (K.contents sink.old) (K.contents sink.new) (lines (made_questions size))) }
+    ensures breaks { OnErr result (Breaks dialogue.old (K.contents sink.old) (K.contents sink.new) (lines (made_questions size))) }
     ensures cause { HasCause (K.faults sink.old) (K.faults sink.new) result }
 {
     let last = Part::Number(size - 1);
@@ -165,8 +165,8 @@ fn feed_statement<K: Sink>(
     parts: &[Part<'_>],
     sink: &mut K,
 ) -> Result<(), Failed>
-    ensures grows { IfOk result (λ _. Grows dialogue.old dialogue.new (K.held sink.old) (K.held sink.new) (line (parts_bytes parts.now))) }
-    ensures breaks { OnErr result (Breaks dialogue.old (K.held sink.old) (K.held sink.new) (line (parts_bytes parts.now))) }
+    ensures grows { IfOk result (λ _. Grows dialogue.old dialogue.new (K.contents sink.old) (K.contents sink.new) (line (parts_bytes parts.now))) }
+    ensures breaks { OnErr result (Breaks dialogue.old (K.contents sink.old) (K.contents sink.new) (line (parts_bytes parts.now))) }
     ensures cause { HasCause (K.faults sink.old) (K.faults sink.new) result }
 {
     feed_parts(dialogue, parts, sink)?;
@@ -179,8 +179,8 @@ fn feed_parts<K: Sink>(
     parts: &[Part<'_>],
     sink: &mut K,
 ) -> Result<(), Failed>
-    ensures grows { IfOk result (λ _. Grows dialogue.old dialogue.new (K.held sink.old) (K.held sink.new) (parts_bytes parts.now)) }
-    ensures breaks { OnErr result (Breaks dialogue.old (K.held sink.old) (K.held sink.new) (parts_bytes parts.now)) }
+    ensures grows { IfOk result (λ _. Grows dialogue.old dialogue.new (K.contents sink.old) (K.contents sink.new) (parts_bytes parts.now)) }
+    ensures breaks { OnErr result (Breaks dialogue.old (K.contents sink.old) (K.contents sink.new) (parts_bytes parts.now)) }
     ensures cause { HasCause (K.faults sink.old) (K.faults sink.new) result }
 {
     for part in parts {
@@ -191,8 +191,8 @@ fn feed_parts<K: Sink>(
 
 /// Feeds a part of a statement.
 fn feed_part<K: Sink>(dialogue: &mut Dialogue, part: Part<'_>, sink: &mut K) -> Result<(), Failed>
-    ensures grows { IfOk result (λ _. Grows dialogue.old dialogue.new (K.held sink.old) (K.held sink.new) (part_bytes part.entry)) }
-    ensures breaks { OnErr result (Breaks dialogue.old (K.held sink.old) (K.held sink.new) (part_bytes part.entry)) }
+    ensures grows { IfOk result (λ _. Grows dialogue.old dialogue.new (K.contents sink.old) (K.contents sink.new) (part_bytes part.entry)) }
+    ensures breaks { OnErr result (Breaks dialogue.old (K.contents sink.old) (K.contents sink.new) (part_bytes part.entry)) }
     ensures cause { HasCause (K.faults sink.old) (K.faults sink.new) result }
 {
     match part {

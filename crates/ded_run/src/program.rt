@@ -81,16 +81,16 @@ pub fn serve<S: Source, K: Sink>(
     requires high { setup.now.limit ≤ 1000000 }
     requires input_low { 1 ≤ setup.now.input_limit }
     requires input_high { setup.now.input_limit ≤ 2 ^ 40 }
-    ensures done { result ≡ Status.Done → Answered setup.now.limit setup.now.input_limit (S.left source.old) (S.left source.new) (K.held sink.old) (K.held sink.new) false }
-    ensures done_with_refusals { result ≡ Status.DoneWithRefusals → Answered setup.now.limit setup.now.input_limit (S.left source.old) (S.left source.new) (K.held sink.old) (K.held sink.new) true }
+    ensures done { result ≡ Status.Done → Answered setup.now.limit setup.now.input_limit (S.left source.old) (S.left source.new) (K.contents sink.old) (K.contents sink.new) false }
+    ensures done_with_refusals { result ≡ Status.DoneWithRefusals → Answered setup.now.limit setup.now.input_limit (S.left source.old) (S.left source.new) (K.contents sink.old) (K.contents sink.new) true }
     ensures faultless { (result ≡ Status.Done) ⊎ (result ≡ Status.DoneWithRefusals) ⊎ (result ≡ Status.TooLong) → (S.faults source.new ≡ S.faults source.old) × (K.faults sink.new ≡ K.faults sink.old) }
     ensures bad_words { result ≢ Status.BadWords }
     ensures read_fault { result ≡ Status.ReadFault → Rose (S.faults source.old) (S.faults source.new) × (K.faults sink.new ≡ K.faults sink.old) }
-    ensures unread { result ≡ Status.ReadFault → Unread setup.now.limit setup.now.input_limit (S.left source.old) (S.left source.new) (K.held sink.old) (K.held sink.new) }
+    ensures unread { result ≡ Status.ReadFault → Unread setup.now.limit setup.now.input_limit (S.left source.old) (S.left source.new) (K.contents sink.old) (K.contents sink.new) }
     ensures write_fault { result ≡ Status.WriteFault → Rose (K.faults sink.old) (K.faults sink.new) × (S.faults source.new ≡ S.faults source.old) }
-    ensures broken { result ≡ Status.WriteFault → Broken setup.now.limit (S.left source.old) (S.left source.new) (K.held sink.old) (K.held sink.new) }
+    ensures broken { result ≡ Status.WriteFault → Broken setup.now.limit (S.left source.old) (S.left source.new) (K.contents sink.old) (K.contents sink.new) }
     ensures no_memory { result ≡ Status.NoMemory → (source.new ≡ source.old) × (sink.new ≡ sink.old) }
-    ensures overlong { result ≡ Status.TooLong → Overlong setup.now.limit setup.now.input_limit (S.left source.old) (S.left source.new) (K.held sink.old) (K.held sink.new) }
+    ensures overlong { result ≡ Status.TooLong → Overlong setup.now.limit setup.now.input_limit (S.left source.old) (S.left source.new) (K.contents sink.old) (K.contents sink.new) }
     ensures ends { (Rose (S.faults source.old) (S.faults source.new) → ⊥) → (Rose (K.faults sink.old) (K.faults sink.new) → ⊥) → result ≢ Status.NoMemory → result ≢ Status.TooLong → (result ≡ Status.Done) ⊎ (result ≡ Status.DoneWithRefusals) }
 {
     let Ok(mut dialogue) = Dialogue::new(alloc, setup.limit, setup.keys, 0) else {
@@ -119,13 +119,13 @@ pub fn serve<S: Source, K: Sink>(
 /// Answers the last statement of an input that ended, where the end cuts one, and says how the run ended.
 fn conclude<K: Sink>(dialogue: &mut Dialogue, sink: &mut K) -> Status
     ensures kinds { (result ≡ Status.Done) ⊎ (result ≡ Status.DoneWithRefusals) ⊎ (result ≡ Status.WriteFault) }
-    ensures done { result ≡ Status.Done → (limit silent : ℕ) (taken : List ℕ) (held : Option (List ℕ)) →
-        Streamed limit silent dialogue.old taken held (K.held sink.old) → Concluded limit silent taken held (K.held sink.new) false }
-    ensures done_with_refusals { result ≡ Status.DoneWithRefusals → (limit silent : ℕ) (taken : List ℕ) (held : Option (List ℕ)) →
-        Streamed limit silent dialogue.old taken held (K.held sink.old) → Concluded limit silent taken held (K.held sink.new) true }
+    ensures done { result ≡ Status.Done → (limit silent : ℕ) (taken : List ℕ) (contents : Option (List ℕ)) →
+        Streamed limit silent dialogue.old taken contents (K.contents sink.old) → Concluded limit silent taken contents (K.contents sink.new) false }
+    ensures done_with_refusals { result ≡ Status.DoneWithRefusals → (limit silent : ℕ) (taken : List ℕ) (contents : Option (List ℕ)) →
+        Streamed limit silent dialogue.old taken contents (K.contents sink.old) → Concluded limit silent taken contents (K.contents sink.new) true }
     ensures faultless { (result ≡ Status.Done) ⊎ (result ≡ Status.DoneWithRefusals) → K.faults sink.new ≡ K.faults sink.old }
-    ensures broken { result ≡ Status.WriteFault → (limit silent : ℕ) (taken : List ℕ) (held : Option (List ℕ)) →
-        Streamed limit silent dialogue.old taken held (K.held sink.old) → Interrupted limit silent taken held (K.held sink.new) }
+    ensures broken { result ≡ Status.WriteFault → (limit silent : ℕ) (taken : List ℕ) (contents : Option (List ℕ)) →
+        Streamed limit silent dialogue.old taken contents (K.contents sink.old) → Interrupted limit silent taken contents (K.contents sink.new) }
     ensures write_fault { result ≡ Status.WriteFault → Rose (K.faults sink.old) (K.faults sink.new) }
 {
     match dialogue.finish(sink) {
@@ -143,12 +143,12 @@ pub fn make<K: Sink>(alloc: Global, setup: &Setup, size: u32, sink: &mut K) -> S
     requires high { setup.now.limit ≤ 1000000 }
     requires size_low { 1 ≤ size }
     requires size_high { size ≤ 100 }
-    ensures done { result ≡ Status.Done → Made setup.now.limit size (K.held sink.old) (K.held sink.new) false }
-    ensures done_with_refusals { result ≡ Status.DoneWithRefusals → Made setup.now.limit size (K.held sink.old) (K.held sink.new) true }
+    ensures done { result ≡ Status.Done → Made setup.now.limit size (K.contents sink.old) (K.contents sink.new) false }
+    ensures done_with_refusals { result ≡ Status.DoneWithRefusals → Made setup.now.limit size (K.contents sink.old) (K.contents sink.new) true }
     ensures kinds { (result ≢ Status.ReadFault) × (result ≢ Status.TooLong) × (result ≢ Status.BadWords) }
     ensures faultless { (result ≡ Status.Done) ⊎ (result ≡ Status.DoneWithRefusals) → K.faults sink.new ≡ K.faults sink.old }
     ensures write_fault { result ≡ Status.WriteFault → Rose (K.faults sink.old) (K.faults sink.new) }
-    ensures broken { result ≡ Status.WriteFault → HalfMade setup.now.limit size (K.held sink.old) (K.held sink.new) }
+    ensures broken { result ≡ Status.WriteFault → HalfMade setup.now.limit size (K.contents sink.old) (K.contents sink.new) }
     ensures no_memory { result ≡ Status.NoMemory → sink.new ≡ sink.old }
     ensures ends { (Rose (K.faults sink.old) (K.faults sink.new) → ⊥) → result ≢ Status.NoMemory → (result ≡ Status.Done) ⊎ (result ≡ Status.DoneWithRefusals) }
 {
@@ -175,20 +175,20 @@ pub fn run<S: Source, K: Sink>(
     ensures no_options { ((options : Options) → AcceptedWords (texts_in words.now) options → ⊥) → (result ≡ Status.BadWords) ⊎ (result ≡ Status.NoMemory) }
     ensures no_words { result ≡ Status.BadWords → (source.new ≡ source.old) × (sink.new ≡ sink.old) }
     ensures done { result ≡ Status.Done → WithOptions (texts_in words.now) (λ options. MatchOption options.size
-        (Answered options.limit (2 ^ 40) (S.left source.old) (S.left source.new) (K.held sink.old) (K.held sink.new) false)
-        (λ size. Made options.limit size (K.held sink.old) (K.held sink.new) false × (source.new ≡ source.old))) }
+        (Answered options.limit (2 ^ 40) (S.left source.old) (S.left source.new) (K.contents sink.old) (K.contents sink.new) false)
+        (λ size. Made options.limit size (K.contents sink.old) (K.contents sink.new) false × (source.new ≡ source.old))) }
     ensures done_with_refusals { result ≡ Status.DoneWithRefusals → WithOptions (texts_in words.now) (λ options. MatchOption options.size
-        (Answered options.limit (2 ^ 40) (S.left source.old) (S.left source.new) (K.held sink.old) (K.held sink.new) true)
-        (λ size. Made options.limit size (K.held sink.old) (K.held sink.new) true × (source.new ≡ source.old))) }
+        (Answered options.limit (2 ^ 40) (S.left source.old) (S.left source.new) (K.contents sink.old) (K.contents sink.new) true)
+        (λ size. Made options.limit size (K.contents sink.old) (K.contents sink.new) true × (source.new ≡ source.old))) }
     ensures faultless { (result ≡ Status.Done) ⊎ (result ≡ Status.DoneWithRefusals) ⊎ (result ≡ Status.TooLong) → (S.faults source.new ≡ S.faults source.old) × (K.faults sink.new ≡ K.faults sink.old) }
     ensures read_fault { result ≡ Status.ReadFault → Rose (S.faults source.old) (S.faults source.new) × (K.faults sink.new ≡ K.faults sink.old) }
-    ensures unread { result ≡ Status.ReadFault → WithOptions (texts_in words.now) (λ options. (options.size ≡ None) × Unread options.limit (2 ^ 40) (S.left source.old) (S.left source.new) (K.held sink.old) (K.held sink.new)) }
+    ensures unread { result ≡ Status.ReadFault → WithOptions (texts_in words.now) (λ options. (options.size ≡ None) × Unread options.limit (2 ^ 40) (S.left source.old) (S.left source.new) (K.contents sink.old) (K.contents sink.new)) }
     ensures write_fault { result ≡ Status.WriteFault → Rose (K.faults sink.old) (K.faults sink.new) × (S.faults source.new ≡ S.faults source.old) }
     ensures broken { result ≡ Status.WriteFault → WithOptions (texts_in words.now) (λ options. MatchOption options.size
-        (Broken options.limit (S.left source.old) (S.left source.new) (K.held sink.old) (K.held sink.new))
-        (λ size. HalfMade options.limit size (K.held sink.old) (K.held sink.new) × (source.new ≡ source.old))) }
+        (Broken options.limit (S.left source.old) (S.left source.new) (K.contents sink.old) (K.contents sink.new))
+        (λ size. HalfMade options.limit size (K.contents sink.old) (K.contents sink.new) × (source.new ≡ source.old))) }
     ensures no_memory { result ≡ Status.NoMemory → (source.new ≡ source.old) × (sink.new ≡ sink.old) }
-    ensures overlong { result ≡ Status.TooLong → WithOptions (texts_in words.now) (λ options. (options.size ≡ None) × Overlong options.limit (2 ^ 40) (S.left source.old) (S.left source.new) (K.held sink.old) (K.held sink.new)) }
+    ensures overlong { result ≡ Status.TooLong → WithOptions (texts_in words.now) (λ options. (options.size ≡ None) × Overlong options.limit (2 ^ 40) (S.left source.old) (S.left source.new) (K.contents sink.old) (K.contents sink.new)) }
     ensures ends { (Rose (S.faults source.old) (S.faults source.new) → ⊥) → (Rose (K.faults sink.old) (K.faults sink.new) → ⊥) → result ≢ Status.NoMemory → result ≢ Status.TooLong → result ≢ Status.BadWords → (result ≡ Status.Done) ⊎ (result ≡ Status.DoneWithRefusals) }
 {
     let options = match options_in(alloc, &words.list) {

@@ -7,8 +7,8 @@ ghost use Rattle.ded_run.specs.Texts.{text_of};
 
 use ded_io::{Failed, Sink};
 use ded_print::{
-    print_answer, print_box, print_done, print_number, print_plan, print_refusal, print_stored,
-    print_truth,
+    print_answer, print_box, print_done, print_number, print_plan, print_refusal, print_script,
+    print_stored, print_truth,
 };
 use ded_session::Reply;
 
@@ -17,7 +17,7 @@ use ded_session::Reply;
 /// # Errors
 /// `Failed` only where the sink's count of faults rose.
 pub fn write_reply<K: Sink>(reply: &Reply, sink: &mut K) -> Result<(), Failed>
-    ensures bytes { AddsAll (K.held sink.old) (K.held sink.new) result (text_of (reply_form reply.now)) }
+    ensures bytes { AddsAll (K.contents sink.old) (K.contents sink.new) result (text_of (reply_form reply.now)) }
     ensures cause { HasCause (K.faults sink.old) (K.faults sink.new) result }
 {
     match reply {
@@ -28,6 +28,7 @@ pub fn write_reply<K: Sink>(reply: &Reply, sink: &mut K) -> Result<(), Failed>
         Reply::Stored(heading, tuples) => print_stored(heading, tuples.list.as_slice(), sink),
         Reply::Boxes(heading, bounds) => print_box(heading, bounds, sink),
         Reply::Steps(plan) => print_plan(plan, sink),
+        Reply::Script(lines) => print_script(lines, sink),
         Reply::Refused(refusal) => print_refusal(refusal, sink),
     }
 }

@@ -10,7 +10,7 @@ use Rattle.ded_model.specs.declared.formula.Formula.{Formula}
 use Rattle.ded_model.specs.declared.goal.Goal.{Goal}
 use Rattle.ded_model.specs.declared.name.Column.{Column}
 use Rattle.ded_model.specs.Catalogue.{Catalogue}
-use Rattle.ded_model.specs.Command.{CommandForm, relation, insert, delete, drop, view, keep, show, box_of}
+use Rattle.ded_model.specs.Command.{CommandForm, header, relation, insert, delete, drop, view, keep, show, box_of, dump}
 use Rattle.ded_model.specs.Form.{Form, FormAtom, form}
 use Rattle.ded_model.specs.Goal.{goal_form}
 use Rattle.ded_model.specs.Known.{Known, IsNewName, IsAccepted, IsTupleOver, level_of, is_many, has_twice, uses_unknown, has_other_arity, has_unbound, has_missorted}
@@ -91,6 +91,14 @@ module _ (c : Catalogue) where
   }
 
   -- ---- by slots
+
+  header_is : (x : CommandForm) → IsResolved c x checked.Header → x ≡ header
+  header_is header r = refl
+  header_is _ r = absurd r
+
+  dump_is : (x : CommandForm) → IsResolved c x checked.Dump → x ≡ dump
+  dump_is dump r = refl
+  dump_is _ r = absurd r
 
   relation_is : (x : CommandForm) (n : List ℕ) (h : List Column) → IsResolved c x (checked.Relation n h) → x ≡ relation n h
   relation_is (relation m k) n h r = ap (λ (y : List ℕ). relation y k) (sym r.0) ∙ ap (relation n) (sym r.1)
@@ -194,6 +202,12 @@ module _ (c : Catalogue) where
         )
 
     -- what such a command says, as it is written
+    pub written_header : k ≡ checked.Header → (x : CommandForm) → IsResolved c x k → x ≡ header
+    written_header e x r = header_is x (subst (IsResolved c x) e r)
+
+    pub written_dump : k ≡ checked.Dump → (x : CommandForm) → IsResolved c x k → x ≡ dump
+    written_dump e x r = dump_is x (subst (IsResolved c x) e r)
+
     pub written_relation : (n : List ℕ) (h : List Column) → k ≡ checked.Relation n h → (x : CommandForm) → IsResolved c x k → x ≡ relation n h
     written_relation n h e x r = relation_is x n h (subst (IsResolved c x) e r)
 

@@ -16,7 +16,7 @@ use Rattle.ded_model.specs.Refusals.{refusal_number}
 use Rattle.ded_sorts.specs.Causes.{has_cause, is_full, is_spent, is_too_high}
 use Rattle.ded_sorts.specs.Checks.{HasNoCause, IsLeastCause, is_checked}
 use Rattle.ded_session.specs.Carrying.{refusal_left, MayStillRefuse, Carries, IsFirstCause, NoCause, MayRefuseFor, Answers}
-use Rattle.ded_session.specs.Replies.{ReplyForm, done, number, truth, tuples, stored, boxes, steps, refused}
+use Rattle.ded_session.specs.Replies.{ReplyForm, done, number, truth, tuples, stored, boxes, steps, script, refused}
 use Rattle.ded_session.specs.Steps.{Does, MayBeWide}
 
 -- a refusal is decided by the names, or it is one of the two, or it has never a cause in a command
@@ -157,6 +157,7 @@ carried c d x (tuples columns ts) h k = (none_left c x h k.0, k.1)
 carried c d x (stored columns ts) h k = (none_left c x h k.0, k.1)
 carried c d x (boxes columns b) h k = (none_left c x h k.0, k.1)
 carried c d x (steps plan) h k = (none_left c x h k.0, k.1)
+carried c d x (script lines) h k = (none_left c x h k.0, k.1)
 
 -- ---- the replies of calls
 
@@ -197,3 +198,4 @@ carries x c d (tuples columns ts) left k = (left, k)
 carries x c d (stored columns ts) left k = (left, k)
 carries x c d (boxes columns b) left k = (left, k)
 carries x c d (steps plan) left k = (left, k)
+carries x c d (script lines) left k = (left, k)

@@ -10,7 +10,7 @@ use Rattle.ded_model.specs.declared.command.Refusal.{Refusal}
 use Rattle.ded_model.specs.declared.command.Refusal.TheVariants.{Memory, Used}
 use Rattle.ded_model.specs.Catalogue.{Catalogue, Entry}
 use Rattle.ded_model.specs.Catalogue as entry
-use Rattle.ded_model.specs.Command.{CommandForm, relation, insert, delete, drop, view, keep, ask, query, show, box_of, explain}
+use Rattle.ded_model.specs.Command.{CommandForm, header, relation, insert, delete, drop, view, keep, ask, query, show, box_of, explain, dump}
 use Rattle.ded_model.specs.Entries.{entry_of, entry_uses}
 use Rattle.ded_model.specs.Row.{Atom}
 use Rattle.ded_model.specs.Known.{IsWellFormed}
@@ -39,8 +39,7 @@ use Rattle.ded_session.specs.declared.session.Piece.TheVariants as piece
 use Rattle.ded_session.specs.Histories.{Turn, IsTurn, AreTurns, last_state, renews, loses, SpellsSome, PieceSpells, NoneRenews, IsLost}
 use Rattle.ded_session.specs.Pieces.{StepsPiece}
 use Rattle.ded_session.specs.Keeping.{Upholds, UpholdsPiece, UpholdsStatement, KeepsUpLists, LosesLists}
-use Rattle.ded_session.specs.Replies.{ReplyForm, done, number, truth, tuples, stored, boxes, steps, refused}
-use Rattle.ded_session.specs.Runs.{next_language}
+use Rattle.ded_session.specs.Replies.{ReplyForm, done, number, truth, tuples, stored, boxes, steps, script, refused}
 use Rattle.ded_session.specs.Steps.{Does, Accepts, Step}
 
 -- where the view is marked and its formula tight, a list is held
@@ -114,6 +113,7 @@ module _ (s t : State) (v : List ℕ) (a : IsSound s) (b : IsSound t) where
     -- ---- by what a command is answered
 
     after_done : (x : CommandForm) → has_cause Used (catalogue_at s) x ≡ false → Does x (catalogue_at s) done (catalogue_at t) → Upholds x done s t → renews (catalogue_at s) x done v ≡ false → IsDue t v
+    after_done header u k p r = same_lists k p
     after_done (relation n h) u k p r = entry_added (entry.relation n h 0 []) k p
     after_done (delete n j) u k p r = entry_changed n k.columns k.inserts k.inserts _ _ k.changes r p
     after_done (drop n) u k p r = entry_dropped n k u p
@@ -152,6 +152,11 @@ module _ (s t : State) (v : List ℕ) (a : IsSound s) (b : IsSound t) where
       where
         go : (x : CommandForm) → Does x (catalogue_at s) (steps plan) (catalogue_at t) → Upholds x (steps plan) s t → IsDue t v
         go (explain g f) k p = same_lists k.1 p
+        go _ k p = absurd k
+    after_answer x (script lines) u k p r = go x k p
+      where
+        go : (x : CommandForm) → Does x (catalogue_at s) (script lines) (catalogue_at t) → Upholds x (script lines) s t → IsDue t v
+        go dump k p = same_lists k.1 p
         go _ k p = absurd k
     after_answer x (refused q) u k p r = go x k
       where
@@ -211,6 +216,7 @@ module _ (l : Language) (s t : State) (bytes v : List ℕ) (a : IsSound s) (b : 
   stays (stored h ts) y p n due = accepted (stored h ts) y p due
   stays (boxes h b) y p n due = accepted (boxes h b) y p due
   stays (steps plan) y p n due = accepted (steps plan) y p due
+  stays (script lines) y p n due = accepted (script lines) y p due
   stays (refused q) y p n due = elim (spelling_decided l bytes) [
     | inl z ↦ after_refused s t v a b due z.0 q y.1 (p.spelled z.0 z.1 z.2)
         (false_from_ne_true (loses (catalogue_at s) z.0 (refused q) v) (λ e. n (record { command = z.0; depth = z.1; spells = z.2; passes = e })))
@@ -231,6 +237,7 @@ module _ (l : Language) (s t : State) (bytes v : List ℕ) (a : IsSound s) (b : 
   made (stored h ts) y p r = renewed (stored h ts) y p r
   made (boxes h b) y p r = renewed (boxes h b) y p r
   made (steps plan) y p r = renewed (steps plan) y p r
+  made (script lines) y p r = renewed (script lines) y p r
   made (refused q) y p r = absurd (no_refusal (catalogue_at s) r.command q v r.passes)
 
 -- of any piece: a long one and a cut one change nothing
@@ -254,8 +261,8 @@ mutual
       → held_under (last_state s xs).held v ≡ None → IsLost l s xs v
   if_due [] l s v a k due m i e = absurd (true≢false (sym (due m i) ∙ ap is_some e))
   if_due (x ∷ xs) l s v a k due m i e = elim (piece_decided l x.piece (λ y. loses (catalogue_at s) y x.reply v)) [
-    | inl y ↦ elim (if_none xs (next_language l) x.left v k.0.sound k.1 m i e) [ inl n ↦ inl (y, n) | inr n ↦ inr n ]
-    | inr n ↦ inr (if_due xs (next_language l) x.left v k.0.sound k.1 (piece_stays l s x.left x.piece x.reply v a k.0.sound k.0.step k.0.upholds n due) m i e)
+    | inl y ↦ elim (if_none xs x.next x.left v k.0.sound k.1 m i e) [ inl n ↦ inl (y, n) | inr n ↦ inr n ]
+    | inr n ↦ inr (if_due xs x.next x.left v k.0.sound k.1 (piece_stays l s x.left x.piece x.reply v a k.0.sound k.0.step k.0.upholds n due) m i e)
   ]
 
   -- and else no statement had it made since, or one did and it was lost after that
@@ -263,8 +270,8 @@ mutual
       → held_under (last_state s xs).held v ≡ None → NoneRenews l s xs v ⊎ IsLost l s xs v
   if_none [] l s v a k m i e = inl tt
   if_none (x ∷ xs) l s v a k m i e = elim (piece_decided l x.piece (λ y. renews (catalogue_at s) y x.reply v)) [
-    | inl y ↦ inr (inr (if_due xs (next_language l) x.left v k.0.sound k.1 (piece_made l s x.left x.piece x.reply v a k.0.sound k.0.step k.0.upholds y) m i e))
-    | inr n ↦ elim (if_none xs (next_language l) x.left v k.0.sound k.1 m i e) [ inl y ↦ inl (n, y) | inr y ↦ inr (inr y) ]
+    | inl y ↦ inr (inr (if_due xs x.next x.left v k.0.sound k.1 (piece_made l s x.left x.piece x.reply v a k.0.sound k.0.step k.0.upholds y) m i e))
+    | inr n ↦ elim (if_none xs x.next x.left v k.0.sound k.1 m i e) [ inl y ↦ inl (n, y) | inr y ↦ inr (inr y) ]
   ]
 
 -- no list is due of a view that isn't kept

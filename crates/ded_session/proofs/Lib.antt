@@ -4,6 +4,7 @@ mod Asking
 mod Bounding
 mod Carried
 mod Calls
+pub mod HeaderSteps
 mod Languages
 pub mod Pairs
 pub mod PlainNames

@@ -18,7 +18,7 @@ use Rattle.ded_model.specs.declared.slot.Sort.{Sort}
 use Rattle.ded_model.specs.declared.slot.Sort.TheVariants.{Rat, Text}
 use Rattle.ded_model.specs.Catalogue.{Catalogue, tuples_of}
 use Rattle.ded_model.specs.Cell.{HoldsSomewhere}
-use Rattle.ded_model.specs.Command.{CommandForm, relation, insert, delete, drop, view, keep, ask, query, show, box_of, explain}
+use Rattle.ded_model.specs.Command.{CommandForm, header, relation, insert, delete, drop, view, keep, ask, query, show, box_of, explain, dump}
 use Rattle.ded_model.specs.Entries.{tuples_in}
 use Rattle.ded_model.specs.Form.{Form, FormAtom, compare, member, atom_uses}
 use Rattle.ded_model.specs.Logic.{atom, always, never, negation, every_of, some_of, implies, minus, exists, forall, Logics, none, also, AllAtoms, AllAtomsOf, some_atom, some_atom_of, mentions, any_mentions}
@@ -32,7 +32,7 @@ use Rattle.ded_plan.specs.Plans.{IsScanOf}
 use Rattle.ded_syntax.proofs.One.{one_command}
 use Rattle.ded_session.specs.Pairs.{FitsHeading, IsSlotKey, IsPlainScan, IsPlainPlan, ArePlainPlans, SpeaksPlainly, AreOfOneBox, AreOfOne}
 use Rattle.ded_session.specs.PlainNames.{IsPlainName, ArePlainColumns, HasPlainNames, IsPlainUse, UsesPlainNames, NamesPlainly}
-use Rattle.ded_session.specs.Replies.{ReplyForm, done, number, truth, tuples, stored, boxes, steps, refused}
+use Rattle.ded_session.specs.Replies.{ReplyForm, done, number, truth, tuples, stored, boxes, steps, script, refused}
 use Rattle.ded_session.specs.Steps.{Does, Accepts, Step}
 use Rattle.ded_session.proofs.PlainNames.{plain_columns}
 use Rattle.ded_session.proofs.PlainSpelling.{spelled_names}
@@ -170,6 +170,7 @@ module _ (c d : Catalogue) (h : HasPlainNames c) where
       go : (x : CommandForm) → NamesPlainly x → Does x c (steps plan) d → IsPlainPlan plan
       go (explain g f) p k = plain_plan c f plan p.1 k.0.pushed k.0.scans
       go _ p k = absurd k
+  speaks_plainly x (script lines) p k = tt
   speaks_plainly x (refused r) p k = tt
 
   accepted_plainly : (l : Language) (s : Statement) (reply : ReplyForm) → Accepts l s c (λ x. Does x c reply d) → SpeaksPlainly reply
@@ -185,6 +186,7 @@ refusal_or l c d s (tuples g ts) p = inr p
 refusal_or l c d s (stored g ts) p = inr p
 refusal_or l c d s (boxes g b) p = inr p
 refusal_or l c d s (steps plan) p = inr p
+refusal_or l c d s (script lines) p = inr p
 refusal_or l c d s (refused r) p = inl (r, refl)
 
 pub plain_reply : (l : Language) (c d : Catalogue) (s : Statement) (reply : ReplyForm) → HasPlainNames c → Step l c s reply d → SpeaksPlainly reply
@@ -194,6 +196,8 @@ plain_reply l c d s reply h p = ⊎_elim (λ r. subst SpeaksPlainly (sym r.1) tt
 
 module _ (c d e : Catalogue) where
   of_one_done : (x : CommandForm) (other : ReplyForm) → Does x c done d → Does x c other e → AreOfOne done other
+  of_one_done header done p q = refl
+  of_one_done header _ p q = absurd q
   of_one_done (relation n h) done p q = refl
   of_one_done (relation n h) _ p q = absurd q
   of_one_done (delete n i) done p q = refl
@@ -239,6 +243,11 @@ module _ (c d e : Catalogue) where
   of_one_steps plan (explain h f) _ p q = absurd q
   of_one_steps plan _ other p q = absurd p
 
+  of_one_script : (ls : List (List ℕ)) (x : CommandForm) (other : ReplyForm) → Does x c (script ls) d → Does x c other e → AreOfOne (script ls) other
+  of_one_script ls dump (script ks) p q = p.0 ∙ sym q.0
+  of_one_script ls dump _ p q = absurd q
+  of_one_script ls _ other p q = absurd p
+
   of_one_command : (x : CommandForm) (reply other : ReplyForm) → Does x c reply d → Does x c other e → AreOfOne reply other
   of_one_command x done other p q = of_one_done x other p q
   of_one_command x (number i) other p q = of_one_number i x other p q
@@ -247,6 +256,7 @@ module _ (c d e : Catalogue) where
   of_one_command x (stored h ts) other p q = of_one_stored h ts x other p q
   of_one_command x (boxes h b) other p q = of_one_boxes h b x other p q
   of_one_command x (steps plan) other p q = of_one_steps plan x other p q
+  of_one_command x (script ls) other p q = of_one_script ls x other p q
   of_one_command x (refused r) other p q = tt
 
   both_accepted : (l : Language) (s : Statement) (reply other : ReplyForm) → Accepts l s c (λ x. Does x c reply d) → Accepts l s c (λ x. Does x c other e) → AreOfOne reply other
@@ -263,6 +273,7 @@ any_refused (tuples g ts) r = tt
 any_refused (stored g ts) r = tt
 any_refused (boxes g b) r = tt
 any_refused (steps plan) r = tt
+any_refused (script lines) r = tt
 any_refused (refused q) r = tt
 
 pub two_replies : (l : Language) (c d e : Catalogue) (s : Statement) (reply other : ReplyForm) → Step l c s reply d → Step l c s other e → AreOfOne reply other

@@ -9,13 +9,13 @@ use Rattle.ded_model.specs.declared.command.Language.{Language}
 use Rattle.ded_model.specs.declared.command.Language.TheVariants.{Opening}
 use Rattle.ded_model.specs.Catalogue.{Entry, Catalogue, entry_name}
 use Rattle.ded_model.specs.Catalogue as entry
-use Rattle.ded_model.specs.Command.{CommandForm, relation, insert, delete, drop, view, keep, ask, query, show, box_of, explain}
+use Rattle.ded_model.specs.Command.{CommandForm, header, relation, insert, delete, drop, view, keep, ask, query, show, box_of, explain, dump}
 use Rattle.ded_model.specs.Entries.{columns_in}
 use Rattle.ded_model.specs.Known.{KnownNames, Known, columns_with, entry_known, with_known, known_from, known_of}
 use Rattle.ded_sorts.specs.Changes.{AddsEntry, ChangesEntry, DropsEntry}
 use Rattle.ded_session.specs.PlainNames.{ArePlainColumns, HasPlainEntry, HasPlainNames, NamesPlainly}
-use Rattle.ded_session.specs.Replies.{ReplyForm, done, number, truth, tuples, stored, boxes, steps, refused}
-use Rattle.ded_session.specs.Runs.{Steps, Run, empty_catalogue, next_language}
+use Rattle.ded_session.specs.Replies.{ReplyForm, done, number, truth, tuples, stored, boxes, steps, script, refused}
+use Rattle.ded_session.specs.Runs.{Steps, Run, empty_catalogue}
 use Rattle.ded_session.specs.Steps.{Does, Accepts, Step}
 use Rattle.ded_session.proofs.PlainSpelling.{spelled_names}
 
@@ -58,6 +58,7 @@ same c d h is = subst HasPlainNames (sym is) h
 
 module _ (c d : Catalogue) (h : HasPlainNames c) where
   after_done : (x : CommandForm) → NamesPlainly x → Does x c done d → HasPlainNames d
+  after_done header p k = same c d h k
   after_done (relation n cs) p k = adds c d (entry.relation n cs 0 []) h p k
   after_done (delete n i) p k = changes c d n _ _ (λ q. q) h k.changes
   after_done (drop n) p k = drops c d n h k
@@ -97,6 +98,11 @@ module _ (c d : Catalogue) (h : HasPlainNames c) where
       go : (x : CommandForm) → Does x c (steps plan) d → HasPlainNames d
       go (explain g f) k = same c d h k.1
       go _ k = absurd k
+  unchanged x (script lines) p k = go x k
+    where
+      go : (x : CommandForm) → Does x c (script lines) d → HasPlainNames d
+      go dump k = same c d h k.1
+      go _ k = absurd k
   unchanged x (refused r) p k = go x k
     where
       go : (x : CommandForm) → Does x c (refused r) d → HasPlainNames d
@@ -115,16 +121,17 @@ plain_step l c d s (tuples g ts) h p = accepted c d h l s (tuples g ts) p
 plain_step l c d s (stored g ts) h p = accepted c d h l s (stored g ts) p
 plain_step l c d s (boxes g b) h p = accepted c d h l s (boxes g b) p
 plain_step l c d s (steps plan) h p = accepted c d h l s (steps plan) p
+plain_step l c d s (script lines) h p = accepted c d h l s (script lines) p
 plain_step l c d s (refused r) h p = same c d h p.1
 
 pub plain_steps : (l : Language) (c d : Catalogue) (ss : List Statement) (replies : List ReplyForm) → HasPlainNames c → Steps l c ss replies d → HasPlainNames d
 plain_steps l c d [] [] h p = same c d h p
 plain_steps l c d [] (reply ∷ replies) h p = absurd p
 plain_steps l c d (s ∷ ss) [] h p = absurd p
-plain_steps l c d (s ∷ ss) (reply ∷ replies) h p = plain_steps (next_language l) p.0 d ss replies (plain_step l c p.0 s reply h p.1) p.2
+plain_steps l c d (s ∷ ss) (reply ∷ replies) h p = plain_steps p.1 p.0 d ss replies (plain_step l c p.0 s reply h p.2) p.4
 
-pub plain_run : (limit : ℕ) (script : List ℕ) (replies : List ReplyForm) (last : Catalogue) → Run limit script replies last → HasPlainNames last
-plain_run limit script replies last r = plain_steps Opening (empty_catalogue limit) last r.statements replies tt r.steps
+pub plain_run : (limit : ℕ) (bytes : List ℕ) (replies : List ReplyForm) (last : Catalogue) → Run limit bytes replies last → HasPlainNames last
+plain_run limit bytes replies last r = plain_steps Opening (empty_catalogue limit) last r.statements replies tt r.steps
 
 -- ---- columns by name
 

@@ -15,14 +15,14 @@ use Rattle.ded_model.specs.declared.command.Language.TheVariants.{Opening, One, 
 use Rattle.ded_model.specs.declared.formula.CompareOp.TheVariants as op
 use Rattle.ded_model.specs.Command.{CommandForm}
 use Rattle.ded_model.specs.Form.{Form}
-use Rattle.ded_grammar.specs.Trees.{PieceForm, nay, conjunct, disjunct, arrow, opening, closing, binder, leaf}
-use Rattle.ded_grammar.proofs.Carried.{PieceHas, PiecesHave, spelled_has}
+use Rattle.ded_grammar.specs.Trees.{TerminalForm, nay, conjunct, disjunct, arrow, opening, closing, binder, leaf}
+use Rattle.ded_grammar.proofs.Carried.{TerminalHas, TerminalsHave, spelled_has}
 use Rattle.ded_syntax.specs.declared.item.Keyword.{Keyword}
 use Rattle.ded_syntax.specs.declared.item.Keyword.TheVariants as words
-use Rattle.ded_syntax.specs.Symbols.{Symbol, Word, Name, Plus, Minus, Times, Open, Close, OpenBrace, CloseBrace, Comma, Colon, Define, Relation, formula_word, command_word, is_unused, unused_word, word_symbol, sum_sign, other_sign, slash_symbol, decimal_symbol, symbol}
+use Rattle.ded_syntax.specs.Symbols.{Symbol, Word, Name, Plus, Minus, Times, Open, Close, OpenBrace, CloseBrace, Comma, Colon, Define, Relation, formula_word, command_word, is_unused, unused_word, dedale_symbol, dump_symbol, language_word, word_symbol, sum_sign, other_sign, slash_symbol, decimal_symbol, symbol}
 use Rattle.ded_syntax.specs.Literals.{Reader, exact}
-use Rattle.ded_syntax.specs.Atoms.{spell_rest, Atom, truth, relates, belongs, spell_atom, atom_form, spell_column, sort_symbols, IsPiece, ArePieces, SpellsFormula}
-use Rattle.ded_syntax.specs.Commands.{Columns, spell_heading, heading, Plain, defines, inserts_none, inserts, deletes, drops, keeps, shows, boxes, spell_plain, plain_form, Prefix, views, asks, queries, explains, spell_prefix, prefix_form, SpellsCommand}
+use Rattle.ded_syntax.specs.Atoms.{spell_rest, Atom, truth, relates, belongs, spell_atom, atom_form, spell_column, sort_symbols, IsTerminal, AreTerminals, SpellsFormula}
+use Rattle.ded_syntax.specs.Commands.{Columns, spell_heading, heading, Plain, opens, defines, inserts_none, inserts, deletes, drops, keeps, shows, boxes, dumps, spell_plain, plain_form, Prefix, views, asks, queries, explains, spell_prefix, prefix_form, SpellsCommand}
 use Rattle.ded_syntax.specs.Spelling.{Spells}
 use Rattle.ded_session.specs.PlainNames.{IsPlainName, ArePlainColumns, IsPlainUse, UsesPlainNames, NamesPlainly}
 
@@ -76,16 +76,29 @@ unused_plain w other h = either (is_unused w)
     either true = tt
     either false = h
 
-word_plain : (w : List ℕ) → IsPlainName w → IsPlainSymbol (word_symbol w)
-word_plain w h = formula_plain w (command_word (unused_word (Name w) w) w) (command_plain w (unused_word (Name w) w) (unused_plain w (Name w) h))
-
--- one more sign
+-- one more sign, or a word of one language
 sign : (s k : List ℕ) (t other : Symbol) → IsPlainSymbol t → IsPlainSymbol other → IsPlainSymbol (if bytes_eq s k then t else other)
 sign s k t other p h = either (bytes_eq s k)
   where
     either : (b : Bool) → IsPlainSymbol (if b then t else other)
     either true = p
     either false = h
+
+dedale_plain : (language : Language) → IsPlainSymbol (dedale_symbol language)
+dedale_plain Opening = tt
+dedale_plain One = tt
+dedale_plain Two = tt
+
+dump_plain : (language : Language) → IsPlainSymbol (dump_symbol language)
+dump_plain Opening = tt
+dump_plain One = tt
+dump_plain Two = tt
+
+word_plain : (language : Language) (w : List ℕ) → IsPlainName w → IsPlainSymbol (word_symbol language w)
+word_plain language w h =
+    formula_plain w _ (command_plain w (language_word language (unused_word (Name w) w) w)
+    (sign w (codes "dedale") (dedale_symbol language) _ (dedale_plain language)
+    (sign w (codes "dump") (dump_symbol language) (unused_word (Name w) w) (dump_plain language) (unused_plain w (Name w) h))))
 
 sum_plain : (s : List ℕ) (other : Symbol) → IsPlainSymbol other → IsPlainSymbol (sum_sign other s)
 sum_plain s other h =
@@ -120,7 +133,7 @@ decimal_plain One bs = tt
 decimal_plain Two bs = tt
 
 symbol_plain : (language : Language) (l : Lexeme) (next : List ℕ) → IsLexeme l next → IsPlainSymbol (symbol language l)
-symbol_plain language (lexeme.Word w) next p = word_plain w (p.0, p.1)
+symbol_plain language (lexeme.Word w) next p = word_plain language w (p.0, p.1)
 symbol_plain language (lexeme.Number ds) next p = tt
 symbol_plain language (lexeme.Decimal bs) next p = decimal_plain language bs
 symbol_plain language (lexeme.Quoted t) next p = tt
@@ -157,28 +170,29 @@ atom_plain value (truth false) h = tt
 atom_plain value (relates c) h = tt
 atom_plain value (belongs n s ss) h = h.0
 
-piece_plain : (value : Reader) (ts : List Symbol) (p : PieceForm) → ArePlainSymbols ts → IsPiece value ts p → PieceHas IsPlainUse p
-piece_plain value ts nay q h = tt
-piece_plain value ts conjunct q h = tt
-piece_plain value ts disjunct q h = tt
-piece_plain value ts arrow q h = tt
-piece_plain value ts opening q h = tt
-piece_plain value ts closing q h = tt
-piece_plain value ts (binder b c) q h = tt
-piece_plain value ts (leaf f) q h = subst UsesPlainNames h.2 (atom_plain value h.0 (subst ArePlainSymbols h.1 q))
+terminal_plain : (value : Reader) (ts : List Symbol) (p : TerminalForm) → ArePlainSymbols ts → IsTerminal value ts p → TerminalHas IsPlainUse p
+terminal_plain value ts nay q h = tt
+terminal_plain value ts conjunct q h = tt
+terminal_plain value ts disjunct q h = tt
+terminal_plain value ts arrow q h = tt
+terminal_plain value ts opening q h = tt
+terminal_plain value ts closing q h = tt
+terminal_plain value ts (binder b c) q h = tt
+terminal_plain value ts (leaf f) q h = subst UsesPlainNames h.2 (atom_plain value h.0 (subst ArePlainSymbols h.1 q))
 
-pieces_plain : (value : Reader) (ts : List Symbol) (ps : List PieceForm) → ArePlainSymbols ts → ArePieces value ts ps → PiecesHave IsPlainUse ps
-pieces_plain value ts [] q h = tt
-pieces_plain value ts (p ∷ ps) q h =
+terminals_plain : (value : Reader) (ts : List Symbol) (ps : List TerminalForm) → ArePlainSymbols ts → AreTerminals value ts ps → TerminalsHave IsPlainUse ps
+terminals_plain value ts [] q h = tt
+terminals_plain value ts (p ∷ ps) q h =
     let both = subst ArePlainSymbols h.2 q in
-    (piece_plain value h.0 p (front h.0 h.1 both) h.3, pieces_plain value h.1 ps (back h.0 h.1 both) h.4)
+    (terminal_plain value h.0 p (front h.0 h.1 both) h.3, terminals_plain value h.1 ps (back h.0 h.1 both) h.4)
 
 formula_uses : (value : Reader) (ts : List Symbol) (f : Form) (depth : ℕ) → ArePlainSymbols ts → SpellsFormula value ts f depth → UsesPlainNames f
-formula_uses value ts f depth q s = spelled_has IsPlainUse s.pieces f depth s.spells (pieces_plain value ts s.pieces q s.are)
+formula_uses value ts f depth q s = spelled_has IsPlainUse s.terminals f depth s.spells (terminals_plain value ts s.terminals q s.are)
 
 -- ---- commands
 
 flat_plain : (value : Reader) (p : Plain) → ArePlainSymbols (spell_plain p) → NamesPlainly (plain_form value p)
+flat_plain value (opens d two) q = tt
 flat_plain value (defines n h) q = (q.1.0, heading_plain h q.1.1)
 flat_plain value (inserts_none n) q = q.1.0
 flat_plain value (inserts n c cs) q = q.1.0
@@ -187,6 +201,7 @@ flat_plain value (drops n) q = q.1.0
 flat_plain value (keeps n) q = q.1.0
 flat_plain value (shows n) q = q.1.0
 flat_plain value (boxes n) q = q.1.0
+flat_plain value dumps q = tt
 
 before_plain : (p : Prefix) (f : Form) → ArePlainSymbols (spell_prefix p) → UsesPlainNames f → NamesPlainly (prefix_form p f)
 before_plain (views n h) f q u = (q.1.0, heading_plain h (front (spell_heading h) (Define ∷ []) q.1.1), u)

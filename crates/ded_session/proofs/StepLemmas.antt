@@ -16,8 +16,8 @@ use Rattle.ded_syntax.proofs.PlainSums.{spelled_plain}
 use Rattle.ded_session.specs.Carrying.{Answers, IsFirstCause, MayRefuseFor, NoCause}
 use Rattle.ded_session.specs.Causes.{Commands, Applies, NoneApplies}
 use Rattle.ded_session.specs.PlainNames.{NamesPlainly}
-use Rattle.ded_session.specs.Replies.{ReplyForm, done, number, truth, tuples, stored, boxes, steps, refused}
-use Rattle.ded_session.specs.Steps.{Step, MayRefuse}
+use Rattle.ded_session.specs.Replies.{ReplyForm, done, number, truth, tuples, stored, boxes, steps, script, refused}
+use Rattle.ded_session.specs.Steps.{IsHeaderIn, Step, MayRefuse}
 use Rattle.ded_session.proofs.PlainSpelling.{spelled_names}
 
 -- ---- a command that is read
@@ -111,13 +111,13 @@ module _ (l : Language) (bytes : List ℕ) (c : Catalogue) (short : length bytes
       go Deep below low less a = below less a
       go _ below low less a = absurd (omega arith)
 
-  pub may_refuse : (r : Refusal) → (r ≢ Memory → IsLeastIn r l bytes) → MayRefuse r l (Whole bytes) c
-  may_refuse Memory h = short
-  may_refuse Syntax h = let k = h (λ e. cc) in record { applies = k.applies; least = λ q. lesser Syntax q k }
-  may_refuse LongName h = let k = h (λ e. cc) in record { applies = k.applies; least = λ q. lesser LongName q k }
-  may_refuse LongNumber h = let k = h (λ e. cc) in record { applies = k.applies; least = λ q. lesser LongNumber q k }
-  may_refuse Deep h = let k = h (λ e. cc) in record { applies = k.applies; least = λ q. lesser Deep q k }
-  may_refuse _ h = let k = h (λ e. cc) in absurd k.applies
+  pub may_refuse : (r : Refusal) → (IsHeaderIn l (Whole bytes) → ⊥) → (r ≢ Memory → IsLeastIn r l bytes) → MayRefuse r l (Whole bytes) c
+  may_refuse Memory other h = (short, other)
+  may_refuse Syntax other h = let k = h (λ e. cc) in record { applies = k.applies; least = λ q. lesser Syntax q k }
+  may_refuse LongName other h = let k = h (λ e. cc) in record { applies = k.applies; least = λ q. lesser LongName q k }
+  may_refuse LongNumber other h = let k = h (λ e. cc) in record { applies = k.applies; least = λ q. lesser LongNumber q k }
+  may_refuse Deep other h = let k = h (λ e. cc) in record { applies = k.applies; least = λ q. lesser Deep q k }
+  may_refuse _ other h = let k = h (λ e. cc) in absurd k.applies
 
   -- ---- answered as its command
 
@@ -130,20 +130,21 @@ module _ (l : Language) (bytes : List ℕ) (c : Catalogue) (short : length bytes
         go Memory a least e = absurd (true≢false (sym e))
         go _ a least e = record { applies = a; least = least }
 
-    none_applies : NoCause c x → NoneApplies l (Whole bytes) c
+    pub none_applies : NoCause c x → NoneApplies l (Whole bytes) c
     none_applies none q = neither x h.depth h.spells q (h.accepted q) (none q)
 
-    refusal_step : (r : Refusal) → MayRefuseFor r x c → MayRefuse r l (Whole bytes) c
-    refusal_step Memory k = short
-    refusal_step Wide k = record { none = none_applies k.0; command = x; depth = h.depth; spells = h.spells; so = k.1 }
-    refusal_step _ k = first_applies _ k
+    refusal_step : (r : Refusal) → (IsHeaderIn l (Whole bytes) → ⊥) → MayRefuseFor r x c → MayRefuse r l (Whole bytes) c
+    refusal_step Memory other k = (short, other)
+    refusal_step Wide other k = record { none = none_applies k.0; command = x; depth = h.depth; spells = h.spells; so = k.1 }
+    refusal_step _ other k = first_applies _ k
 
-    pub step_read : (reply : ReplyForm) (d : Catalogue) → Answers x c reply d → Step l c (Whole bytes) reply d
-    step_read (refused r) d k = (refusal_step r k.0, k.1)
-    step_read done d k = record { none = none_applies k.0; command = x; depth = h.depth; spells = h.spells; so = k.1 }
-    step_read (number n) d k = record { none = none_applies k.0; command = x; depth = h.depth; spells = h.spells; so = k.1 }
-    step_read (truth b) d k = record { none = none_applies k.0; command = x; depth = h.depth; spells = h.spells; so = k.1 }
-    step_read (tuples columns ts) d k = record { none = none_applies k.0; command = x; depth = h.depth; spells = h.spells; so = k.1 }
-    step_read (stored columns ts) d k = record { none = none_applies k.0; command = x; depth = h.depth; spells = h.spells; so = k.1 }
-    step_read (boxes columns b) d k = record { none = none_applies k.0; command = x; depth = h.depth; spells = h.spells; so = k.1 }
-    step_read (steps plan) d k = record { none = none_applies k.0; command = x; depth = h.depth; spells = h.spells; so = k.1 }
+    pub step_read : (IsHeaderIn l (Whole bytes) → ⊥) → (reply : ReplyForm) (d : Catalogue) → Answers x c reply d → Step l c (Whole bytes) reply d
+    step_read other (refused r) d k = (refusal_step r other k.0, k.1)
+    step_read other done d k = record { none = none_applies k.0; command = x; depth = h.depth; spells = h.spells; so = k.1 }
+    step_read other (number n) d k = record { none = none_applies k.0; command = x; depth = h.depth; spells = h.spells; so = k.1 }
+    step_read other (truth b) d k = record { none = none_applies k.0; command = x; depth = h.depth; spells = h.spells; so = k.1 }
+    step_read other (tuples columns ts) d k = record { none = none_applies k.0; command = x; depth = h.depth; spells = h.spells; so = k.1 }
+    step_read other (stored columns ts) d k = record { none = none_applies k.0; command = x; depth = h.depth; spells = h.spells; so = k.1 }
+    step_read other (boxes columns b) d k = record { none = none_applies k.0; command = x; depth = h.depth; spells = h.spells; so = k.1 }
+    step_read other (steps plan) d k = record { none = none_applies k.0; command = x; depth = h.depth; spells = h.spells; so = k.1 }
+    step_read other (script lines) d k = record { none = none_applies k.0; command = x; depth = h.depth; spells = h.spells; so = k.1 }

@@ -11,25 +11,26 @@ use Rattle.ded_database.specs.State.{State, catalogue_at, IsSound}
 use Rattle.ded_session.specs.declared.session.Piece.{Piece}
 use Rattle.ded_session.specs.declared.session.Piece.TheVariants as piece
 use Rattle.ded_session.specs.Keeping.{UpholdsStatement}
-use Rattle.ded_session.specs.Pieces.{StepsPiece}
+use Rattle.ded_session.specs.Pieces.{StepsPiece, GoesOnPiece}
 use Rattle.ded_session.specs.Replies.{ReplyForm, done, number, refused}
-use Rattle.ded_session.specs.Runs.{next_language}
 
--- a piece, whole, long or cut, its reply, and the state that it leaves
+-- a piece, whole, long or cut, its reply, the state that it leaves, and the language of the next one
 pub record Turn : Type 0 where
   pub piece : Piece
   pub reply : ReplyForm
   pub left : State
+  pub next : Language
 
 -- one step of the rules, over a state that is sound, to one that is
 pub record IsTurn (language : Language) (s : State) (x : Turn) : Type 0 where
   pub step : StepsPiece x.piece language (catalogue_at s) x.reply (catalogue_at x.left)
   pub upholds : UpholdsStatement x.piece language x.reply s x.left
   pub sound : IsSound x.left
+  pub goes_on : GoesOnPiece language x.piece x.next
 
 abbrev pub AreTurns : Language → State → List Turn → Type 0
 AreTurns language s [] = Unit {0}
-AreTurns language s (x ∷ xs) = IsTurn language s x × AreTurns (next_language language) x.left xs
+AreTurns language s (x ∷ xs) = IsTurn language s x × AreTurns x.next x.left xs
 
 abbrev pub last_state : State → List Turn → State
 last_state s [] = s
@@ -74,9 +75,9 @@ Loses language s x v = PieceSpells language x.piece (λ command. loses (catalogu
 -- none of them has the list made
 abbrev pub NoneRenews : Language → State → List Turn → List ℕ → Type 0
 NoneRenews language s [] v = Unit {0}
-NoneRenews language s (x ∷ xs) v = (Renews language s x v → ⊥) × NoneRenews (next_language language) x.left xs v
+NoneRenews language s (x ∷ xs) v = (Renews language s x v → ⊥) × NoneRenews x.next x.left xs v
 
 -- one of them may have lost the list, and none after that one had it made
 abbrev pub IsLost : Language → State → List Turn → List ℕ → Type 0
 IsLost language s [] v = ⊥
-IsLost language s (x ∷ xs) v = (Loses language s x v × NoneRenews (next_language language) x.left xs v) ⊎ IsLost (next_language language) x.left xs v
+IsLost language s (x ∷ xs) v = (Loses language s x v × NoneRenews x.next x.left xs v) ⊎ IsLost x.next x.left xs v

@@ -8,7 +8,7 @@ use Rattle.ded_model.specs.PlanForm.{PlanAtom, scan, rows, PlanForm}
 use Rattle.ded_model.specs.Point.{Key, slot, name}
 use Rattle.ded_model.specs.Width.{rational_columns}
 use Rattle.ded_session.specs.PlainNames.{IsPlainName, ArePlainColumns}
-use Rattle.ded_session.specs.Replies.{ReplyForm, done, number, truth, tuples, stored, boxes, steps, refused}
+use Rattle.ded_session.specs.Replies.{ReplyForm, done, number, truth, tuples, stored, boxes, steps, script, refused}
 
 -- ---- one reply
 
@@ -76,4 +76,5 @@ AreOfOne (tuples h ts) (tuples k us) = h ≡ k
 AreOfOne (stored h ts) (stored k us) = (h ≡ k) × (ts ≡ us)
 AreOfOne (boxes h b) (boxes k c) = (h ≡ k) × AreOfOneBox b c
 AreOfOne (steps f) (steps g) = Unit {0}
+AreOfOne (script ls) (script ks) = ls ≡ ks
 AreOfOne reply other = (is_short reply && is_short other) ≡ true

@@ -14,6 +14,7 @@ pub data ReplyForm : Type 0 where
   stored : List Column → List (ℕ × List Atom) → ReplyForm
   boxes : List Column → BoxReply → ReplyForm
   steps : PlanForm → ReplyForm
+  script : List (List ℕ) → ReplyForm
   refused : Refusal → ReplyForm
 
 abbrev pub is_refusal : ReplyForm → Bool

@@ -1,25 +1,31 @@
 -- Which replies a script may get, and the catalogue that it leaves.
-use Rattle.std.specs.Prelude.{◌≡◌, ℕ, List, [], ◌∷◌, ◌++◌, if◌then◌else◌}
+use Rattle.std.specs.Prelude.{◌≡◌, ◌⊎◌, ℕ, List, [], ◌∷◌, ◌++◌, if◌then◌else◌}
 use Rattle.ded_lex.specs.Pieces.{Statement, AreStatements}
 use Rattle.ded_model.specs.declared.command.Language.{Language}
 use Rattle.ded_model.specs.declared.command.Language.TheVariants.{Opening, One, Two}
 use Rattle.ded_model.specs.Catalogue.{Catalogue}
 use Rattle.ded_session.specs.Causes.{statement_bytes}
 use Rattle.ded_session.specs.Replies.{ReplyForm, is_refusal}
-use Rattle.ded_session.specs.Steps.{Step}
+use Rattle.ded_session.specs.Steps.{IsHeaderIn, Step}
 
--- the language after a statement: the first one alone is read in the opening language
+-- the language after a statement that isn't the header: the first one alone is read in the opening language
 abbrev pub next_language : Language → Language
 next_language Opening = One
 next_language One = One
 next_language Two = Two
+
+-- the language after any statement
+abbrev pub GoesOn : Language → Statement → Language → Type 0
+GoesOn Opening s next = (IsHeaderIn Opening s × (next ≡ Two)) ⊎ ((IsHeaderIn Opening s → ⊥) × (next ≡ One))
+GoesOn One s next = next ≡ One
+GoesOn Two s next = next ≡ Two
 
 -- one reply for each statement, in order, each over the catalogue that those before it left
 abbrev pub Steps : Language → Catalogue → List Statement → List ReplyForm → Catalogue → Type 0
 Steps language c [] [] d = d ≡ c
 Steps language c [] (reply ∷ replies) d = ⊥
 Steps language c (s ∷ ss) [] d = ⊥
-Steps language c (s ∷ ss) (reply ∷ replies) d = (e : Catalogue) × Step language c s reply e × Steps (next_language language) e ss replies d
+Steps language c (s ∷ ss) (reply ∷ replies) d = (e : Catalogue) × (next : Language) × Step language c s reply e × GoesOn language s next × Steps next e ss replies d
 
 -- the catalogue without entries
 abbrev pub empty_catalogue : ℕ → Catalogue

@@ -3,29 +3,32 @@ use Rattle.std.specs.Prelude.{◌≡◌, ◌↔◌, ◌≤◌, ℕ, IsTrue, List
 use Rattle.ded_lex.specs.Pieces.{Statement, Whole}
 use Rattle.ded_lex.specs.Pieces as pieces
 use Rattle.ded_model.specs.declared.command.Language.{Language}
+use Rattle.ded_model.specs.declared.command.Language.TheVariants.{Opening}
 use Rattle.ded_model.specs.declared.command.Refusal.{Refusal}
 use Rattle.ded_model.specs.declared.command.Refusal.TheVariants.{Wide, Memory}
 use Rattle.ded_model.specs.Catalogue.{Catalogue, tuples_of, IsTruth}
 use Rattle.ded_model.specs.Catalogue as entry
-use Rattle.ded_model.specs.Command.{CommandForm, relation, insert, delete, drop, view, keep, ask, query, show, box_of, explain}
+use Rattle.ded_model.specs.Command.{CommandForm, header, relation, insert, delete, drop, view, keep, ask, query, show, box_of, explain, dump}
 use Rattle.ded_model.specs.Entries.{tuples_in, columns_in}
 use Rattle.ded_model.specs.Measure.{IsTight}
 use Rattle.ded_model.specs.Row.{tuples_hold}
 use Rattle.ded_model.specs.Slotted.{tuple_of}
 use Rattle.ded_model.specs.Width.{IsBoxNarrow}
 use Rattle.ded_box.specs.Extents.{IsBox}
-use Rattle.ded_syntax.specs.Spelling.{Spells}
+use Rattle.ded_syntax.specs.Spelling.{Spells, IsHeader}
 use Rattle.ded_sorts.specs.Changes.{AddsEntry, DropsEntry, Inserts, Deletes}
 use Rattle.ded_sorts.specs.Checks.{forms_of}
 use Rattle.ded_plan.specs.Plans.{IsPlanOf}
 use Rattle.ded_query.specs.Questions.{IsAnswer}
+use Rattle.ded_dump.specs.Entries.{dump_lines}
 use Rattle.ded_session.specs.Causes.{IsLeast, NoneApplies}
-use Rattle.ded_session.specs.Replies.{ReplyForm, done, number, truth, tuples, stored, boxes, steps, refused}
+use Rattle.ded_session.specs.Replies.{ReplyForm, done, number, truth, tuples, stored, boxes, steps, script, refused}
 
 -- ---- commands
 
 -- what an accepted command is answered, and what it makes of the catalogue
 abbrev pub Does : CommandForm → Catalogue → ReplyForm → Catalogue → Type 0
+Does header c done d = d ≡ c
 Does (relation n h) c done d = AddsEntry c d (entry.relation n h 0 [])
 Does (insert n fs) c (number k) d = Inserts c d n (tuple_of (columns_in c n) (forms_of fs)) k
 Does (delete n k) c done d = Deletes c d n k
@@ -37,6 +40,7 @@ Does (query h f) c (tuples k ts) d = (k ≡ h) × IsAnswer c h f ts × (d ≡ c)
 Does (show n) c (stored h ts) d = (h ≡ columns_in c n) × (ts ≡ tuples_in c n) × (d ≡ c)
 Does (box_of n) c (boxes h r) d = (h ≡ columns_in c n) × IsBox (tuples_hold (tuples_of (tuples_in c n))) h r × (d ≡ c)
 Does (explain h f) c (steps plan) d = IsPlanOf c h f plan × (d ≡ c)
+Does dump c (script lines) d = (lines ≡ dump_lines c) × (d ≡ c)
 Does _ c reply d = ⊥
 
 -- numbers may become too long where the formula isn't tight, or the relation isn't narrow for its box
@@ -60,15 +64,20 @@ abbrev pub Accepts : Language → Statement → Catalogue → (CommandForm → T
 Accepts language (Whole piece) c Fact = Accepted language piece c Fact
 Accepts language (pieces.Unfinished rest) c Fact = ⊥
 
--- any whole piece may be refused as out of memory, that isn't long
-abbrev pub MayWant : Statement → Type 0
-MayWant (Whole piece) = length piece ≤ 65536
-MayWant (pieces.Unfinished rest) = ⊥
+-- a whole piece that isn't long and spells the header, in the language that has it
+abbrev pub IsHeaderIn : Language → Statement → Type 0
+IsHeaderIn Opening (Whole piece) = (length piece ≤ 65536) × IsHeader piece
+IsHeaderIn _ s = ⊥
+
+-- any whole piece may be refused as out of memory, that isn't long and isn't the header
+abbrev pub MayWant : Language → Statement → Type 0
+MayWant language (Whole piece) = (length piece ≤ 65536) × (IsHeaderIn language (Whole piece) → ⊥)
+MayWant language (pieces.Unfinished rest) = ⊥
 
 -- why a statement may get a refusal
 abbrev pub MayRefuse : Refusal → Language → Statement → Catalogue → Type 0
 MayRefuse Wide language s c = Accepts language s c (λ command. MayBeWide command c)
-MayRefuse Memory language s c = MayWant s
+MayRefuse Memory language s c = MayWant language s
 MayRefuse r language s c = IsLeast r language s c
 
 -- a statement over a catalogue may get the reply, and then makes another catalogue of it. A refused one changes nothing.

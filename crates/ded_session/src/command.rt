@@ -17,7 +17,7 @@ use crate::changes::{define, define_view, delete, drop_name, insert, keep};
 use crate::outcome::reply_of;
 use crate::questions::{steps, truth, tuples};
 use crate::reply::Reply;
-use crate::shown::show;
+use crate::shown::{dump, show};
 use ded_database::Database;
 use ded_model::command::{Command, Refusal};
 use ded_resolve::{Checked, resolve};
@@ -58,8 +58,8 @@ fn carry_out(alloc: Global, command: Checked, database: &mut Database) -> Reply
         Checked::Show(name) => show(alloc, database.catalogue(), &name),
         Checked::BoxOf(name) => reply_of(bounds(alloc, database.catalogue(), &name)),
         Checked::Explain(_, goal) => reply_of(steps(alloc, &goal)),
-        Checked::Header => unanswered(),
-        Checked::Dump => unanswered(),
+        Checked::Header => Reply::Done,
+        Checked::Dump => dump(alloc, database.catalogue()),
         Checked::Disjoint(_, _) => unanswered(),
         Checked::Verify(_, _, _) => unanswered(),
         Checked::Keep(name) => keep(database, &name),

@@ -8,7 +8,7 @@ use crate::stored::StoredTuples;
 use ded_model::answer::Answer;
 use ded_model::bound::BoxReply;
 use ded_model::command::Refusal;
-use ded_model::name::Heading;
+use ded_model::name::{Heading, Name};
 use ded_model::plan::Plan;
 
 /// The reply to a statement.
@@ -28,6 +28,8 @@ pub enum Reply {
     Boxes(Heading, BoxReply),
     /// The plan of a formula.
     Steps(Plan),
+    /// The lines of a script that makes the catalogue again.
+    Script(Vec<Name>),
     /// The statement changed nothing.
     Refused(Refusal),
 }

@@ -4,7 +4,7 @@ ghost use Rattle.std.specs.Prelude.{◌≡◌};
 ghost use Rattle.ded_session.specs.Runs.{next_language};
 
 use crate::reply::Reply;
-use crate::statement::reply_to;
+use crate::statement::{is_header_in, reply_to};
 use ded_catalog::Catalogue;
 use ded_database::Database;
 use ded_model::command::{Language, Refusal};
@@ -41,9 +41,9 @@ impl Session {
     ghost use Rattle.ded_database.specs.Held.{held_under, IsListOf};
     ghost use Rattle.ded_session.specs.Answered.{reply_form};
     ghost use Rattle.ded_session.specs.Keeping.{UpholdsPiece, UpholdsStatement};
-    ghost use Rattle.ded_session.specs.Pieces.{IsShortPiece, StepsPiece};
+    ghost use Rattle.ded_session.specs.Pieces.{IsShortPiece, StepsPiece, GoesOnPiece};
     ghost use Rattle.ded_session.specs.Replies.{refused};
-    ghost use Rattle.ded_session.specs.Runs.{next_language};
+    ghost use Rattle.ded_session.specs.Runs.{next_language, GoesOn};
     ghost use Rattle.ded_session.specs.State.{catalogue_in, language_in, state_in, IsFreshSession};
     ghost use Rattle.ded_session.specs.Steps.{Step};
 
@@ -113,11 +113,11 @@ impl Session {
     }
 
     /// Answers the next statement and changes the catalogue as the rules say. A refused statement changes nothing. Of
-    /// `Long` and `Cut` it doesn't allocate.
+    /// `Long`, of `Cut` and of the header it doesn't allocate.
     pub fn step(&mut self, piece: Piece<'_>) -> Reply
         requires { IsShortPiece piece }
         ensures step { StepsPiece piece.entry (language_in self.old) (catalogue_in self.old) (reply_form result) (catalogue_in self.new) }
-        ensures language { language_in self.new ≡ next_language (language_in self.old) }
+        ensures language { GoesOnPiece (language_in self.old) piece.entry (language_in self.new) }
         ensures upholds { UpholdsStatement piece.entry (language_in self.old) (reply_form result) (state_in self.old) (state_in self.new) }
     {
         match piece {
@@ -144,16 +144,20 @@ impl Session {
     fn step_whole(&mut self, bytes: &[u8]) -> Reply
         requires { length bytes.now ≤ 65536 }
         ensures step { Step (language_in self.old) (catalogue_in self.old) (Whole bytes.now) (reply_form result) (catalogue_in self.new) }
-        ensures language { language_in self.new ≡ next_language (language_in self.old) }
+        ensures language { GoesOn (language_in self.old) (Whole bytes.now) (language_in self.new) }
         ensures upholds { UpholdsPiece (language_in self.old) bytes.now (reply_form result) (state_in self.old) (state_in self.new) }
     {
+        if is_header_in(self.language, bytes) {
+            self.language = Language::Two;
+            return Reply::Done;
+        }
         let reply = reply_to(self.alloc, bytes, self.language, &mut self.database);
         self.language = after(self.language);
         reply
     }
 }
 
-/// The language of the statements that follow one in this language.
+/// The language of the statements that follow one in this language that isn't the header.
 fn after(language: Language) -> Language
     ensures { result ≡ next_language language }
 {

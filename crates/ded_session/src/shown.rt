@@ -1,6 +1,6 @@
-//! What a relation stores.
+//! What a relation stores, and the whole catalogue as a script.
 ghost use Rattle.std.specs.Prelude.{◌≡◌, true, IfOk};
-ghost use Rattle.ded_model.specs.Command.{show};
+ghost use Rattle.ded_model.specs.Command.{dump, show};
 ghost use Rattle.ded_catalog.specs.State.{catalogue_of};
 ghost use Rattle.ded_sorts.specs.Causes.{is_relation_with};
 ghost use Rattle.ded_model.specs.Entries.{known, tuples_in, columns_in};
@@ -11,6 +11,7 @@ ghost use Rattle.ded_session.specs.Replies.{stored};
 use crate::reply::Reply;
 use crate::stored::StoredTuples;
 use ded_catalog::Catalogue;
+use ded_dump::lines;
 use ded_model::command::Refusal;
 use ded_model::memory::NoMemory;
 use ded_model::name::Name;
@@ -23,6 +24,16 @@ pub(crate) fn show(alloc: Global, catalogue: &Catalogue, name: &Name) -> Reply
 {
     match copied(alloc, catalogue, name) {
         Ok(reply) => reply,
+        Err(_) => Reply::Refused(Refusal::Memory),
+    }
+}
+
+/// The reply with the lines of a script that makes the catalogue again, or the refusal where there is no memory for them.
+pub(crate) fn dump(alloc: Global, catalogue: &Catalogue) -> Reply
+    ensures { Carries dump (catalogue_of catalogue.now) (reply_form result) (catalogue_of catalogue.now) }
+{
+    match lines(alloc, catalogue) {
+        Ok(lines) => Reply::Script(lines),
         Err(_) => Reply::Refused(Refusal::Memory),
     }
 }

@@ -33,7 +33,7 @@ const OTHER_TEXTS: &[&str] = &[
 fn is_printed(alloc: Global, answer: &Answer, bytes: &[u8]) -> Result<bool, Fail> {
     let mut sink = page(alloc)?;
     print_answer(answer, &mut sink)?;
-    Ok(sink.held() == bytes)
+    Ok(sink.contents() == bytes)
 }
 
 /// Whether the bytes are the text of an answer, which is what is printed of it.

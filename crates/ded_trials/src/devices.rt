@@ -63,8 +63,8 @@ type Sent = (&'static [u8], bool, &'static [u8]);
 fn are_sent(alloc: Global, room: usize, failing: u64, parts: &[Sent]) -> Result<bool, NoMemory> {
     let mut sink = BytesSink::new(alloc, room, 3, &[failing])?;
     let mut as_wanted = true;
-    for (bytes, all, held) in parts {
-        as_wanted &= send(&mut sink, bytes).is_ok() == *all && sink.held() == *held;
+    for (bytes, all, contents) in parts {
+        as_wanted &= send(&mut sink, bytes).is_ok() == *all && sink.contents() == *contents;
     }
     Ok(as_wanted)
 }
@@ -85,9 +85,9 @@ fn break_off(alloc: Global) -> Result<bool, NoMemory> {
     let numbered = print_number(12, &mut other);
     Ok(
         refused.is_err()
-            && sink.held() == b"refused 20".as_slice()
+            && sink.contents() == b"refused 20".as_slice()
             && numbered.is_err()
-            && other.held() == b"tuple".as_slice(),
+            && other.contents() == b"tuple".as_slice(),
     )
 }
 

@@ -37,7 +37,7 @@ fn served(alloc: Global, run: &Run<'_>, replies: &[u8]) -> Result<(Status, bool)
     let mut source = BytesSource::new(alloc, run.script, run.piece, run.failing_reads)?;
     let mut sink = BytesSink::new(alloc, 1_000, run.piece, run.failing_writes)?;
     let status = serve(alloc, &setup, &mut source, &mut sink);
-    Ok((status, sink.held() == replies))
+    Ok((status, sink.contents() == replies))
 }
 
 /// Scripts, their replies, and how they end.
@@ -205,7 +205,7 @@ fn stopped(
     let mut source = BytesSource::new(alloc, STATEMENTS, 24, failing_reads)?;
     let mut sink = BytesSink::new(alloc, 1_000, 1_000, failing_writes)?;
     let status = serve(alloc, &setup, &mut source, &mut sink);
-    Ok((status, sink.held() == replies, unread(&mut source)))
+    Ok((status, sink.contents() == replies, unread(&mut source)))
 }
 
 /// Each statement is answered before the next one is read: a failed read leaves the replies to all statements before it, and a failed
@@ -245,7 +245,7 @@ fn made(alloc: Global, failing_writes: &[u64], replies: &[u8]) -> Result<(Status
     };
     let mut sink = BytesSink::new(alloc, 1_000, 1_000, failing_writes)?;
     let status = make(alloc, &setup, 3, &mut sink);
-    Ok((status, sink.held() == replies))
+    Ok((status, sink.contents() == replies))
 }
 
 /// A made script is answered, and its replies break off where the sink fails.
@@ -279,7 +279,7 @@ fn ran(
     let mut source = BytesSource::new(alloc, devices.script, devices.piece, devices.failing_reads)?;
     let mut sink = BytesSink::new(alloc, 1_000, 1_000, devices.failing_writes)?;
     let status = run(alloc, &words, keys, &mut source, &mut sink);
-    Ok((status, sink.held() == replies))
+    Ok((status, sink.contents() == replies))
 }
 
 /// A question.

@@ -46,8 +46,8 @@ ask V(1)",
     kept: "{ x = 2 }\n",
 };
 
-/// The part of a union that stands in the list already comes first, and then the one that was inserted, with that part again. An
-/// answer that is read from the list has the same order.
+/// The part of a union that stands in the list already comes first, and then the one that was inserted, without that part again.
+/// An answer that is read from the list has the same order.
 const READ: Case = Case {
     statements: "\
 relation T(x)
@@ -57,7 +57,7 @@ insert T { x = 1 }
 query (x) : V(x)",
     reply: "answer 2\n{ x = 9 }\n{ x = 1 }\nend\n",
     added: 1,
-    kept: "{ x = 9 }\n{ x = 1 }\n{ x = 9 }\n",
+    kept: "{ x = 9 }\n{ x = 1 }\n",
 };
 
 /// The formula itself has its parts in their order.
@@ -101,7 +101,7 @@ fn is_answered(
     reply: &str,
 ) -> Result<bool, Fail> {
     let sink = answer_all(alloc, session, statements)?;
-    Ok(sink.held() == reply.as_bytes())
+    Ok(sink.contents() == reply.as_bytes())
 }
 
 /// Writes the list that is held of a view.
@@ -119,7 +119,7 @@ fn is_kept(alloc: Global, session: &Session, kept: &str) -> Result<bool, Fail> {
     };
     let mut sink = page(alloc)?;
     put_kept(session, &view, &mut sink)?;
-    Ok(sink.held() == kept.as_bytes())
+    Ok(sink.contents() == kept.as_bytes())
 }
 
 /// Whether the last reply and the list that is held are those, and how often a list was extended.

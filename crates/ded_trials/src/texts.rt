@@ -94,7 +94,7 @@ pub(crate) fn are_written(alloc: Global, tuples: &[Tuple], lines: &str) -> Resul
     let heading = heading(alloc)?;
     let mut sink = page(alloc)?;
     put_tuples(&heading, tuples, &mut sink)?;
-    Ok(sink.held() == lines.as_bytes())
+    Ok(sink.contents() == lines.as_bytes())
 }
 
 /// Whether the conjunctions are the tuples that the lines spell.

@@ -6,8 +6,8 @@ use Rattle.ded_run.proofs.made.feed_land_row.Given as goal
 -- the statements so far were fed, and no call failed
 abbrev pub invariant-loop-column : goal.invariant-loop-column
 invariant-loop-column g l =
-    let held = g.K.Sink.held in
+    let contents = g.K.Sink.contents in
     record {
-      fed : Grows l.fn.dialogue l.dialogue (held l.fn.sink) (held l.sink) (lines (map (land_insert l.row) (below l.column)));
+      fed : Grows l.fn.dialogue l.dialogue (contents l.fn.sink) (contents l.sink) (lines (map (land_insert l.row) (below l.column)));
       done : g.K.Sink.faults l.sink ≡ g.K.Sink.faults l.fn.sink;
     }

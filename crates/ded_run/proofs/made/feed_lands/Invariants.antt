@@ -7,8 +7,8 @@ use Rattle.ded_run.proofs.made.feed_lands.Given as goal
 -- the statements so far were fed, and no call failed
 abbrev pub invariant-loop-row : goal.invariant-loop-row
 invariant-loop-row g l =
-    let held = g.K.Sink.held in
+    let contents = g.K.Sink.contents in
     record {
-      fed : Grows l.fn.dialogue l.dialogue (held l.fn.sink) (held l.sink) (lines (flat_map (land_row l.size) (below l.row)));
+      fed : Grows l.fn.dialogue l.dialogue (contents l.fn.sink) (contents l.sink) (lines (flat_map (land_row l.size) (below l.row)));
       done : g.K.Sink.faults l.sink ≡ g.K.Sink.faults l.fn.sink;
     }

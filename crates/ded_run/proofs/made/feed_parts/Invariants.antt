@@ -6,8 +6,8 @@ use Rattle.ded_run.proofs.made.feed_parts.Given as goal
 -- the parts so far were fed, and no call failed
 abbrev pub invariant-loop-part : goal.invariant-loop-part
 invariant-loop-part g l =
-    let held = g.K.Sink.held in
+    let contents = g.K.Sink.contents in
     record {
-      fed : Grows l.fn.dialogue l.dialogue (held l.fn.sink) (held l.sink) (parts_bytes (take l.part-index l.parts));
+      fed : Grows l.fn.dialogue l.dialogue (contents l.fn.sink) (contents l.sink) (parts_bytes (take l.part-index l.parts));
       done : g.K.Sink.faults l.sink ≡ g.K.Sink.faults l.fn.sink;
     }

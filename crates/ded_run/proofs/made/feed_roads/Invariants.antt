@@ -6,8 +6,8 @@ use Rattle.ded_run.proofs.made.feed_roads.Given as goal
 -- the statements so far were fed, and no call failed
 abbrev pub invariant-loop-band : goal.invariant-loop-band
 invariant-loop-band g l =
-    let held = g.K.Sink.held in
+    let contents = g.K.Sink.contents in
     record {
-      fed : Grows l.fn.dialogue l.dialogue (held l.fn.sink) (held l.sink) (lines (map road_insert (below l.band)));
+      fed : Grows l.fn.dialogue l.dialogue (contents l.fn.sink) (contents l.sink) (lines (map road_insert (below l.band)));
       done : g.K.Sink.faults l.sink ≡ g.K.Sink.faults l.fn.sink;
     }

@@ -6,9 +6,9 @@ use Rattle.ded_run.proofs.program.serve.Given as goal
 abbrev pub invariant-loop-count : goal.invariant-loop-count
 invariant-loop-count g l =
     let left = g.S.Source.left in
-    let held = g.K.Sink.held in
+    let contents = g.K.Sink.contents in
     record {
-      reading : Reading l.fn.setup.limit l.fn.setup.input_limit l.room l.dialogue (left l.fn.source) (left l.source) (held l.fn.sink) (held l.sink);
+      reading : Reading l.fn.setup.limit l.fn.setup.input_limit l.room l.dialogue (left l.fn.source) (left l.source) (contents l.fn.sink) (contents l.sink);
       read : g.S.Source.faults l.source ≡ g.S.Source.faults l.fn.source;
       written : g.K.Sink.faults l.sink ≡ g.K.Sink.faults l.fn.sink;
     }

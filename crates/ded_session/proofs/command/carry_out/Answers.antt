@@ -2,7 +2,7 @@
 use Rattle.std.proofs.Common.{◌≡◌, true, refl, sym, ap, subst}
 use Rattle.ded_model.specs.declared.command.Refusal.TheVariants.{Memory}
 use Rattle.ded_model.specs.Catalogue.{Catalogue}
-use Rattle.ded_model.specs.Command.{CommandForm, ask, query, show, box_of, explain}
+use Rattle.ded_model.specs.Command.{CommandForm, ask, query, show, box_of, explain, dump}
 use Rattle.ded_model.specs.Entries.{known}
 use Rattle.ded_sorts.specs.Causes.{is_relation_with}
 use Rattle.ded_catalog.specs.State.{catalogue_of}
@@ -10,7 +10,8 @@ use Rattle.ded_database.specs.State.{catalogue_at}
 use Rattle.ded_session.specs.Answered.{reply_form}
 use Rattle.ded_session.specs.Carrying.{Carries}
 use Rattle.ded_session.specs.Keeping.{Upholds}
-use Rattle.ded_session.proofs.Accepted.{ready_relation, ready_insert, ready_delete, ready_drop, ready_show, ready_view, ready_box, ready_keep, written_relation, written_insert, written_as_insert, written_delete, written_drop, written_show, written_view, written_box, written_keep, is_insert, left, wanting}
+use Rattle.ded_session.specs.Replies.{done}
+use Rattle.ded_session.proofs.Accepted.{ready_relation, ready_insert, ready_delete, ready_drop, ready_show, ready_view, ready_box, ready_keep, written_relation, written_insert, written_as_insert, written_delete, written_drop, written_show, written_view, written_box, written_keep, written_header, written_dump, is_insert, left, wanting}
 use Rattle.ded_session.proofs.Asking.{ready_ask, ready_query, ready_explain, written_ask, written_query, written_explain}
 use Rattle.ded_session.proofs.Upheld.{same_lists, upholds_refused}
 use Rattle.ded_session.proofs.command.carry_out.Goals as goal
@@ -166,39 +167,36 @@ returns-in-Explain-clause-upholds c = λ written resolved accepted.
     let a = written_explain (catalogue_at c.args.database.now) c.args.command c.in-Explain.field-0 c.in-Explain.goal c.in-Explain.is written resolved accepted in
     subst (λ (x : CommandForm). Upholds x (reply_form c.reply_of-in-Explain.result) c.args.database.now c.args.database.now) (sym a.is) (same_lists c.args.database.now c.args.database.now refl)
 
--- ---- commands that aren't answered yet
-
 pub returns-in-Header-clause-carries : goal.returns-in-Header-clause-carries
 returns-in-Header-clause-carries c = λ written resolved accepted.
     let cat = catalogue_at c.args.database.now in
-    subst (λ r. Carries written cat r cat) (sym c.unanswered.ensures)
-    (wanting cat written (left cat written c.args.command resolved (ap is_insert c.in-Header.is)))
+    subst (λ (x : CommandForm). Carries x cat done cat) (sym (written_header cat c.args.command c.requires c.in-Header.is written resolved)) (refl, refl)
 
 pub returns-in-Header-clause-upholds : goal.returns-in-Header-clause-upholds
 returns-in-Header-clause-upholds c = λ written resolved accepted.
-    subst (λ r. Upholds written r c.args.database.now c.args.database.now) (sym c.unanswered.ensures)
-    (upholds_refused written Memory c.args.database.now c.args.database.now (same_lists c.args.database.now c.args.database.now refl))
+    subst (λ (x : CommandForm). Upholds x done c.args.database.now c.args.database.now) (sym (written_header (catalogue_at c.args.database.now) c.args.command c.requires c.in-Header.is written resolved)) (same_lists c.args.database.now c.args.database.now refl)
 
 pub returns-in-Dump-clause-carries : goal.returns-in-Dump-clause-carries
 returns-in-Dump-clause-carries c = λ written resolved accepted.
     let cat = catalogue_at c.args.database.now in
-    subst (λ r. Carries written cat r cat) (sym c.unanswered-in-Dump.ensures)
-    (wanting cat written (left cat written c.args.command resolved (ap is_insert c.in-Dump.is)))
+    subst (λ (x : CommandForm). Carries x cat (reply_form c.dump.result) cat) (sym (written_dump cat c.args.command c.requires c.in-Dump.is written resolved))
+    (subst (λ (k : Catalogue). Carries dump k (reply_form c.dump.result) k) c.catalogue-in-Dump.ensures c.dump.ensures)
 
 pub returns-in-Dump-clause-upholds : goal.returns-in-Dump-clause-upholds
 returns-in-Dump-clause-upholds c = λ written resolved accepted.
-    subst (λ r. Upholds written r c.args.database.now c.args.database.now) (sym c.unanswered-in-Dump.ensures)
-    (upholds_refused written Memory c.args.database.now c.args.database.now (same_lists c.args.database.now c.args.database.now refl))
+    subst (λ (x : CommandForm). Upholds x (reply_form c.dump.result) c.args.database.now c.args.database.now) (sym (written_dump (catalogue_at c.args.database.now) c.args.command c.requires c.in-Dump.is written resolved)) (same_lists c.args.database.now c.args.database.now refl)
+
+-- ---- commands that aren't answered yet
 
 pub returns-in-Disjoint-clause-carries : goal.returns-in-Disjoint-clause-carries
 returns-in-Disjoint-clause-carries c = λ written resolved accepted.
     let cat = catalogue_at c.args.database.now in
-    subst (λ r. Carries written cat r cat) (sym c.unanswered-in-Disjoint.ensures)
+    subst (λ r. Carries written cat r cat) (sym c.unanswered.ensures)
     (wanting cat written (left cat written c.args.command resolved (ap is_insert c.in-Disjoint.is)))
 
 pub returns-in-Disjoint-clause-upholds : goal.returns-in-Disjoint-clause-upholds
 returns-in-Disjoint-clause-upholds c = λ written resolved accepted.
-    subst (λ r. Upholds written r c.args.database.now c.args.database.now) (sym c.unanswered-in-Disjoint.ensures)
+    subst (λ r. Upholds written r c.args.database.now c.args.database.now) (sym c.unanswered.ensures)
     (upholds_refused written Memory c.args.database.now c.args.database.now (same_lists c.args.database.now c.args.database.now refl))
 
 pub returns-in-Verify-clause-carries : goal.returns-in-Verify-clause-carries

@@ -19,10 +19,10 @@ answer-requires c =
 
 pub returns-in-Ok-clause-step : goal.returns-in-Ok-clause-step
 returns-in-Ok-clause-step c =
-    step_read c.args.language c.args.bytes.now (catalogue_at c.args.database.now) c.requires (command_form c.in-Ok.command) c.in-Ok.ensures.read (reply_form c.answer.result) (catalogue_at c.answer.new.database) c.answer.ensures.answers
+    step_read c.args.language c.args.bytes.now (catalogue_at c.args.database.now) c.requires.short (command_form c.in-Ok.command) c.in-Ok.ensures.read c.requires.other (reply_form c.answer.result) (catalogue_at c.answer.new.database) c.answer.ensures.answers
 
 pub returns-in-Err-clause-step : goal.returns-in-Err-clause-step
-returns-in-Err-clause-step c = (may_refuse c.args.language c.args.bytes.now (catalogue_at c.args.database.now) c.requires c.in-Err.refusal c.in-Err.ensures.refused, refl)
+returns-in-Err-clause-step c = (may_refuse c.args.language c.args.bytes.now (catalogue_at c.args.database.now) c.requires.short c.in-Err.refusal c.requires.other c.in-Err.ensures.refused, refl)
 
 pub returns-in-Ok-clause-upholds : goal.returns-in-Ok-clause-upholds
 returns-in-Ok-clause-upholds c = upholds_read c.args.language c.args.bytes.now (command_form c.in-Ok.command) c.in-Ok.ensures.read (reply_form c.answer.result) c.args.database.now c.answer.new.database c.answer.ensures.upholds

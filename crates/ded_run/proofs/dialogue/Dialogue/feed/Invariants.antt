@@ -5,8 +5,8 @@ use Rattle.ded_run.proofs.dialogue.Dialogue.feed.Given as goal
 -- the bytes so far are answered, and no call failed
 abbrev pub invariant-loop-byte : goal.invariant-loop-byte
 invariant-loop-byte g l =
-    let held = g.K.Sink.held in
+    let contents = g.K.Sink.contents in
     record {
-      fed : Grows l.fn.self l.self (held l.fn.sink) (held l.sink) (take l.byte-index l.bytes);
+      fed : Grows l.fn.self l.self (contents l.fn.sink) (contents l.sink) (take l.byte-index l.bytes);
       done : g.K.Sink.faults l.sink ≡ g.K.Sink.faults l.fn.sink;
     }

@@ -6,33 +6,33 @@ use Rattle.ded_run.proofs.Answering.{if_written, if_not, ends_blank, ends_rest, 
 use Rattle.ded_run.proofs.dialogue.Dialogue.finish.Goals as goal
 
 pub returns-in-Blank-clause-concluded : goal.returns-in-Blank-clause-concluded
-returns-in-Blank-clause-concluded g c = λ limit silent taken held s.
+returns-in-Blank-clause-concluded g c = λ limit silent taken contents s.
     ends_blank _ _ _ _ _ _ _ _ _ _ s.so_far (c.in-Blank.ensures.blank refl s.tail s.since)
 
 pub returns-in-Cut-clause-concluded : goal.returns-in-Cut-clause-concluded
 returns-in-Cut-clause-concluded g c =
     let a = c.answer.ensures.replied in
-    if_written _ _ _ _ _ a.written (λ w limit silent taken held s.
+    if_written _ _ _ _ _ a.written (λ w limit silent taken contents s.
     let rest = c.in-Cut.ensures.cut refl s.tail s.since in
     ends_rest _ _ _ _ _ _ _ _ _ _ _ _ _ a.reply s.so_far rest.0 (cut_piece (language_in c.args.self.now.session) _ _ _ _ a.step.0 a.step.1 rest.1) a.refuses w)
 
 pub returns-in-Cut-clause-stopped : goal.returns-in-Cut-clause-stopped
 returns-in-Cut-clause-stopped g c =
     let a = c.answer.ensures.replied in
-    if_not _ _ _ _ _ a.written (λ unwritten w limit silent taken held s.
+    if_not _ _ _ _ _ a.written (λ unwritten w limit silent taken contents s.
     let rest = c.in-Cut.ensures.cut refl s.tail s.since in
     rest_stops _ _ _ _ _ _ _ _ _ _ _ _ a.reply unwritten s.so_far rest.0 (cut_piece (language_in c.args.self.now.session) _ _ _ _ a.step.0 a.step.1 rest.1) w)
 
 pub returns-in-CutLong-clause-concluded : goal.returns-in-CutLong-clause-concluded
 returns-in-CutLong-clause-concluded g c =
     let a = c.answer-in-CutLong.ensures.replied in
-    if_written _ _ _ _ _ a.written (λ w limit silent taken held s.
+    if_written _ _ _ _ _ a.written (λ w limit silent taken contents s.
     let rest = c.in-CutLong.ensures.cut_long refl s.tail s.since in
     ends_rest _ _ _ _ _ _ _ (catalogue_in c.answer-in-CutLong.new.session) _ _ _ _ _ a.reply s.so_far rest.0 (long_piece (language_in c.args.self.now.session) _ _ _ (pieces.Unfinished s.tail) a.step.0 a.step.1 rest.1) a.refuses w)
 
 pub returns-in-CutLong-clause-stopped : goal.returns-in-CutLong-clause-stopped
 returns-in-CutLong-clause-stopped g c =
     let a = c.answer-in-CutLong.ensures.replied in
-    if_not _ _ _ _ _ a.written (λ unwritten w limit silent taken held s.
+    if_not _ _ _ _ _ a.written (λ unwritten w limit silent taken contents s.
     let rest = c.in-CutLong.ensures.cut_long refl s.tail s.since in
     rest_stops _ _ _ _ _ _ _ (catalogue_in c.answer-in-CutLong.new.session) _ _ _ _ a.reply unwritten s.so_far rest.0 (long_piece (language_in c.args.self.now.session) _ _ _ (pieces.Unfinished s.tail) a.step.0 a.step.1 rest.1) w)
