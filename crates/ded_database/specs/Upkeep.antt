@@ -1,5 +1,5 @@
 -- What becomes of the lists of kept views when a relation changes.
-use Rattle.std.specs.Prelude.{◌≡◌, ℕ, true, false, is_some, Bool, Option, Some, None, List, ◌++◌, take}
+use Rattle.std.specs.Prelude.{◌≡◌, ℕ, true, false, is_some, Bool, Option, Some, List, ◌++◌, take}
 use Rattle.std.specs.List.{AllByRecursion}
 use Rattle.ded_model.specs.declared.name.Column.{Column}
 use Rattle.ded_model.specs.Catalogue.{Catalogue, view}
@@ -11,7 +11,6 @@ use Rattle.ded_eval.specs.declared.given.GivenRelation.{GivenRelation}
 use Rattle.ded_database.specs.declared.mark.Mark.{Mark}
 use Rattle.ded_database.specs.Marks.{IsOnceIn}
 use Rattle.ded_views.specs.Reaching.{reaches}
-use Rattle.ded_sorts.specs.Changes.{Deletes}
 use Rattle.ded_database.specs.Held.{held_under, is_marked, IsHeld, IsUpheld}
 
 -- the formula of the view is tight
@@ -46,9 +45,3 @@ pub record IsReady (c d : Catalogue) (n : List ℕ) (t : Option (List Atom)) (ms
   pub adds : is_some t ≡ true → OnlyAdds c n old new
   pub others : IsUpheld c ms (take count new)
   pub left : LeavesOthers c n old (take count new)
-
--- the same over the catalogue that a delete of the tuple of the number makes
-pub record IsReadyWithout (c : Catalogue) (n : List ℕ) (k : ℕ) (ms : List Mark) (old new : List GivenRelation) (count : ℕ) : Type 0 where
-  pub after : Catalogue
-  pub deletes : Deletes c after n k
-  pub ready : IsReady c after n None ms old new count

@@ -4,9 +4,12 @@ ghost use Rattle.std.specs.List.{list_any};
 ghost use Rattle.std.specs.Option.{option_map, unwrap_or};
 ghost use Rattle.ded_catalog.specs.State.{catalogue_of};
 
+use crate::change::{Change, Step};
+use crate::gone::told_tuple;
 use crate::keeping::{drop_kept, keep_view};
+use crate::laws;
 use crate::mark::Mark;
-use crate::upkeep::{deleted, inserted};
+use crate::upkeep::bring_up_to_date;
 use ded_catalog::{Catalogue, Snapshot};
 use ded_eval::Given;
 use ded_model::command::Refusal;
@@ -197,15 +200,36 @@ impl Database {
         ensures left { LeavesOthers (catalogue_at self.old) name.now self.old.held self.new.held }
         ensures refused { IfErr result (λ r. (r ≡ Memory → ⊥) → self.new.held ≡ self.old.held) }
     {
-        inserted(
+        if let Some(refusal) = self.catalogue.refuses(name) {
+            return Err(refusal);
+        }
+        self.catalogue.formed();
+        let snapshot = Snapshot::with_tuple(&self.catalogue, name, &tuple);
+        snapshot.formed();
+        let change = Change {
+            catalogue: &self.catalogue,
+            snapshot: &snapshot,
+            name,
+            step: Step::Inserted(&tuple),
+        };
+        let Ok(count) = bring_up_to_date(
             self.alloc,
-            &mut self.catalogue,
+            &change,
             &self.marks,
             &mut self.held,
             &mut self.added,
-            name,
-            tuple,
-        )
+        ) else {
+            return Err(Refusal::Memory);
+        };
+        ded_views::laws::one_change();
+        laws::lasting_marks();
+        match self.catalogue.insert(name, tuple) {
+            Ok(number) => Ok(number),
+            Err(refusal) => {
+                self.held.keep_first(count);
+                Err(refusal)
+            }
+        }
     }
 
     /// Deletes the tuple of the number, which has to be there, from the relation of the name, and brings the lists of kept views up to date.
@@ -220,15 +244,26 @@ impl Database {
         ensures kept { OnOk result (KeepsUp (catalogue_at self.old) (catalogue_at self.new) name.now (is_kept self.old) self.old.held self.new.held) }
         ensures left { LeavesOthers (catalogue_at self.old) name.now self.old.held self.new.held }
     {
-        deleted(
+        self.catalogue.formed();
+        let snapshot = Snapshot::without_tuple(&self.catalogue, name, number);
+        snapshot.formed();
+        let change = Change {
+            catalogue: &self.catalogue,
+            snapshot: &snapshot,
+            name,
+            step: Step::Deleted(told_tuple(&self.catalogue, name, number)),
+        };
+        bring_up_to_date(
             self.alloc,
-            &mut self.catalogue,
+            &change,
             &self.marks,
             &mut self.held,
             &mut self.added,
-            name,
-            number,
-        )
+        )?;
+        ded_views::laws::one_change();
+        laws::lasting_marks();
+        self.catalogue.delete(name, number);
+        Ok(())
     }
 
     /// Marks a view, and makes its list where none is held. Where numbers get too long for it, none is held.

@@ -10,7 +10,7 @@ pub mod Pairs
 pub mod PlainNames
 pub mod PlainSpelling
 pub mod OneList
-mod StepLemmas
+pub mod StepLemmas
 mod Unmade
 mod Upheld
 mod Histories

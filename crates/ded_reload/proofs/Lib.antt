@@ -1,0 +1,17 @@
+pub mod Causing
+pub mod Cutting
+pub mod Dumping
+pub mod Ending
+pub mod Items
+pub mod Knowing
+pub mod Limits
+pub mod Lists
+pub mod Meanings
+pub mod Measuring
+pub mod Reading
+pub mod Readying
+pub mod Remaking
+pub mod Running
+pub mod Stepping
+pub mod Texts
+pub mod Views

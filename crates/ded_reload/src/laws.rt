@@ -1,0 +1,56 @@
+//! Laws of dumps. Each is the contract of a function that does nothing but call the laws that it rests on.
+ghost use Rattle.std.specs.Prelude.{◌≡◌, ◌↔◌, ◌≤◌, ◌<◌, ℕ, List, length};
+ghost use Rattle.std.specs.List.{AllByRecursion};
+ghost use Rattle.ded_lex.specs.Pieces.{Statement};
+ghost use Rattle.ded_model.specs.declared.command.Language.{Language};
+ghost use Rattle.ded_model.specs.Catalogue.{Catalogue, stored};
+ghost use Rattle.ded_model.specs.Entries.{known};
+ghost use Rattle.ded_model.specs.Known.{IsWellFormed};
+ghost use Rattle.ded_model.specs.Measure.{stored_measures};
+ghost use Rattle.ded_model.specs.Value.{Argument};
+ghost use Rattle.ded_dump.specs.Entries.{dump_lines};
+ghost use Rattle.ded_session.specs.Replies.{ReplyForm};
+ghost use Rattle.ded_session.specs.Runs.{Steps, Run};
+ghost use Rattle.ded_session.specs.Steps.{Step};
+ghost use Rattle.ded_reload.specs.Read.{WasCatalogueRead};
+ghost use Rattle.ded_reload.specs.Remade.{remade, script_of_lines};
+ghost use Rattle.ded_reload.specs.Runs.{WantsNone};
+
+/// Each entry of a catalogue to which a run leads was read.
+pub fn read_catalogues()
+    ensures step { (language : Language) (c d : Catalogue) (s : Statement) (reply : ReplyForm) → WasCatalogueRead c
+        → Step language c s reply d → WasCatalogueRead d }
+    ensures steps { (language : Language) (c d : Catalogue) (ss : List Statement) (replies : List ReplyForm) → WasCatalogueRead c
+        → Steps language c ss replies d → WasCatalogueRead d }
+    ensures run { (limit : ℕ) (script : List ℕ) (replies : List ReplyForm) (last : Catalogue) →
+        Run limit script replies last → WasCatalogueRead last }
+{
+    ded_wording::laws::read_words();
+}
+
+/// Of the remade catalogue the same is known, its names mean the same of all values, and they have the same greatest length and
+/// the same rank.
+pub fn remade_catalogues()
+    ensures known { (c : Catalogue) → known (remade c) ≡ known c }
+    ensures meaning { (c : Catalogue) → WasCatalogueRead c → IsWellFormed c → (n : List ℕ) (den : ℕ) (xs : List Argument) → 0 < den
+        → stored (remade c) n den xs ↔ stored c n den xs }
+    ensures b { (c : Catalogue) → WasCatalogueRead c → IsWellFormed c → (n : List ℕ) → (stored_measures (remade c) n).b ≡ (stored_measures c n).b }
+    ensures rank { (c : Catalogue) → WasCatalogueRead c → IsWellFormed c → (n : List ℕ) → (stored_measures (remade c) n).rank ≡ (stored_measures c n).rank }
+{
+    ded_restored::laws::read_formulas();
+    ded_restored::laws::alike_formulas();
+}
+
+/// The lines of a well formed catalogue to which a run leads, each of at most 65,536 bytes, as a script of a session with the same
+/// limit, at most 1,000,000: where no reply is that memory is wanted, they leave the remade catalogue.
+pub fn dumps()
+    ensures { (limit : ℕ) (script : List ℕ) (replies others : List ReplyForm) (c d : Catalogue)
+        → limit ≤ 1000000 → Run limit script replies c → IsWellFormed c → AllByRecursion (λ (l : List ℕ). length l ≤ 65536) (dump_lines c)
+        → Run limit (script_of_lines (dump_lines c)) others d → WantsNone others → d ≡ remade c }
+{
+    read_catalogues();
+    ded_wording::laws::read_words();
+    ded_wording::laws::read_lines();
+    ded_restored::laws::read_formulas();
+    ded_restored::laws::read_tuples();
+}

@@ -1,0 +1,15 @@
+pub mod Rows
+pub mod Scopes
+pub mod Below
+pub mod Compared
+pub mod Terms
+pub mod Sums
+pub mod Scans
+pub mod Atoms
+pub mod Counted
+pub mod Written
+pub mod Accepted
+pub mod Goals
+pub mod Meanings
+pub mod Columns
+pub mod Tuples

@@ -1,0 +1,3 @@
+pub mod Formulas
+pub mod Operands
+pub mod Words
