@@ -1,6 +1,7 @@
 -- Plans whose lines are the same are the same.
-use Rattle.std.proofs.Common.{◌≡◌, ℕ, ◌+◌, ◌<◌, ◌⊎◌, inl, inr, List, [], ◌∷◌, ◌++◌, length, map, drop, refl, sym, ap, ap₂, ◌∙◌, arith, append_assoc, append-nil}
+use Rattle.std.proofs.Common.{◌≡◌, ℕ, ◌+◌, ◌⊎◌, inl, inr, List, [], ◌∷◌, ◌++◌, length, map, drop, refl, sym, ap, ap₂, subst, ◌∙◌, arith, append_assoc, append-nil}
 use Rattle.std.specs.Prelude.{codes}
+use Rattle.std.specs.List.{AllByRecursion}
 use Rattle.ded_model.specs.declared.slot.Slot.{Slot}
 use Rattle.ded_model.specs.declared.slot.Sort.{Sort}
 use Rattle.ded_model.specs.declared.slot.Sort.TheVariants.{Rat, Text}
@@ -10,13 +11,13 @@ use Rattle.ded_model.specs.Point.{Key, slot, name, IsSlotOf}
 use Rattle.ded_print.specs.Numbers.{number_text, count_text}
 use Rattle.ded_print.specs.Plans.{indent, later_slots_text, slots_text, plan_atom_text, key_text, sort_text, parts, node_lines, part_lines, plan_text}
 use Rattle.ded_print.specs.Quiet.{IsQuiet, IsQuietPlan, AreQuietPlans}
-use Rattle.ded_print.specs.Told.{IsPlainName, IsToldAtom, IsToldPlan, AreToldPlans}
+use Rattle.ded_print.specs.Told.{IsToldAtom, IsToldPlan, AreToldPlans}
 use Rattle.ded_print.specs.Tuples.{slot_names}
 use Rattle.ded_print.proofs.Numerals.{same_number}
 use Rattle.ded_print.proofs.QuotedLines.{number_quiet, closed_written, counted_lines}
 use Rattle.ded_print.proofs.QuotedTexts.{inner_nodes}
 use Rattle.ded_print.proofs.RowsTold.{one_slot}
-use Rattle.ded_print.proofs.Runs.{tails, no_byte, first, behind, Ends, Digit, same_run, same_slots}
+use Rattle.ded_print.proofs.Runs.{tails, no_byte, first, behind, Ends, Digit, number_run, same_slots}
 use Rattle.ded_print.proofs.TuplesTold.{same_tuples}
 
 -- ---- scans
@@ -51,10 +52,51 @@ same_slot_lists (s ∷ ss) (u ∷ us) k e =
     (sym (append_assoc (slot_names s) (later_slots_text ss) (codes ")")) ∙ e ∙ append_assoc (slot_names u) (later_slots_text us) (codes ")")) in
     ap₂ (λ (x : Slot) (l : List Slot). x ∷ l) (one_slot s u r.0 sorts.0) (same_later_slots ss us sorts.1 r.1)
 
+-- none of the bytes opens a parenthesis
+abbrev OpensNone : List ℕ → Type 0
+OpensNone = AllByRecursion (λ b. b ≡ 40 → ⊥)
+
+none_behind : (p q : List ℕ) → OpensNone p → OpensNone q → OpensNone (p ++ q)
+none_behind [] q h k = k
+none_behind (b ∷ p) q h k = (h.0, none_behind p q h.1 k)
+
+digits_open : (ds : List ℕ) → AllByRecursion Digit ds → OpensNone ds
+digits_open [] h = tt
+digits_open (d ∷ ds) h = ((λ e. omega (arith, e, h.0.0)), digits_open ds h.1)
+
+slot_opens : (s : Slot) → OpensNone (slot_names s)
+slot_opens s = ((λ e. omega (arith, e)), digits_open (number_text s.number) (number_run s.number))
+
+later_closed : (ss : List Slot) → OpensNone (later_slots_text ss ++ codes ")")
+later_closed [] = ((λ e. omega (arith, e)), tt)
+later_closed (s ∷ ss) = (
+  (λ e. omega (arith, e)),
+  ((λ e. omega (arith, e)), subst OpensNone (sym (append_assoc (slot_names s) (later_slots_text ss) (codes ")"))) (none_behind (slot_names s) (later_slots_text ss ++ codes ")") (slot_opens s) (later_closed ss))),
+)
+
+slots_closed : (ss : List Slot) → OpensNone (slots_text ss ++ codes ")")
+slots_closed [] = ((λ e. omega (arith, e)), tt)
+slots_closed (s ∷ ss) = subst OpensNone (sym (append_assoc (slot_names s) (later_slots_text ss) (codes ")"))) (none_behind (slot_names s) (later_slots_text ss ++ codes ")") (slot_opens s) (later_closed ss))
+
+-- a parenthesis opens within
+not_among : (p q : List ℕ) → OpensNone (p ++ 40 ∷ q) → ⊥
+not_among [] q h = h.0 refl
+not_among (b ∷ p) q h = not_among p q h.1
+
+-- what stands before the last parenthesis that opens, and behind it
+same_fronts : (n m p q : List ℕ) → OpensNone p → OpensNone q → n ++ 40 ∷ p ≡ m ++ 40 ∷ q → (n ≡ m) × (p ≡ q)
+same_fronts [] [] p q h k e = (refl, (tails e).1)
+same_fronts [] (c ∷ m) p q h k e = absurd (not_among m q (subst OpensNone (tails e).1 h))
+same_fronts (b ∷ n) [] p q h k e = absurd (not_among n p (subst OpensNone (sym (tails e).1) k))
+same_fronts (b ∷ n) (c ∷ m) p q h k e =
+    let t = tails e in
+    let r = same_fronts n m p q h k t.1 in
+    (ap₂ (λ (x : ℕ) (l : List ℕ). x ∷ l) t.0 r.0, r.1)
+
 same_scans : (sorts : List ℕ → List Sort) (n m : List ℕ) (ss us : List Slot) → IsToldAtom sorts (scan n ss) → IsToldAtom sorts (scan m us) → plan_atom_text (scan n ss) ≡ plan_atom_text (scan m us) → scan n ss ≡ scan m us
 same_scans sorts n m ss us h k e =
-    let r = same_run (λ b. 47 < b) n m (codes "(" ++ (slots_text ss ++ codes ")")) (codes "(" ++ (slots_text us ++ codes ")")) h.0 k.0 (λ d. omega (arith, d)) (λ d. omega (arith, d)) (ap (drop 5) e) in
-    ap₂ scan r.0 (same_slot_lists ss us (h.1 ∙ ap sorts r.0 ∙ sym k.1) (tails r.1).1)
+    let r = same_fronts n m (slots_text ss ++ codes ")") (slots_text us ++ codes ")") (slots_closed ss) (slots_closed us) (ap (drop 5) e) in
+    ap₂ scan r.0 (same_slot_lists ss us (h.1 ∙ ap sorts r.0 ∙ sym k.1) r.1)
 
 same_plan_atoms : (sorts : List ℕ → List Sort) (a b : PlanAtom) → IsToldAtom sorts a → IsToldAtom sorts b → plan_atom_text a ≡ plan_atom_text b → a ≡ b
 same_plan_atoms sorts (scan n ss) (scan m us) h k e = same_scans sorts n m ss us h k e
@@ -203,17 +245,13 @@ same_plans sorts f g h k e = (same_tree sorts 0 f g [] [] h k (append-nil (node_
 
 -- ---- whole texts
 
-quiet_name : (n : List ℕ) → IsPlainName n → IsQuiet n
-quiet_name [] h = tt
-quiet_name (b ∷ n) h = (omega (arith, h.0), quiet_name n h.1)
-
 quiet_key : (s : Sort) (k : Key) → IsSlotOf s k → IsQuiet (key_text k)
 quiet_key s (slot u) h = (omega arith, number_quiet u.number)
 quiet_key s (name x) h = absurd h
 
 mutual
   quiet_plan : (sorts : List ℕ → List Sort) (f : PlanForm) → IsToldPlan sorts f → IsQuietPlan f
-  quiet_plan sorts (atom (scan n ss)) h = quiet_name n h.0
+  quiet_plan sorts (atom (scan n ss)) h = h.0
   quiet_plan sorts (atom (rows t)) h = tt
   quiet_plan sorts always h = tt
   quiet_plan sorts never h = tt

@@ -1,20 +1,16 @@
 -- Plans that are told by what is written of them.
-use Rattle.std.specs.Prelude.{◌≡◌, ℕ, ◌<◌, List, map}
-use Rattle.std.specs.List.{AllByRecursion}
+use Rattle.std.specs.Prelude.{◌≡◌, ℕ, List, map}
 use Rattle.ded_model.specs.declared.slot.Slot.{Slot}
 use Rattle.ded_model.specs.declared.slot.Sort.{Sort}
 use Rattle.ded_model.specs.Logic.{atom, always, never, negation, every_of, some_of, implies, minus, exists, forall, Logics, none, also}
 use Rattle.ded_model.specs.Normal.{IsNormalTuple}
 use Rattle.ded_model.specs.PlanForm.{PlanAtom, scan, rows, PlanForm}
 use Rattle.ded_model.specs.Point.{IsSlotOf}
+use Rattle.ded_print.specs.Quiet.{IsQuiet}
 
--- each byte is above 47, as letters, digits and `_` are
-abbrev pub IsPlainName : List ℕ → Type 0
-IsPlainName = AllByRecursion (λ b. 47 < b)
-
--- a scan of such a name, into slots of the sorts of its columns, or atoms in normal form
+-- a scan of a name without a blank, a line feed or a quote, into slots of the sorts of its columns, or atoms in normal form
 abbrev pub IsToldAtom : (List ℕ → List Sort) → PlanAtom → Type 0
-IsToldAtom sorts (scan n ss) = IsPlainName n × (map (λ (s : Slot). s.sort) ss ≡ sorts n)
+IsToldAtom sorts (scan n ss) = IsQuiet n × (map (λ (s : Slot). s.sort) ss ≡ sorts n)
 IsToldAtom sorts (rows t) = IsNormalTuple t
 
 -- scans and lists of atoms that are told, under the connectives that a plan has. `sorts` gives the sorts of the columns of

@@ -58,8 +58,8 @@ pub fn one_plan()
         plan_text f ++ xs ≡ plan_text g ++ ys → (plan_text f ≡ plan_text g) × (xs ≡ ys) }
 {}
 
-/// The lines of a plan tell the plan, and so does its text before any bytes, where names are plain, the slots of each scan
-/// have the sorts of its columns, and tuples are in normal form.
+/// The lines of a plan tell the plan, and so does its text before any bytes, where no name has a blank, a line feed or a quote,
+/// the slots of each scan have the sorts of its columns, and tuples are in normal form.
 pub fn plans_told()
     ensures lines { (sorts : List ℕ → List Sort) (f g : PlanForm) → IsToldPlan sorts f → IsToldPlan sorts g →
         node_lines 0 f ≡ node_lines 0 g → f ≡ g }

@@ -7,3 +7,4 @@ pub mod Gathered
 pub mod GivenNames
 pub mod Names
 pub mod Standing
+pub mod MadeNames

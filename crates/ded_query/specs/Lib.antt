@@ -1,3 +1,4 @@
 pub mod Gathering
+pub mod Made
 pub mod Over
 pub mod Questions

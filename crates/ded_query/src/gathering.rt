@@ -14,6 +14,7 @@ ghost use Rattle.ded_plan.specs.Planned.{IsPlanned};
 ghost use Rattle.ded_query.specs.Gathering.{IsGivenOf, IsGathered, IsFront, IsPosed, IsPosedPlan, IsEvaluated, IsViewGoal, IsViewOf, IsGivenAs};
 ghost use Rattle.ded_query.specs.Over.{over_relations};
 
+use crate::made::made;
 use crate::over::Over;
 use ded_algebra::Evaluate;
 use ded_catalog::Snapshot;
@@ -137,24 +138,40 @@ fn give(
     }
     match snapshot.goal(name) {
         Some(goal) => give_view(alloc, snapshot, name, goal, level, given),
-        None => give_relation(snapshot, name),
+        None => give_other(alloc, snapshot, name, level, given),
     }
 }
 
-/// A relation is read where it stands, so nothing is given of it. A closure or an interior isn't evaluated yet, and counts as out of
-/// memory.
+/// Gives the closure or the interior of what has at most the level, by the tuples of that, which are given first where it is a view. A
+/// relation is read where it stands, so nothing is given of it.
 ///
 /// # Errors
-/// Out of memory.
-fn give_relation(snapshot: &Snapshot<'_>, name: &Name) -> Result<(), Refused>
-    requires { is_none (view_in (entry_of (snapshot_of snapshot.now).entries name.now)) ≡ true }
-    ensures is { OnOk result (is_some (relation_in (entry_of (snapshot_of snapshot.now).entries name.now)) ≡ true) }
-    ensures memory { IsErrOf result Wide → ⊥ }
+/// `Wide` only where the name clashes, otherwise out of memory. More may be given then.
+#[cycle(evaluated)]
+fn give_other(
+    alloc: Global,
+    snapshot: &Snapshot<'_>,
+    name: &Name,
+    level: u32,
+    given: &mut Given,
+) -> Result<(), Refused>
+    requires view { is_none (view_in (entry_of (snapshot_of snapshot.now).entries name.now)) ≡ true }
+    requires defined { is_some (known (snapshot_of snapshot.now) (base name.now)) ≡ true }
+    requires level { level_with (known (snapshot_of snapshot.now) (base name.now)) ≤ level }
+    requires given { AllByRecursion (IsGivenOf (snapshot_of snapshot.now)) given.old }
+    ensures gathered { OnOk result (IsGathered (snapshot_of snapshot.now) given.old given.new) }
+    ensures is { OnOk result (has_name name.now (over_relations (snapshot_of snapshot.now) None given.new) ≡ true) }
+    ensures front { IsFront given.old given.new }
+    ensures wide { IsErrOf result Wide → (measures (snapshot_of snapshot.now) name.now).clash ≡ true }
 {
-    match snapshot.heading(name) {
-        Some(_) => Ok(()),
-        None => Err(Refused::Memory),
+    snapshot.formed();
+    if snapshot.heading(name).is_some() {
+        return Ok(());
     }
+    let inner = name.base_name()?;
+    give(alloc, snapshot, &inner, level, given)?;
+    let near = made(alloc, snapshot, name, &inner, given)?;
+    Ok(add(snapshot, given, near)?)
 }
 
 /// Gives a view, which has at most the level, by its goal.

@@ -16,6 +16,7 @@
 
 mod answering;
 mod gathering;
+mod made;
 mod over;
 
 pub use answering::{answer, give_names, is_true, planned_view, view_tuples};

@@ -23,7 +23,7 @@ use Rattle.ded_sorts.specs.Changes.{AddsEntry, ChangesEntry, DropsEntry}
 use Rattle.ded_sorts.specs.Checks.{forms_of}
 use Rattle.ded_syntax.specs.Spelling.{AppliesIn, IsRead}
 use Rattle.ded_restored.specs.Words.{TupleHasTexts, AtomHasWords}
-use Rattle.ded_wording.specs.Words.{IsName, IsText}
+use Rattle.ded_wording.specs.Words.{IsName, IsMember, IsText}
 use Rattle.ded_session.specs.Causes.{Applies}
 use Rattle.ded_session.specs.Replies.{ReplyForm, done, number, truth, tuples, stored, boxes, steps, script, refused}
 use Rattle.ded_session.specs.Runs.{Steps, Run, empty_catalogue}
@@ -102,7 +102,7 @@ one_less (u ∷ ts) t us h = (h.0, one_less ts t us h.1)
 
 -- ---- commands
 
-module _ (inserts : (l : Language) (bytes n : List ℕ) (fs : Logics FormAtom) → IsRead l bytes (insert n fs) → AllAtomsOf (AtomHasWords IsName IsName IsText) fs) where
+module _ (inserts : (l : Language) (bytes n : List ℕ) (fs : Logics FormAtom) → IsRead l bytes (insert n fs) → AllAtomsOf (AtomHasWords IsName IsMember IsText) fs) where
   module _ (c d : Catalogue) (h : WasCatalogueRead c) where
     module _ (l : Language) (bytes : List ℕ) where
       after_done : (x : CommandForm) → IsRead l bytes x → has_cause Many c x ≡ false → has_cause Twice c x ≡ false → Does x c done d → WasCatalogueRead d

@@ -23,7 +23,7 @@ use Rattle.ded_model.specs.Slotted.{SlotScope, slot_sum, TextSide, at, word, tex
 use Rattle.ded_model.specs.Sum.{SlotSum}
 use Rattle.ded_sorts.specs.Checks.{forms_of}
 use Rattle.ded_restored.specs.Words.{HasTexts, TupleHasTexts, AtomHasWords, HasWords}
-use Rattle.ded_wording.specs.Words.{IsName, IsText}
+use Rattle.ded_wording.specs.Words.{IsName, IsMember, IsText}
 
 abbrev Written : List Atom → Type 0
 Written = TupleHasTexts IsText
@@ -109,7 +109,7 @@ compare_says scope l op r p q =
     chosen (is_text_operand scope l || is_text_operand scope r) (texts_goal (text_side scope l) op (text_side scope r)) (sums_goal (slot_sum scope l) op (slot_sum scope r))
     (texts_say (text_side scope l) op (text_side scope r) (side_has scope l p) (side_has scope r q)) (sums_say (slot_sum scope l) op (slot_sum scope r))
 
-form_says : (scope : SlotScope) (f : Form) → logic.AllAtoms (AtomHasWords IsName IsName IsText) f → Says (goal_below scope 0 f)
+form_says : (scope : SlotScope) (f : Form) → logic.AllAtoms (AtomHasWords IsName IsMember IsText) f → Says (goal_below scope 0 f)
 form_says scope (atom (compare l op r)) h = compare_says scope l op r h.0 h.1
 form_says scope (atom (member n ts)) h = tt
 form_says scope always h = tt
@@ -122,10 +122,10 @@ form_says scope (minus f g) h = tt
 form_says scope (exists s k f) h = tt
 form_says scope (forall s k f) h = tt
 
-all_say : (scope : SlotScope) (fs : Logics FormAtom) → AllAtomsOf (AtomHasWords IsName IsName IsText) fs → Written (comparison_atoms scope (forms_of fs))
+all_say : (scope : SlotScope) (fs : Logics FormAtom) → AllAtomsOf (AtomHasWords IsName IsMember IsText) fs → Written (comparison_atoms scope (forms_of fs))
 all_say scope none h = tt
 all_say scope (also f fs) h = both (goal_atoms (goal_below scope 0 f)) (comparison_atoms scope (forms_of fs)) (form_says scope f h.0) (all_say scope fs h.1)
 
-pub tuple_says : (h : List Column) (fs : Logics FormAtom) → AllAtomsOf (AtomHasWords IsName IsName IsText) fs → TupleHasTexts IsText (tuple_of h (forms_of fs))
+pub tuple_says : (h : List Column) (fs : Logics FormAtom) → AllAtomsOf (AtomHasWords IsName IsMember IsText) fs → TupleHasTexts IsText (tuple_of h (forms_of fs))
 unfolding tuple_of
 tuple_says h fs p = ordered (comparison_atoms (heading_scope 0 h) (forms_of fs)) (all_say (heading_scope 0 h) fs p)

@@ -2,8 +2,9 @@
 --
 -- Replies of one line end at their one line feed. Lists of tuples, plans and boxes are compared line by line; a list or a plan
 -- ends with `end`, which none of its lines is, and two boxes have as many lines as the heading has rational columns.
-use Rattle.std.proofs.Common.{◌≡◌, ◌<◌, ◌+◌, ℕ, Bool, true, false, List, [], ◌∷◌, ◌++◌, length, refl, sym, ap, ◌∙◌, subst, true≢false, inl, inr, ⊎_elim, ◌⊎◌, arith}
-use Rattle.std.specs.Prelude.{◌&&◌, ◌||◌, ◌==◌, nat_le, if◌then◌else◌}
+use Rattle.std.proofs.Common.{◌≡◌, ◌<◌, ◌+◌, ℕ, Bool, true, false, List, [], ◌∷◌, ◌++◌, length, refl, sym, ap, ◌∙◌, subst, true≢false, ⊎_elim, arith}
+use Rattle.std.specs.Prelude.{◌&&◌, ◌==◌, nat_le, if◌then◌else◌, codes}
+use Rattle.std.specs.List.{AllByRecursion}
 use Rattle.std.proofs.lemmas.List.{append_cancel_left}
 use Rattle.std.proofs.lemmas.Bool.Decides.{eqb_tells, leb_tells}
 use Rattle.ded_lex.specs.Lexemes.{Each, letter_byte, digit_byte, word_byte}
@@ -15,6 +16,7 @@ use Rattle.ded_model.specs.declared.command.Refusal.{Refusal}
 use Rattle.ded_model.specs.declared.name.Column.{Column}
 use Rattle.ded_model.specs.declared.slot.Sort.TheVariants.{Rat}
 use Rattle.ded_model.specs.Catalogue.{Catalogue}
+use Rattle.ded_model.specs.Made.{base}
 use Rattle.ded_model.specs.Logic.{atom, always, never, negation, every_of, some_of, implies, minus, exists, forall, Logics, none, also}
 use Rattle.ded_model.specs.PlanForm.{PlanAtom, scan, rows, PlanForm}
 use Rattle.ded_model.specs.Point.{Key, slot, name, same_sort}
@@ -30,6 +32,7 @@ use Rattle.ded_print.proofs.QuotedLines.{number_quiet}
 use Rattle.ded_print.proofs.QuotedTexts.{one_answer, one_box, one_plan}
 use Rattle.ded_print.proofs.RefusalsApart.{no_answer, no_box, no_nowhere, no_plan, no_rational, no_script}
 use Rattle.ded_print.proofs.Telling.{no_line}
+use Rattle.ded_syntax.specs.MemberNames.{IsMemberName}
 use Rattle.ded_run.specs.Texts.{text_of}
 use Rattle.ded_session.specs.Pairs.{FitsHeading, IsSlotKey, IsPlainPlan, ArePlainPlans, SpeaksPlainly, AreOfOneBox, AreOfOne}
 use Rattle.ded_session.specs.PlainNames.{ArePlainColumns, HasPlainNames}
@@ -60,6 +63,27 @@ each_quiet : (bs : List ℕ) → Each word_byte bs → IsQuiet bs
 each_quiet [] h = tt
 each_quiet (b ∷ bs) h = (word_above b h.0, each_quiet bs h.1)
 
+quiet_behind : (p q : List ℕ) → IsQuiet p → IsQuiet q → IsQuiet (p ++ q)
+quiet_behind [] q h k = k
+quiet_behind (b ∷ p) q h k = (h.0, quiet_behind p q h.1 k)
+
+quiet_front : (p : List ℕ) → AllByRecursion (λ b. nat_le 40 b ≡ true) p → IsQuiet p
+quiet_front [] h = tt
+quiet_front (b ∷ p) h = (from 40 b (omega arith) h.0, quiet_front p h.1)
+
+-- a name between parentheses
+made_quiet : (front n : List ℕ) → IsQuiet front → Each word_byte n → IsQuiet (front ++ (n ++ codes ")"))
+made_quiet front n h k = quiet_behind front (n ++ codes ")") h (quiet_behind n (codes ")") (each_quiet n k) (omega arith, tt))
+
+member_quiet : (n : List ℕ) → IsMemberName n → IsQuiet n
+member_quiet n h = ⊎_elim
+    (λ e. subst IsQuiet (sym e) (each_quiet (base n) h.word.1))
+    (λ m. ⊎_elim
+    (λ e. subst IsQuiet (sym e) (made_quiet (codes "closure(") (base n) (quiet_front (codes "closure(") (refl, (refl, (refl, (refl, (refl, (refl, (refl, (refl, tt))))))))) h.word.1))
+    (λ e. subst IsQuiet (sym e) (made_quiet (codes "interior(") (base n) (quiet_front (codes "interior(") (refl, (refl, (refl, (refl, (refl, (refl, (refl, (refl, (refl, tt)))))))))) h.word.1))
+    m)
+    h.is
+
 quiet_columns : (h : List Column) → ArePlainColumns h → AreQuiet h
 quiet_columns [] p = tt
 quiet_columns (c ∷ cs) p = (each_quiet c.name p.0.1, quiet_columns cs p.1)
@@ -70,7 +94,7 @@ quiet_key (name x) p = absurd p
 
 mutual
   quiet_plan : (f : PlanForm) → IsPlainPlan f → IsQuietPlan f
-  quiet_plan (atom (scan n ss)) p = each_quiet n p.1
+  quiet_plan (atom (scan n ss)) p = member_quiet n p
   quiet_plan (atom (rows t)) p = tt
   quiet_plan always p = tt
   quiet_plan never p = tt

@@ -26,10 +26,10 @@ use Rattle.ded_sorts.specs.Causes.{is_relation_with, is_view_with}
 use Rattle.ded_sorts.specs.Checks.{HasNoCause, forms_of}
 use Rattle.ded_resolve.specs.Resolved.{IsResolved}
 use Rattle.ded_model.specs.Entries.{known, tuples_in, columns_in, entry_uses}
+use Rattle.ded_syntax.proofs.MemberNames.{unmade_word}
 use Rattle.ded_session.specs.Carrying.{IsReady, Carries, refusal_left}
 use Rattle.ded_session.specs.PlainNames.{NamesPlainly}
 use Rattle.ded_session.specs.Replies.{ReplyForm, refused}
-use Rattle.ded_session.proofs.Unmade.{unmade}
 use Rattle.std.proofs.lemmas.Bool.{not-false}
 use Rattle.ded_model.proofs.Bools.{or_false_left}
 
@@ -62,7 +62,7 @@ is_insert _ = false
 
 module _ (c : Catalogue) where
   new_relation : (n : List ℕ) (h : List Column) → HasNoCause c (relation n h) → NamesPlainly (relation n h) → IsNewName (known c) n × (length h ≤ 16)
-  new_relation n h a p = ((none_of (known c n) (a Taken refl), unmade n p.0), at_most (length h) (a Many refl))
+  new_relation n h a p = ((none_of (known c n) (a Taken refl), unmade_word n p.0), at_most (length h) (a Many refl))
 
   into_relation : (n : List ℕ) (fs : Logics FormAtom) → HasNoCause c (insert n fs) → is_relation_with (known c n) ≡ true
   into_relation n fs a = relation_of (known c n) (a Unknown refl) (a Kind refl)
@@ -193,7 +193,7 @@ module _ (c : Catalogue) where
         let r = subst (IsReady c) e ready in
         let v = view_is r.written n h f g r.resolved in
         let a = subst (HasNoCause c) v.0 r.accepted in (
-          (none_of (known c n) (a Taken refl), unmade n (subst NamesPlainly v.0 r.named).0),
+          (none_of (known c n) (a Taken refl), unmade_word n (subst NamesPlainly v.0 r.named).0),
           accepted h (form f) (a Many refl) (a Twice refl) (a Unknown refl) (a Arity refl) (a Unbound refl) (a WrongSort refl),
           at_most (level_of (known c) (form f)) (a Level refl),
           v.1,

@@ -11,7 +11,6 @@ pub mod PlainNames
 pub mod PlainSpelling
 pub mod OneList
 pub mod StepLemmas
-mod Unmade
 mod Upheld
 mod Histories
 mod WideQuestions

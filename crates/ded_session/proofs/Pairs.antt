@@ -3,7 +3,7 @@
 -- Both are refusals or replies to one command, since bytes spell one command at most, and a command is answered in one way. Of
 -- a box it is known besides that there is a point, or none; and whether a column is rational is known of the heading.
 use Rattle.std.proofs.Common.{◌≡◌, ◌+◌, ℕ, Bool, true, false, not, List, [], ◌∷◌, length, refl, sym, ◌∙◌, subst, ◌⊎◌, inl, inr, ⊎_elim, true≢false, arith}
-use Rattle.std.specs.Prelude.{◌&&◌, ◌||◌, if◌then◌else◌}
+use Rattle.std.specs.Prelude.{◌&&◌, if◌then◌else◌}
 use Rattle.std.proofs.lemmas.Slice.Eq.{bytes_eq-Decides}
 use Rattle.ded_box.specs.Extents.{BoundsAt, AreBounds, IsBox}
 use Rattle.ded_lex.specs.Pieces.{Statement, Whole}
@@ -29,9 +29,10 @@ use Rattle.ded_model.specs.Row.{Atom, tuples_hold}
 use Rattle.ded_model.specs.Width.{rational_columns}
 use Rattle.ded_model.proofs.Members.{or_split}
 use Rattle.ded_plan.specs.Plans.{IsScanOf}
+use Rattle.ded_syntax.specs.MemberNames.{IsMemberName}
 use Rattle.ded_syntax.proofs.One.{one_command}
 use Rattle.ded_session.specs.Pairs.{FitsHeading, IsSlotKey, IsPlainScan, IsPlainPlan, ArePlainPlans, SpeaksPlainly, AreOfOneBox, AreOfOne}
-use Rattle.ded_session.specs.PlainNames.{IsPlainName, ArePlainColumns, HasPlainNames, IsPlainUse, UsesPlainNames, NamesPlainly}
+use Rattle.ded_session.specs.PlainNames.{ArePlainColumns, HasPlainNames, IsPlainUse, UsesPlainNames, NamesPlainly}
 use Rattle.ded_session.specs.Replies.{ReplyForm, done, number, truth, tuples, stored, boxes, steps, script, refused}
 use Rattle.ded_session.specs.Steps.{Does, Accepts, Step}
 use Rattle.ded_session.proofs.PlainNames.{plain_columns}
@@ -42,9 +43,9 @@ use Rattle.std.proofs.lemmas.Bool.{or_from}
 -- ---- names that a formula uses
 
 mutual
-  used_plain : (n : List ℕ) (f : Form) → some_atom (atom_uses n) f ≡ true → AllAtoms IsPlainUse f → IsPlainName n
+  used_plain : (n : List ℕ) (f : Form) → some_atom (atom_uses n) f ≡ true → AllAtoms IsPlainUse f → IsMemberName n
   used_plain n (atom (compare l op r)) e h = absurd (true≢false (sym e))
-  used_plain n (atom (member m ts)) e h = subst IsPlainName (sym ((bytes_eq-Decides n m).0 e)) h
+  used_plain n (atom (member m ts)) e h = subst IsMemberName (sym ((bytes_eq-Decides n m).0 e)) h
   used_plain n always e h = absurd (true≢false (sym e))
   used_plain n never e h = absurd (true≢false (sym e))
   used_plain n (negation f) e h = used_plain n f e h
@@ -55,7 +56,7 @@ mutual
   used_plain n (exists s k f) e h = used_plain n f e h
   used_plain n (forall s k f) e h = used_plain n f e h
 
-  used_plain_of : (n : List ℕ) (fs : Logics FormAtom) → some_atom_of (atom_uses n) fs ≡ true → AllAtomsOf IsPlainUse fs → IsPlainName n
+  used_plain_of : (n : List ℕ) (fs : Logics FormAtom) → some_atom_of (atom_uses n) fs ≡ true → AllAtomsOf IsPlainUse fs → IsMemberName n
   used_plain_of n none e h = absurd (true≢false (sym e))
   used_plain_of n (also f fs) e h = ⊎_elim (λ x. used_plain n f x h.0) (λ x. used_plain_of n fs x h.1) (or_split _ _ e)
 

@@ -1,7 +1,7 @@
--- The names of a command that bytes spell are words of the grammar.
+-- The names of a command that bytes spell are words of the grammar, or made of such words.
 --
 -- A name is the symbol of a word that isn't reserved, and a word among lexemes begins with a letter and goes on with letters
--- and digits. So each name among the symbols of a command is plain, and a command has no other names.
+-- and digits. So each name among the symbols of a command is plain, and a command has no other names but those that are made of these.
 use Rattle.std.proofs.Common.{ℕ, Bool, true, false, List, [], ◌∷◌, ◌++◌, map, sym, subst, inl, inr}
 use Rattle.std.specs.Prelude.{if◌then◌else◌, codes}
 use Rattle.std.specs.Str.{bytes_eq}
@@ -21,9 +21,12 @@ use Rattle.ded_syntax.specs.declared.item.Keyword.{Keyword}
 use Rattle.ded_syntax.specs.declared.item.Keyword.TheVariants as words
 use Rattle.ded_syntax.specs.Symbols.{Symbol, Word, Name, Plus, Minus, Times, Open, Close, OpenBrace, CloseBrace, Comma, Colon, Define, Relation, formula_word, command_word, is_unused, unused_word, dedale_symbol, dump_symbol, language_word, word_symbol, sum_sign, other_sign, slash_symbol, decimal_symbol, symbol}
 use Rattle.ded_syntax.specs.Literals.{Reader, exact}
-use Rattle.ded_syntax.specs.Atoms.{spell_rest, Atom, truth, relates, belongs, spell_atom, atom_form, spell_column, sort_symbols, IsTerminal, AreTerminals, SpellsFormula}
+use Rattle.ded_syntax.specs.Atoms.{spell_rest, Named, plain, closed, inner, spell_named, Atom, truth, relates, belongs, spell_atom, atom_form, spell_column, sort_symbols, IsTerminal, AreTerminals, SpellsFormula}
 use Rattle.ded_syntax.specs.Commands.{Columns, spell_heading, heading, Plain, opens, defines, inserts_none, inserts, deletes, drops, keeps, shows, boxes, dumps, spell_plain, plain_form, Prefix, views, asks, queries, explains, spell_prefix, prefix_form, SpellsCommand}
+use Rattle.ded_syntax.specs.MemberNames.{IsWordName, word_of}
+use Rattle.ded_syntax.specs.Operands.{spell_side}
 use Rattle.ded_syntax.specs.Spelling.{Spells}
+use Rattle.ded_syntax.proofs.MemberNames.{named_member}
 use Rattle.ded_session.specs.PlainNames.{IsPlainName, ArePlainColumns, IsPlainUse, UsesPlainNames, NamesPlainly}
 
 abbrev IsPlainSymbol : Symbol → Type 0
@@ -53,7 +56,9 @@ formula_plain w other h =
     (reserved w (codes "forall") words.Forall _
     (reserved w (codes "true") words.True _
     (reserved w (codes "false") words.False _
-    (reserved w (codes "text") words.Text _ h))))))))
+    (reserved w (codes "closure") words.Closure _
+    (reserved w (codes "interior") words.Interior _
+    (reserved w (codes "text") words.Text _ h))))))))))
 
 command_plain : (w : List ℕ) (other : Symbol) → IsPlainSymbol other → IsPlainSymbol (command_word other w)
 command_plain w other h =
@@ -164,11 +169,16 @@ heading_plain h p =
 
 -- ---- formulas
 
+word_in : (m : Named) (ts : List Symbol) → ArePlainSymbols (spell_named m ++ ts) → IsWordName (word_of m)
+word_in (plain n) ts h = h.0
+word_in (closed n) ts h = h.1.1.0
+word_in (inner n) ts h = h.1.1.0
+
 atom_plain : (value : Reader) (a : Atom) → ArePlainSymbols (spell_atom a) → UsesPlainNames (atom_form value a)
 atom_plain value (truth true) h = tt
 atom_plain value (truth false) h = tt
 atom_plain value (relates c) h = tt
-atom_plain value (belongs n s ss) h = h.0
+atom_plain value (belongs m s ss) h = named_member m (word_in m (Open ∷ (spell_side s ++ (spell_rest spell_side ss ++ Close ∷ []))) h)
 
 terminal_plain : (value : Reader) (ts : List Symbol) (p : TerminalForm) → ArePlainSymbols ts → IsTerminal value ts p → TerminalHas IsPlainUse p
 terminal_plain value ts nay q h = tt

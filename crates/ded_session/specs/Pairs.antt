@@ -7,7 +7,8 @@ use Rattle.ded_model.specs.Logic.{atom, always, never, negation, every_of, some_
 use Rattle.ded_model.specs.PlanForm.{PlanAtom, scan, rows, PlanForm}
 use Rattle.ded_model.specs.Point.{Key, slot, name}
 use Rattle.ded_model.specs.Width.{rational_columns}
-use Rattle.ded_session.specs.PlainNames.{IsPlainName, ArePlainColumns}
+use Rattle.ded_syntax.specs.MemberNames.{IsMemberName}
+use Rattle.ded_session.specs.PlainNames.{ArePlainColumns}
 use Rattle.ded_session.specs.Replies.{ReplyForm, done, number, truth, tuples, stored, boxes, steps, script, refused}
 
 -- ---- one reply
@@ -23,10 +24,10 @@ IsSlotKey (slot s) = Unit {0}
 IsSlotKey (name x) = ⊥
 
 abbrev pub IsPlainScan : PlanAtom → Type 0
-IsPlainScan (scan n ss) = IsPlainName n
+IsPlainScan (scan n ss) = IsMemberName n
 IsPlainScan (rows t) = Unit {0}
 
--- each scan is of a word of the grammar, and what is projected away is a slot
+-- each scan is of a word of the grammar, or of the closure or the interior of one, and what is projected away is a slot
 abbrev mutual
   pub IsPlainPlan : PlanForm → Type 0
   IsPlainPlan (atom a) = IsPlainScan a
@@ -44,7 +45,7 @@ abbrev mutual
   ArePlainPlans none = Unit {0}
   ArePlainPlans (also f fs) = IsPlainPlan f × ArePlainPlans fs
 
--- the names that the reply says are words of the grammar
+-- the names that the reply says are words of the grammar, or in a plan made of such words
 abbrev pub SpeaksPlainly : ReplyForm → Type 0
 SpeaksPlainly (tuples h ts) = ArePlainColumns h
 SpeaksPlainly (boxes h r) = ArePlainColumns h × FitsHeading h r

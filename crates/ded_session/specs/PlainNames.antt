@@ -7,6 +7,7 @@ use Rattle.ded_model.specs.Catalogue.{Entry, Catalogue, entry_name, entry_column
 use Rattle.ded_model.specs.Command.{CommandForm, header, relation, insert, delete, drop, view, keep, ask, query, show, box_of, explain, dump, disjoint, verify}
 use Rattle.ded_model.specs.Form.{Form, FormAtom, compare, member}
 use Rattle.ded_model.specs.Logic.{AllAtoms}
+use Rattle.ded_syntax.specs.MemberNames.{IsMemberName}
 
 -- a letter or `_`, and then letters, digits and `_`
 abbrev pub IsPlainName : List ℕ → Type 0
@@ -26,13 +27,14 @@ HasPlainNames c = AllByRecursion HasPlainEntry c.entries
 
 abbrev pub IsPlainUse : FormAtom → Type 0
 IsPlainUse (compare l op r) = Unit {0}
-IsPlainUse (member n ts) = IsPlainName n
+IsPlainUse (member n ts) = IsMemberName n
 
--- each name that a formula uses is such a one
+-- each name that a formula uses is such a one, or that of the closure or of the interior of such a one
 abbrev pub UsesPlainNames : Form → Type 0
 UsesPlainNames f = AllAtoms IsPlainUse f
 
--- each name that the command gives or uses, and each column that it names, is such a one
+-- each name that the command gives, and each column that it names, is such a one, and each name that its formula uses may be
+-- that of the closure or of the interior of such a one
 abbrev pub NamesPlainly : CommandForm → Type 0
 NamesPlainly header = Unit {0}
 NamesPlainly (relation n h) = IsPlainName n × ArePlainColumns h

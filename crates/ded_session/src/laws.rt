@@ -26,7 +26,7 @@ pub fn one_list()
         Step language c s (stored h ts) d → Step language c s (stored k us) e → (h ≡ k) × (ts ≡ us) }
 {}
 
-/// Each name that a command has is a word of the grammar.
+/// Each name that a command has is a word of the grammar, or made of one.
 pub fn spelled_names()
     ensures { (language : Language) (bytes : List ℕ) (command : CommandForm) (depth : ℕ) →
         Spells language bytes command depth → NamesPlainly command }
@@ -44,7 +44,7 @@ pub fn plain_names()
 {}
 
 /// Of two replies that a statement may get over a catalogue whose names are words of the grammar: the names in each are
-/// such words, and both are of one kind where none is a refusal.
+/// such words, or in a plan made of such words, and both are of one kind where none is a refusal.
 pub fn two_replies()
     ensures plain { (language : Language) (c d : Catalogue) (s : Statement) (reply : ReplyForm) → HasPlainNames c →
         Step language c s reply d → SpeaksPlainly reply }

@@ -7,10 +7,10 @@ use Rattle.ded_model.specs.Command.{CommandForm, insert, delete}
 use Rattle.ded_model.specs.Form.{Form, compare, member}
 use Rattle.ded_model.specs.Logic.{atom, logics}
 use Rattle.ded_grammar.specs.Trees.{TerminalForm, nay, conjunct, disjunct, arrow, opening, closing, binder, leaf}
-use Rattle.ded_syntax.specs.Symbols.{Symbol, Name, Number, Decimal, Times, Close, CloseBrace, Relation, number_of, decimal_number, decimal_power}
+use Rattle.ded_syntax.specs.Symbols.{Symbol, Name, Number, Decimal, Times, Open, Close, CloseBrace, Relation, number_of, decimal_number, decimal_power}
 use Rattle.ded_syntax.specs.Literals.{Scalar, whole, quotient, decimal, spell_scalar, Literal, lowest, literal, marked, capped, capped_reader}
 use Rattle.ded_syntax.specs.Operands.{Product, scaled, constant, lone, Side, text, sum, spell_product, spell_more, spell_side, Part, Factor, factor, add_factor, add_all, Reading, as_reading, single, reading_of, literals, operand_over, argument_of}
-use Rattle.ded_syntax.specs.Atoms.{compared, argument, spell_rest, Comparison, spell_comparison, comparison_form, Atom, truth, relates, belongs, spell_atom, atom_form, IsTerminal, AreTerminals}
+use Rattle.ded_syntax.specs.Atoms.{compared, argument, spell_rest, Comparison, spell_comparison, comparison_form, spell_named, name_of, Atom, truth, relates, belongs, spell_atom, atom_form, IsTerminal, AreTerminals}
 use Rattle.ded_syntax.specs.Commands.{Plain, opens, defines, inserts_none, inserts, deletes, drops, keeps, shows, boxes, dumps, spell_plain, plain_form, spell_prefix, SpellsCommand}
 use Rattle.ded_syntax.proofs.Denominators.{side_some, both_some, denominators_same}
 
@@ -96,7 +96,9 @@ atom_alike : (a : Atom) → Agree (spell_atom a) → atom_form capped_reader a �
 atom_alike (truth true) h = refl
 atom_alike (truth false) h = refl
 atom_alike (relates c) h = comparison_alike c h
-atom_alike (belongs n s ss) h = ap (λ (os : List Operand). atom (member n os)) (list_alike spell_side (argument capped_reader) (argument marked) Close argument_alike s ss h.1.1)
+atom_alike (belongs m s ss) h =
+    let behind = split (Alike capped (λ n. n)) (spell_named m) (Open ∷ (spell_side s ++ (spell_rest spell_side ss ++ Close ∷ []))) h in
+    ap (λ (os : List Operand). atom (member (name_of m) os)) (list_alike spell_side (argument capped_reader) (argument marked) Close argument_alike s ss behind.1.1)
 
 terminal_alike : (p : TerminalForm) (front : List Symbol) → Agree front → IsTerminal capped_reader front p → IsTerminal marked front p
 terminal_alike (leaf f) front h (a, e, m) = (a, e, sym (atom_alike a (subst Agree e h)) ∙ m)

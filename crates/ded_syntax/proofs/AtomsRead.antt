@@ -13,9 +13,9 @@ use Rattle.ded_grammar.specs.Building.{◌>>=◌}
 use Rattle.ded_syntax.specs.Symbols.{Symbol, Name, Open, Close, CloseBrace, Comma, Relation}
 use Rattle.ded_syntax.specs.Literals.{whole, quotient, decimal, Reader}
 use Rattle.ded_syntax.specs.Operands.{scaled, constant, lone, Side, text, sum, spell_side, Reading, reading_of, argument_of}
-use Rattle.ded_syntax.specs.Atoms.{compared, argument, spell_rest, Comparison, spell_comparison, comparison_form, Atom, truth, relates, belongs, spell_atom, atom_form, spell_column}
+use Rattle.ded_syntax.specs.Atoms.{compared, argument, spell_rest, Comparison, spell_comparison, comparison_form, Named, plain, closed, inner, spell_named, name_of, Atom, truth, relates, belongs, spell_atom, atom_form, spell_column}
 use Rattle.ded_syntax.specs.OperandReading.{side_at}
-use Rattle.ded_syntax.specs.AtomReading.{comma_at, brace_at, relation_at, compare_at, argument_at, operands_at, atom_at, column_at, as_leaf, terminal_at}
+use Rattle.ded_syntax.specs.AtomReading.{comma_at, brace_at, relation_at, compare_at, argument_at, operands_at, called_at, atom_by_call, atom_at, column_at, as_leaf, terminal_at}
 use Rattle.ded_syntax.proofs.OperandsRead.{Stops, side_read}
 use Rattle.ded_syntax.proofs.ListsRead.{ReadsItems, list_read, few_items, list_tail}
 
@@ -85,6 +85,17 @@ begins value (sum false (lone n) []) op ts = refl
 begins value (sum false (lone n) ((true, p) ∷ ps)) op ts = refl
 begins value (sum false (lone n) ((false, p) ∷ ps)) op ts = refl
 
+-- so is a member, whose name is read before its parenthesis
+begins_named : (value : Reader) (m : Named) (ts : List Symbol) → terminal_at value (spell_named m ++ ts) ≡ as_leaf (atom_at value (spell_named m ++ ts))
+begins_named value (plain n) ts = refl
+begins_named value (closed n) ts = refl
+begins_named value (inner n) ts = refl
+
+called_read : (m : Named) (ts : List Symbol) → called_at (spell_named m ++ (Open ∷ ts)) ≡ Some (m, ts)
+called_read (plain n) ts = refl
+called_read (closed n) ts = refl
+called_read (inner n) ts = refl
+
 pub atom_read : (value : Reader) (a : Atom) (rest : List Symbol) → Stops rest → terminal_at value (spell_atom a ++ rest) ≡ Some (leaf (atom_form value a), rest)
 atom_read value (truth true) rest h = refl
 atom_read value (truth false) rest h = refl
@@ -92,6 +103,9 @@ atom_read value (relates c) rest h =
     ap (terminal_at value) (spell_behind c rest)
     ∙ begins value c.left c.op (spell_side c.right ++ rest)
     ∙ ap as_leaf (sides_read value c.left c.right c.op rest h)
-atom_read value (belongs n s ss) rest h =
-    ap (λ (l : List Symbol). as_leaf (atom_at value (Name n ∷ Open ∷ l))) (list_tail spell_side s ss Close rest)
-    ∙ ap (λ (o : Option (List Operand × List Symbol)). as_leaf (o >>= λ x. Some (atom (member n x.0), x.1))) (operands_read value s ss rest)
+atom_read value (belongs m s ss) rest h =
+    let items = spell_side s ++ (spell_rest spell_side ss ++ (Close ∷ rest)) in
+    ap (terminal_at value) (append_assoc (spell_named m) (Open ∷ (spell_side s ++ (spell_rest spell_side ss ++ Close ∷ []))) rest ∙ ap (λ (l : List Symbol). spell_named m ++ (Open ∷ l)) (list_tail spell_side s ss Close rest))
+    ∙ begins_named value m (Open ∷ items)
+    ∙ ap (λ (o : Option (Named × List Symbol)). as_leaf (atom_by_call value (spell_named m ++ (Open ∷ items)) o)) (called_read m items)
+    ∙ ap (λ (o : Option (List Operand × List Symbol)). as_leaf (o >>= λ x. Some (atom (member (name_of m) x.0), x.1))) (operands_read value s ss rest)

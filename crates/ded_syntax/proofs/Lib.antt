@@ -15,6 +15,7 @@ pub mod ListsRead
 pub mod LongLists
 pub mod LongSymbols
 pub mod Marked
+pub mod MemberNames
 pub mod Numbers
 pub mod One
 pub mod OpeningAlike

@@ -46,7 +46,9 @@ formula_tells w other h =
     (reserved w (codes "forall") words.Forall _ refl
     (reserved w (codes "true") words.True _ refl
     (reserved w (codes "false") words.False _ refl
-    (reserved w (codes "text") words.Text _ refl h))))))))
+    (reserved w (codes "closure") words.Closure _ refl
+    (reserved w (codes "interior") words.Interior _ refl
+    (reserved w (codes "text") words.Text _ refl h))))))))))
 
 command_tells : (w : List ℕ) (other : Symbol) → Tells w other → Tells w (command_word other w)
 command_tells w other h =
@@ -75,13 +77,11 @@ unused_tells w other h = either (is_unused w) refl
   where
     short : is_unused w ≡ true → nat_lt 64 (length w) ≡ false
     short e =
-        unused_short w (codes "closure") _ refl
-        (unused_short w (codes "interior") _ refl
-        (unused_short w (codes "disjoint") _ refl
+        unused_short w (codes "disjoint") _ refl
         (unused_short w (codes "verify") _ refl
         (unused_short w (codes "begin") _ refl
         (unused_short w (codes "commit") _ refl
-        (λ f. short_word w (codes "abort") f refl)))))) e
+        (λ f. short_word w (codes "abort") f refl)))) e
 
     either : (b : Bool) → is_unused w ≡ b → Tells w (if b then Word words.Unused else other)
     either true e = sym (short e)
@@ -207,6 +207,8 @@ literal_word language s =
     (quiet_literal s (codes "forall") (Word words.Forall) _ refl
     (quiet_literal s (codes "true") (Word words.True) _ refl
     (quiet_literal s (codes "false") (Word words.False) _ refl
+    (quiet_literal s (codes "closure") (Word words.Closure) _ refl
+    (quiet_literal s (codes "interior") (Word words.Interior) _ refl
     (quiet_literal s (codes "text") (Word words.Text) _ refl
     (quiet_literal s (codes "relation") (Word words.Relation) _ refl
     (quiet_literal s (codes "insert") (Word words.Insert) _ refl
@@ -220,7 +222,7 @@ literal_word language s =
     (quiet_literal s (codes "box") (Word words.BoxOf) _ refl
     (quiet_literal s (codes "explain") (Word words.Explain) _ refl
     (quiet_literal s (codes "dedale") (dedale_symbol language) _ (dedale_literal language)
-    (quiet_literal s (codes "dump") (dump_symbol language) _ (dump_literal language) (unused_literal s))))))))))))))))))))))
+    (quiet_literal s (codes "dump") (dump_symbol language) _ (dump_literal language) (unused_literal s))))))))))))))))))))))))
 
 -- ---- lexemes
 

@@ -13,7 +13,7 @@ use Rattle.ded_grammar.proofs.Leaves.{spelled_atoms}
 use Rattle.ded_syntax.specs.Symbols.{Symbol}
 use Rattle.ded_syntax.specs.Literals.{Literal, common, exact, marked, are_long_over, numerator_over, marked_numerator}
 use Rattle.ded_syntax.specs.Operands.{Side, Part, Reading, quoted, named, parts, literals, Sums, signed, put_at, no_sums, total_from, as_sum, operand_over, reading_of}
-use Rattle.ded_syntax.specs.Atoms.{compared, Comparison, comparison_form, argument, Atom, truth, relates, belongs, atom_form, IsTerminal, AreTerminals}
+use Rattle.ded_syntax.specs.Atoms.{compared, Comparison, comparison_form, argument, name_of, Atom, truth, relates, belongs, atom_form, IsTerminal, AreTerminals}
 use Rattle.ded_syntax.specs.Commands.{Plain, opens, defines, inserts_none, inserts, deletes, drops, keeps, shows, boxes, dumps, plain_form, views, asks, queries, explains, prefix_form, SpellsCommand}
 use Rattle.ded_syntax.specs.Marks.{is_marked, is_marked_atom, has_mark}
 
@@ -105,7 +105,7 @@ atom_exact : (a : Atom) → some_atom is_marked_atom (atom_form marked a) ≡ fa
 atom_exact (truth true) free = refl
 atom_exact (truth false) free = refl
 atom_exact (relates c) free = comparison_exact c free
-atom_exact (belongs n s ss) free = ap (λ (os : List Operand). atom (member n os)) (arguments_exact (s ∷ ss) free)
+atom_exact (belongs m s ss) free = ap (λ (os : List Operand). atom (member (name_of m) os)) (arguments_exact (s ∷ ss) free)
 
 -- ---- terminals and commands
 

@@ -87,7 +87,7 @@ plain_atom : (a : Atom) → IsPlain (atom_form exact a)
 plain_atom (truth true) = tt
 plain_atom (truth false) = tt
 plain_atom (relates c) = plain_comparison c
-plain_atom (belongs n s ss) = (plain_argument s, plain_arguments ss)
+plain_atom (belongs m s ss) = (plain_argument s, plain_arguments ss)
 
 -- ---- formulas
 

@@ -17,7 +17,7 @@ use Rattle.ded_grammar.proofs.Told.{one_spelled}
 use Rattle.ded_syntax.specs.Symbols.{Symbol, Name, Relation}
 use Rattle.ded_syntax.specs.Literals.{whole, quotient, decimal, Reader}
 use Rattle.ded_syntax.specs.Operands.{scaled, constant, lone, Side, text, sum, spell_side}
-use Rattle.ded_syntax.specs.Atoms.{Atom, truth, relates, belongs, spell_atom, sort_symbols, quantifier_symbol, IsTerminal, AreTerminals, SpellsFormula}
+use Rattle.ded_syntax.specs.Atoms.{plain, closed, inner, Atom, truth, relates, belongs, spell_atom, sort_symbols, quantifier_symbol, IsTerminal, AreTerminals, SpellsFormula}
 use Rattle.ded_syntax.specs.AtomReading.{sort_at, terminal_at, terminals_within, terminals_at}
 use Rattle.ded_syntax.proofs.Binds.{some_same}
 use Rattle.ded_syntax.proofs.OperandsRead.{Stops}
@@ -112,7 +112,9 @@ atom_some : (a : Atom) → 0 < length (spell_atom a)
 atom_some (truth true) = omega arith
 atom_some (truth false) = omega arith
 atom_some (relates c) = omega (arith, side_some c.left, length-append (spell_side c.left) (Relation c.op ∷ spell_side c.right))
-atom_some (belongs n s ss) = omega arith
+atom_some (belongs (plain n) s ss) = omega arith
+atom_some (belongs (closed n) s ss) = omega arith
+atom_some (belongs (inner n) s ss) = omega arith
 
 terminal_some : (value : Reader) (front : List Symbol) (p : TerminalForm) → IsTerminal value front p → 0 < length front
 terminal_some value front nay is = rw is (omega arith)

@@ -1,6 +1,6 @@
 -- Comparisons, members, columns and terminals: what is read is spelled.
 use Rattle.std.proofs.Common.{◌≡◌, ℕ, zero, suc, Bool, true, false, List, [], ◌∷◌, ◌++◌, length, refl, sym, ap, subst, ◌∙◌, append_assoc}
-use Rattle.std.specs.Prelude.{Some}
+use Rattle.std.specs.Prelude.{Option, Some, None}
 use Rattle.ded_model.specs.declared.formula.CompareOp.{CompareOp}
 use Rattle.ded_model.specs.declared.formula.Operand.{Operand}
 use Rattle.ded_model.specs.declared.name.Column.{Column}
@@ -15,9 +15,9 @@ use Rattle.ded_syntax.specs.declared.item.Keyword.TheVariants as words
 use Rattle.ded_syntax.specs.Symbols.{Symbol, Word, Name, Open, Close, CloseBrace, Comma, Relation}
 use Rattle.ded_syntax.specs.Literals.{Reader}
 use Rattle.ded_syntax.specs.Operands.{Side, spell_side, Reading, reading_of, argument_of}
-use Rattle.ded_syntax.specs.Atoms.{compared, argument, Comparison, spell_comparison, comparison_form, Atom, truth, relates, belongs, spell_atom, atom_form, spell_column, sort_symbols, quantifier_symbol, IsTerminal, AreTerminals}
+use Rattle.ded_syntax.specs.Atoms.{compared, argument, spell_rest, Comparison, spell_comparison, comparison_form, Named, closed, inner, spell_named, name_of, Atom, truth, relates, belongs, spell_atom, atom_form, spell_column, sort_symbols, quantifier_symbol, IsTerminal, AreTerminals}
 use Rattle.ded_syntax.specs.OperandReading.{side_at}
-use Rattle.ded_syntax.specs.AtomReading.{comma_at, brace_at, relation_at, compare_at, argument_at, operands_at, atom_at, sort_at, column_at, binder_at, word_at, as_leaf, terminal_at, terminals_within, terminals_at}
+use Rattle.ded_syntax.specs.AtomReading.{comma_at, brace_at, relation_at, compare_at, argument_at, operands_at, enclosed_at, named_at, call_at, called_at, atom_by_call, atom_at, sort_at, column_at, binder_at, as_leaf, terminal_at, terminals_within, terminals_at}
 use Rattle.ded_syntax.proofs.Binds.{bind_some, some_same}
 use Rattle.ded_syntax.proofs.OperandsSound.{side_sound}
 use Rattle.ded_syntax.proofs.ListsRead.{SoundItems, sign_of, list_sound, list_tail}
@@ -98,21 +98,51 @@ compare_found value ts x e =
     let c = compare_sound value ts b.0 b.1 in
     leaf_found value ts x (relates c.0) b.0 c.1 c.2 b.2
 
-membered : (value : Reader) (n : List ℕ) (ts : List Symbol) (x : TerminalForm × List Symbol) → as_leaf (atom_at value (Name n ∷ Open ∷ ts)) ≡ Some x → Found value (Name n ∷ Open ∷ ts) x
-membered value n ts x e =
-    let b = bind_some (atom_at value (Name n ∷ Open ∷ ts)) (λ y. Some (leaf y.0, y.1)) x e in
-    let c = bind_some (operands_at value ts) (λ y. Some (atom (member n y.0), y.1)) b.0 b.1 in
-    let s = list_sound spell_side (argument value) (argument_at value) comma_at Close (operands_sound value) (length ts) ts c.0 c.1 in
+enclosed_sound : (ts : List Symbol) (x : List ℕ × List Symbol) → enclosed_at ts ≡ Some x → ts ≡ Open ∷ Name x.0 ∷ Close ∷ x.1
+enclosed_sound (Open ∷ Name n ∷ Close ∷ ts) x e = ap (λ (y : List ℕ × List Symbol). Open ∷ Name y.0 ∷ Close ∷ y.1) (some_same _ x e)
+enclosed_sound (Open ∷ Name n ∷ ts) x e = absurd cc
+enclosed_sound (Open ∷ ts) x e = absurd cc
+enclosed_sound ts x e = absurd cc
+
+named_sound : (ts : List Symbol) (x : Named × List Symbol) → named_at ts ≡ Some x → ts ≡ spell_named x.0 ++ x.1
+named_sound (Name n ∷ ts) x e = ap (λ (y : Named × List Symbol). spell_named y.0 ++ y.1) (some_same _ x e)
+named_sound (Word words.Closure ∷ ts) x e =
+    let b = bind_some (enclosed_at ts) (λ n. Some (closed n.0, n.1)) x e in
+    ap (λ (l : List Symbol). Word words.Closure ∷ l) (enclosed_sound ts b.0 b.1) ∙ ap (λ (y : Named × List Symbol). spell_named y.0 ++ y.1) (some_same _ x b.2)
+named_sound (Word words.Interior ∷ ts) x e =
+    let b = bind_some (enclosed_at ts) (λ n. Some (inner n.0, n.1)) x e in
+    ap (λ (l : List Symbol). Word words.Interior ∷ l) (enclosed_sound ts b.0 b.1) ∙ ap (λ (y : Named × List Symbol). spell_named y.0 ++ y.1) (some_same _ x b.2)
+named_sound ts x e = absurd cc
+
+call_sound : (m : Named) (ts : List Symbol) (x : Named × List Symbol) → call_at (m, ts) ≡ Some x → spell_named m ++ ts ≡ spell_named x.0 ++ (Open ∷ x.1)
+call_sound m (Open ∷ ts) x e = ap (λ (y : Named × List Symbol). spell_named y.0 ++ (Open ∷ y.1)) (some_same _ x e)
+call_sound m ts x e = absurd cc
+
+called_sound : (ts : List Symbol) (x : Named × List Symbol) → called_at ts ≡ Some x → ts ≡ spell_named x.0 ++ (Open ∷ x.1)
+called_sound ts x e =
+    let b = bind_some (named_at ts) call_at x e in
+    named_sound ts b.0 b.1 ∙ call_sound b.0.0 b.0.1 x b.2
+
+membered : (value : Reader) (ts : List Symbol) (m : Named × List Symbol) (x : TerminalForm × List Symbol) → ts ≡ spell_named m.0 ++ (Open ∷ m.1) → as_leaf (atom_by_call value ts (Some m)) ≡ Some x → Found value ts x
+membered value ts m x is e =
+    let b = bind_some (atom_by_call value ts (Some m)) (λ y. Some (leaf y.0, y.1)) x e in
+    let c = bind_some (operands_at value m.1) (λ y. Some (atom (member (name_of m.0) y.0), y.1)) b.0 b.1 in
+    let s = list_sound spell_side (argument value) (argument_at value) comma_at Close (operands_sound value) (length m.1) m.1 c.0 c.1 in
     let same = some_same _ b.0 c.2 in
-    leaf_found value (Name n ∷ Open ∷ ts) x (belongs n s.0 s.1) b.0
-    (ap (λ (t : List Symbol). Name n ∷ Open ∷ t) (s.2 ∙ sym (list_tail spell_side s.0 s.1 Close c.0.1)) ∙ ap (λ (y : Form × List Symbol). spell_atom (belongs n s.0 s.1) ++ y.1) same)
-    (sym (ap (λ (y : Form × List Symbol). y.0) same) ∙ ap (λ (q : List Operand). atom (member n q)) s.3)
+    leaf_found value ts x (belongs m.0 s.0 s.1) b.0
+    (is
+    ∙ ap (λ (t : List Symbol). spell_named m.0 ++ (Open ∷ t)) (s.2 ∙ sym (list_tail spell_side s.0 s.1 Close c.0.1))
+    ∙ sym (append_assoc (spell_named m.0) (Open ∷ (spell_side s.0 ++ (spell_rest spell_side s.1 ++ Close ∷ []))) c.0.1)
+    ∙ ap (λ (y : Form × List Symbol). spell_atom (belongs m.0 s.0 s.1) ++ y.1) same)
+    (sym (ap (λ (y : Form × List Symbol). y.0) same) ∙ ap (λ (q : List Operand). atom (member (name_of m.0) q)) s.3)
     b.2
 
-named : (value : Reader) (n : List ℕ) (ts : List Symbol) (x : TerminalForm × List Symbol) → as_leaf (atom_at value (Name n ∷ ts)) ≡ Some x → Found value (Name n ∷ ts) x
-named value n [] x e = compare_found value (Name n ∷ []) x e
-named value n (Open ∷ ts) x e = membered value n ts x e
-named value n (t ∷ ts) x e = compare_found value (Name n ∷ t ∷ ts) x e
+atom_found : (value : Reader) (ts : List Symbol) (x : TerminalForm × List Symbol) → as_leaf (atom_at value ts) ≡ Some x → Found value ts x
+atom_found value ts x e = by (called_at ts) refl e
+  where
+    by : (o : Option (Named × List Symbol)) → called_at ts ≡ o → as_leaf (atom_by_call value ts o) ≡ Some x → Found value ts x
+    by None f k = compare_found value ts x k
+    by (Some m) f k = membered value ts m x (called_sound ts m f) k
 
 binder_sound : (value : Reader) (q : Quantifier) (ts : List Symbol) (x : TerminalForm × List Symbol) → binder_at q ts ≡ Some x → Found value (quantifier_symbol q ∷ ts) x
 binder_sound value q ts x e =
@@ -121,7 +151,7 @@ binder_sound value q ts x e =
     subst (Found value (quantifier_symbol q ∷ ts)) (some_same _ x b.2)
     (quantifier_symbol q ∷ spell_column b.0.0, ap (λ (l : List Symbol). quantifier_symbol q ∷ l) (c.1 ∙ ap (λ (k : Column). spell_column k ++ b.0.1) (sym c.2)), refl)
 
-word_sound : (value : Reader) (w : Keyword) (ts : List Symbol) (x : TerminalForm × List Symbol) → word_at w ts ≡ Some x → Found value (Word w ∷ ts) x
+word_sound : (value : Reader) (w : Keyword) (ts : List Symbol) (x : TerminalForm × List Symbol) → terminal_at value (Word w ∷ ts) ≡ Some x → Found value (Word w ∷ ts) x
 word_sound value words.Not ts x e = subst (Found value (Word words.Not ∷ ts)) (some_same _ x e) (Word words.Not ∷ [], refl, refl)
 word_sound value words.And ts x e = subst (Found value (Word words.And ∷ ts)) (some_same _ x e) (Word words.And ∷ [], refl, refl)
 word_sound value words.Or ts x e = subst (Found value (Word words.Or ∷ ts)) (some_same _ x e) (Word words.Or ∷ [], refl, refl)
@@ -130,14 +160,15 @@ word_sound value words.Exists ts x e = binder_sound value Exists ts x e
 word_sound value words.Forall ts x e = binder_sound value Forall ts x e
 word_sound value words.True ts x e = subst (Found value (Word words.True ∷ ts)) (some_same _ x e) (Word words.True ∷ [], refl, (truth true, refl, refl))
 word_sound value words.False ts x e = subst (Found value (Word words.False ∷ ts)) (some_same _ x e) (Word words.False ∷ [], refl, (truth false, refl, refl))
+word_sound value words.Closure ts x e = atom_found value (Word words.Closure ∷ ts) x e
+word_sound value words.Interior ts x e = atom_found value (Word words.Interior ∷ ts) x e
 word_sound value w ts x e = absurd cc
 
 terminal_sound : (value : Reader) (ts : List Symbol) (x : TerminalForm × List Symbol) → terminal_at value ts ≡ Some x → Found value ts x
 terminal_sound value (Word w ∷ ts) x e = word_sound value w ts x e
 terminal_sound value (Open ∷ ts) x e = subst (Found value (Open ∷ ts)) (some_same _ x e) (Open ∷ [], refl, refl)
 terminal_sound value (Close ∷ ts) x e = subst (Found value (Close ∷ ts)) (some_same _ x e) (Close ∷ [], refl, refl)
-terminal_sound value (Name n ∷ ts) x e = named value n ts x e
-terminal_sound value ts x e = compare_found value ts x e
+terminal_sound value ts x e = atom_found value ts x e
 
 within_sound : (k : ℕ) (value : Reader) (ts : List Symbol) (ps : List TerminalForm) → terminals_within value k ts ≡ Some ps → AreTerminals value ts ps
 within_sound k value [] ps e = subst (AreTerminals value []) (some_same _ ps e) refl

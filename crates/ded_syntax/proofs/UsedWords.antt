@@ -18,7 +18,7 @@ use Rattle.ded_syntax.specs.declared.item.Keyword.TheVariants as words
 use Rattle.ded_syntax.specs.Symbols.{Symbol, Word, Name, Plus, Minus, Times, Open, Close, OpenBrace, CloseBrace, Comma, Colon, Define, Relation, is_unused, unused_word, dedale_symbol, dump_symbol, word_symbol, slash_symbol, sign_symbol, symbol}
 use Rattle.ded_syntax.specs.Literals.{Reader, Scalar, whole, quotient, decimal, spell_scalar}
 use Rattle.ded_syntax.specs.Operands.{Product, scaled, constant, lone, Side, text, sum, spell_product, spell_sign, spell_more, spell_side}
-use Rattle.ded_syntax.specs.Atoms.{spell_rest, Comparison, spell_comparison, Atom, truth, relates, belongs, spell_atom, spell_column, sort_symbols, quantifier_symbol, IsTerminal, AreTerminals}
+use Rattle.ded_syntax.specs.Atoms.{spell_rest, Comparison, spell_comparison, Named, plain, closed, inner, spell_named, Atom, truth, relates, belongs, spell_atom, spell_column, sort_symbols, quantifier_symbol, IsTerminal, AreTerminals}
 use Rattle.ded_syntax.specs.Commands.{Columns, spell_heading, Plain, opens, defines, inserts_none, inserts, deletes, drops, keeps, shows, boxes, dumps, spell_plain, Prefix, views, asks, queries, explains, spell_prefix, SpellsCommand}
 use Rattle.ded_syntax.specs.Headers.{is_dedale}
 
@@ -69,11 +69,16 @@ module _ {T : Type 0} (spell : T → List Symbol) (used : (x : T) → AreUsed (s
   list_used : (x : T) (xs : List T) (ending : Symbol) → IsUsed ending → AreUsed (spell x ++ (spell_rest spell xs ++ ending ∷ []))
   list_used x xs ending h = both (spell x) (spell_rest spell xs ++ ending ∷ []) (used x) (both (spell_rest spell xs) (ending ∷ []) (rest_used xs) (h, tt))
 
+named_used : (m : Named) → AreUsed (spell_named m)
+named_used (plain n) = (tt, tt)
+named_used (closed n) = (tt, (tt, (tt, (tt, tt))))
+named_used (inner n) = (tt, (tt, (tt, (tt, tt))))
+
 atom_used : (a : Atom) → AreUsed (spell_atom a)
 atom_used (truth true) = (tt, tt)
 atom_used (truth false) = (tt, tt)
 atom_used (relates c) = comparison_used c
-atom_used (belongs n s ss) = (tt, (tt, list_used spell_side side_used s ss Close tt))
+atom_used (belongs m s ss) = both (spell_named m) (Open ∷ (spell_side s ++ (spell_rest spell_side ss ++ Close ∷ []))) (named_used m) (tt, list_used spell_side side_used s ss Close tt)
 
 sort_used : (s : Sort) → AreUsed (sort_symbols s)
 sort_used Rat = tt
@@ -152,6 +157,8 @@ word_other s =
     (other s (codes "forall") (Word words.Forall) _ refl
     (other s (codes "true") (Word words.True) _ refl
     (other s (codes "false") (Word words.False) _ refl
+    (other s (codes "closure") (Word words.Closure) _ refl
+    (other s (codes "interior") (Word words.Interior) _ refl
     (other s (codes "text") (Word words.Text) _ refl
     (other s (codes "relation") (Word words.Relation) _ refl
     (other s (codes "insert") (Word words.Insert) _ refl
@@ -165,7 +172,7 @@ word_other s =
     (other s (codes "box") (Word words.BoxOf) _ refl
     (other s (codes "explain") (Word words.Explain) _ refl
     (other s (codes "dedale") (dedale_symbol One) _ refl
-    (other s (codes "dump") (dump_symbol One) _ refl (unused_other s))))))))))))))))))))))
+    (other s (codes "dump") (dump_symbol One) _ refl (unused_other s))))))))))))))))))))))))
 
 sign_other : (s : List ℕ) → is_dedale (sign_symbol One s) ≡ false
 sign_other s =

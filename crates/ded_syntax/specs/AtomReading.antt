@@ -1,5 +1,5 @@
 -- Reading comparisons, members, columns and terminals, as functions on symbols.
-use Rattle.std.specs.Prelude.{ℕ, suc, Bool, true, false, List, [], ◌∷◌, length, Option, Some, None}
+use Rattle.std.specs.Prelude.{ℕ, suc, Bool, true, false, List, [], ◌∷◌, length, Option, Some, None, if◌then◌else◌}
 use Rattle.std.proofs.Common.{zero}
 use Rattle.ded_model.specs.declared.formula.Operand.{Operand}
 use Rattle.ded_model.specs.declared.formula.CompareOp.{CompareOp}
@@ -17,7 +17,7 @@ use Rattle.ded_syntax.specs.declared.item.Keyword.TheVariants as words
 use Rattle.ded_syntax.specs.Symbols.{Symbol, Word, Name, Open, Close, CloseBrace, Comma, Relation}
 use Rattle.ded_syntax.specs.Literals.{Reader}
 use Rattle.ded_syntax.specs.Operands.{argument_of}
-use Rattle.ded_syntax.specs.Atoms.{compared}
+use Rattle.ded_syntax.specs.Atoms.{compared, Named, plain, closed, inner, name_of}
 use Rattle.ded_syntax.specs.OperandReading.{name_at, side_at}
 
 -- ---- lists
@@ -59,14 +59,29 @@ argument_at value ts = side_at value.number ts >>= λ s. Some (argument_of value
 abbrev pub operands_at : Reader → List Symbol → Option (List Operand × List Symbol)
 operands_at value ts = list_at (argument_at value) comma_at (length ts) ts
 
--- a name and a parenthesis
-abbrev pub called_at : List Symbol → Option (List ℕ × List Symbol)
-called_at (Name n ∷ Open ∷ ts) = Some (n, ts)
-called_at ts = None
+-- a name in parentheses
+abbrev pub enclosed_at : List Symbol → Option (List ℕ × List Symbol)
+enclosed_at (Open ∷ Name n ∷ Close ∷ ts) = Some (n, ts)
+enclosed_at ts = None
 
-abbrev pub atom_by_call : Reader → List Symbol → Option (List ℕ × List Symbol) → Option (Form × List Symbol)
+-- the name of a member
+abbrev pub named_at : List Symbol → Option (Named × List Symbol)
+named_at (Name n ∷ ts) = Some (plain n, ts)
+named_at (Word words.Closure ∷ ts) = enclosed_at ts >>= λ n. Some (closed n.0, n.1)
+named_at (Word words.Interior ∷ ts) = enclosed_at ts >>= λ n. Some (inner n.0, n.1)
+named_at ts = None
+
+-- the name of a member and a parenthesis
+abbrev pub call_at : Named × List Symbol → Option (Named × List Symbol)
+call_at (m, Open ∷ ts) = Some (m, ts)
+call_at (m, ts) = None
+
+abbrev pub called_at : List Symbol → Option (Named × List Symbol)
+called_at ts = named_at ts >>= call_at
+
+abbrev pub atom_by_call : Reader → List Symbol → Option (Named × List Symbol) → Option (Form × List Symbol)
 atom_by_call value ts None = compare_at value ts
-atom_by_call value ts (Some n) = operands_at value n.1 >>= λ x. Some (atom (member n.0 x.0), x.1)
+atom_by_call value ts (Some m) = operands_at value m.1 >>= λ x. Some (atom (member (name_of m.0) x.0), x.1)
 
 abbrev pub atom_at : Reader → List Symbol → Option (Form × List Symbol)
 atom_at value ts = atom_by_call value ts (called_at ts)
@@ -127,9 +142,15 @@ abbrev pub terminal_by_parenthesis : Reader → List Symbol → Option (Terminal
 terminal_by_parenthesis value ts None = as_leaf (atom_at value ts)
 terminal_by_parenthesis value ts (Some x) = Some x
 
+-- the words with which the name of a member begins
+abbrev pub begins_member : Keyword → Bool
+begins_member words.Closure = true
+begins_member words.Interior = true
+begins_member w = false
+
 abbrev pub terminal_by_keyword : Reader → List Symbol → Option (Keyword × List Symbol) → Option (TerminalForm × List Symbol)
 terminal_by_keyword value ts None = terminal_by_parenthesis value ts (parenthesis_at ts)
-terminal_by_keyword value ts (Some w) = word_at w.0 w.1
+terminal_by_keyword value ts (Some w) = if begins_member w.0 then as_leaf (atom_at value ts) else word_at w.0 w.1
 
 abbrev pub terminal_at : Reader → List Symbol → Option (TerminalForm × List Symbol)
 terminal_at value ts = terminal_by_keyword value ts (keyword_at ts)

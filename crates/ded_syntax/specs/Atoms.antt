@@ -7,6 +7,7 @@ use Rattle.ded_model.specs.declared.slot.Sort.{Sort}
 use Rattle.ded_model.specs.declared.slot.Sort.TheVariants.{Rat, Text}
 use Rattle.ded_model.specs.Form.{Form, compare, member}
 use Rattle.ded_model.specs.Logic.{atom, always, never}
+use Rattle.ded_model.specs.Made.{closure_name, interior_name}
 use Rattle.ded_grammar.specs.declared.terminal.Quantifier.{Quantifier}
 use Rattle.ded_grammar.specs.declared.terminal.Quantifier.TheVariants.{Exists, Forall}
 use Rattle.ded_grammar.specs.Trees.{TerminalForm, nay, conjunct, disjunct, arrow, opening, closing, binder, leaf}
@@ -44,24 +45,45 @@ comparison_form value c = compared value (reading_of value.number c.left) c.op (
 abbrev pub argument : Reader → Side → Operand
 argument value s = argument_of value (reading_of value.number s)
 
+-- the name of a member: that of a relation or view, or of its closure or its interior
+-- named = name | ( "closure" | "interior" ) "(" name ")"
+pub data Named : Type 0 where
+  -- of the relation or view itself
+  plain : List ℕ → Named
+  -- of its closure
+  closed : List ℕ → Named
+  -- of its interior
+  inner : List ℕ → Named
+
+abbrev pub spell_named : Named → List Symbol
+spell_named (plain n) = Name n ∷ []
+spell_named (closed n) = Word words.Closure ∷ Open ∷ Name n ∷ Close ∷ []
+spell_named (inner n) = Word words.Interior ∷ Open ∷ Name n ∷ Close ∷ []
+
+-- the name that is spelled
+abbrev pub name_of : Named → List ℕ
+name_of (plain n) = n
+name_of (closed n) = closure_name n
+name_of (inner n) = interior_name n
+
 -- unit = .. "true" | "false" | compare | member
--- member = name "(" operand ( "," operand )* ")"
+-- member = named "(" operand ( "," operand )* ")"
 pub data Atom : Type 0 where
   truth : Bool → Atom
   relates : Comparison → Atom
-  belongs : List ℕ → Side → List Side → Atom
+  belongs : Named → Side → List Side → Atom
 
 abbrev pub spell_atom : Atom → List Symbol
 spell_atom (truth true) = Word words.True ∷ []
 spell_atom (truth false) = Word words.False ∷ []
 spell_atom (relates c) = spell_comparison c
-spell_atom (belongs n s ss) = Name n ∷ Open ∷ spell_side s ++ (spell_rest spell_side ss ++ Close ∷ [])
+spell_atom (belongs m s ss) = spell_named m ++ (Open ∷ spell_side s ++ (spell_rest spell_side ss ++ Close ∷ []))
 
 abbrev pub atom_form : Reader → Atom → Form
 atom_form value (truth true) = always
 atom_form value (truth false) = never
 atom_form value (relates c) = comparison_form value c
-atom_form value (belongs n s ss) = atom (member n (argument value s ∷ map (argument value) ss))
+atom_form value (belongs m s ss) = atom (member (name_of m) (argument value s ∷ map (argument value) ss))
 
 -- ---- columns
 

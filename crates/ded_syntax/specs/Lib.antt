@@ -9,6 +9,7 @@ pub mod Items
 pub mod Literals
 pub mod Marks
 pub mod Meaning
+pub mod MemberNames
 pub mod OperandReading
 pub mod Operands
 pub mod Spelling

@@ -41,8 +41,10 @@ formula_word other w =
     else (if bytes_eq w (codes "forall") then Word keyword.Forall
     else (if bytes_eq w (codes "true") then Word keyword.True
     else (if bytes_eq w (codes "false") then Word keyword.False
+    else (if bytes_eq w (codes "closure") then Word keyword.Closure
+    else (if bytes_eq w (codes "interior") then Word keyword.Interior
     else (if bytes_eq w (codes "text") then Word keyword.Text
-    else other))))))))
+    else other))))))))))
 
 -- the words that commands begin with
 abbrev pub command_word : Symbol → List ℕ → Symbol
@@ -63,13 +65,11 @@ command_word other w =
 -- the word is reserved and stands in no command
 abbrev pub is_unused : List ℕ → Bool
 is_unused w =
-    bytes_eq w (codes "closure")
-    || (bytes_eq w (codes "interior")
-    || (bytes_eq w (codes "disjoint")
+    bytes_eq w (codes "disjoint")
     || (bytes_eq w (codes "verify")
     || (bytes_eq w (codes "begin")
     || (bytes_eq w (codes "commit")
-    || bytes_eq w (codes "abort"))))))
+    || bytes_eq w (codes "abort"))))
 
 abbrev pub unused_word : Symbol → List ℕ → Symbol
 unused_word other w = if is_unused w then Word keyword.Unused else other

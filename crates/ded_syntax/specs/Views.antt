@@ -2,6 +2,8 @@
 use Rattle.std.specs.Prelude.{◌≡◌, ◌≤◌, ◌<◌, ◌+◌, ◌^◌, ℕ, Bool, Some, unsigned_abs, List, length, map, option_map}
 use Rattle.std.specs.List.{AllByRecursion}
 use Rattle.ded_lex.specs.Tokens.{quoted_value}
+use Rattle.ded_syntax.specs.declared.atom.Naming.{Naming}
+use Rattle.ded_syntax.specs.declared.atom.Naming.TheVariants.{Itself, Closure, Interior}
 use Rattle.ded_syntax.specs.declared.scalar.Literal.{Literal}
 use Rattle.ded_syntax.specs.declared.side.Factor.{Factor}
 use Rattle.ded_syntax.specs.declared.side.Part.{Part}
@@ -13,6 +15,7 @@ use Rattle.ded_syntax.specs.Literals as literals
 use Rattle.ded_syntax.specs.Operands as operands
 use Rattle.ded_syntax.specs.OperandReading.{product_at}
 use Rattle.ded_syntax.specs.Symbols.{Symbol}
+use Rattle.ded_syntax.specs.Atoms.{Named, plain, closed, inner}
 
 abbrev pub seen_literal : Literal → literals.Literal
 seen_literal l = (l.numerator, l.denominator)
@@ -57,3 +60,9 @@ seen_totals t = (t.parts.items, t.constant)
 -- each coefficient and the constant are at most n in magnitude
 abbrev pub IsBounded : ℕ → operands.Sums → Type 0
 IsBounded n s = AllByRecursion (λ c. unsigned_abs c.1 ≤ n) s.0 × (unsigned_abs s.1 ≤ n)
+
+-- the name of a member, by the name in it
+abbrev pub seen_name : Naming → List ℕ → Named
+seen_name Itself n = plain n
+seen_name Closure n = closed n
+seen_name Interior n = inner n

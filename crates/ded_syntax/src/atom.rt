@@ -1,17 +1,20 @@
 //! Comparisons, members and columns.
-ghost use Rattle.std.specs.Prelude.{◌≡◌, ◌≤◌, ◌<◌, length, Some, None, IfSome, IfNone, IfOk, IfErr};
+ghost use Rattle.std.specs.Prelude.{◌≡◌, ◌≤◌, ◌<◌, ◌++◌, codes, length, Some, None, IfSome, IfNone, IfOk, IfErr};
 ghost use Rattle.ded_grammar.specs.declared.fault.ReadFault.TheVariants.{NotRead};
 ghost use Rattle.ded_model.specs.Form.{form};
 ghost use Rattle.ded_syntax.specs.Items.{left};
 ghost use Rattle.ded_syntax.specs.Literals.{capped_reader};
-ghost use Rattle.ded_syntax.specs.AtomReading.{relation_at, compare_at, comma_at, argument_at, operands_at, called_at, atom_at, sort_at, column_at};
+ghost use Rattle.ded_syntax.specs.Atoms.{name_of};
+ghost use Rattle.ded_syntax.specs.AtomReading.{relation_at, compare_at, comma_at, argument_at, operands_at, enclosed_at, named_at, call_at, called_at, atom_at, sort_at, column_at};
+ghost use Rattle.ded_syntax.specs.Views.{seen_name};
 
 use crate::item::{Item, Keyword, Rest, text};
 use crate::operand::{argument_of, name_of, operands_of};
 use crate::side::{name, read_side};
 use ded_grammar::ReadFault;
 use ded_model::formula::{CompareOp, Formula, Operand, Operands};
-use ded_model::name::Column;
+use ded_model::memory::NoMemory;
+use ded_model::name::{Column, Name};
 use ded_model::slot::Sort;
 use std::alloc::Global;
 
@@ -95,17 +98,95 @@ fn operands(alloc: Global, items: Rest<'_>) -> Result<(Vec<Operand>, Rest<'_>), 
     Err(ReadFault::NotRead)
 }
 
-/// A name before an opening parenthesis, and what stands behind both; none where the rest begins otherwise.
-fn called(rest: Rest<'_>) -> Option<(&[u8], Rest<'_>)>
-    ensures some { IfSome result (λ x. called_at (left rest.entry) ≡ Some (x.0.now, left x.1)) }
-    ensures none { IfNone result (called_at (left rest.entry) ≡ None) }
+/// What a member is of: the relation or view of the name in it, or its closure or its interior.
+#[derive(Clone, Copy, Debug)]
+pub enum Naming {
+    Itself,
+    Closure,
+    Interior,
+}
+
+/// A name in parentheses, and what stands behind them; none where the rest begins otherwise.
+fn enclosed(rest: Rest<'_>) -> Option<(&[u8], Rest<'_>)>
+    ensures some { IfSome result (λ x. enclosed_at (left rest.entry) ≡ Some (x.0.now, left x.1)) }
+    ensures none { IfNone result (enclosed_at (left rest.entry) ≡ None) }
     ensures low { IfSome result (λ x. length (left x.1) < length (left rest.entry)) }
 {
     match rest.items {
-        [Item::Name(name), Item::Open, items @ ..] => {
-            Some((text(rest.bytes, *name), Rest { items, ..rest }))
+        [Item::Open, Item::Name(name), Item::Close, items @ ..] => Some((
+            text(rest.bytes, *name),
+            Rest { items, ..rest },
+        )),
+        _ => None,
+    }
+}
+
+/// The name of a member with which the rest begins, by the name in it, and what stands behind it; none where the rest begins
+/// with no such name.
+fn named(rest: Rest<'_>) -> Option<(Naming, &[u8], Rest<'_>)>
+    ensures some { IfSome result (λ x. named_at (left rest.entry) ≡ Some (seen_name x.0 x.1.now, left x.2)) }
+    ensures none { IfNone result (named_at (left rest.entry) ≡ None) }
+    ensures low { IfSome result (λ x. length (left x.2) < length (left rest.entry)) }
+{
+    match rest.items {
+        [Item::Name(name), items @ ..] => Some((
+            Naming::Itself,
+            text(rest.bytes, *name),
+            Rest { items, ..rest },
+        )),
+        [Item::Word(Keyword::Closure), items @ ..] => {
+            let Some((name, behind)) = enclosed(Rest { items, ..rest }) else {
+                return None;
+            };
+            Some((Naming::Closure, name, behind))
+        }
+        [Item::Word(Keyword::Interior), items @ ..] => {
+            let Some((name, behind)) = enclosed(Rest { items, ..rest }) else {
+                return None;
+            };
+            Some((Naming::Interior, name, behind))
         }
         _ => None,
+    }
+}
+
+/// The name of a member before an opening parenthesis, by the name in it, and what stands behind both; none where the rest
+/// begins otherwise.
+fn called(rest: Rest<'_>) -> Option<(Naming, &[u8], Rest<'_>)>
+    ensures some { IfSome result (λ x. called_at (left rest.entry) ≡ Some (seen_name x.0 x.1.now, left x.2)) }
+    ensures none { IfNone result (called_at (left rest.entry) ≡ None) }
+    ensures low { IfSome result (λ x. length (left x.2) < length (left rest.entry)) }
+{
+    let Some((naming, name, behind)) = named(rest) else {
+        return None;
+    };
+    match behind.items {
+        [Item::Open, items @ ..] => Some((naming, name, Rest { items, ..behind })),
+        _ => None,
+    }
+}
+
+/// The name between a front and a closing parenthesis.
+fn made_name(alloc: Global, front: &[u8], name: &[u8]) -> Result<Name, NoMemory>
+    ensures { IfOk result (λ n. n ≡ front.now ++ (name.now ++ codes ")")) }
+{
+    let mut bytes = front.to_vec(alloc)?;
+    bytes.extend_from_slice(name)?;
+    bytes.push(b')')?;
+    Ok(Name { bytes })
+}
+
+/// The name of a member, by the name in it.
+///
+/// # Errors
+/// Out of memory.
+fn member_name(alloc: Global, naming: Naming, name: &[u8]) -> Result<Name, NoMemory>
+    ensures { IfOk result (λ n. n ≡ name_of (seen_name naming name.now)) }
+{
+    match naming {
+        Naming::Itself => name_of(alloc, name),
+        Naming::Closure => made_name(alloc, b"closure(", name),
+        Naming::Interior => made_name(alloc, b"interior(", name),
     }
 }
 
@@ -119,14 +200,12 @@ pub fn atom(alloc: Global, rest: Rest<'_>) -> Result<(Formula, Rest<'_>), ReadFa
     ensures unread { IfErr result (λ e. e ≡ NotRead → atom_at capped_reader (left rest.entry) ≡ None) }
     ensures low { IfOk result (λ x. length (left x.1) < length (left rest.entry)) }
 {
-    let Some((name, behind)) = called(rest) else {
+    let Some((naming, name, behind)) = called(rest) else {
         return comparison(alloc, rest);
     };
     let (list, behind) = operands(alloc, behind)?;
-    Ok((
-        Formula::Member(name_of(alloc, name)?, Operands { list }),
-        behind,
-    ))
+    let name = member_name(alloc, naming, name)?;
+    Ok((Formula::Member(name, Operands { list }), behind))
 }
 
 /// The sort of a column whose name stands before, text where the word `text` follows and rational otherwise, and what

@@ -39,6 +39,8 @@ pub enum Keyword {
     Forall,
     True,
     False,
+    Closure,
+    Interior,
     /// One that stands in no command.
     Unused,
 }
@@ -132,6 +134,10 @@ fn formula_word(other: Item, text: &[u8]) -> Item
         Item::Word(Keyword::True)
     } else if text == b"false".as_slice() {
         Item::Word(Keyword::False)
+    } else if text == b"closure".as_slice() {
+        Item::Word(Keyword::Closure)
+    } else if text == b"interior".as_slice() {
+        Item::Word(Keyword::Interior)
     } else if text == b"text".as_slice() {
         Item::Word(Keyword::Text)
     } else {
@@ -174,9 +180,7 @@ fn command_word(other: Item, text: &[u8]) -> Item
 fn is_unused(text: &[u8]) -> bool
     ensures { result ≡ is_unused text.now }
 {
-    text == b"closure".as_slice()
-        || text == b"interior".as_slice()
-        || text == b"disjoint".as_slice()
+    text == b"disjoint".as_slice()
         || text == b"verify".as_slice()
         || text == b"begin".as_slice()
         || text == b"commit".as_slice()

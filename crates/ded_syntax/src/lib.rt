@@ -31,4 +31,4 @@ mod terminals;
 
 pub use command::read_command;
 pub use header::is_header;
-pub use laws::{one_command, opening_language, some_command, spelled_sums};
+pub use laws::{member_names, one_command, opening_language, some_command, spelled_sums};

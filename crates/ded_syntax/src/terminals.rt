@@ -4,7 +4,7 @@ ghost use Rattle.ded_grammar.specs.declared.fault.ReadFault.TheVariants.{NotRead
 ghost use Rattle.ded_grammar.specs.Forms.{terminal_form, terminal_forms};
 ghost use Rattle.ded_syntax.specs.Items.{left};
 ghost use Rattle.ded_syntax.specs.Literals.{capped_reader};
-ghost use Rattle.ded_syntax.specs.AtomReading.{keyword_at, parenthesis_at, word_terminal, quantifier_of, word_at, terminal_by_parenthesis, terminal_at, terminals_at};
+ghost use Rattle.ded_syntax.specs.AtomReading.{keyword_at, parenthesis_at, word_terminal, quantifier_of, word_at, begins_member, atom_at, as_leaf, terminal_by_parenthesis, terminal_at, terminals_at};
 
 use crate::atom::{atom, column};
 use crate::item::{Item, Keyword, Rest};
@@ -83,6 +83,27 @@ fn word(alloc: Global, word: Keyword, rest: Rest<'_>) -> Result<(Terminal, Rest<
     Ok((Terminal::Bind(quantifier, column), behind))
 }
 
+/// Whether the name of a member begins with the word.
+fn begins_member(word: Keyword) -> bool
+    ensures { result ≡ begins_member word }
+{
+    match word {
+        Keyword::Closure | Keyword::Interior => true,
+        _ => false,
+    }
+}
+
+/// The comparison or the member with which the rest begins, as a terminal, and what stands behind it.
+fn leaf(alloc: Global, rest: Rest<'_>) -> Result<(Terminal, Rest<'_>), ReadFault>
+    requires few { length (left rest) ≤ 65536 }
+    ensures read { IfOk result (λ x. as_leaf (atom_at capped_reader (left rest.entry)) ≡ Some (terminal_form x.0, left x.1)) }
+    ensures unread { IfErr result (λ e. e ≡ NotRead → as_leaf (atom_at capped_reader (left rest.entry)) ≡ None) }
+    ensures low { IfOk result (λ x. length (left x.1) < length (left rest.entry)) }
+{
+    let (formula, behind) = atom(alloc, rest)?;
+    Ok((Terminal::Atom(formula), behind))
+}
+
 /// The terminal with which the rest begins, where that is no reserved word, and what stands behind it.
 fn other(alloc: Global, rest: Rest<'_>) -> Result<(Terminal, Rest<'_>), ReadFault>
     requires few { length (left rest) ≤ 65536 }
@@ -93,8 +114,7 @@ fn other(alloc: Global, rest: Rest<'_>) -> Result<(Terminal, Rest<'_>), ReadFaul
     if let Some(found) = parenthesis(rest) {
         return Ok(found);
     }
-    let (formula, behind) = atom(alloc, rest)?;
-    Ok((Terminal::Atom(formula), behind))
+    leaf(alloc, rest)
 }
 
 /// The terminal with which the rest begins, and what stands behind it.
@@ -105,7 +125,13 @@ fn terminal(alloc: Global, rest: Rest<'_>) -> Result<(Terminal, Rest<'_>), ReadF
     ensures low { IfOk result (λ x. length (left x.1) < length (left rest.entry)) }
 {
     match keyword(rest) {
-        Some((first, behind)) => word(alloc, first, behind),
+        Some((first, behind)) => {
+            if begins_member(first) {
+                leaf(alloc, rest)
+            } else {
+                word(alloc, first, behind)
+            }
+        }
         None => other(alloc, rest),
     }
 }

@@ -30,16 +30,18 @@ use Rattle.ded_dump.specs.Operands.{operand_text, operands_text, member_text}
 use Rattle.ded_syntax.specs.Symbols.{Name, Open, Close, Comma}
 use Rattle.ded_syntax.specs.Literals.{exact, marked}
 use Rattle.ded_syntax.specs.Operands.{Side, spell_side}
-use Rattle.ded_syntax.specs.Atoms.{belongs, spell_rest, argument}
+use Rattle.ded_syntax.specs.Atoms.{Named, spell_named, name_of, belongs, spell_rest, argument}
+use Rattle.ded_syntax.specs.MemberNames.{word_of}
 use Rattle.ded_syntax.specs.Marks.{is_marked}
 use Rattle.ded_restored.specs.Formulas.{tuple_compare, theme_compare}
 use Rattle.ded_restored.specs.Operands.{zero, op_of, row_compared, constant_compare, stated, denied, restored_row, restored_compare, restored_operand}
 use Rattle.ded_restored.specs.Words.{HasWords, HaveWords, AtomHasWords}
-use Rattle.ded_wording.specs.Words.{IsName, IsText}
+use Rattle.ded_wording.specs.Words.{IsName, IsMember, IsText}
 use Rattle.ded_wording.proofs.Arguments.{operand_worded}
 use Rattle.ded_wording.proofs.Rows.{row_worded}
 use Rattle.ded_wording.proofs.Sides.{IsWholeSide, text_side, name_side, zero_side, whole_comparison}
 use Rattle.ded_wording.proofs.WordedAtoms.{IsWordedAtom, IsWordedComparison}
+use Rattle.ded_wording.proofs.MemberWords.{opened, closing, named_worded}
 use Rattle.ded_wording.proofs.Worded.{Worded, Loose, Fits, Any, then_any, then_fitting, as_worded, nothing, blank, name, lone_sign}
 
 abbrev pub IsNoSum : Operand → Type 0
@@ -73,14 +75,14 @@ abbrev row : List (Slot × ℤ) → ℤ → RowOp → LinearConstraint
 row cs m op = record { coefs = cs; constant = m; op = op }
 
 compared_worded : (names : Names) (op : RowOp) (m : ℤ) (c : Slot × ℤ) (cs : List (Slot × ℤ)) (o : CompareOp) → AllNonzero (c ∷ cs) → IsNormalRow (row (c ∷ cs) m op)
-    → AtomHasWords IsName IsName IsText (row_compared names (row (c ∷ cs) m op) o) → IsPlainAtom (row_compared names (row (c ∷ cs) m op) o) → is_long_atom (row_compared names (row (c ∷ cs) m op) o) ≡ false
+    → AtomHasWords IsName IsMember IsText (row_compared names (row (c ∷ cs) m op) o) → IsPlainAtom (row_compared names (row (c ∷ cs) m op) o) → is_long_atom (row_compared names (row (c ∷ cs) m op) o) ≡ false
     → IsWordedComparison (term_text names c.0 (signed (int_lt c.1 (pos 0)) c.1) ++ (later_terms_text names (int_lt c.1 (pos 0)) cs ++ (compare_text o ++ integer_text (neg_ℤ (signed (int_lt c.1 (pos 0)) m)))))
     (row_compared names (row (c ∷ cs) m op) o)
 compared_worded names op m c cs o some normal words plain short = row_worded names op m c cs o some.0 normal words.0 plain.0 short
 
 -- the row with its own sign
 own_worded : (names : Names) (op : RowOp) (m : ℤ) (c : Slot × ℤ) (cs : List (Slot × ℤ)) → AllNonzero (c ∷ cs) → IsNormalRow (row (c ∷ cs) m op)
-    → AtomHasWords IsName IsName IsText (row_compared names (row (c ∷ cs) m op) (op_of (int_lt c.1 (pos 0)) op)) → IsPlainAtom (row_compared names (row (c ∷ cs) m op) (op_of (int_lt c.1 (pos 0)) op))
+    → AtomHasWords IsName IsMember IsText (row_compared names (row (c ∷ cs) m op) (op_of (int_lt c.1 (pos 0)) op)) → IsPlainAtom (row_compared names (row (c ∷ cs) m op) (op_of (int_lt c.1 (pos 0)) op))
     → is_long_atom (row_compared names (row (c ∷ cs) m op) (op_of (int_lt c.1 (pos 0)) op)) ≡ false
     → IsWordedComparison (row_with_text names (c ∷ cs) op m) (row_compared names (row (c ∷ cs) m op) (op_of (int_lt c.1 (pos 0)) op))
 own_worded names op m c cs some normal words plain short =
@@ -89,19 +91,19 @@ own_worded names op m c cs some normal words plain short =
     (compared_worded names op m c cs (op_of (int_lt c.1 (pos 0)) op) some normal words plain short)
 
 stated_worded : (names : Names) (op : RowOp) (m : ℤ) (cs : List (Slot × ℤ)) → AllNonzero cs → IsNormalRow (row cs m op)
-    → AtomHasWords IsName IsName IsText (stated names (row cs m op) cs) → IsPlainAtom (stated names (row cs m op) cs) → is_long_atom (stated names (row cs m op) cs) ≡ false
+    → AtomHasWords IsName IsMember IsText (stated names (row cs m op) cs) → IsPlainAtom (stated names (row cs m op) cs) → is_long_atom (stated names (row cs m op) cs) ≡ false
     → IsWordedComparison (stated_text names (row cs m op) cs) (stated names (row cs m op) cs)
 stated_worded names op m [] some normal words plain short = constant_worded (is_true_row (row [] m op))
 stated_worded names op m (c ∷ cs) some normal words plain short = own_worded names op m c cs some normal words plain short
 
 denied_worded : (names : Names) (op : RowOp) (m : ℤ) (cs : List (Slot × ℤ)) → AllNonzero cs → IsNormalRow (row cs m op)
-    → AtomHasWords IsName IsName IsText (denied names (row cs m op) cs) → IsPlainAtom (denied names (row cs m op) cs) → is_long_atom (denied names (row cs m op) cs) ≡ false
+    → AtomHasWords IsName IsMember IsText (denied names (row cs m op) cs) → IsPlainAtom (denied names (row cs m op) cs) → is_long_atom (denied names (row cs m op) cs) ≡ false
     → IsWordedComparison (denied_text names (row cs m op) cs) (denied names (row cs m op) cs)
 denied_worded names op m [] some normal words plain short = constant_worded (not (is_true_row (row [] m op)))
 denied_worded names op m (c ∷ cs) some normal words plain short = compared_worded names op m c cs NotEqual some normal words plain short
 
 restored_worded : (names : Names) (o : CompareOp) (r : LinearConstraint) → AllNonzero r.coefs → IsNormalRow r
-    → AtomHasWords IsName IsName IsText (restored_row names o r) → IsPlainAtom (restored_row names o r) → is_long_atom (restored_row names o r) ≡ false
+    → AtomHasWords IsName IsMember IsText (restored_row names o r) → IsPlainAtom (restored_row names o r) → is_long_atom (restored_row names o r) ≡ false
     → IsWordedComparison (row_comparison_text names o r) (restored_row names o r)
 restored_worded names Less r some normal words plain short = stated_worded names r.op r.constant r.coefs some normal words plain short
 restored_worded names LessEq r some normal words plain short = stated_worded names r.op r.constant r.coefs some normal words plain short
@@ -118,7 +120,7 @@ side_worded (Sum t) h words = absurd h
 side_worded (Quoted t) h words = text_side t words
 
 pub worded_compare : (names : Names) (l : Operand) (op : CompareOp) (r : Operand) (o : Option LinearConstraint) → IsGoalOf l r o
-    → AtomHasWords IsName IsName IsText (restored_compare names l op r o) → IsPlainAtom (restored_compare names l op r o) → is_long_atom (restored_compare names l op r o) ≡ false
+    → AtomHasWords IsName IsMember IsText (restored_compare names l op r o) → IsPlainAtom (restored_compare names l op r o) → is_long_atom (restored_compare names l op r o) ≡ false
     → IsWordedComparison (compared_text names l op r o) (restored_compare names l op r o)
 worded_compare names l op r (Some row) goal words plain short = restored_worded names op row (coefs_some row.coefs goal.0) goal.1 words plain short
 worded_compare names l op r None goal words plain short =
@@ -153,54 +155,55 @@ arguments_worded (t ∷ ts) words plain short =
       unmarked = or_from (is_marked (argument marked x.side)) (list_any is_marked (map (argument marked) xs.sides)) x.unmarked xs.unmarked;
     }
 
-opened : Loose (codes "(") (Open ∷ [])
-opened = lone_sign (codes "(") (inl refl) refl
-
-closed : Worded (codes ")") (Close ∷ [])
-closed = as_worded (codes ")") (Close ∷ []) (lone_sign (codes ")") (inr (inl refl)) refl)
-
 arguments_fit : (ts : List Operand) → Fits (operands_text (codes ", ") ts ++ codes ")")
 arguments_fit [] = refl
 arguments_fit (t ∷ ts) = refl
 
--- a relation or view has an argument or more
-pub worded_member : (n : List ℕ) (ts : List Operand) → 1 ≤ length ts
-    → AtomHasWords IsName IsName IsText (member n ts) → ArePlainOperands ts → is_long_atom (member n ts) ≡ false
-    → IsWordedAtom (member_text n ts) (member n (map restored_operand ts))
-worded_member n [] some words plain short = absurd (omega (arith, some))
-worded_member n (t ∷ ts) some words plain short =
+worded_by : (m : Named) (ts : List Operand) → 1 ≤ length ts → IsName (word_of m) → HaveWords IsName IsText ts → ArePlainOperands ts → is_long_atom (member (name_of m) ts) ≡ false
+    → IsWordedAtom (member_text (name_of m) ts) (member (name_of m) (map restored_operand ts))
+worded_by m [] some named words plain short = absurd (omega (arith, some))
+worded_by m (t ∷ ts) some named words plain short =
+    let n = name_of m in
     let both = or_parts (is_long_argument t) (list_any is_long_argument ts) short in
-    let x = operand_worded t words.1.0 plain.0 both.0 in
-    let xs = arguments_worded ts words.1.1 plain.1 both.1 in
+    let x = operand_worded t words.0 plain.0 both.0 in
+    let xs = arguments_worded ts words.1 plain.1 both.1 in
     let more = operands_text (codes ", ") ts in
     let inner : Worded (operand_text t ++ (more ++ codes ")")) (spell_side x.side ++ (spell_rest spell_side xs.sides ++ Close ∷ [])) =
     then_fitting (operand_text t) (more ++ codes ")") (spell_side x.side) (spell_rest spell_side xs.sides ++ Close ∷ []) x.worded (arguments_fit ts)
-    (then_fitting more (codes ")") (spell_rest spell_side xs.sides) (Close ∷ []) xs.worded refl closed) in
+    (then_fitting more (codes ")") (spell_rest spell_side xs.sides) (Close ∷ []) xs.worded refl closing) in
     record {
-      spelled = belongs n x.side xs.sides;
-      worded = subst (λ (b : List ℕ). Worded (n ++ (codes "(" ++ b)) (Name n ∷ Open ∷ spell_side x.side ++ (spell_rest spell_side xs.sides ++ Close ∷ []))) (sym (append_assoc (operand_text t) more (codes ")")))
-          (then_fitting n (codes "(" ++ (operand_text t ++ (more ++ codes ")"))) (Name n ∷ []) (Open ∷ spell_side x.side ++ (spell_rest spell_side xs.sides ++ Close ∷ [])) (name n words.0) refl
+      spelled = belongs m x.side xs.sides;
+      worded = subst (λ (b : List ℕ). Worded (n ++ (codes "(" ++ b)) (spell_named m ++ (Open ∷ spell_side x.side ++ (spell_rest spell_side xs.sides ++ Close ∷ [])))) (sym (append_assoc (operand_text t) more (codes ")")))
+          (then_fitting n (codes "(" ++ (operand_text t ++ (more ++ codes ")"))) (spell_named m) (Open ∷ spell_side x.side ++ (spell_rest spell_side xs.sides ++ Close ∷ [])) (named_worded m named) refl
           (then_any Fits (codes "(") (operand_text t ++ (more ++ codes ")")) (Open ∷ []) (spell_side x.side ++ (spell_rest spell_side xs.sides ++ Close ∷ [])) opened inner));
       means = ap₂ (λ (o : Operand) (os : List Operand). atom (member n (o ∷ os))) x.means xs.means;
       unmarked = or_from (is_marked (argument marked x.side)) (list_any is_marked (map (argument marked) xs.sides)) x.unmarked xs.unmarked;
     }
 
+-- a relation or view has an argument or more
+pub worded_member : (n : List ℕ) (ts : List Operand) → 1 ≤ length ts
+    → AtomHasWords IsName IsMember IsText (member n ts) → ArePlainOperands ts → is_long_atom (member n ts) ≡ false
+    → IsWordedAtom (member_text n ts) (member n (map restored_operand ts))
+worded_member n ts some words plain short =
+    subst (λ (m : List ℕ). IsWordedAtom (member_text m ts) (member m (map restored_operand ts))) (sym words.0.is)
+    (worded_by words.0.named ts some words.0.word words.1 plain (subst (λ (m : List ℕ). is_long_atom (member m ts) ≡ false) words.0.is short))
+
 -- ---- atoms of tuples
 
-theme_worded : (names : Names) (a : ThemeAtom) → AtomHasWords IsName IsName IsText (theme_compare names a) → IsWordedComparison (theme_text names a) (theme_compare names a)
+theme_worded : (names : Names) (a : ThemeAtom) → AtomHasWords IsName IsMember IsText (theme_compare names a) → IsWordedComparison (theme_text names a) (theme_compare names a)
 theme_worded names (EqText s t) words = whole_comparison (names s) _ Equal (Single (names s)) (Quoted t) (name_side (names s) words.0) (text_side t words.1)
 theme_worded names (NeText s t) words = whole_comparison (names s) _ NotEqual (Single (names s)) (Quoted t) (name_side (names s) words.0) (text_side t words.1)
 theme_worded names (EqSlot s t) words = whole_comparison (names s) (names t) Equal (Single (names s)) (Single (names t)) (name_side (names s) words.0) (name_side (names t) words.1)
 theme_worded names (NeSlot s t) words = whole_comparison (names s) (names t) NotEqual (Single (names s)) (Single (names t)) (name_side (names s) words.0) (name_side (names t) words.1)
 
 tuple_row_worded : (names : Names) (op : RowOp) (m : ℤ) (cs : List (Slot × ℤ)) → AllNonzero cs → IsNormalRow (row cs m op)
-    → AtomHasWords IsName IsName IsText (tuple_compare names (First (row cs m op))) → IsPlainAtom (tuple_compare names (First (row cs m op))) → is_long_atom (tuple_compare names (First (row cs m op))) ≡ false
+    → AtomHasWords IsName IsMember IsText (tuple_compare names (First (row cs m op))) → IsPlainAtom (tuple_compare names (First (row cs m op))) → is_long_atom (tuple_compare names (First (row cs m op))) ≡ false
     → IsWordedComparison (row_with_text names cs op m) (tuple_compare names (First (row cs m op)))
 tuple_row_worded names op m [] some normal words plain short = constant_worded false
 tuple_row_worded names op m (c ∷ cs) some normal words plain short = own_worded names op m c cs some normal words plain short
 
 pub worded_tuple_atom : (names : Names) (a : Atom) → IsNormalAtom a
-    → AtomHasWords IsName IsName IsText (tuple_compare names a) → IsPlainAtom (tuple_compare names a) → is_long_atom (tuple_compare names a) ≡ false
+    → AtomHasWords IsName IsMember IsText (tuple_compare names a) → IsPlainAtom (tuple_compare names a) → is_long_atom (tuple_compare names a) ≡ false
     → IsWordedComparison (atom_text names a) (tuple_compare names a)
 worded_tuple_atom names (First r) normal words plain short = tuple_row_worded names r.op r.constant r.coefs (coefs_some r.coefs normal.0) normal.1 words plain short
 worded_tuple_atom names (Second a) normal words plain short = theme_worded names a words

@@ -23,7 +23,7 @@ pub mod ViewsHeading
 pub mod Worded
 pub mod WordedAtoms
 pub mod WordsOperands
-pub mod WordsPasses
 pub mod WordsRead
 pub mod WordsSymbols
 pub mod WordsTrees
+pub mod MemberWords

@@ -30,12 +30,12 @@ use Rattle.ded_syntax.specs.Spelling.{IsHeader}
 use Rattle.ded_restored.specs.Formulas.{tuple_compare, tuple_compares, restored_tuple}
 use Rattle.ded_restored.specs.Words.{Passes, AtomHasWords, HasTexts, TupleHasTexts, AreNamed}
 use Rattle.ded_wording.specs.Lines.{header_text, relation_text, insert_text, IsLine}
-use Rattle.ded_wording.specs.Words.{IsName, IsText, IsHeading}
+use Rattle.ded_wording.specs.Words.{IsName, IsMember, IsText, IsHeading}
 use Rattle.ded_wording.proofs.TerminalsWords.{spaced}
 use Rattle.ded_wording.proofs.Tuples.{AreMeant, spell_braces, tuple_worded}
 use Rattle.ded_wording.proofs.ViewsAccepted.{is_read}
 use Rattle.ded_wording.proofs.ViewsHeading.{worded_heading}
-use Rattle.ded_wording.proofs.WordsPasses.{is_name, is_text, by_text, passes_named, written_passes}
+use Rattle.ded_restored.proofs.Tuples.{tuple_words}
 use Rattle.ded_wording.proofs.Worded.{Worded, Fits, then_any, then_fitting, as_worded, blank, name, word, number, each_of, line_lexemes, line_whole}
 
 -- ---- the header
@@ -98,30 +98,12 @@ insert_by n t [] fs named w m short =
 insert_by n t (c ∷ cs) fs named w m short =
     plain_line (codes "insert " ++ (n ++ (codes " " ++ t))) (inserts n c cs) (insert n fs) (insert_worded n t (c ∷ cs) named w) (ap (insert n) (sym m.means)) (ap (insert n) (sym m.marking)) m.unmarked short
 
--- ---- words by functions
-
-passes_text : (a : Atom) → HasTexts IsText a → HasTexts (Passes is_text) a
-passes_text (First r) h = tt
-passes_text (Second (EqText s t)) h = by_text t h
-passes_text (Second (NeText s t)) h = by_text t h
-passes_text (Second (EqSlot s t)) h = tt
-passes_text (Second (NeSlot s t)) h = tt
-
-passes_texts : (t : List Atom) → TupleHasTexts IsText t → TupleHasTexts (Passes is_text) t
-passes_texts [] h = tt
-passes_texts (a ∷ t) h = (passes_text a h.0, passes_texts t h.1)
-
-words_back : (names : Names) (t : List Atom) → AllAtomsOf (AtomHasWords (Passes is_name) (Passes is_name) (Passes is_text)) (tuple_compares names t) → AllAtomsOf (AtomHasWords IsName IsName IsText) (tuple_compares names t)
-words_back names [] h = tt
-words_back names (a ∷ t) h = (written_passes (atom (tuple_compare names a)) h.0, words_back names t h.1)
-
 -- where these hold of what is read back
-pub insert_line : ((N M T : List ℕ → Bool) (h : List Column) (t : List Atom) → has_twice h ≡ false → IsTupleOver h t → AreNamed (Passes N) h → TupleHasTexts (Passes T) t → AllAtomsOf (AtomHasWords (Passes N) (Passes M) (Passes T)) (restored_tuple h t))
-    → ((h : List Column) (t : List Atom) → has_twice h ≡ false → IsTupleOver h t → AllAtomsOf IsPlainAtom (restored_tuple h t))
+pub insert_line : ((h : List Column) (t : List Atom) → has_twice h ≡ false → IsTupleOver h t → AllAtomsOf IsPlainAtom (restored_tuple h t))
     → ((h : List Column) (t : List Atom) → has_twice h ≡ false → IsTupleOver h t → tuple_length t ≤ 63 → some_atom_of is_long_atom (restored_tuple h t) ≡ false)
     → (n : List ℕ) (h : List Column) (t : List Atom) → IsName n → IsHeading h → has_twice h ≡ false → IsTupleOver h t → tuple_length t ≤ 63 → TupleHasTexts IsText t
     → IsLine (insert_text n h t) (insert n (restored_tuple h t))
-insert_line written plain short n h t named headed once over few texts =
+insert_line plain short n h t named headed once over few texts =
     let low = short h t once over few in
-    let w = tuple_worded (column_names h) t over.normal (words_back (column_names h) t (written is_name is_name is_text h t once over (passes_named h headed.named) (passes_texts t texts))) (plain h t once over) low in
+    let w = tuple_worded (column_names h) t over.normal (tuple_words h once IsName IsMember IsText t headed.named texts over) (plain h t once over) low in
     insert_by n (tuple_text (column_names h) t) w.comparisons (restored_tuple h t) named w.worded w.meant low

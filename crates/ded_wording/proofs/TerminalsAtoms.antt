@@ -20,7 +20,7 @@ use Rattle.ded_grammar.specs.Trees.{leaf, spell}
 use Rattle.ded_syntax.specs.Literals.{exact, marked}
 use Rattle.ded_syntax.specs.Marks.{is_marked, is_marked_atom}
 use Rattle.ded_syntax.specs.Operands.{Side, text}
-use Rattle.ded_syntax.specs.Atoms.{argument, Atom, truth, relates, belongs, spell_atom, atom_form}
+use Rattle.ded_syntax.specs.Atoms.{argument, name_of, Atom, truth, relates, belongs, spell_atom, atom_form}
 use Rattle.ded_syntax.proofs.Marked.{comparison_exact}
 use Rattle.ded_print.specs.Plans.{key_text}
 use Rattle.ded_print.specs.Tuples.{Names, column_names}
@@ -31,7 +31,7 @@ use Rattle.ded_restored.specs.Formulas.{restored_atom, restored_by, restored_eac
 use Rattle.ded_restored.specs.Operands.{restored_compare}
 use Rattle.ded_restored.proofs.Below.{AllIn, AllInOf, each_fails, both_atoms, IsFine, fine_over}
 use Rattle.ded_restored.specs.Words.{AtomHasWords, IsNamed, IsChain, IsWritten, AreWritten}
-use Rattle.ded_wording.specs.Words.{IsName, IsText}
+use Rattle.ded_wording.specs.Words.{IsName, IsMember, IsText}
 use Rattle.ded_wording.proofs.WordedAtoms.{IsWordedAtom, as_atom}
 use Rattle.ded_wording.proofs.Worded.{Fits}
 use Rattle.ded_wording.proofs.Atoms.{IsGoalOf, worded_compare, worded_member}
@@ -60,7 +60,7 @@ pub atom_exact : (a : Atom) → some_atom is_marked_atom (atom_form marked a) �
 atom_exact (truth true) free = refl
 atom_exact (truth false) free = refl
 atom_exact (relates c) free = comparison_exact c free
-atom_exact (belongs n s ss) free = ap (λ (ts : List Operand). atom (member n ts)) (arguments_exact (s ∷ ss) free)
+atom_exact (belongs m s ss) free = ap (λ (ts : List Operand). atom (member (name_of m) ts)) (arguments_exact (s ∷ ss) free)
 
 say_atom : (t : List ℕ) (a : FormAtom) → IsWordedAtom t a → Says t (leaf (atom a) ∷ [])
 say_atom t a w =
@@ -76,7 +76,7 @@ HasArguments (compare l op r) = Unit {0}
 HasArguments (member n ts) = 1 ≤ length ts
 
 abbrev HasFitWords : FormAtom → Type 0
-HasFitWords = AtomHasWords IsName IsName IsText
+HasFitWords = AtomHasWords IsName IsMember IsText
 
 abbrev pub IsFit : Names → FormAtom → GoalForm → Type 0
 IsFit names (compare l op r) g =
@@ -112,9 +112,9 @@ module _ (names : Names) (K : KnownNames) where
   -- what is known of a formula that was read, below a scope, and of what is read back of it
   record IsReady (scope : SlotScope) (n : ℕ) (f : Form) (r : Form) : Type 0 where
     fine : AreFine scope n f
-    written : IsWritten IsName IsName IsText f
+    written : IsWritten IsName IsMember IsText f
     arguments : AllAtoms HasArguments f
-    still_written : IsWritten IsName IsName IsText r
+    still_written : IsWritten IsName IsMember IsText r
     still_plain : IsPlain r
     still_short : some_atom is_long_atom r ≡ false
 
@@ -157,7 +157,7 @@ module _ (names : Names) (K : KnownNames) where
     paired (forall s x f) scope n k =
         (word_of x k.written.0, paired f ((x, record { number = n; sort = s }) ∷ scope) (n + 1) (record { fine = k.fine; written = k.written.1; arguments = k.arguments; still_written = k.still_written.1; still_plain = k.still_plain; still_short = k.still_short }))
 
-    each_paired : (fs : Logics FormAtom) (scope : SlotScope) (n : ℕ) → EachFine scope n fs → AreWritten IsName IsName IsText fs → AllAtomsOf HasArguments fs → AreWritten IsName IsName IsText (restored_each names fs (goals_below scope n fs))
+    each_paired : (fs : Logics FormAtom) (scope : SlotScope) (n : ℕ) → EachFine scope n fs → AreWritten IsName IsMember IsText fs → AllAtomsOf HasArguments fs → AreWritten IsName IsMember IsText (restored_each names fs (goals_below scope n fs))
         → AllAtomsOf IsPlainAtom (restored_each names fs (goals_below scope n fs)) → some_atom_of is_long_atom (restored_each names fs (goals_below scope n fs)) ≡ false → EachPaired (IsFit names) fs (goals_below scope n fs)
     each_paired none scope n d w a rw rp rs = tt
     each_paired (also f fs) scope n d w a rw rp rs =
@@ -196,11 +196,11 @@ module _ (names : Names) (K : KnownNames) where
 -- what is asked of a formula over a heading, and of what is read back of it
 pub record IsReadable (K : KnownNames) (h : List Column) (f : Form) : Type 0 where
   pub accepted : IsAccepted K h f
-  pub written : IsWritten IsName IsName IsText f
+  pub written : IsWritten IsName IsMember IsText f
   pub plain : IsPlain f
   pub short : some_atom is_long_atom f ≡ false
   pub arguments : AllAtoms HasArguments f
-  pub still_written : IsWritten IsName IsName IsText (restored h f)
+  pub still_written : IsWritten IsName IsMember IsText (restored h f)
   pub still_plain : IsPlain (restored h f)
   pub still_short : some_atom is_long_atom (restored h f) ≡ false
 

@@ -16,7 +16,7 @@ use Rattle.ded_syntax.specs.Marks.{is_marked_atom}
 use Rattle.ded_syntax.proofs.Marked.{comparison_exact}
 use Rattle.ded_restored.specs.Formulas.{tuple_compare, tuple_compares}
 use Rattle.ded_restored.specs.Words.{AtomHasWords}
-use Rattle.ded_wording.specs.Words.{IsName, IsText}
+use Rattle.ded_wording.specs.Words.{IsName, IsMember, IsText}
 use Rattle.ded_wording.proofs.Atoms.{worded_tuple_atom}
 use Rattle.ded_wording.proofs.WordedAtoms.{IsWordedComparison}
 use Rattle.ded_wording.proofs.Worded.{Worded, Loose, Fits, Any, then_any, then_fitting, as_worded, nothing, blank, lone_sign}
@@ -72,7 +72,7 @@ fits_end : (names : Names) (atoms : List Atom) → Fits (later_atoms_text names 
 fits_end names [] = refl
 fits_end names (a ∷ atoms) = refl
 
-atoms_worded : (names : Names) (atoms : List Atom) → IsNormalTuple atoms → AllAtomsOf (AtomHasWords IsName IsName IsText) (tuple_compares names atoms) → AllAtomsOf IsPlainAtom (tuple_compares names atoms)
+atoms_worded : (names : Names) (atoms : List Atom) → IsNormalTuple atoms → AllAtomsOf (AtomHasWords IsName IsMember IsText) (tuple_compares names atoms) → AllAtomsOf IsPlainAtom (tuple_compares names atoms)
     → some_atom_of is_long_atom (tuple_compares names atoms) ≡ false → AreWordedAtoms (later_atoms_text names atoms) (tuple_compares names atoms)
 atoms_worded names [] normal words plain short = record { comparisons = []; worded = nothing Fits; meant = none_meant }
 atoms_worded names (a ∷ atoms) normal words plain short =
@@ -98,7 +98,7 @@ pub record IsWordedTuple (bytes : List ℕ) (fs : Logics FormAtom) : Type 0 wher
   pub worded : Worded bytes (spell_braces comparisons)
   pub meant : AreMeant comparisons fs
 
-pub tuple_worded : (names : Names) (atoms : List Atom) → IsNormalTuple atoms → AllAtomsOf (AtomHasWords IsName IsName IsText) (tuple_compares names atoms) → AllAtomsOf IsPlainAtom (tuple_compares names atoms)
+pub tuple_worded : (names : Names) (atoms : List Atom) → IsNormalTuple atoms → AllAtomsOf (AtomHasWords IsName IsMember IsText) (tuple_compares names atoms) → AllAtomsOf IsPlainAtom (tuple_compares names atoms)
     → some_atom_of is_long_atom (tuple_compares names atoms) ≡ false → IsWordedTuple (tuple_text names atoms) (tuple_compares names atoms)
 tuple_worded names [] normal words plain short = record { comparisons = []; worded = then_any Fits (codes "{ ") (codes "}") (OpenBrace ∷ []) (CloseBrace ∷ []) opened closed; meant = none_meant }
 tuple_worded names (a ∷ atoms) normal words plain short =

@@ -20,16 +20,15 @@ use Rattle.ded_syntax.specs.Spelling.{IsRead}
 use Rattle.ded_syntax.proofs.PlainSums.{spelled_plain}
 use Rattle.ded_dump.specs.Formulas.{formula_text}
 use Rattle.ded_restored.specs.Formulas.{restored}
-use Rattle.ded_restored.specs.Words.{Passes, IsWritten, AreNamed}
+use Rattle.ded_restored.proofs.Accepted.{written_restored}
 use Rattle.ded_wording.specs.Lines.{view_text, IsLine}
-use Rattle.ded_wording.specs.Words.{IsName, IsText, IsHeading}
+use Rattle.ded_wording.specs.Words.{IsName, IsMember, IsText, IsHeading}
 use Rattle.ded_wording.proofs.Worded.{line_lexemes, line_whole}
 use Rattle.ded_wording.proofs.Trees.{printed, printed_means}
 use Rattle.ded_wording.proofs.NestingRestored.{view_formula, restored_low}
 use Rattle.ded_wording.proofs.TerminalsAtoms.{HasArguments, IsReadable, formula_said, formula_unmarked}
 use Rattle.ded_wording.proofs.ViewsAccepted.{is_read}
 use Rattle.ded_wording.proofs.ViewsHeading.{IsWordedHeading, worded_heading, view_worded}
-use Rattle.ded_wording.proofs.WordsPasses.{is_name, is_text, passes_named, passes_written, written_passes}
 use Rattle.ded_wording.proofs.WordsRead.{views_good}
 
 -- ---- what was read
@@ -86,7 +85,7 @@ line_by K language bytes n h f r ready named headed =
     let k = worded_heading h headed in
     let s = formula_said K h f ready in
     let w = view_worded n h (formula_text h f) s.symbols named k s.worded in
-    let means = printed_means IsName IsName IsText back ready.still_written in
+    let means = printed_means IsName IsMember IsText back ready.still_written in
     let spelled = λ (value : Reader) (are : AreTerminals value s.symbols (spell (printed back))).
     subst (λ (ts : List Symbol). SpellsCommand value ts (view n h back) (nesting (printed back))) (sym w.symbols_are) (spelled_view value n h k back s.symbols are means) in
     record {
@@ -97,11 +96,10 @@ line_by K language bytes n h f r ready named headed =
     }
 
 -- where these hold of what is read back
-pub view_line : ((N M T : List ℕ → Bool) (K : KnownNames) (h : List Column) (f : Form) → IsAccepted K h f → AreNamed (Passes N) h → IsWritten (Passes N) (Passes M) (Passes T) f → IsWritten (Passes N) (Passes M) (Passes T) (restored h f))
-    → ((K : KnownNames) (h : List Column) (f : Form) → IsAccepted K h f → IsPlain f → IsPlain (restored h f))
+pub view_line : ((K : KnownNames) (h : List Column) (f : Form) → IsAccepted K h f → IsPlain f → IsPlain (restored h f))
     → ((K : KnownNames) (h : List Column) (f : Form) → IsAccepted K h f → IsPlain f → some_atom is_long_atom f ≡ false → some_atom is_long_atom (restored h f) ≡ false)
     → (K : KnownNames) (language : Language) (bytes n : List ℕ) (h : List Column) (f : Form) → IsRead language bytes (view n h f) → IsAccepted K h f → IsLine (view_text n h f) (view n h (restored h f))
-view_line written plain short K language bytes n h f r a =
+view_line plain short K language bytes n h f r a =
     let good = views_good language bytes n h f r in
     let is_plain : IsPlain f = spelled_plain language bytes (view n h f) r.depth r.spells in
     let is_short = view_short language bytes n h f r in
@@ -112,7 +110,7 @@ view_line written plain short K language bytes n h f r a =
       plain = is_plain;
       short = is_short;
       arguments = view_arguments exact (map (symbol language) r.spells.lexemes) n h f r.depth r.spells.command;
-      still_written = written_passes (restored h f) (written is_name is_name is_text K h f a (passes_named h good.1.named) (passes_written f good.2));
+      still_written = written_restored K h f a IsName IsMember IsText good.2;
       still_plain = plain K h f a is_plain;
       still_short = short K h f a is_plain is_short;
     })

@@ -1,15 +1,15 @@
 -- The names and texts of operands and atoms that are spelled.
-use Rattle.std.proofs.Common.{ℕ, Bool, true, false, List, [], ◌∷◌, ◌++◌, map, bytes_eq}
+use Rattle.std.proofs.Common.{refl, ℕ, Bool, true, false, List, [], ◌∷◌, ◌++◌, map, bytes_eq}
 use Rattle.std.specs.Prelude.{ℤ, ◌+ℤ◌, Option, Some, None, if◌then◌else◌}
 use Rattle.std.specs.List.{AllByRecursion}
 use Rattle.ded_model.proofs.Lists.{Every, every-append, every-left, every-right}
 use Rattle.ded_model.specs.Logic.{AllAtomsOf, logics}
-use Rattle.ded_syntax.specs.Symbols.{Symbol, Name, Times, Close, Relation}
+use Rattle.ded_syntax.specs.Symbols.{Symbol, Name, Times, Open, Close, Relation}
 use Rattle.ded_syntax.specs.Literals.{Literal, Reader, spell_scalar}
 use Rattle.ded_syntax.specs.Operands.{Product, scaled, constant, lone, Side, text, sum, spell_product, spell_more, spell_side, factor, Part, add_factor, add_all, Reading, quoted, named, parts, as_reading, single, reading_of, Sums, signed, put, put_at, no_sums, total_from, operand_over}
-use Rattle.ded_syntax.specs.Atoms.{spell_rest, Comparison, spell_comparison, comparison_form, argument, Atom, truth, relates, belongs, spell_atom, atom_form}
+use Rattle.ded_syntax.specs.Atoms.{spell_rest, Comparison, spell_comparison, comparison_form, argument, Named, plain, closed, inner, spell_named, name_of, Atom, truth, relates, belongs, spell_atom, atom_form}
 use Rattle.ded_restored.specs.Words.{HasWords, HaveWords, AtomHasWords, IsWritten}
-use Rattle.ded_wording.specs.Words.{IsName, IsText}
+use Rattle.ded_wording.specs.Words.{IsName, IsMember, IsText}
 use Rattle.ded_wording.proofs.WordsSymbols.{IsGoodSymbol}
 
 abbrev pub AreGood : List Symbol → Type 0
@@ -100,24 +100,29 @@ arguments_good value [] h = tt
 arguments_good value (s ∷ ss) h =
     (argument_good value s (every-left IsGoodSymbol (spell_side s) (spell_rest spell_side ss) h.1), arguments_good value ss (every-right IsGoodSymbol (spell_side s) (spell_rest spell_side ss) h.1))
 
-comparison_good : (value : Reader) (c : Comparison) → AreGood (spell_comparison c) → IsWritten IsName IsName IsText (comparison_form value c)
+comparison_good : (value : Reader) (c : Comparison) → AreGood (spell_comparison c) → IsWritten IsName IsMember IsText (comparison_form value c)
 comparison_good value c h =
     (operand_good value _ (reading_of value.number c.left) (reading_good value.number c.left (every-left IsGoodSymbol (spell_side c.left) (Relation c.op ∷ spell_side c.right) h)), operand_good value _ (reading_of value.number c.right) (reading_good value.number c.right ((every-right IsGoodSymbol (spell_side c.left) (Relation c.op ∷ spell_side c.right) h).1)))
 
-comparisons_good : (value : Reader) (cs : List Comparison) → AreGood (spell_rest spell_comparison cs) → AllAtomsOf (AtomHasWords IsName IsName IsText) (logics (map (comparison_form value) cs))
+comparisons_good : (value : Reader) (cs : List Comparison) → AreGood (spell_rest spell_comparison cs) → AllAtomsOf (AtomHasWords IsName IsMember IsText) (logics (map (comparison_form value) cs))
 comparisons_good value [] h = tt
 comparisons_good value (c ∷ cs) h =
     (comparison_good value c (every-left IsGoodSymbol (spell_comparison c) (spell_rest spell_comparison cs) h.1), comparisons_good value cs (every-right IsGoodSymbol (spell_comparison c) (spell_rest spell_comparison cs) h.1))
 
 -- a comparison and those behind it
-pub inserted_good : (value : Reader) (c : Comparison) (cs : List Comparison) (after : List Symbol) → AreGood (spell_comparison c ++ (spell_rest spell_comparison cs ++ after)) → AllAtomsOf (AtomHasWords IsName IsName IsText) (logics (comparison_form value c ∷ map (comparison_form value) cs))
+pub inserted_good : (value : Reader) (c : Comparison) (cs : List Comparison) (after : List Symbol) → AreGood (spell_comparison c ++ (spell_rest spell_comparison cs ++ after)) → AllAtomsOf (AtomHasWords IsName IsMember IsText) (logics (comparison_form value c ∷ map (comparison_form value) cs))
 inserted_good value c cs after h =
     (comparison_good value c (every-left IsGoodSymbol (spell_comparison c) (spell_rest spell_comparison cs ++ after) h), comparisons_good value cs (every-left IsGoodSymbol (spell_rest spell_comparison cs) after (every-right IsGoodSymbol (spell_comparison c) (spell_rest spell_comparison cs ++ after) h)))
 
-pub atom_good : (value : Reader) (a : Atom) → AreGood (spell_atom a) → IsWritten IsName IsName IsText (atom_form value a)
+named_good : (m : Named) → AreGood (spell_named m) → IsMember (name_of m)
+named_good (plain n) h = record { named = plain n; is = refl; word = h.0 }
+named_good (closed n) h = record { named = closed n; is = refl; word = h.1.1.0 }
+named_good (inner n) h = record { named = inner n; is = refl; word = h.1.1.0 }
+
+pub atom_good : (value : Reader) (a : Atom) → AreGood (spell_atom a) → IsWritten IsName IsMember IsText (atom_form value a)
 atom_good value (truth true) h = tt
 atom_good value (truth false) h = tt
 atom_good value (relates c) h = comparison_good value c h
-atom_good value (belongs n s ss) h =
-    let rest = h.1.1 in
-    (h.0, (argument_good value s (every-left IsGoodSymbol (spell_side s) (spell_rest spell_side ss ++ Close ∷ []) rest), arguments_good value ss (every-left IsGoodSymbol (spell_rest spell_side ss) (Close ∷ []) (every-right IsGoodSymbol (spell_side s) (spell_rest spell_side ss ++ Close ∷ []) rest))))
+atom_good value (belongs m s ss) h =
+    let rest = (every-right IsGoodSymbol (spell_named m) (Open ∷ spell_side s ++ (spell_rest spell_side ss ++ Close ∷ [])) h).1 in
+    (named_good m (every-left IsGoodSymbol (spell_named m) (Open ∷ spell_side s ++ (spell_rest spell_side ss ++ Close ∷ [])) h), (argument_good value s (every-left IsGoodSymbol (spell_side s) (spell_rest spell_side ss ++ Close ∷ []) rest), arguments_good value ss (every-left IsGoodSymbol (spell_rest spell_side ss) (Close ∷ []) (every-right IsGoodSymbol (spell_side s) (spell_rest spell_side ss ++ Close ∷ []) rest))))

@@ -15,7 +15,7 @@ use Rattle.ded_syntax.specs.Atoms.{spell_rest, spell_column, sort_symbols}
 use Rattle.ded_syntax.specs.Commands.{Columns, spell_heading, heading, Plain, opens, defines, inserts_none, inserts, deletes, drops, keeps, shows, boxes, dumps, spell_plain, plain_form, Prefix, views, asks, queries, explains, spell_prefix, prefix_form, SpellsCommand}
 use Rattle.ded_syntax.specs.Spelling.{IsRead, is_long_word}
 use Rattle.ded_restored.specs.Words.{AreNamed, AtomHasWords}
-use Rattle.ded_wording.specs.Words.{IsName, IsText, IsHeading}
+use Rattle.ded_wording.specs.Words.{IsName, IsMember, IsText, IsHeading}
 use Rattle.ded_wording.proofs.WordsSymbols.{IsGoodSymbol, symbols_good}
 use Rattle.ded_wording.proofs.WordsOperands.{AreGood, inserted_good}
 use Rattle.ded_wording.proofs.WordsTrees.{Written, formula_written}
@@ -37,7 +37,7 @@ heading_good h p =
 
 abbrev IsGoodCommand : CommandForm → Type 0
 IsGoodCommand (relation n h) = IsName n × IsHeading h
-IsGoodCommand (insert n fs) = AllAtomsOf (AtomHasWords IsName IsName IsText) fs
+IsGoodCommand (insert n fs) = AllAtomsOf (AtomHasWords IsName IsMember IsText) fs
 IsGoodCommand (view n h f) = IsName n × IsHeading h × Written f
 IsGoodCommand _ = Unit {0}
 
@@ -84,7 +84,7 @@ read_good language bytes c r =
 pub relations_good : (language : Language) (bytes n : List ℕ) (h : List Column) → IsRead language bytes (relation n h) → IsName n × IsHeading h
 relations_good language bytes n h r = read_good language bytes (relation n h) r
 
-pub inserts_good : (language : Language) (bytes n : List ℕ) (fs : _) → IsRead language bytes (insert n fs) → AllAtomsOf (AtomHasWords IsName IsName IsText) fs
+pub inserts_good : (language : Language) (bytes n : List ℕ) (fs : _) → IsRead language bytes (insert n fs) → AllAtomsOf (AtomHasWords IsName IsMember IsText) fs
 inserts_good language bytes n fs r = read_good language bytes (insert n fs) r
 
 pub views_good : (language : Language) (bytes n : List ℕ) (h : List Column) (f : Form) → IsRead language bytes (view n h f) → IsName n × IsHeading h × Written f

@@ -53,7 +53,9 @@ formula_alike w a b h =
     (reserved w (codes "forall") words.Forall _ _
     (reserved w (codes "true") words.True _ _
     (reserved w (codes "false") words.False _ _
-    (reserved w (codes "text") words.Text _ _ h))))))))
+    (reserved w (codes "closure") words.Closure _ _
+    (reserved w (codes "interior") words.Interior _ _
+    (reserved w (codes "text") words.Text _ _ h))))))))))
 
 command_alike : (w : List ℕ) (a b : Symbol) → IsAlike w a b → IsAlike w (command_word a w) (command_word b w)
 command_alike w a b h =

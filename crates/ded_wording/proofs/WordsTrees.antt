@@ -11,15 +11,15 @@ use Rattle.ded_syntax.specs.Symbols.{Symbol}
 use Rattle.ded_syntax.specs.Literals.{Reader}
 use Rattle.ded_syntax.specs.Atoms.{IsTerminal, AreTerminals, SpellsFormula}
 use Rattle.ded_restored.specs.Words.{IsWritten, AreWritten}
-use Rattle.ded_wording.specs.Words.{IsName, IsText}
+use Rattle.ded_wording.specs.Words.{IsName, IsMember, IsText}
 use Rattle.ded_wording.proofs.WordsSymbols.{IsGoodSymbol}
 use Rattle.ded_wording.proofs.WordsOperands.{AreGood, atom_good}
 
 abbrev pub Written : Form → Type 0
-Written f = IsWritten IsName IsName IsText f
+Written f = IsWritten IsName IsMember IsText f
 
 abbrev WrittenEach : List Form → Type 0
-WrittenEach fs = AreWritten IsName IsName IsText (logics fs)
+WrittenEach fs = AreWritten IsName IsMember IsText (logics fs)
 
 abbrev IsWrittenTerminal : TerminalForm → Type 0
 IsWrittenTerminal (binder q c) = IsName c.name

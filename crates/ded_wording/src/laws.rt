@@ -13,15 +13,15 @@ ghost use Rattle.ded_syntax.specs.Spelling.{IsHeader, IsRead};
 ghost use Rattle.ded_restored.specs.Formulas.{restored, restored_tuple};
 ghost use Rattle.ded_restored.specs.Words.{IsWritten, AtomHasWords, TupleHasTexts};
 ghost use Rattle.ded_wording.specs.Lines.{header_text, relation_text, insert_text, view_text, IsLine};
-ghost use Rattle.ded_wording.specs.Words.{IsName, IsText, IsHeading};
+ghost use Rattle.ded_wording.specs.Words.{IsName, IsMember, IsText, IsHeading};
 
-/// What is read has names, headings and texts that can be written again.
+/// What is read has names, headings and texts that can be written again; members may be closures and interiors.
 pub fn read_words()
     ensures relations { (language : Language) (bytes n : List ℕ) (h : List Column) → IsRead language bytes (relation n h) → IsName n × IsHeading h }
     ensures inserts { (language : Language) (bytes n : List ℕ) (fs : Logics FormAtom) → IsRead language bytes (insert n fs)
-        → AllAtomsOf (AtomHasWords IsName IsName IsText) fs }
+        → AllAtomsOf (AtomHasWords IsName IsMember IsText) fs }
     ensures views { (language : Language) (bytes n : List ℕ) (h : List Column) (f : Form) → IsRead language bytes (view n h f)
-        → IsName n × IsHeading h × IsWritten IsName IsName IsText f }
+        → IsName n × IsHeading h × IsWritten IsName IsMember IsText f }
 {}
 
 /// The header and each line of a catalogue are read as what was stored.

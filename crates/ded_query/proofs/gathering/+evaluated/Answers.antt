@@ -1,11 +1,12 @@
-use Rattle.std.proofs.Common.{rules, ◌≡◌, ◌≤◌, ◌∙◌, true, is_some, None, Err, List, ℕ, refl, sym, ap, subst}
+use Rattle.std.proofs.Common.{rules, ◌≡◌, ◌≤◌, ◌<◌, ◌+◌, ◌*◌, ◌∙◌, true, false, is_some, None, Err, List, ℕ, refl, sym, ap, subst}
+use Rattle.std.specs.Prelude.{if◌then◌else◌}
 use Rattle.std.specs.List.{AllByRecursion, list_any}
 use Rattle.std.specs.Str.{bytes_eq}
 use Rattle.std.proofs.lemmas.List.{take_all}
 use Rattle.std.proofs.lemmas.Result.{IfOk-weaker, on_ok_weaker, err_from_is_err_and}
 use Rattle.ded_model.specs.declared.memory.Refused.TheVariants.{Wide}
 use Rattle.ded_model.specs.Entries.{known, entry_of, view_in}
-use Rattle.ded_model.specs.Made.{base}
+use Rattle.ded_model.specs.Made.{base, is_made}
 use Rattle.ded_model.specs.Goal.{goal_form}
 use Rattle.ded_model.specs.Known.{level_with}
 use Rattle.ded_model.specs.NormalGoal.{IsNormalGoal}
@@ -15,10 +16,11 @@ use Rattle.ded_catalog.specs.Snapshots.{snapshot_of}
 use Rattle.ded_complement.proofs.Cutting.{all-at}
 use Rattle.ded_eval.specs.Given.{has_name}
 use Rattle.ded_query.specs.Over.{over_relations}
-use Rattle.ded_query.proofs.Entries.{view_goal, view_posed, view_low, view_level, view_clash, no_view}
+use Rattle.ded_query.proofs.Entries.{view_goal, view_posed, view_low, view_level, view_clash, no_view, relation_there}
 use Rattle.ded_query.proofs.Evaluable.{evaluable}
 use Rattle.ded_query.proofs.Evaluations.{evaluated_of, evaluated_part, clash_of_goal}
 use Rattle.ded_query.proofs.Gathered.{gathered_none, gathered_more, front_none, front_more, named_more, posed_scans, posed_known, posed_levels, posed_clash}
+use Rattle.ded_query.proofs.MadeNames.{headed_known, is_other, inner_known, inner_plain, inner_base, inner_clash, lower}
 use Rattle.ded_query.proofs.Standing.{over_right, given_there, stored_there}
 use Rattle.ded_query.proofs.gathering.+evaluated.Goals as goal
 use Rattle.ded_views.proofs.Named.{of_named}
@@ -104,17 +106,11 @@ give-give_view-requires t c =
     let view = view_goal cat c.args.name.now (goal_form c.in-Some.goal.now) c.in-Some.ensures in
     (search rules, (view, (view_low cat c.args.name.now (goal_form c.in-Some.goal.now) c.args.level c.formed.ensures view c.requires.level, c.requires.given)))
 
-pub give-give_relation-requires : goal.give-give_relation-requires
-give-give_relation-requires t c = no_view (view_in (entry_of (snapshot_of c.args.snapshot.now).entries c.args.name.now)) c.in-None.ensures
-
 pub give-returns-then-has-clause-is : goal.give-returns-then-has-clause-is
 give-returns-then-has-clause-is t c = given_there (snapshot_of c.args.snapshot.now) None c.args.given.now c.args.name.now (sym c.has.ensures ∙ c.if-has.true)
 
 pub give-returns-in-Some-clause-is : goal.give-returns-in-Some-clause-is
 give-returns-in-Some-clause-is t c = on_ok_weaker c.give_view.result (given_there (snapshot_of c.args.snapshot.now) None c.give_view.new.given c.args.name.now) c.give_view.ensures.is
-
-pub give-returns-in-None-clause-is : goal.give-returns-in-None-clause-is
-give-returns-in-None-clause-is t c = on_ok_weaker c.give_relation.result (stored_there (snapshot_of c.args.snapshot.now) None c.args.given.now c.args.name.now refl) c.give_relation.ensures.is
 
 -- ---- give_all
 
@@ -184,3 +180,59 @@ give_view-held_view-requires t c = record {
   evaluated = evaluated_part (snapshot_of c.args.snapshot.now) (goal_form c.args.goal.now) c.in_ok-tuples.tuples c.in_ok-reduced.field-0 c.in_ok-tuples.ensures.is c.in_ok-reduced.ensures.holds c.in_ok-reduced.ensures.slots c.in_ok-reduced.ensures.lines;
   normal = c.in_ok-reduced.ensures.normal;
 }
+
+-- ---- give_other
+
+pub give_other-returns-then-is_some-clause-is : goal.give_other-returns-then-is_some-clause-is
+give_other-returns-then-is_some-clause-is t c =
+    let cat = snapshot_of c.args.snapshot.now in
+    let n = c.args.name.now in
+    let there : is_some (known cat n) ≡ true = sym (headed_known (λ h. h.now) c.heading.result (known cat n) c.heading.ensures) ∙ sym c.is_some.ensures ∙ c.if-is_some.true in
+    stored_there cat None c.args.given.now n refl (relation_there cat n there c.requires.view)
+
+pub give_other-give-requires : goal.give_other-give-requires
+give_other-give-requires t c =
+    let cat = snapshot_of c.args.snapshot.now in
+    let n = c.args.name.now in
+    let unknown : is_some (known cat n) ≡ false = sym (headed_known (λ h. h.now) c.heading.result (known cat n) c.heading.ensures) ∙ sym c.is_some.ensures ∙ c.if-is_some.false in
+    let m = c.in_ok-inner.inner in
+    let other = is_other cat c.formed.ensures n m c.in_ok-inner.ensures unknown c.requires.defined in
+    let plain = inner_plain cat c.formed.ensures n m c.in_ok-inner.ensures unknown c.requires.defined in
+    let same = inner_base cat c.formed.ensures n m c.in_ok-inner.ensures unknown c.requires.defined in
+    let below : 8 * c.args.level + (if is_made m then 3 else 1) < 8 * c.args.level + (if is_made n then 2 else 0) = lower c.args.level (is_made m) (is_made n) plain other in (
+      search (rules, below),
+      (
+        subst (λ x. is_some (known cat x) ≡ true) (sym same) c.requires.defined,
+        (
+          subst (λ x. level_with (known cat x) ≤ c.args.level) (sym same) c.requires.level,
+          c.requires.given,
+        ),
+      ),
+    )
+
+pub give_other-returns-in_err-give-clause-wide : goal.give_other-returns-in_err-give-clause-wide
+give_other-returns-in_err-give-clause-wide t c = λ i.
+    let cat = snapshot_of c.args.snapshot.now in
+    let n = c.args.name.now in
+    let p = err_from_is_err_and c.from_residual-in_err-give.result c.from_residual-in_err-give.ensures.1 in
+    let is : c.in_err-give.field-0.0 ≡ Wide = cc (p.1, p.2, i) in
+    let unknown : is_some (known cat n) ≡ false = sym (headed_known (λ h. h.now) c.heading.result (known cat n) c.heading.ensures) ∙ sym c.is_some.ensures ∙ c.if-is_some.false in
+    inner_clash cat c.formed.ensures n c.in_ok-inner.inner c.in_ok-inner.ensures unknown c.requires.defined (c.in_err-give.ensures.wide (ap Err is))
+
+pub give_other-made-requires : goal.give_other-made-requires
+give_other-made-requires t c =
+    let cat = snapshot_of c.args.snapshot.now in
+    let n = c.args.name.now in
+    let unknown : is_some (known cat n) ≡ false = sym (headed_known (λ h. h.now) c.heading.result (known cat n) c.heading.ensures) ∙ sym c.is_some.ensures ∙ c.if-is_some.false in
+    let m = c.in_ok-inner.inner in record {
+      made = is_other cat c.formed.ensures n m c.in_ok-inner.ensures unknown c.requires.defined;
+      inner = c.in_ok-inner.ensures;
+      known = inner_known cat c.formed.ensures n m c.in_ok-inner.ensures unknown c.requires.defined;
+      there = c.in_ok-give.ensures.is;
+      given = c.in_ok-give.ensures.gathered.of;
+    }
+
+pub give_other-returns-clause-is : goal.give_other-returns-clause-is
+give_other-returns-clause-is t c =
+    given_there (snapshot_of c.args.snapshot.now) None c.add.new.given c.args.name.now
+    (subst (λ (x : List ℕ). has_name x c.add.new.given ≡ true) c.in_ok-near.ensures.is.name c.in_ok-add.ensures.is)

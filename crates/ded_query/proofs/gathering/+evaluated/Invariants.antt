@@ -1,5 +1,7 @@
 use Rattle.std.proofs.Common.{◌≡◌, true, ◌+◌, ◌*◌, None, take}
+use Rattle.std.specs.Prelude.{if◌then◌else◌}
 use Rattle.std.specs.List.{AllByRecursion}
+use Rattle.ded_model.specs.Made.{is_made}
 use Rattle.ded_catalog.specs.Snapshots.{snapshot_of}
 use Rattle.ded_eval.specs.Given.{has_name}
 use Rattle.ded_query.specs.Gathering.{IsGathered, IsFront}
@@ -7,19 +9,22 @@ use Rattle.ded_query.specs.Over.{over_relations}
 use Rattle.ded_query.proofs.gathering.+evaluated.Given as goal
 
 abbrev pub decreases-give_view : goal.decreases-give_view
-decreases-give_view l = 5 * l.level
+decreases-give_view l = 8 * l.level
+
+abbrev pub decreases-give_other : goal.decreases-give_other
+decreases-give_other l = 8 * l.level + (if is_made l.name.now then 2 else 0)
 
 abbrev pub decreases-give : goal.decreases-give
-decreases-give l = 5 * l.level + 1
+decreases-give l = 8 * l.level + (if is_made l.name.now then 3 else 1)
 
 abbrev pub decreases-give_all : goal.decreases-give_all
-decreases-give_all l = 5 * l.level + 2
+decreases-give_all l = 8 * l.level + 4
 
 abbrev pub decreases-evaluated_by : goal.decreases-evaluated_by
-decreases-evaluated_by l = 5 * l.level + 3
+decreases-evaluated_by l = 8 * l.level + 5
 
 abbrev pub decreases-evaluated : goal.decreases-evaluated
-decreases-evaluated l = 5 * l.level + 4
+decreases-evaluated l = 8 * l.level + 6
 
 abbrev pub invariant-give_all-loop-name : goal.invariant-give_all-loop-name
 invariant-give_all-loop-name l = IsGathered (snapshot_of l.snapshot) l.fn.given l.given × AllByRecursion (λ n. has_name n (over_relations (snapshot_of l.snapshot) None l.given) ≡ true) (take l.name-index l.names) × IsFront l.fn.given l.given

@@ -12,7 +12,7 @@ pub returns-clause-relations : goal.returns-clause-relations
 returns-clause-relations c = relation_line
 
 pub returns-clause-inserts : goal.returns-clause-inserts
-returns-clause-inserts c = insert_line c.read_tuples.ensures.written c.read_tuples.ensures.plain c.read_tuples.ensures.short
+returns-clause-inserts c = insert_line c.read_tuples.ensures.plain c.read_tuples.ensures.short
 
 pub returns-clause-views : goal.returns-clause-views
-returns-clause-views c = view_line c.read_formulas.ensures.written c.read_formulas.ensures.plain c.read_formulas.ensures.short
+returns-clause-views c = view_line c.read_formulas.ensures.plain c.read_formulas.ensures.short

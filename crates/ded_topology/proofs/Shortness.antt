@@ -1,0 +1,100 @@
+-- Normal atoms have no more digits than their lines.
+--
+-- The line of a normal row is the row divided by 1 or -1.
+use Rattle.std.proofs.Common.{◌≡◌, ◌≢◌, ℕ, zero, suc, ◌*◌, ◌^◌, ◌<◌, ◌≤◌, Bool, true, false, List, [], ◌∷◌, map, inl, arith, refl, sym, ap, ◌∙◌, subst}
+use Rattle.std.specs.Prelude.{ℤ, pos, ◌*ℤ◌, int_div, unsigned_abs}
+use Rattle.std.specs.List.{AllByRecursion}
+use Rattle.std.proofs.lemmas.Int.{unsigned_abs-mul}
+use Rattle.ded_num.specs.Length.{IsWithin, length_of}
+use Rattle.ded_num.proofs.Lengths.{length_of-le, length_of_zero}
+use Rattle.ded_model.specs.declared.row.RowOp.{RowOp}
+use Rattle.ded_model.specs.declared.row.RowOp.TheVariants.{Zero}
+use Rattle.ded_model.specs.declared.slot.Slot.{Slot}
+use Rattle.ded_model.specs.declared.tuple.BothAtom.TheVariants.{First, Second}
+use Rattle.ded_model.specs.Coefs.{AllAbove, AreCoefs, coef_at}
+use Rattle.ded_model.specs.Constraint.{LinearConstraint}
+use Rattle.ded_model.specs.Lines.{AreWithin, line_with, row_lines, atoms_lines}
+use Rattle.ded_model.specs.Normal.{coefs_over, divisor_of, normal_row, DivideWhole, IsNormalAtom}
+use Rattle.ded_model.specs.Point.{same_slot}
+use Rattle.ded_model.specs.Row.{Atom}
+use Rattle.ded_model.specs.Width.{greatest_length, row_length, tuple_length}
+use Rattle.ded_model.proofs.CoefLemmas.{coef_at-here, coef_at-past, coef_at-above}
+use Rattle.ded_model.proofs.Divisors.{abs_divisor, divisor-whole, divisor-whole_constant}
+use Rattle.ded_model.proofs.LineLengths.{zero_within, some_abs}
+use Rattle.ded_model.proofs.Members.{In-left, In-right}
+use Rattle.ded_model.proofs.Points.{same_slot_is, same_slot_refl}
+
+-- ---- what a normal row is divided by
+
+-- the number of the first coefficient
+first_number : List (Slot × ℤ) → ℤ
+first_number [] = pos 0
+first_number (c ∷ cs) = c.1
+
+one_factor : (a x : ℕ) → 0 < x → a * x ≡ x → a ≡ 1
+one_factor zero x h e = absurd (omega (arith, h, e))
+one_factor (suc zero) x h e = refl
+one_factor (suc (suc a)) x h e = absurd (omega (arith, h, e))
+
+-- what leaves a number that is not 0 as it is has the magnitude 1
+one_size : (d z : ℤ) → z ≢ pos 0 → d *ℤ z ≡ z → unsigned_abs d ≡ 1
+one_size d z n e = one_factor (unsigned_abs d) (unsigned_abs z) (some_abs z n) (sym (unsigned_abs-mul d z) ∙ ap unsigned_abs e)
+
+-- and then a quotient has the magnitude of the number
+same_size : (d x z : ℤ) → unsigned_abs d ≡ 1 → d *ℤ x ≡ z → unsigned_abs x ≡ unsigned_abs z
+same_size d x z one e = once (unsigned_abs d) (unsigned_abs x) (unsigned_abs z) one (sym (unsigned_abs-mul d x) ∙ ap unsigned_abs e)
+  where
+    once : (a m n : ℕ) → a ≡ 1 → a * m ≡ n → m ≡ n
+    once a m n f g = plain m n (subst (λ k. k * m ≡ n) f g)
+      where
+        plain : (m n : ℕ) → 1 * m ≡ n → m ≡ n
+        plain m n g = omega (arith, g)
+
+-- the line of a normal row is divided by 1 or by -1
+line_divisor : (op : RowOp) (constant : ℤ) (c : Slot × ℤ) (cs : List (Slot × ℤ)) → c.1 ≢ pos 0
+    → normal_row (record { coefs = c ∷ cs; constant = constant; op = op }) ≡ record { coefs = c ∷ cs; constant = constant; op = op } → unsigned_abs (divisor_of Zero constant (c ∷ cs)) ≡ 1
+unfolding normal_row first_number
+line_divisor op constant c cs n e =
+    let d = divisor_of op constant (c ∷ cs) in
+    let same : int_div c.1 d ≡ c.1 = ap (λ (r : LinearConstraint). first_number r.coefs) e in
+    abs_divisor Zero c.1 _ ∙ sym (abs_divisor op c.1 _) ∙ one_size d c.1 n (subst (λ x. d *ℤ x ≡ c.1) same (divisor-whole op constant (c ∷ cs)).0)
+
+-- ---- lengths
+
+-- where the quotients of coefficients by 1 or -1 are short, so are the coefficients
+coefs_length : (d : ℤ) (cs : List (Slot × ℤ)) (k : ℕ) → unsigned_abs d ≡ 1 → AreCoefs cs → DivideWhole d cs → ((t : Slot) → IsWithin k (coef_at (coefs_over d cs) t)) → greatest_length (map (λ c. c.1) cs) ≤ k
+coefs_length d [] k one a w h = omega arith
+coefs_length d (c ∷ cs) k one a w h =
+    let quotient : IsWithin k (int_div c.1 d) = subst (IsWithin k) (coef_at-here c.0 (c.0, int_div c.1 d) (coefs_over d cs) (same_slot_refl c.0) (above c.0.number cs a.3)) (h c.0) in
+    let first : length_of c.1 ≤ k = length_of-le c.1 k (subst (λ m. m < 2 ^ k) (same_size d (int_div c.1 d) c.1 one w.0) quotient) in
+    let rest = coefs_length d cs k one a.4 w.1 (λ t. later t (same_slot c.0 t) refl) in omega (arith, first, rest)
+  where
+    above : (n : ℕ) (cs : List (Slot × ℤ)) → AllAbove n cs → AllAbove n (coefs_over d cs)
+    above n [] x = tt
+    above n (c ∷ cs) x = (x.0, above n cs x.1)
+
+    later : (t : Slot) (b : Bool) → same_slot c.0 t ≡ b → IsWithin k (coef_at (coefs_over d cs) t)
+    later t true e = subst (IsWithin k) (sym (coef_at-above t (coefs_over d cs) (subst (λ (u : Slot). AllAbove u.number (coefs_over d cs)) (same_slot_is c.0 t e) (above c.0.number cs a.3)))) (zero_within k)
+    later t false e = subst (IsWithin k) (coef_at-past t (c.0, int_div c.1 d) (coefs_over d cs) e) (h t)
+
+-- a normal row is as short as its line
+row_short : (k : ℕ) (op : RowOp) (constant : ℤ) (cs : List (Slot × ℤ)) → AreCoefs cs → normal_row (record { coefs = cs; constant = constant; op = op }) ≡ record { coefs = cs; constant = constant; op = op }
+    → AreWithin k (line_with cs constant) → row_length (record { coefs = cs; constant = constant; op = op }) ≤ k
+unfolding normal_row
+row_short k op constant [] a e w =
+    let none : 0 ≡ length_of constant = length_of_zero constant (ap (λ (r : LinearConstraint). unsigned_abs r.constant) (sym e)) in omega (arith, none)
+row_short k op constant (c ∷ cs) a e w =
+    let d = divisor_of Zero constant (c ∷ cs) in
+    let one : unsigned_abs d ≡ 1 = line_divisor op constant c cs a.2 e in
+    let line = w (normal_row (record { coefs = c ∷ cs; constant = constant; op = Zero })) (inl refl) in
+    let coefs = coefs_length d (c ∷ cs) k one a (divisor-whole Zero constant (c ∷ cs)) line.coefs in
+    let last : length_of constant ≤ k = length_of-le constant k (subst (λ m. m < 2 ^ k) (same_size d (int_div constant d) constant one (divisor-whole_constant Zero constant c cs)) line.constant) in
+    omega (arith, coefs, last)
+
+-- and normal atoms, in whatever order, as short as their lines
+pub atoms_short : (t : List Atom) (k : ℕ) → AllByRecursion IsNormalAtom t → AreWithin k (atoms_lines t) → tuple_length t ≤ k
+atoms_short [] k n w = omega arith
+atoms_short (First r ∷ t) k n w =
+    let row : row_length r ≤ k = row_short k r.op r.constant r.coefs n.0.0 n.0.1.normal (λ l i. w l (In-left l (row_lines r) (atoms_lines t) i)) in
+    let rest = atoms_short t k n.1 (λ l i. w l (In-right l (row_lines r) (atoms_lines t) i)) in omega (arith, row, rest)
+atoms_short (Second a ∷ t) k n w = atoms_short t k n.1 w
