@@ -7,7 +7,7 @@ import random
 from collections import namedtuple
 from math import isqrt
 
-# `script` is for Dedale, `data` for polyhedra.cc, `smt` for z3, or None where z3 has no such question. `yes` is what z3 says of
+# `script` is for Dedale, `data` for polyhedra.cc, `smt` for z3, or None where a program has no such question. `yes` is what z3 says of
 # a question that is answered yes.
 Problem = namedtuple('Problem', 'script data smt yes')
 DISTANCE = 5
@@ -240,6 +240,34 @@ def ladder(depth):
                    f'(set-logic LRA)\n(assert {smt})\n(check-sat)', 'sat')
 
 
+# Long numbers of order rows: fractions a little less than 1, each one of its own.
+def less_than_one(k):
+    return 2 ** 63 - 2 - 2 * k, 2 ** 63 - 1 - 2 * k
+
+
+def order_alternation(depth):
+    """Between two numbers that aren't a fraction there is always a third that isn't the next one, `depth` quantifiers deep."""
+    formula, smt = 'true', 'true'
+    for k in range(depth - 2, -1, -2):
+        top, bottom = less_than_one(k)
+        inner = (f'exists x{k + 1} (x{k} < x{k + 1} and {bottom}*x{k + 1} != {top}' + (f' and x{k + 1} < x{k - 1}' if k else '')
+                 + f' and ({formula}))')
+        smt_inner = (f'(exists ((x{k + 1} Real)) (and (< x{k} x{k + 1}) (distinct (* {bottom} x{k + 1}) {top}) '
+                     + (f'(< x{k + 1} x{k - 1}) ' if k else '') + f'{smt}))')
+        formula = f'forall x{k} (' + (f'x{k - 2} < x{k} and x{k} < x{k - 1} implies ' if k else '') + f'{inner})'
+        smt = f'(forall ((x{k} Real)) (=> (and ' + (f'(< x{k - 2} x{k}) (< x{k} x{k - 1}) ' if k else '') + f'true) {smt_inner}))'
+    return Problem(f'ask {formula};', None, f'(set-logic LRA)\n(assert {smt})\n(check-sat)', 'sat')
+
+
+def borders(n):
+    """n regions: the border of all of them together."""
+    land = [cut_rectangle(100 * i, 100 * j, 100, 100) for i, j in cells(n)]
+    script = ['relation Land(x, y);']
+    script += [f'insert Land {dedale_tuple(rows, "xy")};' for rows in land]
+    script.append('query (x, y) : closure(Land)(x, y) and not interior(Land)(x, y);')
+    return Problem('\n'.join(script), None, None, None)
+
+
 SERIES = [
     ('parts of regions near a road', near_roads, (50, 100, 200, 400, 800)),
     ('look-ups of 1,000 points', look_ups, (30, 100, 300, 1000, 3000)),
@@ -253,4 +281,6 @@ SERIES = [
     ('coverage with a gap', gap, (8, 16, 32, 64, 128)),
     ('alternation: sums', sums, (2, 4, 6, 10)),
     ('alternation: a ladder', ladder, (2, 4, 6, 10)),
+    ('alternation: long order rows', order_alternation, (2, 4, 6, 10)),
+    ('borders of regions', borders, (25, 100, 400)),
 ]

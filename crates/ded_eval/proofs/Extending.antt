@@ -17,10 +17,13 @@ pub extent_none : (h : List Column) → IsBox (tuples_hold []) h Nowhere
 unfolding tuples_hold
 extent_none h p i = refl
 
+-- the box of the atoms is that of the tuple
+pub tuple_box : (h : List Column) (t : List Atom) (r : BoxReply) → IsBox (conj_holds (by_kind row_holds theme_holds) t) h r → IsBox (tuple_holds t) h r
+tuple_box h t r x = box-same (conj_holds (by_kind row_holds theme_holds) t) (tuple_holds t) (λ p i. tuple_holds-is t p) h r x
+
 -- points and those of one tuple
-pub extent_either : (h : List Column) (t : List Atom) (test : Point → Bool) (r q s : BoxReply) → s ≡ covering r q → IsBox (conj_holds (by_kind row_holds theme_holds) t) h q → IsBox test h r → IsBox (λ p. test p || tuple_holds t p) h s
-extent_either h t test r q s e x y = subst (IsBox (λ p. test p || tuple_holds t p) h) (sym e)
-    (box-either test (tuple_holds t) h r q y (box-same (conj_holds (by_kind row_holds theme_holds) t) (tuple_holds t) (λ p i. tuple_holds-is t p) h q x))
+pub extent_either : (h : List Column) (t : List Atom) (test : Point → Bool) (r q s : BoxReply) → s ≡ covering r q → IsBox (tuple_holds t) h q → IsBox test h r → IsBox (λ p. test p || tuple_holds t p) h s
+extent_either h t test r q s e x y = subst (IsBox (λ p. test p || tuple_holds t p) h) (sym e) (box-either test (tuple_holds t) h r q y x)
 
 -- one tuple more
 pub extent_more : (h : List Column) (ts us : List (List Atom)) (t : List Atom) (r : BoxReply) → us ≡ ts ++ t ∷ [] → IsBox (λ p. tuples_hold ts p || tuple_holds t p) h r → IsBox (tuples_hold us) h r

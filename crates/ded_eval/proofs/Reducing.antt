@@ -13,7 +13,7 @@ use Rattle.ded_theory.specs.Verdicts.{HoldsNowhere}
 use Rattle.ded_theme.proofs.Lists.{all-append}
 use Rattle.std.proofs.Math.Bool.{or-false}
 use Rattle.ded_model.specs.Sublists.{IsSublist}
-use Rattle.ded_eval.specs.Kept.{ArePartsOf, IsReducedTuple, IsReducedPart, AreReducedParts}
+use Rattle.ded_eval.specs.Kept.{ArePartsOf, IsReducedTuple, IsReducedOrder, IsReducedPart, AreReducedParts}
 use Rattle.ded_eval.proofs.Once.{once_all, told}
 use Rattle.ded_eval.proofs.TuplesRead.{tuples_hold-push}
 use Rattle.ded_eval.proofs.TupleParts.{parts_push, parts_skip, parts_after, parts_before}
@@ -39,7 +39,7 @@ distinct_listed eq laws same us ts is apart =
 -- ---- tuples without superfluous atoms
 
 pub reduced_none : AreReducedParts [] []
-reduced_none = record { holds = λ p i. refl; parts = refl; normal = tt; reduced = tt }
+reduced_none = record { holds = λ p i. refl; parts = refl; normal = tt; reduced = tt; orders = tt }
 
 pub reduced_gone : (us ts : List (List Atom)) (u : List Atom) → HoldsNowhere (tuple_holds u) → AreReducedParts ts us → AreReducedParts ts (us ++ u ∷ [])
 reduced_gone us ts u z r = record {
@@ -47,6 +47,7 @@ reduced_gone us ts u z r = record {
   parts = parts_skip ts us u r.parts;
   normal = r.normal;
   reduced = r.reduced;
+  orders = r.orders;
 }
 
 pub reduced_more : (us ts : List (List Atom)) (u t : List Atom) → IsReducedPart u (Some t) → AreReducedParts ts us → AreReducedParts (ts ++ t ∷ []) (us ++ u ∷ [])
@@ -55,6 +56,7 @@ reduced_more us ts u t k r = record {
   parts = parts_push ts us t u k.1 r.parts;
   normal = all-append IsNormalTuple ts t r.normal k.2;
   reduced = all-append IsReducedTuple ts t r.reduced k.3;
+  orders = all-append IsReducedOrder ts t r.orders k.4;
 }
 
 -- ---- one after another

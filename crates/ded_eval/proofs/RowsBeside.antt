@@ -1,6 +1,6 @@
 -- The rows and text atoms that stand beside the other parts of a join.
-use Rattle.std.proofs.Common.{◌≡◌, Bool, true, false, ◌&&◌, List, [], ◌∷◌, ◌++◌, ⊎_elim, refl, sym, ap, ap₂, ◌∙◌, subst, true≢false, append-nil}
-use Rattle.std.proofs.Math.Bool.{and_assoc, or-false, and-true}
+use Rattle.std.proofs.Common.{◌≡◌, Bool, true, false, ◌&&◌, List, [], ◌∷◌, ◌++◌, ⊎_elim, refl, sym, ap, ap₂, ◌∙◌, subst, true≢false}
+use Rattle.std.proofs.Math.Bool.{and_assoc, and-true}
 use Rattle.ded_model.specs.declared.slot.Slot.{Slot}
 use Rattle.ded_model.specs.Lines.{Line, IsSubset, all_lines, lines, atoms_lines}
 use Rattle.ded_model.specs.Logic.{atom, always, never, negation, every_of, some_of, implies, minus, exists, forall, logics, any_mentions}
@@ -9,14 +9,12 @@ use Rattle.ded_model.specs.PlanForm.{scan, rows, PlanForm, in_plan_atom}
 use Rattle.ded_model.specs.Point.{slot, Point}
 use Rattle.ded_model.specs.Row.{Atom}
 use Rattle.ded_model.proofs.Rows.{or_left, or_right}
-use Rattle.ded_model.proofs.Members.{subset_append, subset_trans, or_split, In-left}
+use Rattle.ded_model.proofs.Members.{subset_append, or_split, In-left}
 use Rattle.ded_theory.specs.Conjunctions.{conj_mentions, conj_lines}
 use Rattle.ded_theory.proofs.Conjunctions.{conj_holds-append, conj_mentions-append}
-use Rattle.ded_genrel.specs.Lists.{conjs_hold, conjs_mention, conjs_lines}
-use Rattle.ded_genrel.specs.Operations.{IsInhabitedPart}
 use Rattle.ded_genrel.proofs.Laws.{conj_lines-append}
 use Rattle.ded_eval.specs.Reading.{IsConjunctionOf}
-use Rattle.ded_eval.specs.Within.{is_rows, rows_hold, all_rows_hold, AreRowsOf, IsBegun}
+use Rattle.ded_eval.specs.Within.{is_rows, rows_hold, all_rows_hold, AreRowsOf}
 use Rattle.ded_eval.proofs.Evaluated.{mentions-push, lines-push}
 
 -- one plan more

@@ -12,7 +12,7 @@ use Rattle.ded_theory.specs.Verdicts.{HoldsNowhere}
 use Rattle.ded_model.specs.Sublists.{IsSublist}
 use Rattle.ded_eval.proofs.Conjunctive.{tuple_holds-is}
 use Rattle.ded_eval.proofs.Narrowness.{narrow_is}
-use Rattle.ded_eval.specs.Kept.{IsReducedPart}
+use Rattle.ded_eval.specs.Kept.{IsSiftedPart}
 use Rattle.ded_eval.proofs.TupleParts.{normal_part}
 
 atom_holds-is : (a : Atom) (p : Point) → by_kind row_holds theme_holds a p ≡ atom_holds a p
@@ -21,7 +21,7 @@ atom_holds-is (First r) p = refl
 atom_holds-is (Second a) p = refl
 
 -- without superfluous atoms as a conjunction, so as a tuple
-reduced_is : (t : List Atom) → IsReduced (by_kind row_holds theme_holds) t → IsReduced atom_holds t
+pub reduced_is : (t : List Atom) → IsReduced (by_kind row_holds theme_holds) t → IsReduced atom_holds t
 unfolding tuple_holds
 reduced_is t r = record {
   inhabited = (r.inhabited.0, r.inhabited.1, sym (tuple_holds-is t r.inhabited.0) ∙ r.inhabited.2);
@@ -38,7 +38,7 @@ sifted_gone conj t e z p i = sym (tuple_holds-is t p) ∙ ap (λ u. conj_holds (
 pub sifted_kept : (conj t kept : List Atom) → conj ≡ t → IsNormalTuple t
     → ((p : Point) → IsPoint p → conj_holds (by_kind row_holds theme_holds) kept p ≡ conj_holds (by_kind row_holds theme_holds) conj p) → IsSublist kept conj
     → ((IsWide (by_kind row_mentions theme_mentions) (by_kind row_lines (λ a. [])) kept → ⊥) → IsReduced (by_kind row_holds theme_holds) kept)
-    → IsReducedPart t (Some kept)
+    → IsSiftedPart t (Some kept)
 sifted_kept conj t kept e n h s k =
     let part : IsSublist kept t = subst (IsSublist kept) e s in
     let normal = normal_part kept t part n in (

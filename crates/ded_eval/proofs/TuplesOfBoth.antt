@@ -1,15 +1,14 @@
 -- The atoms of two tuples, as one tuple.
-use Rattle.std.proofs.Common.{◌≡◌, Bool, true, false, ◌&&◌, ◌||◌, Option, Some, None, List, [], ◌∷◌, ◌++◌, refl, sym, ap, ◌∙◌, subst}
-use Rattle.std.specs.List.{AllByRecursion}
+use Rattle.std.proofs.Common.{◌≡◌, true, ◌&&◌, ◌||◌, Option, Some, None, List, ◌++◌, sym, ap, ◌∙◌, subst}
 use Rattle.std.proofs.lemmas.List.Folds.{list_any-append, list_all-append}
 use Rattle.ded_model.specs.declared.slot.Slot.{Slot}
-use Rattle.ded_model.specs.Point.{Point, IsPoint}
+use Rattle.ded_model.specs.Point.{Point}
 use Rattle.ded_model.specs.Row.{Atom, row_holds, theme_holds, atom_holds, atom_mentions, tuple_holds, tuple_mentions}
 use Rattle.ded_model.specs.Cell.{conj_holds}
 use Rattle.ded_model.specs.Lines.{IsSubset, atoms_lines}
 use Rattle.ded_theory.specs.Both.{by_kind}
 use Rattle.ded_theory.specs.Verdicts.{HoldsNowhere}
-use Rattle.ded_algebra.specs.Evaluation.{IsOfBoth, IsMet}
+use Rattle.ded_algebra.specs.Evaluation.{IsMet}
 use Rattle.ded_eval.specs.Kept.{IsReducedPart}
 use Rattle.ded_eval.proofs.Conjunctive.{tuple_holds-is}
 use Rattle.ded_eval.proofs.TupleParts.{part_slots, part_lines}

@@ -3,6 +3,7 @@ pub mod Given
 pub mod Joining
 pub mod Kept
 pub mod Laws
+pub mod Orders
 pub mod Own
 pub mod Reading
 pub mod Scanning

@@ -13,9 +13,11 @@ ghost use Rattle.ded_model.specs.Width.{IsBoxNarrow};
 ghost use Rattle.ded_theory.specs.Conjunctions.{IsWide};
 ghost use Rattle.ded_box.specs.Intervals.{IsInterval};
 ghost use Rattle.ded_box.specs.Extents.{AreBounds, IsBox, covering};
+ghost use Rattle.ded_eval.specs.Orders.{AreOrderAtoms};
 
+use crate::ordering::order_atoms;
 use crate::scanning::following;
-use crate::theories::Atoms;
+use crate::theories::{Atoms, OrderAtoms};
 use ded_box::{checked, hulls};
 use ded_model::bound::{Bound, BoxReply, Spans};
 use ded_model::memory::{NoMemory, Refused};
@@ -28,7 +30,8 @@ use std::alloc::Global;
 /// The bounds over some points and all points of the tuple, from those over the points.
 ///
 /// # Errors
-/// `Wide` only where the tuple alone isn't narrow with all rational columns of the heading, otherwise out of memory.
+/// `Wide` only where the tuple alone isn't narrow with all rational columns of the heading and some row of it is no order row,
+/// otherwise out of memory.
 pub fn extended(
     alloc: Global,
     heading: &Heading,
@@ -38,9 +41,26 @@ pub fn extended(
     requires { IsTupleOver heading.now tuple.now }
     ensures is { IfOk result (λ r. (test : Point → Bool) → IsBox test heading.now extent → IsBox (λ p. test p || tuple_holds tuple.now p) heading.now r) }
     ensures wide { IsErrOf result Wide → IsBoxNarrow heading.now (tuple.now ∷ []) → ⊥ }
+    ensures orders { AreOrderAtoms tuple.now → IsErrOf result Wide → ⊥ }
 {
-    let more = conj_extent::<Atoms>(alloc, &heading.columns, &tuple.atoms)?;
+    let more = tuple_extent(alloc, heading, tuple)?;
     Ok(covering(alloc, extent, more)?)
+}
+
+/// The bounds over all points of the tuple.
+///
+/// # Errors
+/// As [`extended`].
+fn tuple_extent(alloc: Global, heading: &Heading, tuple: &Tuple) -> Result<BoxReply, Refused>
+    requires { IsTupleOver heading.now tuple.now }
+    ensures is { IfOk result (λ r. IsBox (tuple_holds tuple.now) heading.now r) }
+    ensures wide { IsErrOf result Wide → IsBoxNarrow heading.now (tuple.now ∷ []) → ⊥ }
+    ensures orders { AreOrderAtoms tuple.now → IsErrOf result Wide → ⊥ }
+{
+    if let Some(atoms) = order_atoms(alloc, &tuple.atoms)? {
+        return conj_extent::<OrderAtoms>(alloc, &heading.columns, &atoms);
+    }
+    conj_extent::<Atoms>(alloc, &heading.columns, &tuple.atoms)
 }
 
 /// The least box that contains both boxes.

@@ -15,12 +15,17 @@
 //!
 //! [`reduced`] makes of the normal tuples of an evaluation what is answered: it drops tuples that hold nowhere, of equal tuples
 //! all but the first one, and of each tuple the atoms that its others imply. What is left holds at the same points, is in normal
-//! form, and has no new slots or lines; each tuple that is narrow holds somewhere, and without any one of its atoms it would hold
-//! at further points. No tuple stands twice. [`holds_everywhere`] reads the truth off tuples that mention no slot.
+//! form, and has no new slots or lines; each tuple that is narrow, or whose rows are all order rows, holds somewhere, and without
+//! any one of its atoms it would hold at further points. No tuple stands twice. [`reduce_answer`] does the same with one tuple.
+//! [`holds_everywhere`] reads the truth off tuples that mention no slot.
+//!
+//! Tuples whose rows are all order rows are reduced, and their bounds are found, by the theory of dense order, which decides them
+//! whatever their numbers.
 //!
 //! It stands on `ded_algebra` for what a plan is evaluated over and what an evaluation promises, on `ded_join`,
-//! `ded_complement` and `ded_genrel` for the operations, on `ded_reduce` for superfluous atoms, on `ded_theory`, `ded_linear` and
-//! `ded_theme` for the atoms, on `ded_tuple` for stored tuples, on `ded_hull` for windows, and on `ded_box` for extents.
+//! `ded_complement` and `ded_genrel` for the operations, on `ded_reduce` for superfluous atoms, on `ded_theory`, `ded_linear`,
+//! `ded_order` and `ded_theme` for the atoms, on `ded_tuple` for stored tuples, on `ded_hull` for windows, and on `ded_box` for
+//! extents.
 #![tactic(auto)]
 
 mod atoms;
@@ -34,6 +39,7 @@ mod given;
 pub mod laws;
 mod lookups;
 mod meeting;
+mod ordering;
 mod own_slots;
 mod reading;
 mod reduction;
@@ -51,6 +57,6 @@ pub use evaluation::{evaluate_counted, evaluate_within};
 pub use extents::extended;
 pub use given::{Given, GivenRelation};
 pub use reading::{AtomRef, OfTuples};
-pub use reduction::reduced;
+pub use reduction::{reduce_answer, reduced};
 pub use rows::OfRows;
 pub use theories::Atoms;

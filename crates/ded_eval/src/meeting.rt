@@ -2,7 +2,7 @@
 ghost use Rattle.std.specs.Prelude.{IfOk};
 ghost use Rattle.ded_algebra.specs.Evaluation.{IsMet};
 
-use crate::reduction::sifted;
+use crate::reduction::reduce_answer;
 use crate::theories::Atoms;
 use ded_genrel::both_conjs;
 use ded_model::memory::NoMemory;
@@ -23,5 +23,5 @@ pub(crate) fn met(alloc: Global, first: &Tuple, second: &Tuple) -> Result<Option
         return Ok(None);
     }
     let both = normal_tuple(alloc, atoms)?;
-    sifted(alloc, &both)
+    reduce_answer(alloc, &both)
 }

@@ -29,6 +29,7 @@ use ded_model::memory::Refused;
 use ded_model::name::{Heading, Name};
 use ded_model::plan::Plan;
 use ded_model::tuple::Tuples;
+use ded_orderly::laws::orderly_rows;
 use ded_plan::plan;
 use std::alloc::Global;
 
@@ -57,7 +58,8 @@ pub fn is_true(
 }
 
 /// Normal tuples over the heading that hold exactly where a formula does, given as its goal. Each narrow one has nothing
-/// superfluous, and none stands twice. What is held of views is read in their place, and is the same after it.
+/// superfluous, and none stands twice. Where the formula is orderly, each one has nothing superfluous, and its rows are order rows
+/// between the points that the formula reaches. What is held of views is read in their place, and is the same after it.
 ///
 /// # Errors
 /// `Wide` only where the formula isn't tight, otherwise out of memory.
@@ -77,6 +79,7 @@ pub fn answer(
         → IsTight (snapshot_of snapshot.now) heading.now f → ⊥ }
 {
     snapshot.formed();
+    orderly_rows();
     let _ = &heading.columns; // for its invariant
     let tuples = evaluated_over(alloc, snapshot, goal, held)?;
     Ok(reduced(alloc, tuples)?)

@@ -10,6 +10,7 @@ pub mod Meanings
 pub mod Measuring
 pub mod Reading
 pub mod Readying
+pub mod Ordering
 pub mod Remaking
 pub mod Running
 pub mod Stepping

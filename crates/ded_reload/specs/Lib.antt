@@ -1,3 +1,4 @@
+pub mod Orderly
 pub mod Read
 pub mod Remade
 pub mod Runs

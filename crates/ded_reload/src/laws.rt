@@ -1,17 +1,22 @@
-//! Laws of dumps. Each is the contract of a function that does nothing but call the laws that it rests on.
+//! Laws of what a run leads to: dumps, and orderly questions. Each is the contract of a function that does nothing but call the
+//! laws that it rests on.
 ghost use Rattle.std.specs.Prelude.{◌≡◌, ◌↔◌, ◌≤◌, ◌<◌, ℕ, List, length};
 ghost use Rattle.std.specs.List.{AllByRecursion};
 ghost use Rattle.ded_lex.specs.Pieces.{Statement};
 ghost use Rattle.ded_model.specs.declared.command.Language.{Language};
+ghost use Rattle.ded_model.specs.declared.command.Refusal.TheVariants.{Wide};
+ghost use Rattle.ded_model.specs.declared.name.Column.{Column};
 ghost use Rattle.ded_model.specs.Catalogue.{Catalogue, stored};
 ghost use Rattle.ded_model.specs.Entries.{known};
 ghost use Rattle.ded_model.specs.Known.{IsWellFormed};
 ghost use Rattle.ded_model.specs.Measure.{stored_measures};
+ghost use Rattle.ded_model.specs.Row.{Atom};
 ghost use Rattle.ded_model.specs.Value.{Argument};
 ghost use Rattle.ded_dump.specs.Entries.{dump_lines};
-ghost use Rattle.ded_session.specs.Replies.{ReplyForm};
+ghost use Rattle.ded_session.specs.Replies.{ReplyForm, tuples, refused};
 ghost use Rattle.ded_session.specs.Runs.{Steps, Run};
-ghost use Rattle.ded_session.specs.Steps.{Step};
+ghost use Rattle.ded_session.specs.Steps.{Accepts, Step};
+ghost use Rattle.ded_reload.specs.Orderly.{IsOrderlyQuestion, IsOrderlyAnswer};
 ghost use Rattle.ded_reload.specs.Read.{WasCatalogueRead};
 ghost use Rattle.ded_reload.specs.Remade.{remade, script_of_lines};
 ghost use Rattle.ded_reload.specs.Runs.{WantsNone};
@@ -53,4 +58,20 @@ pub fn dumps()
     ded_wording::laws::read_lines();
     ded_restored::laws::read_formulas();
     ded_restored::laws::read_tuples();
+}
+
+/// Over a well formed catalogue to which a run leads no orderly question is refused as too wide. The answer to an orderly query has
+/// nothing superfluous, and its rows are order rows: each compares two columns, or has the coefficient and the constant of a row
+/// with one slot that the formula reaches, up to the sign of both.
+pub fn orderly_questions()
+    ensures narrow { (limit : ℕ) (script : List ℕ) (replies : List ReplyForm) (c : Catalogue) → Run limit script replies c → IsWellFormed c
+        → (language : Language) (s : Statement) (d : Catalogue) → Step language c s (refused Wide) d
+        → Accepts language s c (λ command. IsOrderlyQuestion command c → ⊥) }
+    ensures answers { (limit : ℕ) (script : List ℕ) (replies : List ReplyForm) (c : Catalogue) → Run limit script replies c → IsWellFormed c
+        → (language : Language) (s : Statement) (h : List Column) (ts : List (List Atom)) (d : Catalogue) → Step language c s (tuples h ts) d
+        → Accepts language s c (λ command. IsOrderlyAnswer command c ts) }
+{
+    read_catalogues();
+    ded_orderly::laws::orderly_formulas();
+    ded_orderly::laws::short_reach();
 }

@@ -1,5 +1,5 @@
 -- The extent of stored tuples, one tuple after another.
-use Rattle.std.proofs.Common.{◌≡◌, ℕ, ◌<◌, Bool, true, false, ◌||◌, Option, Some, None, List, [], ◌∷◌, ◌++◌, length, get_or, append_assoc, append-nil, arith, refl, sym, ap, ◌∙◌, subst}
+use Rattle.std.proofs.Common.{◌≡◌, ℕ, zero, suc, ◌<◌, Bool, true, false, ◌||◌, Option, Some, None, List, [], ◌∷◌, ◌++◌, length, get_or, append_assoc, append-nil, arith, refl, sym, ap, ◌∙◌, subst}
 use Rattle.std.specs.List.{AllByRecursion}
 use Rattle.std.specs.Prelude.{if◌then◌else◌}
 use Rattle.std.specs.Str.{bytes_eq}
@@ -14,6 +14,7 @@ use Rattle.ded_model.specs.Point.{Point}
 use Rattle.ded_model.specs.Row.{Atom, tuple_holds, tuples_hold}
 use Rattle.ded_model.specs.Width.{IsBoxNarrow}
 use Rattle.ded_box.specs.Extents.{IsBox}
+use Rattle.ded_eval.specs.Orders.{AreOrderAtoms}
 use Rattle.ded_eval.proofs.Extending.{extent_none, extent_more}
 use Rattle.ded_eval.proofs.WideTuples.{narrow_one, over_one}
 use Rattle.ded_sorts.proofs.KnownEntries.{columns_there}
@@ -70,6 +71,11 @@ within : (before rest : List (ℕ × List Atom)) (e : ℕ × List Atom) → leng
 within [] rest e = omega arith
 within (d ∷ ds) rest e = let less = within ds rest e in omega (arith, less)
 
+orders_one : (ts : List (List Atom)) (i : ℕ) (t : List Atom) → i < length ts → t ≡ get_or ts i t → AllByRecursion AreOrderAtoms ts → AreOrderAtoms t
+orders_one [] i t l e a = absurd (omega (arith, l))
+orders_one (u ∷ ts) zero t l e a = subst AreOrderAtoms (sym e) a.0
+orders_one (u ∷ ts) (suc i) t l e a = orders_one ts i t (omega (arith, l)) e a.1
+
 module _ (h : List Column) (all left rest : List (ℕ × List Atom)) (k : ℕ) (t : List Atom) (extent : BoxReply) (b : Bounded h all left extent) (step : left ≡ (k, t) ∷ rest) where
   split : b.before ++ (k, t) ∷ rest ≡ all
   split = ap (λ (us : List (ℕ × List Atom)). b.before ++ us) (sym step) ∙ b.is
@@ -81,6 +87,10 @@ module _ (h : List Column) (all left rest : List (ℕ × List Atom)) (k : ℕ) (
   pub next_narrow : IsBoxNarrow h (tuples_of all) → IsBoxNarrow h (t ∷ [])
   next_narrow n = narrow_one h (tuples_of (b.before ++ (k, t) ∷ rest)) (length b.before) t (within b.before rest (k, t)) (there b.before rest (k, t))
       (subst (λ (ts : List (ℕ × List Atom)). IsBoxNarrow h (tuples_of ts)) (sym split) n)
+
+  pub next_orders : AllByRecursion AreOrderAtoms (tuples_of all) → AreOrderAtoms t
+  next_orders orders = orders_one (tuples_of (b.before ++ (k, t) ∷ rest)) (length b.before) t (within b.before rest (k, t)) (there b.before rest (k, t))
+      (subst (λ (ts : List (ℕ × List Atom)). AllByRecursion AreOrderAtoms (tuples_of ts)) (sym split) orders)
 
   pub next_bounded : (more : BoxReply) → ((test : Point → Bool) → IsBox test h extent → IsBox (λ p. test p || tuple_holds t p) h more) → Bounded h all rest more
   next_bounded more extends = record {
@@ -101,5 +111,6 @@ pub box_shown : (c : Catalogue) (n : List ℕ) (h k : List Column) (ts : List (�
     → IsBox (tuples_hold (tuples_of ts)) h r → Does (box_of n) c (boxes k r) c
 box_shown c n h k ts r e f g b = (f ∙ e, subst (λ (i : List Column). IsBox (tuples_hold (tuples_of (tuples_in c n))) i r) (sym f) (subst (λ (us : List (ℕ × List Atom)). IsBox (tuples_hold (tuples_of us)) h r) g b), refl)
 
-pub wide_shown : (c : Catalogue) (n : List ℕ) (h : List Column) (ts : List (ℕ × List Atom)) → h ≡ columns_in c n → ts ≡ tuples_in c n → (IsBoxNarrow h (tuples_of ts) → ⊥) → MayBeWide (box_of n) c
-wide_shown c n h ts e g w = λ narrow. w (subst (λ (k : List Column). IsBoxNarrow k (tuples_of ts)) (sym e) (subst (λ (us : List (ℕ × List Atom)). IsBoxNarrow (columns_in c n) (tuples_of us)) (sym g) narrow))
+pub wide_shown : (c : Catalogue) (n : List ℕ) (h : List Column) (ts : List (ℕ × List Atom)) → h ≡ columns_in c n → ts ≡ tuples_in c n → (IsBoxNarrow h (tuples_of ts) → ⊥) → (AllByRecursion AreOrderAtoms (tuples_of ts) → ⊥)
+    → MayBeWide (box_of n) c
+wide_shown c n h ts e g w v = (λ narrow. w (subst (λ (k : List Column). IsBoxNarrow k (tuples_of ts)) (sym e) (subst (λ (us : List (ℕ × List Atom)). IsBoxNarrow (columns_in c n) (tuples_of us)) (sym g) narrow)), λ orders. v (subst (λ (us : List (ℕ × List Atom)). AllByRecursion AreOrderAtoms (tuples_of us)) (sym g) orders))

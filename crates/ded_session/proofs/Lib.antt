@@ -13,4 +13,4 @@ pub mod OneList
 pub mod StepLemmas
 mod Upheld
 mod Histories
-mod WideQuestions
+pub mod WideQuestions

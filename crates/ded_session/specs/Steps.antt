@@ -1,5 +1,6 @@
 -- What a statement is answered, and what it makes of a catalogue.
 use Rattle.std.specs.Prelude.{◌≡◌, ◌↔◌, ◌≤◌, ℕ, IsTrue, List, [], length}
+use Rattle.std.specs.List.{AllByRecursion}
 use Rattle.ded_lex.specs.Pieces.{Statement, Whole}
 use Rattle.ded_lex.specs.Pieces as pieces
 use Rattle.ded_model.specs.declared.command.Language.{Language}
@@ -18,6 +19,7 @@ use Rattle.ded_box.specs.Extents.{IsBox}
 use Rattle.ded_syntax.specs.Spelling.{Spells, IsHeader}
 use Rattle.ded_sorts.specs.Changes.{AddsEntry, DropsEntry, Inserts, Deletes}
 use Rattle.ded_sorts.specs.Checks.{forms_of}
+use Rattle.ded_eval.specs.Orders.{AreOrderAtoms}
 use Rattle.ded_plan.specs.Plans.{IsPlanOf}
 use Rattle.ded_query.specs.Questions.{IsAnswer}
 use Rattle.ded_dump.specs.Entries.{dump_lines}
@@ -43,11 +45,12 @@ Does (explain h f) c (steps plan) d = IsPlanOf c h f plan × (d ≡ c)
 Does dump c (script lines) d = (lines ≡ dump_lines c) × (d ≡ c)
 Does _ c reply d = ⊥
 
--- numbers may become too long where the formula isn't tight, or the relation isn't narrow for its box
+-- numbers may become too long where the formula isn't tight, or the relation isn't narrow for its box and some stored row of it is
+-- no order row
 abbrev pub MayBeWide : CommandForm → Catalogue → Type 0
 MayBeWide (ask f) c = IsTight c [] f → ⊥
 MayBeWide (query h f) c = IsTight c h f → ⊥
-MayBeWide (box_of n) c = IsBoxNarrow (columns_in c n) (tuples_of (tuples_in c n)) → ⊥
+MayBeWide (box_of n) c = (IsBoxNarrow (columns_in c n) (tuples_of (tuples_in c n)) → ⊥) × (AllByRecursion AreOrderAtoms (tuples_of (tuples_in c n)) → ⊥)
 MayBeWide _ c = ⊥
 
 -- ---- statements

@@ -9,6 +9,7 @@ ghost use Rattle.ded_model.specs.Known.{IsTupleOver};
 ghost use Rattle.ded_model.specs.Row.{tuples_hold};
 ghost use Rattle.ded_model.specs.Width.{IsBoxNarrow};
 ghost use Rattle.ded_box.specs.Extents.{IsBox};
+ghost use Rattle.ded_eval.specs.Orders.{AreOrderAtoms};
 ghost use Rattle.ded_catalog.specs.State.{catalogue_of};
 ghost use Rattle.ded_sorts.specs.Causes.{is_relation_with};
 ghost use Rattle.ded_session.specs.Answered.{reply_form};
@@ -27,7 +28,7 @@ use std::collections::BTreeMap;
 /// The heading of a relation, and the exact bounds of its rational columns over all its points.
 ///
 /// # Errors
-/// `Wide` only where the relation isn't narrow for its box, otherwise out of memory.
+/// `Wide` only where the relation isn't narrow for its box and some stored row of it is no order row, otherwise out of memory.
 pub(crate) fn bounds(alloc: Global, catalogue: &Catalogue, name: &Name) -> Result<Reply, Refused>
     requires { is_relation_with (known (catalogue_of catalogue.now) name.now) ≡ true }
     ensures does { IfOk result (λ r. Does (box_of name.now) (catalogue_of catalogue.now) (reply_form r) (catalogue_of catalogue.now)) }
@@ -53,6 +54,7 @@ fn extent(
     requires { AllByRecursion (IsTupleOver heading.now) (tuples_of stored.now.entries) }
     ensures is { IfOk result (λ r. IsBox (tuples_hold (tuples_of stored.now.entries)) heading.now r) }
     ensures wide { IsErrOf result Wide → IsBoxNarrow heading.now (tuples_of stored.now.entries) → ⊥ }
+    ensures orders { IsErrOf result Wide → AllByRecursion AreOrderAtoms (tuples_of stored.now.entries) → ⊥ }
 {
     let mut extent = BoxReply::Nowhere;
     for (_, tuple) in stored {

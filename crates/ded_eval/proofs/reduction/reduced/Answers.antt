@@ -2,7 +2,7 @@ use Rattle.std.proofs.lemmas.Result.{IfOk-weaker}
 use Rattle.ded_model.specs.Normal.{IsNormalTuple}
 use Rattle.ded_model.specs.Sublists.{IsSublist}
 use Rattle.ded_model.proofs.Sublists.{sublist_all}
-use Rattle.ded_eval.specs.Kept.{IsReducedTuple}
+use Rattle.ded_eval.specs.Kept.{IsReducedTuple, IsReducedOrder}
 use Rattle.ded_eval.proofs.TupleParts.{parts_slots, parts_lines}
 use Rattle.ded_eval.proofs.Reducing.{parts_distinct}
 use Rattle.ded_eval.proofs.reduction.reduced.Goals as goal
@@ -31,3 +31,8 @@ pub returns-clause-reduced : goal.returns-clause-reduced
 returns-clause-reduced c =
     IfOk-weaker c.distinct_tuples-2.result (λ ts. IsSublist ts c.in_ok-each_reduced.field-0) _
     (λ ts z. sublist_all _ IsReducedTuple ts c.in_ok-each_reduced.field-0 z c.in_ok-each_reduced.ensures.reduced) c.distinct_tuples-2.ensures.kept
+
+pub returns-clause-orders : goal.returns-clause-orders
+returns-clause-orders c =
+    IfOk-weaker c.distinct_tuples-2.result (λ ts. IsSublist ts c.in_ok-each_reduced.field-0) _
+    (λ ts z. sublist_all _ IsReducedOrder ts c.in_ok-each_reduced.field-0 z c.in_ok-each_reduced.ensures.orders) c.distinct_tuples-2.ensures.kept

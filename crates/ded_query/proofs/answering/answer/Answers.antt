@@ -22,4 +22,4 @@ returns-clause-is c = λ f q.
     let cat = snapshot_of c.args.snapshot.now in
     let g = goal_form c.args.goal.now in
     let r = c.in_ok-reduced.ensures in
-    answer_is cat c.args.heading.now g f c.in_ok-reduced.field-0 q (evaluated_part cat g c.in_ok-tuples.tuples c.in_ok-reduced.field-0 c.in_ok-tuples.ensures.is r.holds r.slots r.lines) r.normal r.reduced r.once
+    answer_is cat c.args.heading.now g f c.in_ok-reduced.field-0 q (evaluated_part cat g c.in_ok-tuples.tuples c.in_ok-reduced.field-0 c.in_ok-tuples.ensures.is r.holds r.slots r.lines) r.normal r.reduced r.once r.orders (c.orderly_rows.ensures cat c.formed.ensures)

@@ -25,7 +25,7 @@ returns-in_err-bounds-clause-wide c =
     wide_shown catalogue c.args.name.now c.in-Some.heading.now c.in-Some-stored.tuples.now.entries
     (columns_shown (known catalogue c.args.name.now) c.in-Some.heading.now c.in-Some.ensures)
     (tuples_shown (entry_of catalogue.entries c.args.name.now) c.in-Some-stored.tuples.now.entries c.in-Some-stored.ensures)
-    (c.in_err-bounds.ensures.wide (search rules))
+    (c.in_err-bounds.ensures.wide (search rules)) (c.in_err-bounds.ensures.orders (search rules))
 
 pub returns-clause-does : goal.returns-clause-does
 returns-clause-does c =
