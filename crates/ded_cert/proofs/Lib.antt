@@ -1,0 +1,8 @@
+mod Halves
+mod Parts
+mod Shown
+mod Signs
+mod Slotted
+mod Sums
+mod Vanishing
+mod Walking
