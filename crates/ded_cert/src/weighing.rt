@@ -5,7 +5,7 @@ ghost use Rattle.ded_model.specs.declared.memory.Refused.TheVariants.{Wide};
 ghost use Rattle.ded_model.specs.declared.slot.Slot.{Slot};
 ghost use Rattle.ded_model.specs.Coefs.{coef_at, AreCoefs};
 ghost use Rattle.ded_cert.specs.Weighing.{fits, signs_fit, is_strict_at, is_weak_at, is_strict, is_weak, constant_refutes, refutes, term_is_long, column_is_long, IsLongWeighing};
-ghost use Rattle.ded_cert.specs.Columns.{lent, number_in, sum_from, all_vanish, HasAllSlots};
+ghost use Rattle.ded_cert.specs.Columns.{lent, number_in, sum_from, all_vanish};
 
 use crate::slots::slots_of;
 use ded_model::memory::Refused;
