@@ -42,6 +42,27 @@ pub trait Relations {
         window: &Window,
     ) -> Result<Option<Vec<&Tuple>>, NoMemory>
         ensures { IfOk result (λ o. AreLent window.now (option_map (λ ts. lent ts.items) o) (given_tuples (catalogue self.now) name.now)) };
+
+    /// All tuples of the name in order, also those that hold nowhere; none exactly where the name isn't given.
+    ///
+    /// # Errors
+    /// Out of memory.
+    fn all(&self, alloc: Global, name: &Name) -> Result<Option<Vec<&Tuple>>, NoMemory>
+        ensures { IfOk result (λ o. option_map (λ ts. lent ts.items) o ≡ given_tuples (catalogue self.now) name.now) };
+}
+
+/// References to the tuples, in order.
+///
+/// # Errors
+/// Out of memory.
+pub fn lend(alloc: Global, tuples: &[Tuple]) -> Result<Vec<&Tuple>, NoMemory>
+    ensures { IfOk result (λ v. lent v.items ≡ tuples.now) }
+{
+    let mut list = Vec::with_capacity(alloc, tuples.len())?;
+    for tuple in tuples {
+        list.push(tuple)?;
+    }
+    Ok(list)
 }
 
 /// What evaluates plans.

@@ -1,4 +1,4 @@
-//! The tuples of a relation that may hold in a window.
+//! The tuples of a relation that may hold in a window, and all of them.
 ghost use Rattle.std.specs.Prelude.{◌≡◌, ◌∷◌, [], IfOk};
 ghost use Rattle.std.specs.Option.{option_map};
 ghost use Rattle.ded_catalog.specs.Nearby.{numbered, AreNear, AddsNear, with_number, picked};
@@ -25,6 +25,23 @@ pub(crate) fn sifted<'a>(
         push_if_near(sieve, *number, tuple, &mut found)?;
     }
     Ok(found)
+}
+
+/// All tuples with their numbers, in order.
+///
+/// # Errors
+/// Out of memory.
+pub(crate) fn listed(
+    alloc: Global,
+    tuples: &BTreeMap<u32, Tuple>,
+) -> Result<Vec<(u32, &Tuple)>, NoMemory>
+    ensures { IfOk result (λ list. numbered list.items ≡ tuples.now.entries) }
+{
+    let mut list = Vec::with_capacity(alloc, tuples.len())?;
+    for (number, tuple) in tuples {
+        list.push((*number, tuple))?;
+    }
+    Ok(list)
 }
 
 /// The tuples of the numbers that may hold in the window of the sieve, with the numbers, in the order of these.

@@ -5,6 +5,7 @@ ghost use Rattle.std.specs.Option.{option_map};
 
 use crate::catalogue::Catalogue;
 use crate::change::{Change, left_of, with_inserted};
+use crate::finding::listed;
 use ded_hull::Window;
 use ded_model::goal::Goal;
 use ded_model::memory::NoMemory;
@@ -134,5 +135,22 @@ impl<'a> Snapshot<'a> {
         };
         let left = left_of(alloc, &found, self.change.deleted(name))?;
         Ok(Some(with_inserted(left, self.change.inserted(name))?))
+    }
+
+    /// All tuples of a relation, in order of their numbers. None exactly where the name is no relation.
+    ///
+    /// # Errors
+    /// Out of memory.
+    pub fn all(&self, alloc: Global, name: &Name) -> Result<Option<Vec<&Tuple>>, NoMemory>
+        ensures { IfOk result (λ list. option_map (λ v. lent v.items) list ≡ option_map tuples_of (relation_in (entry_of (snapshot_of self.now).entries name.now))) }
+    {
+        let catalogue = self.catalogue;
+        let Some(tuples) = catalogue.stored(name) else {
+            return Ok(None);
+        };
+        let list = listed(alloc, tuples)?;
+        let left = left_of(alloc, &list, self.change.deleted(name))?;
+        let inserted = self.change.inserted(name);
+        Ok(Some(with_inserted(left, inserted)?))
     }
 }

@@ -9,7 +9,7 @@ use Rattle.ded_theory.specs.Verdicts.{HoldsNowhere}
 use Rattle.ded_theory.proofs.TwoKinds.{parts_hold}
 
 -- a tuple is a conjunction of atoms of two kinds
-tuple_is : (atoms : List Atom) (p : Point) → tuple_holds atoms p ≡ conj_holds (by_kind row_holds theme_holds) atoms p
+pub tuple_is : (atoms : List Atom) (p : Point) → tuple_holds atoms p ≡ conj_holds (by_kind row_holds theme_holds) atoms p
 unfolding tuple_holds atom_holds
 tuple_is [] p = refl
 tuple_is (First r ∷ atoms) p = ap (λ b. row_holds r p && b) (tuple_is atoms p)

@@ -6,6 +6,7 @@ use Rattle.ded_model.specs.Coefs.{AreCoefs}
 use Rattle.ded_model.specs.Normal.{IsNormalTheme, IsNormalTuple}
 use Rattle.ded_model.specs.Row.{Atom}
 use Rattle.ded_theory.specs.Both.{firsts, seconds}
+use Rattle.ded_elimination.specs.LinearAtoms.{IsLinearAtom}
 
 pub seconds_append : (t u : List Atom) → seconds (t ++ u) ≡ seconds t ++ seconds u
 seconds_append [] u = refl
@@ -30,3 +31,10 @@ rows_with_coefs [] (First r ∷ u) h k = (k.0.0, rows_with_coefs [] u h k.2)
 rows_with_coefs [] (Second a ∷ u) h k = rows_with_coefs [] u h k.2
 rows_with_coefs (First r ∷ t) u h k = (h.0.0, rows_with_coefs t u h.2 k)
 rows_with_coefs (Second a ∷ t) u h k = rows_with_coefs t u h.2 k
+
+pub linear_rows : (t u : List Atom) → IsNormalTuple t → IsNormalTuple u → AllByRecursion IsLinearAtom (firsts (t ++ u))
+linear_rows [] [] h k = tt
+linear_rows [] (First r ∷ u) h k = (record { coefs = k.0.0; row = k.0.1 }, linear_rows [] u h k.2)
+linear_rows [] (Second a ∷ u) h k = linear_rows [] u h k.2
+linear_rows (First r ∷ t) u h k = (record { coefs = h.0.0; row = h.0.1 }, linear_rows t u h.2 k)
+linear_rows (Second a ∷ t) u h k = linear_rows t u h.2 k

@@ -1,21 +1,22 @@
 //! Whether a certificate shows what it should.
-ghost use Rattle.std.specs.Prelude.{◌≡◌, ◌↔◌, ◌++◌, IsTrue, IfOk, OnOk, IsErrOf};
+ghost use Rattle.std.specs.Prelude.{◌≡◌, ◌↔◌, ◌++◌, false, IsTrue, IfOk, OnOk, IsErrOf};
 ghost use Rattle.std.specs.List.{AllByRecursion};
 ghost use Rattle.ded_model.specs.declared.memory.Refused.TheVariants.{Wide};
 ghost use Rattle.ded_model.specs.Row.{theme_holds};
-ghost use Rattle.ded_model.specs.Cell.{conj_holds};
+ghost use Rattle.ded_model.specs.Cell.{conj_holds, HoldsSomewhere};
 ghost use Rattle.ded_model.specs.Coefs.{AreCoefs};
-ghost use Rattle.ded_model.specs.Normal.{IsNormalTheme};
+ghost use Rattle.ded_model.specs.Normal.{IsNormalTheme, IsNormalTuple};
 ghost use Rattle.ded_theory.specs.Both.{firsts, seconds};
 ghost use Rattle.ded_theory.specs.Verdicts.{HoldsNowhere};
-ghost use Rattle.ded_cert.specs.Columns.{lent};
+ghost use Rattle.ded_elimination.specs.LinearAtoms.{IsLinearAtom};
+ghost use Rattle.ded_simplex.specs.Columns.{lent};
 ghost use Rattle.ded_cert.specs.Checks.{Checks, IsTooLong};
 
-use crate::weighing::refutes;
 use ded_model::certificate::Proof;
 use ded_model::memory::{NoMemory, Refused};
 use ded_model::row::Row;
 use ded_model::tuple::{Atom, BothAtom, ThemeAtom, Tuple};
+use ded_simplex::refutes;
 use ded_theme::Theme;
 use ded_theory::{Theory, Verdict};
 use std::alloc::Global;
@@ -37,8 +38,9 @@ pub fn check(alloc: Global, first: &Tuple, second: &Tuple, proof: &Proof) -> Res
 }
 
 /// Whether no texts fit both tuples.
-fn texts_refute(alloc: Global, first: &Tuple, second: &Tuple) -> Result<bool, NoMemory>
-    ensures { IfOk result (λ b. IsTrue b ↔ HoldsNowhere (conj_holds theme_holds (seconds (first.now ++ second.now)))) }
+pub(crate) fn texts_refute(alloc: Global, first: &Tuple, second: &Tuple) -> Result<bool, NoMemory>
+    ensures is { IfOk result (λ b. IsTrue b ↔ HoldsNowhere (conj_holds theme_holds (seconds (first.now ++ second.now)))) }
+    ensures somewhere { IfOk result (λ b. b ≡ false → HoldsSomewhere (conj_holds theme_holds (seconds (first.now ++ second.now)))) }
 {
     match Theme::refute(alloc, &texts_of(alloc, first, second)?)? {
         Verdict::Empty => Ok(true),
@@ -70,9 +72,15 @@ fn add_texts(texts: &mut Vec<ThemeAtom>, atoms: &[Atom]) -> Result<(), NoMemory>
 }
 
 /// The rows of both tuples, those of the first one before those of the second.
-fn rows_of<'a>(alloc: Global, first: &'a Tuple, second: &'a Tuple) -> Result<Vec<&'a Row>, NoMemory>
+pub(crate) fn rows_of<'a>(
+    alloc: Global,
+    first: &'a Tuple,
+    second: &'a Tuple,
+) -> Result<Vec<&'a Row>, NoMemory>
     ensures value { IfOk result (λ v. lent v.items ≡ firsts (first.now ++ second.now)) }
     ensures coefs { IfOk result (λ v. AllByRecursion (λ r. AreCoefs r.coefs) (lent v.items)) }
+    ensures normal { IfOk result (λ v. AllByRecursion IsLinearAtom (lent v.items)) }
+    ensures tuples { IfOk result (λ v. IsNormalTuple first.now × IsNormalTuple second.now) }
 {
     let mut rows = Vec::new(alloc);
     add_rows(&mut rows, &first.atoms)?;

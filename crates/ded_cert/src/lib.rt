@@ -4,9 +4,19 @@
 //! slot and is false, they hold nowhere together. A certificate is checked by multiplications and sums alone, however it was found.
 #![tactic(auto)]
 
+mod certifying;
 mod checking;
+mod choosing;
 pub mod laws;
-mod slots;
-mod weighing;
+mod pairs;
+mod projecting;
+mod refuting;
+mod seeking;
+mod tracing;
+mod verifying;
+mod weak;
 
+pub use certifying::{Outcome, certify};
 pub use checking::check;
+pub use pairs::{Disjointness, certify_all};
+pub use verifying::verify_all;

@@ -11,6 +11,7 @@ pub mod Joined
 pub mod Names
 pub mod Narrowness
 pub mod Once
+pub mod OrderPlans
 pub mod OrderTuples
 pub mod OwnSlots
 pub mod Pairs

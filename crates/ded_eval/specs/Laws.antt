@@ -16,6 +16,7 @@ use Rattle.ded_model.proofs.Divisors.{divisor-whole}
 use Rattle.ded_row.proofs.Forms.{divisor-nonzero}
 use Rattle.ded_theory.specs.Both.{by_kind, IsByKind}
 use Rattle.ded_elimination.specs.LinearAtoms.{IsLinearAtom}
+use Rattle.ded_order.specs.OrderRows.{IsOrderAtom}
 
 -- any row is read
 abbrev pub IsAnyRow : LinearConstraint → Type 0
@@ -37,6 +38,10 @@ with_in_order (c ∷ cs) m l k (inr i) = absurd i
 -- so has the line of a row in normal form
 pub line_in_order : (r : LinearConstraint) (l : Line) → IsLinearAtom r → In l (row_lines r) → AreCoefs l.coefs
 line_in_order r l n i = with_in_order r.coefs r.constant l n.coefs i
+
+-- and of an order row
+pub order_line_in_order : (r : LinearConstraint) (l : Line) → IsOrderAtom r → In l (row_lines r) → AreCoefs l.coefs
+order_line_in_order r l n i = line_in_order r l n.linear i
 
 module _ {A : Type 0} (normal : A → Type 0) (lines : A → List Line) where
   -- text atoms have no lines

@@ -1,4 +1,4 @@
-//! The evaluation over rows and text atoms.
+//! The evaluation over rows and text atoms. Where numbers get too long, it is done once more over order rows, if there are no others.
 ghost use Rattle.std.specs.Prelude.{◌≡◌, true, IfOk, IsErrOf};
 ghost use Rattle.ded_model.specs.declared.memory.Refused.TheVariants.{Wide};
 ghost use Rattle.ded_model.specs.Measure.{stored_measures, plan_clashes};
@@ -6,7 +6,9 @@ ghost use Rattle.ded_model.specs.PlanForm.{plan_form};
 ghost use Rattle.ded_model.specs.Row.{tuple_holds};
 ghost use Rattle.ded_genrel.specs.Lists.{conjs_hold, conjs_mention, conjs_lines};
 ghost use Rattle.ded_algebra.specs.Evaluation.{IsAnyAtom, IsEvaluable, IsEvaluation, IsEvaluationWithin};
+ghost use Rattle.ded_eval.specs.Orders.{AreOrderRows};
 
+use crate::deciding::evaluate_orders;
 use crate::evaluation::{evaluate_counted, evaluate_within};
 use crate::theories::Atoms;
 use ded_algebra::Relations;
@@ -22,7 +24,8 @@ use std::alloc::Global;
 /// scan's slots.
 ///
 /// # Errors
-/// `Wide` only where the plan clashes over the given relations, otherwise out of memory.
+/// `Wide` only where the plan clashes over the given relations, and some row of it, or of the tuples of a name that it scans, is no
+/// order row; otherwise out of memory.
 pub fn eval<R: Relations>(
     alloc: Global,
     plan: &Plan,
@@ -31,13 +34,14 @@ pub fn eval<R: Relations>(
     requires { IsEvaluable IsAnyAtom (R.catalogue relations.now) (plan_form plan.now) }
     ensures is { IfOk result (λ r. IsEvaluation (R.catalogue relations.now) (plan_form plan.now) (conjs_hold ⟦<Atoms as Theory>⟧.holds r) (conjs_mention ⟦<Atoms as Theory>⟧.mentions r) (conjs_lines ⟦<Atoms as Theory>⟧.lines r)) }
     ensures wide { IsErrOf result Wide → plan_clashes (stored_measures (R.catalogue relations.now)) (plan_form plan.now) ≡ true }
+    ensures orders { AreOrderRows (R.catalogue relations.now) (plan_form plan.now) → IsErrOf result Wide → ⊥ }
 {
     let mut met = 0;
     eval_counted(alloc, plan, relations, &mut met)
 }
 
 /// A list that holds exactly where the plan does over the given relations, as [`eval`] gives it. `met` grows by the
-/// count of pairs that joins meet, up to the greatest `u64`.
+/// count of pairs that joins meet, up to the greatest `u64`; where the plan is evaluated once more, by those that they meet then too.
 ///
 /// # Errors
 /// As [`eval`].
@@ -50,8 +54,12 @@ pub fn eval_counted<R: Relations>(
     requires { IsEvaluable IsAnyAtom (R.catalogue relations.now) (plan_form plan.now) }
     ensures is { IfOk result (λ r. IsEvaluation (R.catalogue relations.now) (plan_form plan.now) (conjs_hold ⟦<Atoms as Theory>⟧.holds r) (conjs_mention ⟦<Atoms as Theory>⟧.mentions r) (conjs_lines ⟦<Atoms as Theory>⟧.lines r)) }
     ensures wide { IsErrOf result Wide → plan_clashes (stored_measures (R.catalogue relations.now)) (plan_form plan.now) ≡ true }
+    ensures orders { AreOrderRows (R.catalogue relations.now) (plan_form plan.now) → IsErrOf result Wide → ⊥ }
 {
-    evaluate_counted::<Atoms, R>(alloc, plan, relations, met)
+    match evaluate_counted::<Atoms, R>(alloc, plan, relations, met) {
+        Err(Refused::Wide) => evaluate_orders(alloc, plan, relations, met),
+        answer => answer,
+    }
 }
 
 /// A list that holds exactly where the plan does over the given relations at each point at which the tuple does, with slots and
@@ -68,7 +76,11 @@ pub(crate) fn eval_within<R: Relations>(
     requires { IsEvaluable IsAnyAtom (R.catalogue relations.now) (plan_form plan.now) }
     ensures is { IfOk result (λ r. IsEvaluationWithin (R.catalogue relations.now) (plan_form plan.now) (tuple_holds within.now) (conjs_hold ⟦<Atoms as Theory>⟧.holds r) (conjs_mention ⟦<Atoms as Theory>⟧.mentions r) (conjs_lines ⟦<Atoms as Theory>⟧.lines r)) }
     ensures wide { IsErrOf result Wide → plan_clashes (stored_measures (R.catalogue relations.now)) (plan_form plan.now) ≡ true }
+    ensures orders { AreOrderRows (R.catalogue relations.now) (plan_form plan.now) → IsErrOf result Wide → ⊥ }
 {
     let mut met = 0;
-    evaluate_within::<Atoms, R>(alloc, plan, relations, &within.atoms, &mut met)
+    match evaluate_within::<Atoms, R>(alloc, plan, relations, &within.atoms, &mut met) {
+        Err(Refused::Wide) => evaluate_orders(alloc, plan, relations, &mut met),
+        answer => answer,
+    }
 }

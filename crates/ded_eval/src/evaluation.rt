@@ -23,7 +23,7 @@ use crate::window::without_slot;
 use ded_algebra::Relations;
 use ded_complement::{complement, minus};
 use ded_genrel::{GenRel, both_conjs};
-use ded_join::join_inhabited;
+use ded_join::join_shorter;
 use ded_model::memory::{NoMemory, Refused};
 use ded_model::plan::Plan;
 use ded_model::slot::Slot;
@@ -209,7 +209,7 @@ fn met_with<T: OfTuples, R: Relations>(
     let inner = narrowed(alloc, within, &before)?;
     let next = evaluate_within(alloc, part, relations, &inner, met)?;
     match before {
-        Some(list) => Ok(join_inhabited(alloc, &list, &next, slots, met)?),
+        Some(list) => Ok(join_shorter(alloc, &list, &next, slots, met)?),
         None => Ok(next),
     }
 }

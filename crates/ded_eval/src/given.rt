@@ -2,7 +2,7 @@
 ghost use Rattle.std.specs.Prelude.{◌≡◌, ◌++◌, ◌∷◌, [], false, length, take, OnOk, OnErr};
 ghost use Rattle.std.specs.Option.{option_map};
 
-use ded_algebra::Relations;
+use ded_algebra::{Relations, lend};
 use ded_hull::Window;
 use ded_model::memory::NoMemory;
 use ded_model::name::{Heading, Name};
@@ -141,6 +141,13 @@ impl Relations for Given {
     ) -> Result<Option<Vec<&Tuple>>, NoMemory> {
         match self.tuples(name) {
             Some(tuples) => Ok(Some(window.near(alloc, tuples)?)),
+            None => Ok(None),
+        }
+    }
+
+    fn all(&self, alloc: Global, name: &Name) -> Result<Option<Vec<&Tuple>>, NoMemory> {
+        match self.tuples(name) {
+            Some(tuples) => Ok(Some(lend(alloc, tuples)?)),
             None => Ok(None),
         }
     }

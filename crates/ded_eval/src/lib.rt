@@ -20,7 +20,8 @@
 //! [`holds_everywhere`] reads the truth off tuples that mention no slot.
 //!
 //! Tuples whose rows are all order rows are reduced, and their bounds are found, by the theory of dense order, which decides them
-//! whatever their numbers.
+//! whatever their numbers. A plan is evaluated as all others are, and only where that gives up it is looked through, with all tuples
+//! of the names that it scans: if all rows are order rows, it is evaluated once more by that theory.
 //!
 //! It stands on `ded_algebra` for what a plan is evaluated over and what an evaluation promises, on `ded_join`,
 //! `ded_complement` and `ded_genrel` for the operations, on `ded_reduce` for superfluous atoms, on `ded_theory`, `ded_linear`,
@@ -31,6 +32,7 @@
 mod atoms;
 mod beside;
 mod closed;
+mod deciding;
 mod engine;
 mod evaluation;
 mod extents;

@@ -28,7 +28,7 @@ pub(crate) fn order_atoms(
 }
 
 /// Whether all the rows are order rows. It does not allocate.
-fn are_orders(atoms: &[Atom]) -> bool
+pub(crate) fn are_orders(atoms: &[Atom]) -> bool
     ensures { result ≡ are_orders atoms.now }
 {
     for atom in atoms {

@@ -1,7 +1,8 @@
 //! Rows and text atoms read as atoms of a theory.
 ghost use Rattle.std.specs.Prelude.{IfOk, ◌≡◌, true};
 ghost use Rattle.ded_model.specs.Normal.{IsNormalAtom};
-ghost use Rattle.ded_eval.specs.Laws.{IsAnyRow, IsOfRows, line_in_order, kinds_in_order};
+ghost use Rattle.ded_eval.specs.Laws.{IsAnyRow, IsOfRows, line_in_order, order_line_in_order, kinds_in_order};
+ghost use Rattle.ded_eval.specs.Orders.{IsOrder};
 ghost use Rattle.ded_eval.specs.Reading.{StandsFor};
 
 use crate::reading::{AtomRef, OfTuples};
@@ -10,6 +11,7 @@ use ded_model::laws::sameness::{equal_parts, equal_tuples};
 use ded_model::memory::NoMemory;
 use ded_model::row::Row;
 use ded_model::tuple::{Atom, BothAtom};
+use ded_order::{Order, OrderAtom};
 use ded_theme::Theme;
 use ded_theory::{Both, OfNumbers, Theory};
 use std::hash::Hash;
@@ -62,6 +64,24 @@ impl OfRows for Linear {
     }
 
     ghost lines_in_order = { line_in_order };
+}
+
+impl OfRows for Order {
+    ghost rows = { IsOrder };
+
+    fn from_row(row: &Row) -> Result<OrderAtom, NoMemory> {
+        Ok(OrderAtom::of(row.copy()?))
+    }
+
+    fn row(atom: &OrderAtom) -> &Row {
+        atom.row()
+    }
+
+    fn equal_atoms() {
+        equal_tuples();
+    }
+
+    ghost lines_in_order = { order_line_in_order };
 }
 
 impl<N: OfRows> OfTuples for Both<N, Theme> {

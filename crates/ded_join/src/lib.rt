@@ -3,16 +3,19 @@
 //! [`join`] holds where both lists do, as `GenRel::meet` does. But it doesn't pair each conjunction of the one with each of the
 //! other: on given rational slots it puts a box of exact bounds round each conjunction, indexes those of the second list, and
 //! pairs each conjunction of the first list with those only whose boxes share values with its own. [`join_inhabited`] keeps of
-//! these pairs only what some point may satisfy.
+//! these pairs only what some point may satisfy. [`join_shorter`] takes the join by the complement of the second list where that is
+//! small and the pairs are more.
 //!
-//! It stands on `ded_genrel` for lists of conjunctions over any theory and the boxes around them, and on `ded_index` for the
-//! look-ups.
+//! It stands on `ded_genrel` for lists of conjunctions over any theory and the boxes around them, on `ded_index` for the look-ups,
+//! and on `ded_complement` for complements and differences.
 #![tactic(auto)]
 
 mod indexing;
 mod inhabited;
 mod joining;
 mod near;
+mod outside;
 
 pub use inhabited::join_inhabited;
 pub use joining::{join, join_counted};
+pub use outside::join_shorter;

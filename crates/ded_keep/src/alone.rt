@@ -9,7 +9,7 @@ ghost use Rattle.ded_model.specs.Row.{tuples_hold, tuples_mention};
 ghost use Rattle.ded_algebra.specs.Evaluation.{IsAnyAtom, IsEvaluable, IsEvaluation};
 ghost use Rattle.ded_keep.specs.Adding.{with_alone};
 
-use ded_algebra::{Evaluate, Relations};
+use ded_algebra::{Evaluate, Relations, lend};
 use ded_hull::Window;
 use ded_model::memory::{NoMemory, Refused};
 use ded_model::name::{Heading, Name};
@@ -46,6 +46,14 @@ impl<'a, R: Relations> Relations for Alone<'a, R> {
             Ok(Some(window.near(alloc, self.tuples)?))
         } else {
             self.others.near(alloc, name, window)
+        }
+    }
+
+    fn all(&self, alloc: Global, name: &Name) -> Result<Option<Vec<&Tuple>>, NoMemory> {
+        if name.is_same(self.name) {
+            Ok(Some(lend(alloc, self.tuples)?))
+        } else {
+            self.others.all(alloc, name)
         }
     }
 

@@ -3,7 +3,7 @@
 -- A value inside of the interval is the value of some point. At an end with a fraction that is not attained the middle of it
 -- and any fraction within comes nearer; at an end without one a value beyond any fraction is found. Where the other end is
 -- nearer than that fraction, it takes the fraction's place (`target`).
-use Rattle.std.proofs.Common.{◌≡◌, Bool, true, false, arith, refl, sym, subst, ◌∙◌, ap, [], ◌∷◌}
+use Rattle.std.proofs.Common.{◌≡◌, Bool, arith, sym, subst, ◌∙◌, ap, [], ◌∷◌}
 use Rattle.std.specs.Prelude.{ℤ, pos, ◌-ℤ◌, ◌*ℤ◌, IsTrue}
 use Rattle.std.proofs.lemmas.Int.{ints, by_lt_z}
 use borrow.Author.Differences.{up}

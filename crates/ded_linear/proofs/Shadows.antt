@@ -12,7 +12,7 @@ use Rattle.ded_model.specs.declared.row.RowOp.TheVariants.{Zero, Below}
 use Rattle.ded_model.specs.declared.bound.Bound.{Bound}
 use Rattle.ded_model.specs.declared.bound.Bound.TheVariants.{Infinite, Excluded, Included}
 use Rattle.ded_model.specs.Constraint.{LinearConstraint}
-use Rattle.ded_model.specs.Point.{Key, slot, Value, number, text, Point, IsPoint, AreValues, IsValue, IsNumberExtension, IsExtension, same_key, same_slot, number_at, times, all_times}
+use Rattle.ded_model.specs.Point.{Key, slot, Value, number, Point, IsPoint, AreValues, IsValue, IsNumberExtension, IsExtension, same_key, same_slot, number_at, all_times}
 use Rattle.ded_model.specs.Row.{sum_at, sign_meets, row_holds}
 use Rattle.ded_model.specs.Cell.{conj_holds}
 use Rattle.ded_model.specs.Bound.{Fraction, End, lower, upper, value_at, SomeOutside, NoneOutside, SomeAt}
@@ -24,7 +24,7 @@ use Rattle.ded_theory.specs.Eliminations.{SomeExtension}
 use Rattle.ded_theory.specs.Verdicts.{HoldsNowhere, IsBound}
 use Rattle.ded_box.specs.Intervals.{IsPositive}
 use Rattle.ded_box.proofs.Gaps.{gap, gap_at, outside_decides, chain_at, chain_law}
-use Rattle.ded_model.proofs.PointTexts.{times_value, times_values}
+use Rattle.ded_model.proofs.PointTexts.{times_values}
 use Rattle.ded_box.proofs.Exact.{value-positive}
 
 -- ---- a point as an extension of itself

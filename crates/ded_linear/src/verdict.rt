@@ -15,8 +15,13 @@ use ded_elimination::Mixing;
 use ded_model::memory::NoMemory;
 use ded_model::row::Row;
 use ded_model::slot::Slot;
+use ded_simplex::told;
 use ded_theory::{Span, Verdict};
 use std::alloc::Global;
+
+/// From how many rows on a point, or numbers that refute the rows, are looked for before anything is eliminated: fewer rows are told
+/// sooner by eliminations.
+const MANY: usize = 6;
 
 /// Whether some point satisfies all the rows. `Unknown` only where a number on the way got too long, which a mixing that
 /// decides never lets happen.
@@ -32,6 +37,23 @@ pub fn refute<M: Mixing>(alloc: Global, rows: &[Row]) -> Result<Verdict, NoMemor
     if are_single(rows) {
         return Ok(verdict_of(&interval(rows, Slot::default())));
     }
+    if rows.len() < MANY {
+        return eliminated::<M>(alloc, rows);
+    }
+    match told(alloc, rows)? {
+        Verdict::Unknown => eliminated::<M>(alloc, rows),
+        Verdict::Empty => Ok(Verdict::Empty),
+        Verdict::Inhabited => Ok(Verdict::Inhabited),
+    }
+}
+
+/// The same, by eliminations alone.
+fn eliminated<M: Mixing>(alloc: Global, rows: &[Row]) -> Result<Verdict, NoMemory>
+    requires normal { AllByRecursion IsLinearAtom rows.now }
+    requires rows { AllByRecursion M.rows rows.now }
+    ensures verdict { IfOk result (λ v. IsVerdict row_holds row_mentions row_lines rows.now v) }
+    ensures decided { M.decides → IfOk result (λ v. v ≡ Unknown → ⊥) }
+{
     let last = costliest(alloc, rows)?;
     match bounds::<M>(alloc, rows, last) {
         Ok(span) => Ok(verdict_of(&span)),

@@ -10,6 +10,7 @@
 #![tactic(auto)]
 
 mod atom;
+mod equality;
 mod lists;
 mod mixing;
 mod theory;

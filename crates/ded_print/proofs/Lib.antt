@@ -1,4 +1,6 @@
 pub mod Answers
+pub mod Certificates
+pub mod CertificatesTold
 pub mod Columns
 pub mod Counts
 pub mod Decimals

@@ -5,7 +5,7 @@ use Rattle.std.specs.Fmt.{digit_glyph, digits_onto}
 use Rattle.std.proofs.lemmas.Bool.Decides.{eqb_tells}
 use Rattle.ded_model.specs.declared.command.Refusal.{Refusal}
 use Rattle.ded_model.specs.declared.command.Refusal.TheVariants.{LongStatement, Unfinished, Syntax, LongName, LongNumber, Deep, Many, Twice, Unknown, Taken, Kind, Arity, Unbound, WrongSort, Used, NoTuple, Full, Spent, Level, Wide, Memory}
-use Rattle.ded_print.specs.Lines.{LineReply, done, truth, numbered, refused, reply_line, reply_text, refusal_line, is_one_line}
+use Rattle.ded_print.specs.Lines.{LineReply, done, truth, numbered, met, refused, reply_line, reply_text, refusal_line, meeting_line, is_one_line}
 use Rattle.ded_print.specs.Numbers.{number_text}
 use Rattle.ded_print.proofs.Runs.{tails}
 
@@ -60,20 +60,31 @@ refusal_lines Level = refl
 refusal_lines Wide = refl
 refusal_lines Memory = refl
 
-pub lines : (reply : LineReply) → is_one_line (reply_line reply) ≡ true
-lines done = refl
-lines (truth true) = refl
-lines (truth false) = refl
-lines (numbered k) = number_line k
-lines (refused r) = refusal_lines r
-
--- ---- where lines end
-
 differ : false ≡ true → ⊥
 differ e = cc
 
 not_feed : (b : ℕ) (bs : List ℕ) → is_one_line (b ∷ bs) ≡ true → (b ≢ 10) × (is_one_line bs ≡ true)
 not_feed b bs h = ⊎_elim (λ e. let f = rw e.0 at h in absurd (differ f)) (λ e. let f = rw e.0 at h in (e.1, f)) (eqb_tells b 10)
+
+pub both_lines : (p q : List ℕ) → is_one_line p ≡ true → is_one_line q ≡ true → is_one_line (p ++ q) ≡ true
+both_lines [] q hp hq = hq
+both_lines (b ∷ p) q hp hq = let h = not_feed b p hp in one_more b (p ++ q) (other b h.0) (both_lines p q h.1 hq)
+  where
+    other : (b : ℕ) → b ≢ 10 → (b == 10) ≡ false
+    other b n = ⊎_elim (λ e. absurd (n e.1)) (λ e. e.0) (eqb_tells b 10)
+
+pub meeting_is_line : (i j : ℕ) → is_one_line (meeting_line i j) ≡ true
+meeting_is_line i j = both_lines (number_text i) (32 ∷ number_text j) (number_line i) (number_line j)
+
+pub lines : (reply : LineReply) → is_one_line (reply_line reply) ≡ true
+lines done = refl
+lines (truth true) = refl
+lines (truth false) = refl
+lines (numbered k) = number_line k
+lines (met i j) = meeting_is_line i j
+lines (refused r) = refusal_lines r
+
+-- ---- where lines end
 
 -- two lines that begin the same bytes are the same
 pub same_line : (p q xs ys : List ℕ) → is_one_line p ≡ true → is_one_line q ≡ true → p ++ 10 ∷ xs ≡ q ++ 10 ∷ ys → (p ≡ q) × (xs ≡ ys)

@@ -1,5 +1,5 @@
 -- The lines of plans that are put one after another, and the count of them.
-use Rattle.std.proofs.Common.{◌≡◌, ℕ, suc, ◌+◌, List, [], ◌∷◌, ◌++◌, length, refl, sym, ap, ap₂, ◌∙◌, arith, append_assoc, subst, rules, ◌<◌, drop, drop-cons, get_or, Bor}
+use Rattle.std.proofs.Common.{◌≡◌, ℕ, suc, ◌+◌, List, [], ◌∷◌, ◌++◌, length, refl, sym, ap, ap₂, ◌∙◌, append_assoc, subst, rules, ◌<◌, drop, drop-cons, get_or, Bor}
 use Rattle.std.specs.Prelude.{codes}
 use Rattle.ded_model.specs.Logic.{atom, always, never, negation, every_of, some_of, implies, minus, exists, forall, Logics, none, also}
 use Rattle.ded_model.specs.PlanForm.{PlanAtom, PlanForm, plan_form, plan_forms}

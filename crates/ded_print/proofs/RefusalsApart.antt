@@ -6,6 +6,7 @@ use Rattle.std.proofs.Common.{◌≡◌, ℕ, ◌<◌, List, [], ◌∷◌, ◌+
 use Rattle.std.specs.Prelude.{codes}
 use Rattle.std.specs.List.{AllByRecursion}
 use Rattle.ded_model.specs.declared.bound.Bound.{Bound}
+use Rattle.ded_model.specs.declared.certificate.Entry.{Entry}
 use Rattle.ded_model.specs.declared.name.Column.{Column}
 use Rattle.ded_model.specs.declared.command.Refusal.{Refusal}
 use Rattle.ded_model.specs.declared.command.Refusal.TheVariants.{LongStatement, Unfinished, Syntax, LongName, LongNumber, Deep, Many, Twice, Unknown, Taken, Kind, Arity, Unbound, WrongSort, Used, NoTuple, Full, Spent, Level, Wide, Memory}
@@ -13,6 +14,7 @@ use Rattle.ded_model.specs.PlanForm.{PlanForm}
 use Rattle.ded_model.specs.Row.{Atom}
 use Rattle.ded_model.specs.Refusals.{refusal_number, refusal_word}
 use Rattle.ded_print.specs.Boxes.{span_line, span_lines, rational_names, spans_text}
+use Rattle.ded_print.specs.Certificates.{entry_line, apart_text}
 use Rattle.ded_print.specs.Lines.{line_text, lines_text, counted_text, refusal_line, script_text, refusal_text}
 use Rattle.ded_print.specs.Numbers.{number_text, count_text}
 use Rattle.ded_print.specs.Plans.{node_lines, plan_text}
@@ -54,6 +56,9 @@ no_counted : (kind n : List ℕ) (ls : List (List ℕ)) (r : Refusal) (xs ys : L
     → counted_text kind n ls ++ xs ≡ refusal_text r ++ ys → ⊥
 no_counted kind n ls r xs ys k c other e =
     other (ap first (same_line (kind ++ (32 ∷ n)) (refusal_line r) _ ys (header_closed kind n k c) (closed_refusal r) (sym (counted_first kind n ls xs) ∙ e)).0)
+
+pub no_apart : (es : List Entry) (r : Refusal) (xs ys : List ℕ) → apart_text es ++ xs ≡ refusal_text r ++ ys → ⊥
+no_apart es r xs ys e = no_counted (codes "apart") (number_text (length es)) (map entry_line es) r xs ys (λ zs. refl) (closed_number (length es)) (λ f. omega (arith, f)) e
 
 pub no_answer : (columns : List Column) (ts : List (List Atom)) (r : Refusal) (xs ys : List ℕ) → answer_text columns ts ++ xs ≡ refusal_text r ++ ys → ⊥
 no_answer columns ts r xs ys e = no_counted (codes "answer") (number_text (length ts)) (map (tuple_text (column_names columns)) ts) r xs ys (λ zs. refl) (closed_number (length ts)) (λ f. omega (arith, f)) e

@@ -1,5 +1,5 @@
 -- The lines of a box that are put one after another, and the fractions in them.
-use Rattle.std.proofs.Common.{◌≡◌, ℕ, suc, arith, ◌+◌, ◌<◌, ◌≤◌, true, false, cond, List, [], ◌∷◌, ◌++◌, length, drop, drop-cons, get_or, refl, sym, ap, ap₂, ◌∙◌, ⊎_elim, subst, append_assoc}
+use Rattle.std.proofs.Common.{◌≡◌, ℕ, arith, ◌+◌, ◌<◌, ◌≤◌, true, false, cond, List, [], ◌∷◌, ◌++◌, length, drop, drop-cons, get_or, refl, sym, ap, ap₂, ◌∙◌, ⊎_elim, subst, append_assoc}
 use Rattle.std.specs.Prelude.{ℤ, pos, ◌<ℤ◌, unsigned_abs, codes, ◌==◌}
 use Rattle.std.specs.Int.{IsGcd}
 use Rattle.std.proofs.Math.ListN.{drop_of_length-le}

@@ -1,4 +1,5 @@
 pub mod Boxes
+pub mod Certificates
 pub mod Counts
 pub mod Depths
 pub mod Gathering

@@ -40,6 +40,13 @@ number_reply_line k = codes "tuple " ++ number_text k
 abbrev pub number_reply_text : ℕ → List ℕ
 number_reply_text k = line_text (number_reply_line k)
 
+-- `meet I J`, the numbers of two tuples with a common point
+abbrev pub meeting_line : ℕ → ℕ → List ℕ
+meeting_line i j = codes "meet " ++ (number_text i ++ (32 ∷ number_text j))
+
+abbrev pub meeting_text : ℕ → ℕ → List ℕ
+meeting_text i j = line_text (meeting_line i j)
+
 -- `refused N word`
 abbrev pub refusal_line : Refusal → List ℕ
 refusal_line r = codes "refused " ++ (number_text (refusal_number r) ++ (32 ∷ refusal_word r))
@@ -53,12 +60,14 @@ pub data LineReply : Type 0 where
   done : LineReply
   truth : Bool → LineReply
   numbered : ℕ → LineReply
+  met : ℕ → ℕ → LineReply
   refused : Refusal → LineReply
 
 abbrev pub reply_line : LineReply → List ℕ
 reply_line done = codes "ok"
 reply_line (truth b) = truth_line b
 reply_line (numbered k) = number_reply_line k
+reply_line (met i j) = meeting_line i j
 reply_line (refused r) = refusal_line r
 
 abbrev pub reply_text : LineReply → List ℕ

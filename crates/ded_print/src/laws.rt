@@ -2,13 +2,15 @@
 ghost use Rattle.std.specs.Prelude.{◌≡◌, ◌<◌, ◌^◌, ◌++◌, codes, length, slice_index_or, true, List, ℕ};
 ghost use Rattle.std.specs.Str.Parse.{IsNumeral, digits_value};
 ghost use Rattle.ded_model.specs.declared.bound.Bound.{Bound};
+ghost use Rattle.ded_model.specs.declared.certificate.Entry.{Entry};
 ghost use Rattle.ded_model.specs.declared.command.Refusal.{Refusal};
 ghost use Rattle.ded_model.specs.declared.name.Column.{Column};
 ghost use Rattle.ded_model.specs.declared.slot.Sort.{Sort};
 ghost use Rattle.ded_model.specs.PlanForm.{PlanForm};
 ghost use Rattle.ded_model.specs.Row.{Atom};
 ghost use Rattle.ded_print.specs.Boxes.{rational_names, spans_text};
-ghost use Rattle.ded_print.specs.Lines.{LineReply, line_text, refusal_text, reply_line, reply_text, is_one_line};
+ghost use Rattle.ded_print.specs.Certificates.{apart_text};
+ghost use Rattle.ded_print.specs.Lines.{LineReply, line_text, meeting_text, refusal_text, reply_line, reply_text, is_one_line};
 ghost use Rattle.ded_print.specs.Numbers.{count_text, number_text};
 ghost use Rattle.ded_print.specs.Plans.{node_lines, plan_text};
 ghost use Rattle.ded_print.specs.Quiet.{AreQuiet, IsQuietPlan};
@@ -67,6 +69,14 @@ pub fn plans_told()
         IsToldPlan sorts g → plan_text f ++ xs ≡ plan_text g ++ ys → (f ≡ g) × (xs ≡ ys) }
 {}
 
+/// Of two lists of certificates no text is a proper front of the other's, and no bytes begin with the text of such a list and with
+/// that of a meeting.
+pub fn one_list_of_certificates()
+    ensures texts { (es fs : List Entry) (xs ys : List ℕ) → apart_text es ++ xs ≡ apart_text fs ++ ys →
+        (apart_text es ≡ apart_text fs) × (xs ≡ ys) }
+    ensures meetings { (es : List Entry) (i j : ℕ) (xs ys : List ℕ) → apart_text es ++ xs ≡ meeting_text i j ++ ys → ⊥ }
+{}
+
 /// Of two lists of bounds, as many in one as in the other, for the columns of one heading no text is a proper front of
 /// the other's, where no name has a blank, a line feed or a quote.
 pub fn one_box()
@@ -75,11 +85,12 @@ pub fn one_box()
         (spans_text columns bs ≡ spans_text columns cs) × (xs ≡ ys) }
 {}
 
-/// No bytes begin both with the text of a refusal and with that of an answer, a plan or a box.
+/// No bytes begin both with the text of a refusal and with that of an answer, a plan, a list of certificates or a box.
 pub fn refusals_apart()
     ensures answers { (columns : List Column) (ts : List (List Atom)) (r : Refusal) (xs ys : List ℕ) →
         answer_text columns ts ++ xs ≡ refusal_text r ++ ys → ⊥ }
     ensures plans { (f : PlanForm) (r : Refusal) (xs ys : List ℕ) → plan_text f ++ xs ≡ refusal_text r ++ ys → ⊥ }
+    ensures certificates { (es : List Entry) (r : Refusal) (xs ys : List ℕ) → apart_text es ++ xs ≡ refusal_text r ++ ys → ⊥ }
     ensures nowhere { (r : Refusal) (xs ys : List ℕ) → line_text (codes "empty") ++ xs ≡ refusal_text r ++ ys → ⊥ }
     ensures no_rational { (r : Refusal) (xs ys : List ℕ) →
         line_text (codes "no rational column") ++ xs ≡ refusal_text r ++ ys → ⊥ }

@@ -2,7 +2,7 @@
 ghost use Rattle.std.specs.Prelude.{◌≡◌};
 ghost use Rattle.ded_io.specs.Causes.{HasCause};
 ghost use Rattle.ded_io.specs.Devices.{AddsAll};
-ghost use Rattle.ded_print.specs.Lines.{done_text, truth_text, number_reply_text, refusal_text};
+ghost use Rattle.ded_print.specs.Lines.{done_text, meeting_text, truth_text, number_reply_text, refusal_text};
 ghost use Rattle.ded_print.specs.Gathering.{output, Puts};
 
 use crate::gathered::Gathered;
@@ -54,6 +54,33 @@ fn put_number_line<K: Sink>(number: u64, gathered: &mut Gathered, sink: &mut K)
 {
     gathered.put(sink, b"tuple ");
     put_natural(number, gathered, sink);
+    gathered.put(sink, b"\n");
+}
+
+/// Prints the numbers of two tuples that have a common point.
+///
+/// # Errors
+/// `Failed` only where the sink's count of faults rose.
+pub fn print_meeting<K: Sink>(first: u64, second: u64, sink: &mut K) -> Result<(), Failed>
+    ensures bytes { AddsAll (K.contents sink.old) (K.contents sink.new) result (meeting_text first second) }
+    ensures cause { HasCause (K.faults sink.old) (K.faults sink.new) result }
+{
+    let mut gathered = Gathered::new();
+    put_meeting_line(first, second, &mut gathered, sink);
+    gathered.finish(sink)
+}
+
+/// Puts the numbers of two tuples that have a common point on a line.
+fn put_meeting_line<K: Sink>(first: u64, second: u64, gathered: &mut Gathered, sink: &mut K)
+    ensures { Puts
+        (output (K.contents sink.old) (K.faults sink.old) gathered.old)
+        (output (K.contents sink.new) (K.faults sink.new) gathered.new)
+        (meeting_text first second) }
+{
+    gathered.put(sink, b"meet ");
+    put_natural(first, gathered, sink);
+    gathered.put(sink, b" ");
+    put_natural(second, gathered, sink);
     gathered.put(sink, b"\n");
 }
 

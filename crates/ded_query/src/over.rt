@@ -62,6 +62,17 @@ impl<'a, 'b, 'c> Relations for Over<'a, 'b, 'c> {
         }
     }
 
+    fn all(&self, alloc: Global, name: &Name) -> Result<Option<Vec<&Tuple>>, NoMemory> {
+        self.snapshot.formed();
+        if self.given.has(name) {
+            self.given.all(alloc, name)
+        } else if self.hides(name) {
+            Ok(None)
+        } else {
+            self.snapshot.all(alloc, name)
+        }
+    }
+
     fn is_indexed(&self, name: &Name) -> bool {
         !self.given.has(name) && !self.hides(name)
     }

@@ -11,7 +11,7 @@ use Rattle.ded_syntax.specs.Spelling.{IsHeader}
 use Rattle.ded_syntax.proofs.One.{one_command}
 use Rattle.ded_dump.specs.Entries.{dump_lines}
 use Rattle.ded_wording.specs.Lines.{header_text}
-use Rattle.ded_session.specs.Replies.{ReplyForm, done, number, truth, tuples, stored, boxes, steps, script, refused}
+use Rattle.ded_session.specs.Replies.{ReplyForm, done, number, truth, tuples, stored, boxes, steps, script, apart, meeting, refused}
 use Rattle.ded_session.specs.Runs.{GoesOn, Steps, Run, empty_catalogue}
 use Rattle.ded_session.specs.Steps.{Does, Accepted, IsHeaderIn, Step}
 use Rattle.ded_reload.specs.Read.{WasCatalogueRead}
@@ -38,6 +38,8 @@ module _ (c d : Catalogue) (bytes : List ℕ) (h : IsHeader bytes) where
   header_leaves (boxes g b) p = absurd (as_header (boxes g b) p)
   header_leaves (steps plan) p = absurd (as_header (steps plan) p)
   header_leaves (script lines) p = absurd (as_header (script lines) p)
+  header_leaves (apart es) p = absurd (as_header (apart es) p)
+  header_leaves (meeting i j) p = absurd (as_header (meeting i j) p)
 
 then_two : (s : Statement) (next : Language) → IsHeaderIn Opening s → GoesOn Opening s next → next ≡ Two
 then_two s next h (inl g) = g.1

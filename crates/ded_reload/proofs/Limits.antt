@@ -5,8 +5,8 @@ use Rattle.ded_lex.specs.Pieces as pieces
 use Rattle.ded_model.specs.declared.command.Language.{Language}
 use Rattle.ded_model.specs.declared.command.Language.TheVariants.{Opening}
 use Rattle.ded_model.specs.Catalogue.{Catalogue}
-use Rattle.ded_model.specs.Command.{CommandForm, header, relation, insert, delete, drop, view, keep, ask, query, show, box_of, explain, dump}
-use Rattle.ded_session.specs.Replies.{ReplyForm, done, number, truth, tuples, stored, boxes, steps, script, refused}
+use Rattle.ded_model.specs.Command.{CommandForm, header, relation, insert, delete, drop, view, keep, ask, query, show, box_of, explain, dump, disjoint, verify}
+use Rattle.ded_session.specs.Replies.{ReplyForm, done, number, truth, tuples, stored, boxes, steps, script, apart, meeting, refused}
 use Rattle.ded_session.specs.Runs.{Steps, Run, empty_catalogue}
 use Rattle.ded_session.specs.Steps.{Does, Accepts, Step}
 
@@ -27,6 +27,7 @@ does_keep c d done _ k = absurd k
 does_keep c d (number i) (insert n fs) k = ap (λ (x : Catalogue). x.limit) k.changes.is
 does_keep c d (number i) _ k = absurd k
 does_keep c d (truth b) (ask f) k = limit_of c d k.1
+does_keep c d (truth b) (verify n m es) k = limit_of c d k.1
 does_keep c d (truth b) _ k = absurd k
 does_keep c d (tuples g ts) (query h f) k = limit_of c d k.2
 does_keep c d (tuples g ts) _ k = absurd k
@@ -38,6 +39,10 @@ does_keep c d (steps plan) (explain h f) k = limit_of c d k.1
 does_keep c d (steps plan) _ k = absurd k
 does_keep c d (script lines) dump k = limit_of c d k.1
 does_keep c d (script lines) _ k = absurd k
+does_keep c d (apart es) (disjoint n m) k = limit_of c d k.1
+does_keep c d (apart es) _ k = absurd k
+does_keep c d (meeting i j) (disjoint n m) k = limit_of c d k.1
+does_keep c d (meeting i j) _ k = absurd k
 does_keep c d (refused r) header k = absurd k
 does_keep c d (refused r) _ k = absurd k
 
@@ -54,6 +59,8 @@ step_keeps l c d s (stored g ts) p = accepted_keeps l c d s (stored g ts) p
 step_keeps l c d s (boxes g b) p = accepted_keeps l c d s (boxes g b) p
 step_keeps l c d s (steps plan) p = accepted_keeps l c d s (steps plan) p
 step_keeps l c d s (script lines) p = accepted_keeps l c d s (script lines) p
+step_keeps l c d s (apart es) p = accepted_keeps l c d s (apart es) p
+step_keeps l c d s (meeting i j) p = accepted_keeps l c d s (meeting i j) p
 step_keeps l c d s (refused r) p = limit_of c d p.1
 
 steps_keep : (l : Language) (c d : Catalogue) (ss : List Statement) (replies : List ReplyForm) → Steps l c ss replies d → Keeps c d

@@ -9,10 +9,11 @@ use Rattle.ded_model.specs.declared.command.Refusal.{Refusal}
 use Rattle.ded_model.specs.declared.command.Refusal.TheVariants.{Syntax, LongName, LongNumber, Deep, Many, Twice}
 use Rattle.ded_model.specs.declared.name.Column.{Column}
 use Rattle.ded_model.specs.declared.bound.BoxReply.{BoxReply}
+use Rattle.ded_model.specs.declared.certificate.Entry.{Entry as Certificate}
 use Rattle.ded_model.specs.PlanForm.{PlanForm}
 use Rattle.ded_model.specs.Catalogue.{Entry, Catalogue}
 use Rattle.ded_model.specs.Catalogue as entry
-use Rattle.ded_model.specs.Command.{CommandForm, header, relation, insert, delete, drop, view, keep, ask, query, show, box_of, explain, dump}
+use Rattle.ded_model.specs.Command.{CommandForm, header, relation, insert, delete, drop, view, keep, ask, query, show, box_of, explain, dump, disjoint, verify}
 use Rattle.ded_model.specs.Entries.{columns_in}
 use Rattle.ded_model.specs.Form.{FormAtom}
 use Rattle.ded_model.specs.Logic.{Logics, AllAtomsOf}
@@ -25,7 +26,7 @@ use Rattle.ded_syntax.specs.Spelling.{AppliesIn, IsRead}
 use Rattle.ded_restored.specs.Words.{TupleHasTexts, AtomHasWords}
 use Rattle.ded_wording.specs.Words.{IsName, IsMember, IsText}
 use Rattle.ded_session.specs.Causes.{Applies}
-use Rattle.ded_session.specs.Replies.{ReplyForm, done, number, truth, tuples, stored, boxes, steps, script, refused}
+use Rattle.ded_session.specs.Replies.{ReplyForm, done, number, truth, tuples, stored, boxes, steps, script, apart, meeting, refused}
 use Rattle.ded_session.specs.Runs.{Steps, Run, empty_catalogue}
 use Rattle.ded_session.specs.Steps.{Does, Accepted, Step}
 use Rattle.ded_reload.specs.Read.{WasEntryRead, WasCatalogueRead}
@@ -121,6 +122,7 @@ module _ (inserts : (l : Language) (bytes n : List ℕ) (fs : Logics FormAtom) �
 
     after_truth : (b : Bool) (x : CommandForm) → Does x c (truth b) d → WasCatalogueRead d
     after_truth b (ask f) k = same c d h k.1
+    after_truth b (verify n m es) k = same c d h k.1
     after_truth b _ k = absurd k
 
     after_tuples : (cs : List Column) (ts : List (List Atom)) (x : CommandForm) → Does x c (tuples cs ts) d → WasCatalogueRead d
@@ -138,6 +140,14 @@ module _ (inserts : (l : Language) (bytes n : List ℕ) (fs : Logics FormAtom) �
     after_steps : (plan : PlanForm) (x : CommandForm) → Does x c (steps plan) d → WasCatalogueRead d
     after_steps plan (explain g f) k = same c d h k.1
     after_steps plan _ k = absurd k
+
+    after_apart : (es : List Certificate) (x : CommandForm) → Does x c (apart es) d → WasCatalogueRead d
+    after_apart es (disjoint n m) k = same c d h k.1
+    after_apart es _ k = absurd k
+
+    after_meeting : (i j : ℕ) (x : CommandForm) → Does x c (meeting i j) d → WasCatalogueRead d
+    after_meeting i j (disjoint n m) k = same c d h k.1
+    after_meeting i j _ k = absurd k
 
     after_script : (lines : List (List ℕ)) (x : CommandForm) → Does x c (script lines) d → WasCatalogueRead d
     after_script lines dump k = same c d h k.1
@@ -161,6 +171,10 @@ module _ (inserts : (l : Language) (bytes n : List ℕ) (fs : Logics FormAtom) �
   read_step l c d (Whole bytes) (steps plan) h p = after_steps c d h plan p.command p.so
   read_step l c d (pieces.Unfinished rest) (script lines) h p = absurd p
   read_step l c d (Whole bytes) (script lines) h p = after_script c d h lines p.command p.so
+  read_step l c d (pieces.Unfinished rest) (apart es) h p = absurd p
+  read_step l c d (Whole bytes) (apart es) h p = after_apart c d h es p.command p.so
+  read_step l c d (pieces.Unfinished rest) (meeting i j) h p = absurd p
+  read_step l c d (Whole bytes) (meeting i j) h p = after_meeting c d h i j p.command p.so
 
   pub read_steps : (l : Language) (c d : Catalogue) (ss : List Statement) (replies : List ReplyForm) → WasCatalogueRead c → Steps l c ss replies d → WasCatalogueRead d
   read_steps l c d [] [] h p = same c d h p

@@ -17,7 +17,7 @@ use Rattle.ded_sorts.specs.Checks.{forms_of}
 use Rattle.ded_syntax.proofs.One.{one_command}
 use Rattle.ded_wording.specs.Lines.{IsLine}
 use Rattle.ded_session.specs.Carrying.{NoCause}
-use Rattle.ded_session.specs.Replies.{ReplyForm, done, number, truth, tuples, stored, boxes, steps, script, refused}
+use Rattle.ded_session.specs.Replies.{ReplyForm, done, number, truth, tuples, stored, boxes, steps, script, apart, meeting, refused}
 use Rattle.ded_session.specs.Steps.{Does, Accepted, MayBeWide, MayRefuse, Step}
 use Rattle.ded_session.proofs.StepLemmas.{none_applies}
 use Rattle.ded_reload.specs.Runs.{WantsNoMemory}
@@ -41,6 +41,8 @@ module _ (c : Catalogue) (text : List ℕ) (x : CommandForm) (l : IsLine text x)
   answered (boxes g b) d w p = as_it (λ y. Does y c (boxes g b) d) p
   answered (steps plan) d w p = as_it (λ y. Does y c (steps plan) d) p
   answered (script lines) d w p = as_it (λ y. Does y c (script lines) d) p
+  answered (apart es) d w p = as_it (λ y. Does y c (apart es) d) p
+  answered (meeting i j) d w p = as_it (λ y. Does y c (meeting i j) d) p
 
 pub relation_does : (n : List ℕ) (h : List Column) (c d : Catalogue) (reply : ReplyForm) → Does (relation n h) c reply d → AddsEntry c d (entry.relation n h 0 [])
 relation_does n h c d done k = k

@@ -30,13 +30,14 @@ use Rattle.ded_print.specs.Tuples.{answer_text, stored_text}
 use Rattle.ded_print.proofs.LineReplies.{first_line}
 use Rattle.ded_print.proofs.QuotedLines.{number_quiet}
 use Rattle.ded_print.proofs.QuotedTexts.{one_answer, one_box, one_plan}
-use Rattle.ded_print.proofs.RefusalsApart.{no_answer, no_box, no_nowhere, no_plan, no_rational, no_script}
+use Rattle.ded_print.proofs.CertificatesTold.{no_meeting, one_list}
+use Rattle.ded_print.proofs.RefusalsApart.{no_answer, no_apart, no_box, no_nowhere, no_plan, no_rational, no_script}
 use Rattle.ded_print.proofs.Telling.{no_line}
 use Rattle.ded_syntax.specs.MemberNames.{IsMemberName}
 use Rattle.ded_run.specs.Texts.{text_of}
 use Rattle.ded_session.specs.Pairs.{FitsHeading, IsSlotKey, IsPlainPlan, ArePlainPlans, SpeaksPlainly, AreOfOneBox, AreOfOne}
 use Rattle.ded_session.specs.PlainNames.{ArePlainColumns, HasPlainNames}
-use Rattle.ded_session.specs.Replies.{ReplyForm, done, number, truth, tuples, stored, boxes, steps, script, refused}
+use Rattle.ded_session.specs.Replies.{ReplyForm, done, number, truth, tuples, stored, boxes, steps, script, apart, meeting, refused}
 use Rattle.ded_session.specs.Steps.{Step}
 use Rattle.ded_session.proofs.Pairs.{plain_reply, two_replies}
 use Rattle.ded_model.proofs.Members.{or_split}
@@ -159,6 +160,8 @@ module _ (xs ys : List ℕ) where
   by_kinds (refused r) (boxes k b) p q m e = absurd (box_apart k b r ys xs (quiet_columns k q.0) q.1 (sym e))
   by_kinds (refused r) (steps g) p q m e = absurd (no_plan g r ys xs (sym e))
   by_kinds (refused r) (script ks) p q m e = absurd (no_script ks r ys xs (sym e))
+  by_kinds (refused r) (apart fs) p q m e = absurd (no_apart fs r ys xs (sym e))
+  by_kinds (refused r) (meeting k l) p q m e = lines (line.refused r) (line.met k l) e
   by_kinds done (refused r) p q m e = lines line.done (line.refused r) e
   by_kinds done done p q m e = lines line.done line.done e
   by_kinds done (number k) p q m e = lines line.done (line.numbered k) e
@@ -195,6 +198,14 @@ module _ (xs ys : List ℕ) where
   by_kinds (script ls) (refused r) p q m e = absurd (no_script ls r xs ys e)
   by_kinds (script ls) (script ks) p q m e = (ap script_text m, append_cancel_left (script_text ks) xs ys (ap (λ t. t ++ xs) (sym (ap script_text m)) ∙ e))
   by_kinds (script ls) _ p q m e = absurd (true≢false (sym m))
+  by_kinds (apart es) (refused r) p q m e = absurd (no_apart es r xs ys e)
+  by_kinds (apart es) (apart fs) p q m e = one_list es fs xs ys e
+  by_kinds (apart es) (meeting k l) p q m e = absurd (no_meeting es k l xs ys e)
+  by_kinds (apart es) _ p q m e = absurd (true≢false (sym m))
+  by_kinds (meeting i j) (refused r) p q m e = lines (line.met i j) (line.refused r) e
+  by_kinds (meeting i j) (apart fs) p q m e = absurd (no_meeting fs i j ys xs (sym e))
+  by_kinds (meeting i j) (meeting k l) p q m e = lines (line.met i j) (line.met k l) e
+  by_kinds (meeting i j) _ p q m e = absurd (true≢false (sym m))
 
 pub one_text : (l : Language) (c d e : Catalogue) (s : Statement) (reply other : ReplyForm) (xs ys : List ℕ) → HasPlainNames c → Step l c s reply d → Step l c s other e
     → text_of reply ++ xs ≡ text_of other ++ ys → (text_of reply ≡ text_of other) × (xs ≡ ys)

@@ -7,8 +7,8 @@ ghost use Rattle.ded_run.specs.Texts.{text_of};
 
 use ded_io::{Failed, Sink};
 use ded_print::{
-    print_answer, print_box, print_done, print_number, print_plan, print_refusal, print_script,
-    print_stored, print_truth,
+    print_answer, print_apart, print_box, print_done, print_meeting, print_number, print_plan,
+    print_refusal, print_script, print_stored, print_truth,
 };
 use ded_session::Reply;
 
@@ -29,6 +29,8 @@ pub fn write_reply<K: Sink>(reply: &Reply, sink: &mut K) -> Result<(), Failed>
         Reply::Boxes(heading, bounds) => print_box(heading, bounds, sink),
         Reply::Steps(plan) => print_plan(plan, sink),
         Reply::Script(lines) => print_script(lines, sink),
+        Reply::Apart(entries) => print_apart(entries, sink),
+        Reply::Meet(first, second) => print_meeting(u64::from(*first), u64::from(*second), sink),
         Reply::Refused(refusal) => print_refusal(refusal, sink),
     }
 }

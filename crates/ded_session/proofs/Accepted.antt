@@ -1,16 +1,16 @@
 -- What the names accept of a command is what the calls of the catalogue ask for.
-use Rattle.std.proofs.Common.{◌≡◌, ◌≤◌, ℕ, Bool, true, false, refl, sym, ap, ◌∙◌, subst, true≢false, arith, List, length, not}
+use Rattle.std.proofs.Common.{◌≡◌, ◌≤◌, ℕ, true, false, refl, sym, ap, ◌∙◌, subst, true≢false, arith, List, Vec, Global, length, not}
 use Rattle.std.specs.Prelude.{None, Some, is_some, is_none, ◌==◌, ◌||◌, nat_lt}
 use Rattle.std.specs.List.{list_any}
 use Rattle.std.specs.declared.option.Option.{Option}
-use Rattle.std.specs.Option.{unwrap_or}
 use Rattle.std.proofs.lemmas.Bool.Decides.{nat_tests}
-use Rattle.ded_model.specs.declared.command.Refusal.TheVariants.{Many, Twice, Unknown, Taken, Kind, Arity, Unbound, WrongSort, Used, NoTuple, Level, Memory}
+use Rattle.ded_model.specs.declared.certificate.Entry.{Entry}
+use Rattle.ded_model.specs.declared.command.Refusal.TheVariants.{Many, Twice, Unknown, Taken, Kind, Arity, Unbound, WrongSort, Used, NoTuple, Level}
 use Rattle.ded_model.specs.declared.formula.Formula.{Formula}
 use Rattle.ded_model.specs.declared.goal.Goal.{Goal}
 use Rattle.ded_model.specs.declared.name.Column.{Column}
 use Rattle.ded_model.specs.Catalogue.{Catalogue}
-use Rattle.ded_model.specs.Command.{CommandForm, header, relation, insert, delete, drop, view, keep, show, box_of, dump}
+use Rattle.ded_model.specs.Command.{CommandForm, header, relation, insert, delete, drop, view, keep, show, box_of, dump, disjoint, verify}
 use Rattle.ded_model.specs.Form.{Form, FormAtom, form}
 use Rattle.ded_model.specs.Goal.{goal_form}
 use Rattle.ded_model.specs.Known.{Known, IsNewName, IsAccepted, IsTupleOver, level_of, is_many, has_twice, uses_unknown, has_other_arity, has_unbound, has_missorted}
@@ -27,11 +27,11 @@ use Rattle.ded_sorts.specs.Checks.{HasNoCause, forms_of}
 use Rattle.ded_resolve.specs.Resolved.{IsResolved}
 use Rattle.ded_model.specs.Entries.{known, tuples_in, columns_in, entry_uses}
 use Rattle.ded_syntax.proofs.MemberNames.{unmade_word}
-use Rattle.ded_session.specs.Carrying.{IsReady, Carries, refusal_left}
+use Rattle.ded_session.specs.Carrying.{IsReady, Carries}
 use Rattle.ded_session.specs.PlainNames.{NamesPlainly}
-use Rattle.ded_session.specs.Replies.{ReplyForm, refused}
+use Rattle.ded_session.specs.Replies.{ReplyForm}
 use Rattle.std.proofs.lemmas.Bool.{not-false}
-use Rattle.ded_model.proofs.Bools.{or_false_left}
+use Rattle.ded_model.proofs.Bools.{or_false_left, or_false_right}
 
 -- ---- tests
 
@@ -56,10 +56,6 @@ at_most n e = grind (arith, nat_tests)
 
 -- ---- commands
 
-abbrev pub is_insert : Checked → Bool
-is_insert (checked.Insert n t) = true
-is_insert _ = false
-
 module _ (c : Catalogue) where
   new_relation : (n : List ℕ) (h : List Column) → HasNoCause c (relation n h) → NamesPlainly (relation n h) → IsNewName (known c) n × (length h ≤ 16)
   new_relation n h a p = ((none_of (known c n) (a Taken refl), unmade_word n p.0), at_most (length h) (a Many refl))
@@ -72,6 +68,13 @@ module _ (c : Catalogue) where
 
   of_box : (n : List ℕ) → HasNoCause c (box_of n) → is_relation_with (known c n) ≡ true
   of_box n a = relation_of (known c n) (a Unknown refl) (a Kind refl)
+
+  relations_of : (n m : List ℕ) → (is_none (known c n) || is_none (known c m)) ≡ false → (is_view_with (known c n) || is_view_with (known c m)) ≡ false
+      → (is_relation_with (known c n) ≡ true) × (is_relation_with (known c m) ≡ true)
+  relations_of n m unknown kind = (
+    relation_of (known c n) (or_false_left (is_none (known c n)) (is_none (known c m)) unknown) (or_false_left (is_view_with (known c n)) (is_view_with (known c m)) kind),
+    relation_of (known c m) (or_false_right (is_none (known c n)) (is_none (known c m)) unknown) (or_false_right (is_view_with (known c n)) (is_view_with (known c m)) kind),
+  )
 
   of_view : (n : List ℕ) → HasNoCause c (keep n) → is_view_with (known c n) ≡ true
   of_view n a = view_of (known c n) (a Unknown refl) (a Kind refl)
@@ -134,6 +137,14 @@ module _ (c : Catalogue) where
   box_is (box_of m) n r = ap box_of (sym r)
   box_is _ n r = absurd r
 
+  disjoint_is : (x : CommandForm) (n m : List ℕ) → IsResolved c x (checked.Disjoint n m) → x ≡ disjoint n m
+  disjoint_is (disjoint k l) n m r = ap (λ (y : List ℕ). disjoint y l) (sym r.0) ∙ ap (disjoint n) (sym r.1)
+  disjoint_is _ n m r = absurd r
+
+  verify_is : (x : CommandForm) (n m : List ℕ) (es : Vec Entry Global) → IsResolved c x (checked.Verify n m es) → x ≡ verify n m es.items
+  verify_is (verify k l fs) n m es r = ap (λ (y : List ℕ). verify y l fs) (sym r.0) ∙ ap (λ (y : List ℕ). verify n y fs) (sym r.1) ∙ ap (verify n m) (sym r.2)
+  verify_is _ n m es r = absurd r
+
   keep_is : (x : CommandForm) (n : List ℕ) → IsResolved c x (checked.Keep n) → x ≡ keep n
   keep_is (keep m) n r = ap keep (sym r)
   keep_is _ n r = absurd r
@@ -181,6 +192,18 @@ module _ (c : Catalogue) where
         let r = subst (IsReady c) e ready in
         of_box n (subst (HasNoCause c) (box_is r.written n r.resolved) r.accepted)
 
+    pub ready_disjoint : (n m : List ℕ) → k ≡ checked.Disjoint n m → (is_relation_with (known c n) ≡ true) × (is_relation_with (known c m) ≡ true)
+    ready_disjoint n m e =
+        let r = subst (IsReady c) e ready in
+        let a = subst (HasNoCause c) (disjoint_is r.written n m r.resolved) r.accepted in
+        relations_of n m (a Unknown refl) (a Kind refl)
+
+    pub ready_verify : (n m : List ℕ) (es : Vec Entry Global) → k ≡ checked.Verify n m es → (is_relation_with (known c n) ≡ true) × (is_relation_with (known c m) ≡ true)
+    ready_verify n m es e =
+        let r = subst (IsReady c) e ready in
+        let a = subst (HasNoCause c) (verify_is r.written n m es r.resolved) r.accepted in
+        relations_of n m (a Unknown refl) (a Kind refl)
+
     pub ready_keep : (n : List ℕ) → k ≡ checked.Keep n → is_view_with (known c n) ≡ true
     ready_keep n e =
         let r = subst (IsReady c) e ready in
@@ -223,6 +246,12 @@ module _ (c : Catalogue) where
     pub written_box : (n : List ℕ) → k ≡ checked.BoxOf n → (x : CommandForm) → IsResolved c x k → x ≡ box_of n
     written_box n e x r = box_is x n (subst (IsResolved c x) e r)
 
+    pub written_disjoint : (n m : List ℕ) → k ≡ checked.Disjoint n m → (x : CommandForm) → IsResolved c x k → x ≡ disjoint n m
+    written_disjoint n m e x r = disjoint_is x n m (subst (IsResolved c x) e r)
+
+    pub written_verify : (n m : List ℕ) (es : Vec Entry Global) → k ≡ checked.Verify n m es → (x : CommandForm) → IsResolved c x k → x ≡ verify n m es.items
+    written_verify n m es e x r = verify_is x n m es (subst (IsResolved c x) e r)
+
     pub written_keep : (n : List ℕ) → k ≡ checked.Keep n → (x : CommandForm) → IsResolved c x k → x ≡ keep n
     written_keep n e x r = keep_is x n (subst (IsResolved c x) e r)
 
@@ -243,14 +272,3 @@ module _ (c : Catalogue) where
   written_insert d reply k n t e does x r =
       let i = insert_is x n t (subst (IsResolved c x) e r) in
       subst (λ (y : CommandForm). Carries y c reply d) (sym i.is) (does i.comparisons i.tuple)
-
-  -- ---- commands that aren't answered yet
-
-  pub left : (x : CommandForm) (k : Checked) → IsResolved c x k → is_insert k ≡ false → refusal_left c x ≡ None
-  left (insert n fs) (checked.Insert m t) r e = absurd (true≢false e)
-  left (insert n fs) _ r e = absurd r
-  left _ k r e = refl
-
-  -- what is refused for nothing may be refused as out of memory
-  pub wanting : (x : CommandForm) → refusal_left c x ≡ None → Carries x c (refused Memory) c
-  wanting x e = (sym (ap (λ o. unwrap_or o Memory) e), refl)

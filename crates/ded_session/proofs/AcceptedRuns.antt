@@ -15,7 +15,7 @@ use Rattle.ded_model.specs.declared.command.Language.{Language}
 use Rattle.ded_model.specs.declared.command.Language.TheVariants.{Opening, One, Two}
 use Rattle.ded_model.specs.Catalogue.{Catalogue}
 use Rattle.ded_model.specs.Command.{CommandForm}
-use Rattle.ded_session.specs.Replies.{ReplyForm, is_refusal, some_refusal, done, number, truth, tuples, stored, boxes, steps, script, refused}
+use Rattle.ded_session.specs.Replies.{ReplyForm, is_refusal, some_refusal, done, number, truth, tuples, stored, boxes, steps, script, apart, meeting, refused}
 use Rattle.ded_session.specs.Runs.{Steps, GoesOn, empty_catalogue, Run, unless_refused, accepted, accepted_replies, script_of}
 use Rattle.ded_session.specs.Steps.{IsHeaderIn, Accepts, Step}
 use Rattle.ded_session.proofs.HeaderSteps.{header_stays}
@@ -51,6 +51,8 @@ module _ (l : Language) (c e d : Catalogue) (s : Statement) (ss : List Statement
   goes_on (boxes h b) next p g none more = (e, next, p, g, more)
   goes_on (steps plan) next p g none more = (e, next, p, g, more)
   goes_on (script lines) next p g none more = (e, next, p, g, more)
+  goes_on (apart es) next p g none more = (e, next, p, g, more)
+  goes_on (meeting i j) next p g none more = (e, next, p, g, more)
 
 -- replies without the refusals have none
 none_left : (replies : List ReplyForm) → some_refusal (accepted_replies replies) ≡ false
@@ -64,6 +66,8 @@ none_left (stored h ts ∷ replies) = none_left replies
 none_left (boxes h b ∷ replies) = none_left replies
 none_left (steps plan ∷ replies) = none_left replies
 none_left (script lines ∷ replies) = none_left replies
+none_left (apart es ∷ replies) = none_left replies
+none_left (meeting i j ∷ replies) = none_left replies
 
 pub accepted_steps : (l : Language) (c d : Catalogue) (ss : List Statement) (replies : List ReplyForm) → Steps l c ss replies d → Steps l c (accepted ss replies) (accepted_replies replies) d
 accepted_steps l c d [] [] h = h
@@ -119,6 +123,8 @@ module _ (l : Language) (c e : Catalogue) (s : Statement) (ss : List Statement) 
   cut_on (boxes h b) p stands later = one_more l c _ ss s p stands later
   cut_on (steps plan) p stands later = one_more l c _ ss s p stands later
   cut_on (script lines) p stands later = one_more l c _ ss s p stands later
+  cut_on (apart es) p stands later = one_more l c _ ss s p stands later
+  cut_on (meeting i j) p stands later = one_more l c _ ss s p stands later
 
 nothing : AreOfScript []
 nothing = record { pieces = []; rest = []; cut = cut_of_nothing; are = inl (record { gaps = []; is = refl; each = tt }, refl) }

@@ -9,7 +9,7 @@ use Rattle.ded_model.specs.declared.name.Column.{Column}
 use Rattle.ded_model.specs.Catalogue.{Catalogue, Entry, entry_name, tuples_of}
 use Rattle.ded_model.specs.Catalogue as entry
 use Rattle.ded_model.specs.Entries.{entry_of, relation_in, columns_in, tuples_in}
-use Rattle.ded_model.specs.Known.{KnownNames, AreStored, IsEntryOver, AreEntriesOver, IsTupleOver, IsWellFormed, with_known}
+use Rattle.ded_model.specs.Known.{KnownNames, IsEntryOver, AreEntriesOver, IsTupleOver, IsWellFormed, with_known}
 use Rattle.ded_model.specs.Point.{Point}
 use Rattle.ded_model.specs.Row.{Atom, tuple_holds, tuples_hold}
 use Rattle.ded_model.specs.Width.{IsBoxNarrow}

@@ -16,7 +16,7 @@ use Rattle.ded_model.specs.Refusals.{refusal_number}
 use Rattle.ded_sorts.specs.Causes.{has_cause, is_full, is_spent, is_too_high}
 use Rattle.ded_sorts.specs.Checks.{HasNoCause, IsLeastCause, is_checked}
 use Rattle.ded_session.specs.Carrying.{refusal_left, MayStillRefuse, Carries, IsFirstCause, NoCause, MayRefuseFor, Answers}
-use Rattle.ded_session.specs.Replies.{ReplyForm, done, number, truth, tuples, stored, boxes, steps, script, refused}
+use Rattle.ded_session.specs.Replies.{ReplyForm, done, number, truth, tuples, stored, boxes, steps, script, apart, meeting, refused}
 use Rattle.ded_session.specs.Steps.{Does, MayBeWide}
 
 -- a refusal is decided by the names, or it is one of the two, or it has never a cause in a command
@@ -158,6 +158,8 @@ carried c d x (stored columns ts) h k = (none_left c x h k.0, k.1)
 carried c d x (boxes columns b) h k = (none_left c x h k.0, k.1)
 carried c d x (steps plan) h k = (none_left c x h k.0, k.1)
 carried c d x (script lines) h k = (none_left c x h k.0, k.1)
+carried c d x (apart es) h k = (none_left c x h k.0, k.1)
+carried c d x (meeting i j) h k = (none_left c x h k.0, k.1)
 
 -- ---- the replies of calls
 
@@ -199,3 +201,5 @@ carries x c d (stored columns ts) left k = (left, k)
 carries x c d (boxes columns b) left k = (left, k)
 carries x c d (steps plan) left k = (left, k)
 carries x c d (script lines) left k = (left, k)
+carries x c d (apart es) left k = (left, k)
+carries x c d (meeting i j) left k = (left, k)

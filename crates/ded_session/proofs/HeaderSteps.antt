@@ -10,13 +10,12 @@ use Rattle.ded_model.specs.declared.command.Refusal.{Refusal}
 use Rattle.ded_model.specs.declared.command.Refusal.TheVariants.{LongStatement, Unfinished, Syntax, LongName, LongNumber, Deep, Many, Twice, Unknown, Taken, Kind, Arity, Unbound, WrongSort, Used, NoTuple, Full, Spent, Level, Wide, Memory}
 use Rattle.ded_model.specs.Catalogue.{Catalogue}
 use Rattle.ded_model.specs.Command.{CommandForm, header}
-use Rattle.ded_sorts.specs.Causes.{has_cause}
-use Rattle.ded_syntax.specs.Spelling.{Spells, IsHeader}
+use Rattle.ded_syntax.specs.Spelling.{IsHeader}
 use Rattle.ded_syntax.proofs.Headers.{header_read, header_decided}
 use Rattle.ded_syntax.proofs.One.{one_command}
 use Rattle.ded_database.specs.State.{State}
 use Rattle.ded_session.specs.Carrying.{NoCause}
-use Rattle.ded_session.specs.Causes.{Applies, NoneApplies}
+use Rattle.ded_session.specs.Causes.{NoneApplies}
 use Rattle.ded_session.specs.Keeping.{Upholds, UpholdsPiece}
 use Rattle.ded_session.specs.Replies.{done, refused}
 use Rattle.ded_session.specs.Runs.{GoesOn, next_language}

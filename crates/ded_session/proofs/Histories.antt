@@ -10,7 +10,7 @@ use Rattle.ded_model.specs.declared.command.Refusal.{Refusal}
 use Rattle.ded_model.specs.declared.command.Refusal.TheVariants.{Memory, Used}
 use Rattle.ded_model.specs.Catalogue.{Catalogue, Entry}
 use Rattle.ded_model.specs.Catalogue as entry
-use Rattle.ded_model.specs.Command.{CommandForm, header, relation, insert, delete, drop, view, keep, ask, query, show, box_of, explain, dump}
+use Rattle.ded_model.specs.Command.{CommandForm, header, relation, insert, delete, drop, view, keep, ask, query, show, box_of, explain, dump, disjoint, verify}
 use Rattle.ded_model.specs.Entries.{entry_of, entry_uses}
 use Rattle.ded_model.specs.Row.{Atom}
 use Rattle.ded_model.specs.Known.{IsWellFormed}
@@ -36,10 +36,10 @@ use Rattle.ded_database.specs.State.{State, catalogue_at, is_kept, IsSound}
 use Rattle.ded_database.specs.Steps.{KeepsLists, Marks, Unmarks}
 use Rattle.ded_session.specs.declared.session.Piece.{Piece}
 use Rattle.ded_session.specs.declared.session.Piece.TheVariants as piece
-use Rattle.ded_session.specs.Histories.{Turn, IsTurn, AreTurns, last_state, renews, loses, SpellsSome, PieceSpells, NoneRenews, IsLost}
+use Rattle.ded_session.specs.Histories.{Turn, AreTurns, last_state, renews, loses, SpellsSome, PieceSpells, NoneRenews, IsLost}
 use Rattle.ded_session.specs.Pieces.{StepsPiece}
 use Rattle.ded_session.specs.Keeping.{Upholds, UpholdsPiece, UpholdsStatement, KeepsUpLists, LosesLists}
-use Rattle.ded_session.specs.Replies.{ReplyForm, done, number, truth, tuples, stored, boxes, steps, script, refused}
+use Rattle.ded_session.specs.Replies.{ReplyForm, done, number, truth, tuples, stored, boxes, steps, script, apart, meeting, refused}
 use Rattle.ded_session.specs.Steps.{Does, Accepts, Step}
 
 -- where the view is marked and its formula tight, a list is held
@@ -132,6 +132,7 @@ module _ (s t : State) (v : List ℕ) (a : IsSound s) (b : IsSound t) where
       where
         go : (x : CommandForm) → Does x (catalogue_at s) (truth o) (catalogue_at t) → Upholds x (truth o) s t → IsDue t v
         go (ask f) k p = same_lists k.1 p
+        go (verify n m es) k p = same_lists k.1 p
         go _ k p = absurd k
     after_answer x (tuples h ts) u k p r = go x k p
       where
@@ -157,6 +158,16 @@ module _ (s t : State) (v : List ℕ) (a : IsSound s) (b : IsSound t) where
       where
         go : (x : CommandForm) → Does x (catalogue_at s) (script lines) (catalogue_at t) → Upholds x (script lines) s t → IsDue t v
         go dump k p = same_lists k.1 p
+        go _ k p = absurd k
+    after_answer x (apart es) u k p r = go x k p
+      where
+        go : (x : CommandForm) → Does x (catalogue_at s) (apart es) (catalogue_at t) → Upholds x (apart es) s t → IsDue t v
+        go (disjoint n m) k p = same_lists k.1 p
+        go _ k p = absurd k
+    after_answer x (meeting i j) u k p r = go x k p
+      where
+        go : (x : CommandForm) → Does x (catalogue_at s) (meeting i j) (catalogue_at t) → Upholds x (meeting i j) s t → IsDue t v
+        go (disjoint n m) k p = same_lists k.1 p
         go _ k p = absurd k
     after_answer x (refused q) u k p r = go x k
       where
@@ -217,6 +228,8 @@ module _ (l : Language) (s t : State) (bytes v : List ℕ) (a : IsSound s) (b : 
   stays (boxes h b) y p n due = accepted (boxes h b) y p due
   stays (steps plan) y p n due = accepted (steps plan) y p due
   stays (script lines) y p n due = accepted (script lines) y p due
+  stays (apart es) y p n due = accepted (apart es) y p due
+  stays (meeting i j) y p n due = accepted (meeting i j) y p due
   stays (refused q) y p n due = elim (spelling_decided l bytes) [
     | inl z ↦ after_refused s t v a b due z.0 q y.1 (p.spelled z.0 z.1 z.2)
         (false_from_ne_true (loses (catalogue_at s) z.0 (refused q) v) (λ e. n (record { command = z.0; depth = z.1; spells = z.2; passes = e })))
@@ -238,6 +251,8 @@ module _ (l : Language) (s t : State) (bytes v : List ℕ) (a : IsSound s) (b : 
   made (boxes h b) y p r = renewed (boxes h b) y p r
   made (steps plan) y p r = renewed (steps plan) y p r
   made (script lines) y p r = renewed (script lines) y p r
+  made (apart es) y p r = renewed (apart es) y p r
+  made (meeting i j) y p r = renewed (meeting i j) y p r
   made (refused q) y p r = absurd (no_refusal (catalogue_at s) r.command q v r.passes)
 
 -- of any piece: a long one and a cut one change nothing

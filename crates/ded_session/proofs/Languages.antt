@@ -1,8 +1,7 @@
 -- A statement that is accepted in the plain language is accepted alike in the opening one, and isn't the header.
-use Rattle.std.proofs.Common.{◌≡◌, ℕ, Bool, true, false, List, sym, true≢false}
+use Rattle.std.proofs.Common.{◌≡◌, ℕ, false, List, true≢false}
 use Rattle.ded_lex.specs.Pieces.{Statement, Whole}
 use Rattle.ded_lex.specs.Pieces as pieces
-use Rattle.ded_model.specs.declared.command.Language.{Language}
 use Rattle.ded_model.specs.declared.command.Language.TheVariants.{Opening, One}
 use Rattle.ded_model.specs.declared.command.Refusal.{Refusal}
 use Rattle.ded_model.specs.declared.command.Refusal.TheVariants.{LongStatement, Unfinished, Syntax, LongName, LongNumber, Deep}
@@ -11,7 +10,7 @@ use Rattle.ded_model.specs.Command.{CommandForm}
 use Rattle.ded_syntax.specs.Spelling.{Spells}
 use Rattle.ded_syntax.proofs.OpeningAlike.{spelled_back, refused_back, opening_spelled, no_header}
 use Rattle.ded_session.specs.Causes.{Commands, AppliesWhole, Applies}
-use Rattle.ded_session.specs.Replies.{ReplyForm, is_refusal, done, number, truth, tuples, stored, boxes, steps, script, refused}
+use Rattle.ded_session.specs.Replies.{ReplyForm, is_refusal, done, number, truth, tuples, stored, boxes, steps, script, apart, meeting, refused}
 use Rattle.ded_session.specs.Steps.{IsHeaderIn, Accepts, Step}
 
 -- ---- causes
@@ -63,3 +62,5 @@ opening_step c d s (stored g ts) e h = opens_by c _ s h
 opening_step c d s (boxes g b) e h = opens_by c _ s h
 opening_step c d s (steps plan) e h = opens_by c _ s h
 opening_step c d s (script lines) e h = opens_by c _ s h
+opening_step c d s (apart es) e h = opens_by c _ s h
+opening_step c d s (meeting i j) e h = opens_by c _ s h

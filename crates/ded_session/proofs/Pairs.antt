@@ -10,6 +10,7 @@ use Rattle.ded_lex.specs.Pieces.{Statement, Whole}
 use Rattle.ded_lex.specs.Pieces as pieces
 use Rattle.ded_model.specs.declared.bound.Bound.{Bound}
 use Rattle.ded_model.specs.declared.bound.BoxReply.{BoxReply}
+use Rattle.ded_model.specs.declared.certificate.Entry.{Entry}
 use Rattle.ded_model.specs.declared.bound.BoxReply.TheVariants.{Nowhere, NoRational, Spans}
 use Rattle.ded_model.specs.declared.command.Language.{Language}
 use Rattle.ded_model.specs.declared.command.Refusal.{Refusal}
@@ -18,7 +19,7 @@ use Rattle.ded_model.specs.declared.slot.Sort.{Sort}
 use Rattle.ded_model.specs.declared.slot.Sort.TheVariants.{Rat, Text}
 use Rattle.ded_model.specs.Catalogue.{Catalogue, tuples_of}
 use Rattle.ded_model.specs.Cell.{HoldsSomewhere}
-use Rattle.ded_model.specs.Command.{CommandForm, header, relation, insert, delete, drop, view, keep, ask, query, show, box_of, explain, dump}
+use Rattle.ded_model.specs.Command.{CommandForm, header, relation, insert, delete, drop, view, keep, ask, query, show, box_of, explain, dump, disjoint, verify}
 use Rattle.ded_model.specs.Entries.{tuples_in}
 use Rattle.ded_model.specs.Form.{Form, FormAtom, compare, member, atom_uses}
 use Rattle.ded_model.specs.Logic.{atom, always, never, negation, every_of, some_of, implies, minus, exists, forall, Logics, none, also, AllAtoms, AllAtomsOf, some_atom, some_atom_of, mentions, any_mentions}
@@ -33,7 +34,7 @@ use Rattle.ded_syntax.specs.MemberNames.{IsMemberName}
 use Rattle.ded_syntax.proofs.One.{one_command}
 use Rattle.ded_session.specs.Pairs.{FitsHeading, IsSlotKey, IsPlainScan, IsPlainPlan, ArePlainPlans, SpeaksPlainly, AreOfOneBox, AreOfOne}
 use Rattle.ded_session.specs.PlainNames.{ArePlainColumns, HasPlainNames, IsPlainUse, UsesPlainNames, NamesPlainly}
-use Rattle.ded_session.specs.Replies.{ReplyForm, done, number, truth, tuples, stored, boxes, steps, script, refused}
+use Rattle.ded_session.specs.Replies.{ReplyForm, done, number, truth, tuples, stored, boxes, steps, script, apart, meeting, refused}
 use Rattle.ded_session.specs.Steps.{Does, Accepts, Step}
 use Rattle.ded_session.proofs.PlainNames.{plain_columns}
 use Rattle.ded_session.proofs.PlainSpelling.{spelled_names}
@@ -134,17 +135,17 @@ module _ (test : Point → Bool) where
   fits h NoRational k = tt
   fits h (Spans bs) k = (k.1, bounds_many 0 h bs k.2)
 
-  apart : {A : Type 0} → HoldsSomewhere test → ((p : Point) → IsPoint p → test p ≡ false) → A
-  apart some nowhere = absurd (true≢false (sym some.2 ∙ nowhere some.0 some.1))
+  opposed : {A : Type 0} → HoldsSomewhere test → ((p : Point) → IsPoint p → test p ≡ false) → A
+  opposed some nowhere = absurd (true≢false (sym some.2 ∙ nowhere some.0 some.1))
 
   same_box : (h : List Column) (r q : BoxReply) → IsBox test h r → IsBox test h q → AreOfOneBox r q
   same_box h Nowhere Nowhere k l = tt
-  same_box h Nowhere NoRational k l = apart l.0 k
-  same_box h Nowhere (Spans cs) k l = apart l.0 k
-  same_box h NoRational Nowhere k l = apart k.0 l
+  same_box h Nowhere NoRational k l = opposed l.0 k
+  same_box h Nowhere (Spans cs) k l = opposed l.0 k
+  same_box h NoRational Nowhere k l = opposed k.0 l
   same_box h NoRational NoRational k l = tt
   same_box h NoRational (Spans cs) k l = let e = k.1 in let m = l.1 in omega (arith, e, m)
-  same_box h (Spans bs) Nowhere k l = apart k.0 l
+  same_box h (Spans bs) Nowhere k l = opposed k.0 l
   same_box h (Spans bs) NoRational k l = let e = l.1 in let m = k.1 in omega (arith, e, m)
   same_box h (Spans bs) (Spans cs) k l = tt
 
@@ -172,6 +173,8 @@ module _ (c d : Catalogue) (h : HasPlainNames c) where
       go (explain g f) p k = plain_plan c f plan p.1 k.0.pushed k.0.scans
       go _ p k = absurd k
   speaks_plainly x (script lines) p k = tt
+  speaks_plainly x (apart es) p k = tt
+  speaks_plainly x (meeting i j) p k = tt
   speaks_plainly x (refused r) p k = tt
 
   accepted_plainly : (l : Language) (s : Statement) (reply : ReplyForm) → Accepts l s c (λ x. Does x c reply d) → SpeaksPlainly reply
@@ -188,6 +191,8 @@ refusal_or l c d s (stored g ts) p = inr p
 refusal_or l c d s (boxes g b) p = inr p
 refusal_or l c d s (steps plan) p = inr p
 refusal_or l c d s (script lines) p = inr p
+refusal_or l c d s (apart es) p = inr p
+refusal_or l c d s (meeting i j) p = inr p
 refusal_or l c d s (refused r) p = inl (r, refl)
 
 pub plain_reply : (l : Language) (c d : Catalogue) (s : Statement) (reply : ReplyForm) → HasPlainNames c → Step l c s reply d → SpeaksPlainly reply
@@ -219,6 +224,8 @@ module _ (c d e : Catalogue) where
   of_one_truth : (b : Bool) (x : CommandForm) (other : ReplyForm) → Does x c (truth b) d → Does x c other e → AreOfOne (truth b) other
   of_one_truth b (ask f) (truth a) p q = refl
   of_one_truth b (ask f) _ p q = absurd q
+  of_one_truth b (verify n m es) (truth a) p q = refl
+  of_one_truth b (verify n m es) _ p q = absurd q
   of_one_truth b _ other p q = absurd p
 
   of_one_tuples : (h : List Column) (ts : List (List Atom)) (x : CommandForm) (other : ReplyForm) → Does x c (tuples h ts) d → Does x c other e → AreOfOne (tuples h ts) other
@@ -249,6 +256,18 @@ module _ (c d e : Catalogue) where
   of_one_script ls dump _ p q = absurd q
   of_one_script ls _ other p q = absurd p
 
+  of_one_apart : (es : List Entry) (x : CommandForm) (other : ReplyForm) → Does x c (apart es) d → Does x c other e → AreOfOne (apart es) other
+  of_one_apart es (disjoint n m) (apart fs) p q = tt
+  of_one_apart es (disjoint n m) (meeting i j) p q = tt
+  of_one_apart es (disjoint n m) _ p q = absurd q
+  of_one_apart es _ other p q = absurd p
+
+  of_one_meeting : (i j : ℕ) (x : CommandForm) (other : ReplyForm) → Does x c (meeting i j) d → Does x c other e → AreOfOne (meeting i j) other
+  of_one_meeting i j (disjoint n m) (apart fs) p q = tt
+  of_one_meeting i j (disjoint n m) (meeting k l) p q = tt
+  of_one_meeting i j (disjoint n m) _ p q = absurd q
+  of_one_meeting i j _ other p q = absurd p
+
   of_one_command : (x : CommandForm) (reply other : ReplyForm) → Does x c reply d → Does x c other e → AreOfOne reply other
   of_one_command x done other p q = of_one_done x other p q
   of_one_command x (number i) other p q = of_one_number i x other p q
@@ -258,6 +277,8 @@ module _ (c d e : Catalogue) where
   of_one_command x (boxes h b) other p q = of_one_boxes h b x other p q
   of_one_command x (steps plan) other p q = of_one_steps plan x other p q
   of_one_command x (script ls) other p q = of_one_script ls x other p q
+  of_one_command x (apart es) other p q = of_one_apart es x other p q
+  of_one_command x (meeting i j) other p q = of_one_meeting i j x other p q
   of_one_command x (refused r) other p q = tt
 
   both_accepted : (l : Language) (s : Statement) (reply other : ReplyForm) → Accepts l s c (λ x. Does x c reply d) → Accepts l s c (λ x. Does x c other e) → AreOfOne reply other
@@ -275,6 +296,8 @@ any_refused (stored g ts) r = tt
 any_refused (boxes g b) r = tt
 any_refused (steps plan) r = tt
 any_refused (script lines) r = tt
+any_refused (apart es) r = tt
+any_refused (meeting i j) r = tt
 any_refused (refused q) r = tt
 
 pub two_replies : (l : Language) (c d e : Catalogue) (s : Statement) (reply other : ReplyForm) → Step l c s reply d → Step l c s other e → AreOfOne reply other

@@ -9,12 +9,12 @@ use Rattle.ded_model.specs.declared.command.Language.{Language}
 use Rattle.ded_model.specs.declared.command.Language.TheVariants.{Opening}
 use Rattle.ded_model.specs.Catalogue.{Entry, Catalogue, entry_name}
 use Rattle.ded_model.specs.Catalogue as entry
-use Rattle.ded_model.specs.Command.{CommandForm, header, relation, insert, delete, drop, view, keep, ask, query, show, box_of, explain, dump}
+use Rattle.ded_model.specs.Command.{CommandForm, header, relation, insert, delete, drop, view, keep, ask, query, show, box_of, explain, dump, disjoint, verify}
 use Rattle.ded_model.specs.Entries.{columns_in}
 use Rattle.ded_model.specs.Known.{KnownNames, Known, columns_with, entry_known, with_known, known_from, known_of}
 use Rattle.ded_sorts.specs.Changes.{AddsEntry, ChangesEntry, DropsEntry}
 use Rattle.ded_session.specs.PlainNames.{ArePlainColumns, HasPlainEntry, HasPlainNames, NamesPlainly}
-use Rattle.ded_session.specs.Replies.{ReplyForm, done, number, truth, tuples, stored, boxes, steps, script, refused}
+use Rattle.ded_session.specs.Replies.{ReplyForm, done, number, truth, tuples, stored, boxes, steps, script, apart, meeting, refused}
 use Rattle.ded_session.specs.Runs.{Steps, Run, empty_catalogue}
 use Rattle.ded_session.specs.Steps.{Does, Accepts, Step}
 use Rattle.ded_session.proofs.PlainSpelling.{spelled_names}
@@ -72,6 +72,7 @@ module _ (c d : Catalogue) (h : HasPlainNames c) where
 
   after_truth : (b : Bool) (x : CommandForm) → Does x c (truth b) d → HasPlainNames d
   after_truth b (ask f) k = same c d h k.1
+  after_truth b (verify n m es) k = same c d h k.1
   after_truth b _ k = absurd k
 
   unchanged : (x : CommandForm) (reply : ReplyForm) → NamesPlainly x → Does x c reply d → HasPlainNames d
@@ -103,6 +104,16 @@ module _ (c d : Catalogue) (h : HasPlainNames c) where
       go : (x : CommandForm) → Does x c (script lines) d → HasPlainNames d
       go dump k = same c d h k.1
       go _ k = absurd k
+  unchanged x (apart es) p k = go x k
+    where
+      go : (x : CommandForm) → Does x c (apart es) d → HasPlainNames d
+      go (disjoint n m) k = same c d h k.1
+      go _ k = absurd k
+  unchanged x (meeting i j) p k = go x k
+    where
+      go : (x : CommandForm) → Does x c (meeting i j) d → HasPlainNames d
+      go (disjoint n m) k = same c d h k.1
+      go _ k = absurd k
   unchanged x (refused r) p k = go x k
     where
       go : (x : CommandForm) → Does x c (refused r) d → HasPlainNames d
@@ -122,6 +133,8 @@ plain_step l c d s (stored g ts) h p = accepted c d h l s (stored g ts) p
 plain_step l c d s (boxes g b) h p = accepted c d h l s (boxes g b) p
 plain_step l c d s (steps plan) h p = accepted c d h l s (steps plan) p
 plain_step l c d s (script lines) h p = accepted c d h l s (script lines) p
+plain_step l c d s (apart es) h p = accepted c d h l s (apart es) p
+plain_step l c d s (meeting i j) h p = accepted c d h l s (meeting i j) p
 plain_step l c d s (refused r) h p = same c d h p.1
 
 pub plain_steps : (l : Language) (c d : Catalogue) (ss : List Statement) (replies : List ReplyForm) → HasPlainNames c → Steps l c ss replies d → HasPlainNames d

@@ -22,7 +22,7 @@ use Rattle.ded_syntax.specs.declared.item.Keyword.TheVariants as words
 use Rattle.ded_syntax.specs.Symbols.{Symbol, Word, Name, Plus, Minus, Times, Open, Close, OpenBrace, CloseBrace, Comma, Colon, Define, Relation, formula_word, command_word, is_unused, unused_word, dedale_symbol, dump_symbol, language_word, word_symbol, sum_sign, other_sign, slash_symbol, decimal_symbol, symbol}
 use Rattle.ded_syntax.specs.Literals.{Reader, exact}
 use Rattle.ded_syntax.specs.Atoms.{spell_rest, Named, plain, closed, inner, spell_named, Atom, truth, relates, belongs, spell_atom, atom_form, spell_column, sort_symbols, IsTerminal, AreTerminals, SpellsFormula}
-use Rattle.ded_syntax.specs.Commands.{Columns, spell_heading, heading, Plain, opens, defines, inserts_none, inserts, deletes, drops, keeps, shows, boxes, dumps, spell_plain, plain_form, Prefix, views, asks, queries, explains, spell_prefix, prefix_form, SpellsCommand}
+use Rattle.ded_syntax.specs.Commands.{Columns, spell_heading, heading, Plain, opens, defines, inserts_none, inserts, deletes, drops, keeps, shows, boxes, dumps, certifies, verifies_none, verifies, spell_plain, plain_form, Prefix, views, asks, queries, explains, spell_prefix, prefix_form, SpellsCommand}
 use Rattle.ded_syntax.specs.MemberNames.{IsWordName, word_of}
 use Rattle.ded_syntax.specs.Operands.{spell_side}
 use Rattle.ded_syntax.specs.Spelling.{Spells}
@@ -72,7 +72,9 @@ command_plain w other h =
     (reserved w (codes "query") words.Query _
     (reserved w (codes "show") words.Show _
     (reserved w (codes "box") words.BoxOf _
-    (reserved w (codes "explain") words.Explain _ h))))))))))
+    (reserved w (codes "explain") words.Explain _
+    (reserved w (codes "disjoint") words.Disjoint _
+    (reserved w (codes "verify") words.Verify _ h))))))))))))
 
 unused_plain : (w : List ℕ) (other : Symbol) → IsPlainSymbol other → IsPlainSymbol (unused_word other w)
 unused_plain w other h = either (is_unused w)
@@ -211,6 +213,9 @@ flat_plain value (drops n) q = q.1.0
 flat_plain value (keeps n) q = q.1.0
 flat_plain value (shows n) q = q.1.0
 flat_plain value (boxes n) q = q.1.0
+flat_plain value (certifies n m) q = (q.1.0, q.1.1.0)
+flat_plain value (verifies_none n m) q = (q.1.0, q.1.1.0)
+flat_plain value (verifies n m e es) q = (q.1.0, q.1.1.0)
 flat_plain value dumps q = tt
 
 before_plain : (p : Prefix) (f : Form) → ArePlainSymbols (spell_prefix p) → UsesPlainNames f → NamesPlainly (prefix_form p f)

@@ -16,7 +16,7 @@ use Rattle.ded_syntax.proofs.PlainSums.{spelled_plain}
 use Rattle.ded_session.specs.Carrying.{Answers, IsFirstCause, MayRefuseFor, NoCause}
 use Rattle.ded_session.specs.Causes.{Commands, Applies, NoneApplies}
 use Rattle.ded_session.specs.PlainNames.{NamesPlainly}
-use Rattle.ded_session.specs.Replies.{ReplyForm, done, number, truth, tuples, stored, boxes, steps, script, refused}
+use Rattle.ded_session.specs.Replies.{ReplyForm, done, number, truth, tuples, stored, boxes, steps, script, apart, meeting, refused}
 use Rattle.ded_session.specs.Steps.{IsHeaderIn, Step, MayRefuse}
 use Rattle.ded_session.proofs.PlainSpelling.{spelled_names}
 
@@ -148,3 +148,5 @@ module _ (l : Language) (bytes : List ℕ) (c : Catalogue) (short : length bytes
     step_read other (boxes columns b) d k = record { none = none_applies k.0; command = x; depth = h.depth; spells = h.spells; so = k.1 }
     step_read other (steps plan) d k = record { none = none_applies k.0; command = x; depth = h.depth; spells = h.spells; so = k.1 }
     step_read other (script lines) d k = record { none = none_applies k.0; command = x; depth = h.depth; spells = h.spells; so = k.1 }
+    step_read other (apart es) d k = record { none = none_applies k.0; command = x; depth = h.depth; spells = h.spells; so = k.1 }
+    step_read other (meeting i j) d k = record { none = none_applies k.0; command = x; depth = h.depth; spells = h.spells; so = k.1 }

@@ -8,7 +8,7 @@ use Rattle.ded_model.specs.declared.command.Language.{Language}
 use Rattle.ded_model.specs.declared.command.Refusal.TheVariants.{Many, Twice, Unknown, Arity, Unbound, WrongSort, Wide}
 use Rattle.ded_model.specs.declared.name.Column.{Column}
 use Rattle.ded_model.specs.Catalogue.{Catalogue}
-use Rattle.ded_model.specs.Command.{CommandForm, ask, query, box_of}
+use Rattle.ded_model.specs.Command.{CommandForm, ask, query, box_of, disjoint, verify}
 use Rattle.ded_model.specs.Entries.{known}
 use Rattle.ded_model.specs.Form.{Form}
 use Rattle.ded_model.specs.Known.{IsAccepted, IsWellFormed}
@@ -50,6 +50,8 @@ not_narrow : (c : Catalogue) (x : CommandForm) → IsWellFormed c → HasNone c 
 not_narrow c (ask f) w h m = λ n. m (formula_tight c w [] f (asked c f h) n)
 not_narrow c (query k f) w h m = λ n. m (formula_tight c w k f (queried c k f h) n)
 not_narrow c (box_of n) w h m = m.0
+not_narrow c (disjoint n k) w h m = m
+not_narrow c (verify n k es) w h m = m
 not_narrow c _ w h m = absurd m
 
 pub wide_is : (language : Language) (c d : Catalogue) (s : Statement) → IsWellFormed c → Step language c s (refused Wide) d → Accepts language s c (λ x. IsNotNarrow x c)

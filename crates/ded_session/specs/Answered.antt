@@ -1,8 +1,8 @@
 -- What the program's replies stand for.
 use Rattle.ded_model.specs.PlanForm.{plan_form}
 use Rattle.ded_session.specs.declared.reply.Reply.{Reply}
-use Rattle.ded_session.specs.declared.reply.Reply.TheVariants.{Done, Number, Truth, Tuples, Stored, Boxes, Steps, Script, Refused}
-use Rattle.ded_session.specs.Replies.{ReplyForm, done, number, truth, tuples, stored, boxes, steps, script, refused}
+use Rattle.ded_session.specs.declared.reply.Reply.TheVariants.{Done, Number, Truth, Tuples, Stored, Boxes, Steps, Script, Apart, Meet, Refused}
+use Rattle.ded_session.specs.Replies.{ReplyForm, done, number, truth, tuples, stored, boxes, steps, script, apart, meeting, refused}
 
 abbrev pub reply_form : Reply → ReplyForm
 reply_form Done = done
@@ -13,4 +13,6 @@ reply_form (Stored h ts) = stored h ts
 reply_form (Boxes h b) = boxes h b
 reply_form (Steps plan) = steps (plan_form plan)
 reply_form (Script lines) = script lines.items
+reply_form (Apart entries) = apart entries.items
+reply_form (Meet i j) = meeting i j
 reply_form (Refused r) = refused r

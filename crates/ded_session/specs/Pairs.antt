@@ -9,7 +9,7 @@ use Rattle.ded_model.specs.Point.{Key, slot, name}
 use Rattle.ded_model.specs.Width.{rational_columns}
 use Rattle.ded_syntax.specs.MemberNames.{IsMemberName}
 use Rattle.ded_session.specs.PlainNames.{ArePlainColumns}
-use Rattle.ded_session.specs.Replies.{ReplyForm, done, number, truth, tuples, stored, boxes, steps, script, refused}
+use Rattle.ded_session.specs.Replies.{ReplyForm, done, number, truth, tuples, stored, boxes, steps, script, apart, meeting, refused}
 
 -- ---- one reply
 
@@ -78,4 +78,8 @@ AreOfOne (stored h ts) (stored k us) = (h ≡ k) × (ts ≡ us)
 AreOfOne (boxes h b) (boxes k c) = (h ≡ k) × AreOfOneBox b c
 AreOfOne (steps f) (steps g) = Unit {0}
 AreOfOne (script ls) (script ks) = ls ≡ ks
+AreOfOne (apart es) (apart fs) = Unit {0}
+AreOfOne (apart es) (meeting i j) = Unit {0}
+AreOfOne (meeting i j) (apart es) = Unit {0}
+AreOfOne (meeting i j) (meeting k l) = Unit {0}
 AreOfOne reply other = (is_short reply && is_short other) ≡ true

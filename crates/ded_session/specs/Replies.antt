@@ -2,6 +2,7 @@
 use Rattle.std.specs.Prelude.{ℕ, Bool, true, false, ◌||◌, List, [], ◌∷◌}
 use Rattle.ded_model.specs.declared.name.Column.{Column}
 use Rattle.ded_model.specs.declared.bound.BoxReply.{BoxReply}
+use Rattle.ded_model.specs.declared.certificate.Entry.{Entry}
 use Rattle.ded_model.specs.declared.command.Refusal.{Refusal}
 use Rattle.ded_model.specs.Row.{Atom}
 use Rattle.ded_model.specs.PlanForm.{PlanForm}
@@ -15,6 +16,8 @@ pub data ReplyForm : Type 0 where
   boxes : List Column → BoxReply → ReplyForm
   steps : PlanForm → ReplyForm
   script : List (List ℕ) → ReplyForm
+  apart : List Entry → ReplyForm
+  meeting : ℕ → ℕ → ReplyForm
   refused : Refusal → ReplyForm
 
 abbrev pub is_refusal : ReplyForm → Bool

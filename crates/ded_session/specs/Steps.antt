@@ -9,13 +9,14 @@ use Rattle.ded_model.specs.declared.command.Refusal.{Refusal}
 use Rattle.ded_model.specs.declared.command.Refusal.TheVariants.{Wide, Memory}
 use Rattle.ded_model.specs.Catalogue.{Catalogue, tuples_of, IsTruth}
 use Rattle.ded_model.specs.Catalogue as entry
-use Rattle.ded_model.specs.Command.{CommandForm, header, relation, insert, delete, drop, view, keep, ask, query, show, box_of, explain, dump}
+use Rattle.ded_model.specs.Command.{CommandForm, header, relation, insert, delete, drop, view, keep, ask, query, show, box_of, explain, dump, disjoint, verify}
 use Rattle.ded_model.specs.Entries.{tuples_in, columns_in}
 use Rattle.ded_model.specs.Measure.{IsTight}
 use Rattle.ded_model.specs.Row.{tuples_hold}
 use Rattle.ded_model.specs.Slotted.{tuple_of}
 use Rattle.ded_model.specs.Width.{IsBoxNarrow}
 use Rattle.ded_box.specs.Extents.{IsBox}
+use Rattle.ded_cert.specs.Pairs.{pairs_of, AreEntriesOf, IsFirstMeeting, IsLongCheck, IsVerified, IsWide, SomePair}
 use Rattle.ded_syntax.specs.Spelling.{Spells, IsHeader}
 use Rattle.ded_sorts.specs.Changes.{AddsEntry, DropsEntry, Inserts, Deletes}
 use Rattle.ded_sorts.specs.Checks.{forms_of}
@@ -24,7 +25,7 @@ use Rattle.ded_plan.specs.Plans.{IsPlanOf}
 use Rattle.ded_query.specs.Questions.{IsAnswer}
 use Rattle.ded_dump.specs.Entries.{dump_lines}
 use Rattle.ded_session.specs.Causes.{IsLeast, NoneApplies}
-use Rattle.ded_session.specs.Replies.{ReplyForm, done, number, truth, tuples, stored, boxes, steps, script, refused}
+use Rattle.ded_session.specs.Replies.{ReplyForm, done, number, truth, tuples, stored, boxes, steps, script, apart, meeting, refused}
 
 -- ---- commands
 
@@ -43,14 +44,19 @@ Does (show n) c (stored h ts) d = (h ≡ columns_in c n) × (ts ≡ tuples_in c 
 Does (box_of n) c (boxes h r) d = (h ≡ columns_in c n) × IsBox (tuples_hold (tuples_of (tuples_in c n))) h r × (d ≡ c)
 Does (explain h f) c (steps plan) d = IsPlanOf c h f plan × (d ≡ c)
 Does dump c (script lines) d = (lines ≡ dump_lines c) × (d ≡ c)
+Does (disjoint n m) c (apart es) d = AreEntriesOf (pairs_of (tuples_in c n) (tuples_in c m)) es × (d ≡ c)
+Does (disjoint n m) c (meeting i j) d = IsFirstMeeting (pairs_of (tuples_in c n) (tuples_in c m)) i j × (d ≡ c)
+Does (verify n m es) c (truth b) d = (IsTrue b ↔ AllByRecursion (IsVerified es) (pairs_of (tuples_in c n) (tuples_in c m))) × (d ≡ c)
 Does _ c reply d = ⊥
 
--- numbers may become too long where the formula isn't tight, or the relation isn't narrow for its box and some stored row of it is
--- no order row
+-- numbers may become too long where the formula isn't tight; the relation isn't narrow for its box and some stored row of it is no order
+-- row; some pair of tuples is wide; or in the check of the first entry of some pair a number is too long
 abbrev pub MayBeWide : CommandForm → Catalogue → Type 0
 MayBeWide (ask f) c = IsTight c [] f → ⊥
 MayBeWide (query h f) c = IsTight c h f → ⊥
 MayBeWide (box_of n) c = (IsBoxNarrow (columns_in c n) (tuples_of (tuples_in c n)) → ⊥) × (AllByRecursion AreOrderAtoms (tuples_of (tuples_in c n)) → ⊥)
+MayBeWide (disjoint n m) c = SomePair IsWide (pairs_of (tuples_in c n) (tuples_in c m))
+MayBeWide (verify n m es) c = SomePair (IsLongCheck es) (pairs_of (tuples_in c n) (tuples_in c m))
 MayBeWide _ c = ⊥
 
 -- ---- statements

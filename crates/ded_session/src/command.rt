@@ -10,9 +10,9 @@ ghost use Rattle.ded_session.specs.Answered.{reply_form};
 ghost use Rattle.ded_session.specs.Carrying.{Answers, Carries, IsReady};
 ghost use Rattle.ded_session.specs.Keeping.{Upholds};
 ghost use Rattle.ded_session.specs.PlainNames.{NamesPlainly};
-ghost use Rattle.ded_session.specs.Replies.{refused};
 
 use crate::boxes::bounds;
+use crate::certificates::{disjoint, verified};
 use crate::changes::{define, define_view, delete, drop_name, insert, keep};
 use crate::outcome::reply_of;
 use crate::questions::{steps, truth, tuples};
@@ -60,15 +60,16 @@ fn carry_out(alloc: Global, command: Checked, database: &mut Database) -> Reply
         Checked::Explain(_, goal) => reply_of(steps(alloc, &goal)),
         Checked::Header => Reply::Done,
         Checked::Dump => dump(alloc, database.catalogue()),
-        Checked::Disjoint(_, _) => unanswered(),
-        Checked::Verify(_, _, _) => unanswered(),
+        Checked::Disjoint(first, second) => {
+            reply_of(disjoint(alloc, database.catalogue(), &first, &second))
+        }
+        Checked::Verify(first, second, entries) => reply_of(verified(
+            alloc,
+            database.catalogue(),
+            &first,
+            &second,
+            &entries,
+        )),
         Checked::Keep(name) => keep(database, &name),
     }
-}
-
-/// The reply to a command that no statement spells yet: it counts as out of memory.
-fn unanswered() -> Reply
-    ensures { reply_form result ≡ refused Refusal.Memory }
-{
-    Reply::Refused(Refusal::Memory)
 }

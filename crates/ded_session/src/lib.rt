@@ -5,14 +5,16 @@
 //! statement makes of kept views and their lists, `Histories` what many statements make of them, and `Carrying` what is
 //! left to refuse a command that the names accept. [`Session::step`] takes one step of these rules: it reads the
 //! command, checks it over the names (`command`), and then changes the database (`changes`), shows what a relation
-//! stores (`shown`) or its bounds (`boxes`), or answers what a formula asks (`questions`).
+//! stores (`shown`) or its bounds (`boxes`), answers what a formula asks (`questions`), or certifies that relations have no common point
+//! (`certificates`).
 //!
 //! It stands on `ded_syntax` for commands, on `ded_resolve` for commands by slots, on `ded_database` for the catalogue
-//! and the lists of kept views, on `ded_plan` for plans, on `ded_eval` for bounds and on `ded_model` for what
-//! formulas mean.
+//! and the lists of kept views, on `ded_plan` for plans, on `ded_eval` for bounds, on `ded_cert` for certificates and on
+//! `ded_model` for what formulas mean.
 #![tactic(auto)]
 
 mod boxes;
+mod certificates;
 mod changes;
 mod command;
 pub mod laws;

@@ -7,6 +7,7 @@ ghost use Rattle.ded_session.specs.Replies.{is_refusal};
 use crate::stored::StoredTuples;
 use ded_model::answer::Answer;
 use ded_model::bound::BoxReply;
+use ded_model::certificate::Entry;
 use ded_model::command::Refusal;
 use ded_model::name::{Heading, Name};
 use ded_model::plan::Plan;
@@ -30,6 +31,10 @@ pub enum Reply {
     Steps(Plan),
     /// The lines of a script that makes the catalogue again.
     Script(Vec<Name>),
+    /// Certificates that two relations have no common point.
+    Apart(Vec<Entry>),
+    /// The numbers of two tuples that have a common point.
+    Meet(u32, u32),
     /// The statement changed nothing.
     Refused(Refusal),
 }

@@ -1,17 +1,21 @@
 -- Numbers as they are read: where no number of the symbols is capped, these spell the same command.
 use Rattle.std.proofs.Common.{◌≡◌, inl, inr, ℕ, Bool, true, false, List, [], ◌∷◌, ◌++◌, map, refl, sym, ap, ap₂, subst, ◌∙◌}
-use Rattle.std.specs.Prelude.{Some, None}
+use Rattle.std.specs.Prelude.{ℤ, Some, None}
 use Rattle.std.specs.List.{AllByRecursion}
+use Rattle.ded_model.specs.declared.certificate.Entry.{Entry}
+use Rattle.ded_model.specs.declared.certificate.Proof.{Proof}
+use Rattle.ded_model.specs.declared.certificate.Proof.TheVariants.{Multipliers}
 use Rattle.ded_model.specs.declared.formula.Operand.{Operand}
-use Rattle.ded_model.specs.Command.{CommandForm, insert, delete}
+use Rattle.ded_model.specs.Command.{CommandForm, insert, delete, verify}
 use Rattle.ded_model.specs.Form.{Form, compare, member}
 use Rattle.ded_model.specs.Logic.{atom, logics}
 use Rattle.ded_grammar.specs.Trees.{TerminalForm, nay, conjunct, disjunct, arrow, opening, closing, binder, leaf}
 use Rattle.ded_syntax.specs.Symbols.{Symbol, Name, Number, Decimal, Times, Open, Close, CloseBrace, Relation, number_of, decimal_number, decimal_power}
 use Rattle.ded_syntax.specs.Literals.{Scalar, whole, quotient, decimal, spell_scalar, Literal, lowest, literal, marked, capped, capped_reader}
-use Rattle.ded_syntax.specs.Operands.{Product, scaled, constant, lone, Side, text, sum, spell_product, spell_more, spell_side, Part, Factor, factor, add_factor, add_all, Reading, as_reading, single, reading_of, literals, operand_over, argument_of}
+use Rattle.ded_syntax.specs.Operands.{Product, scaled, constant, lone, Side, text, sum, spell_product, spell_more, spell_side, Part, Factor, factor, add_factor, add_all, Reading, as_reading, single, reading_of, literals, signed, operand_over, argument_of}
 use Rattle.ded_syntax.specs.Atoms.{compared, argument, spell_rest, Comparison, spell_comparison, comparison_form, spell_named, name_of, Atom, truth, relates, belongs, spell_atom, atom_form, IsTerminal, AreTerminals}
-use Rattle.ded_syntax.specs.Commands.{Plain, opens, defines, inserts_none, inserts, deletes, drops, keeps, shows, boxes, dumps, spell_plain, plain_form, spell_prefix, SpellsCommand}
+use Rattle.ded_syntax.specs.Certificates.{Integer, spell_integers, integer_of, ProofTree, by_text, by_rows, spell_proof, proof_of, EntryTree, spell_entry, entry_of}
+use Rattle.ded_syntax.specs.Commands.{Plain, opens, defines, inserts_none, inserts, deletes, drops, keeps, shows, boxes, dumps, certifies, verifies_none, verifies, spell_plain, plain_form, spell_prefix, SpellsCommand}
 use Rattle.ded_syntax.proofs.Denominators.{side_some, both_some, denominators_same}
 
 -- the two read the number as one
@@ -116,6 +120,23 @@ terminals_alike (p ∷ ps) ts h (front, rest, e, is, more) =
     let both = split (Alike capped (λ n. n)) front rest (subst (Agree) e h) in
     (front, rest, e, terminal_alike p front both.0 is, terminals_alike ps rest both.1 more)
 
+integers_alike : (is : List Integer) → Agree (spell_integers is) → map (integer_of capped_reader) is ≡ map (integer_of marked) is
+integers_alike [] h = refl
+integers_alike ((true, d) ∷ is) h = ap₂ (λ (z : ℤ) (zs : List ℤ). z ∷ zs) (ap (signed true) h.1.0) (integers_alike is h.1.1)
+integers_alike ((false, d) ∷ is) h = ap₂ (λ (z : ℤ) (zs : List ℤ). z ∷ zs) (ap (signed false) h.0) (integers_alike is h.1)
+
+proof_alike : (p : ProofTree) → Agree (spell_proof p) → proof_of capped_reader p ≡ proof_of marked p
+proof_alike by_text h = refl
+proof_alike (by_rows is) h = ap Multipliers (integers_alike is h.1)
+
+abbrev entry_with : ℕ → ℕ → Proof → Entry
+entry_with m n p = record { first = m; second = n; proof = p }
+
+entry_alike : (e : EntryTree) → Agree (spell_entry e) → entry_of capped_reader e ≡ entry_of marked e
+entry_alike e h =
+    ap₂ (λ (m n : ℕ). entry_with m n (proof_of capped_reader e.proof)) h.0 h.1.0
+    ∙ ap (entry_with (number_of e.first) (number_of e.second)) (proof_alike e.proof h.1.1)
+
 plain_alike : (p : Plain) → Agree (spell_plain p) → plain_form capped_reader p ≡ plain_form marked p
 plain_alike (opens d two) all = refl
 plain_alike (defines n h) all = refl
@@ -127,6 +148,9 @@ plain_alike (keeps n) all = refl
 plain_alike (shows n) all = refl
 plain_alike (boxes n) all = refl
 plain_alike dumps all = refl
+plain_alike (certifies n m) all = refl
+plain_alike (verifies_none n m) all = refl
+plain_alike (verifies n m e es) all = ap (verify n m) (list_alike spell_entry (entry_of capped_reader) (entry_of marked) CloseBrace entry_alike e es all.1.1.1.1)
 
 pub command_alike : (ts : List Symbol) (c : CommandForm) (depth : ℕ) → Agree ts → SpellsCommand capped_reader ts c depth → SpellsCommand marked ts c depth
 command_alike ts c depth h (inl s) = inl (record { plain = s.plain; spelled = s.spelled; means = s.means ∙ plain_alike s.plain (subst (Agree) s.spelled h); flat = s.flat })

@@ -2,8 +2,9 @@
 use Rattle.std.proofs.Common.{◌≡◌, inl, inr, ℕ, Bool, true, false, List, [], ◌∷◌, ◌++◌, length, map, refl, sym, ap, ◌∙◌, append_assoc}
 use Rattle.std.specs.Prelude.{Option, Some, None, if◌then◌else◌}
 use Rattle.std.proofs.lemmas.List.{append-nil}
+use Rattle.ded_model.specs.declared.certificate.Entry.{Entry}
 use Rattle.ded_model.specs.declared.name.Column.{Column}
-use Rattle.ded_model.specs.Command.{CommandForm, header, relation, insert}
+use Rattle.ded_model.specs.Command.{CommandForm, header, relation, insert, verify}
 use Rattle.ded_model.specs.Form.{Form}
 use Rattle.ded_model.specs.Logic.{logics}
 use Rattle.ded_grammar.specs.Trees.{TerminalForm}
@@ -12,12 +13,13 @@ use Rattle.ded_syntax.specs.Symbols.{Symbol, Open, Close, OpenBrace, CloseBrace,
 use Rattle.ded_syntax.specs.Literals.{whole, quotient, decimal, Reader}
 use Rattle.ded_syntax.specs.Operands.{scaled, constant, lone, Side, text, sum, spell_side}
 use Rattle.ded_syntax.specs.Atoms.{spell_rest, Comparison, spell_comparison, comparison_form, spell_column}
-use Rattle.ded_syntax.specs.Commands.{Columns, spell_heading, heading, Plain, opens, defines, inserts_none, inserts, deletes, drops, keeps, shows, boxes, dumps, spell_plain, plain_form, Prefix, views, asks, queries, explains, spell_prefix, prefix_form, SpellsCommand}
+use Rattle.ded_syntax.specs.Commands.{Columns, spell_heading, heading, Plain, opens, defines, inserts_none, inserts, deletes, drops, keeps, shows, boxes, dumps, certifies, verifies_none, verifies, spell_plain, plain_form, Prefix, views, asks, queries, explains, spell_prefix, prefix_form, SpellsCommand}
 use Rattle.ded_syntax.specs.AtomReading.{comma_at, brace_at, list_at, compare_at, column_at, terminals_at}
 use Rattle.ded_syntax.specs.CommandReading.{Head, view_head, ask_head, query_head, explain_head, head_form, Draft, plain, formed, heading_at, braces_at, ended, colon_at, define_at, formed_at, draft_at}
 use Rattle.ded_syntax.specs.Meaning.{Means}
 use Rattle.ded_syntax.proofs.ListsRead.{list_read, few_items, list_tail}
 use Rattle.ded_syntax.proofs.AtomsRead.{comparisons_listed, columns_listed}
+use Rattle.ded_syntax.proofs.EntriesRead.{certificate_read}
 use Rattle.ded_syntax.proofs.TerminalsRead.{terminals_read, spelled_scans}
 
 pub same_list : {A : Type 0} (xs : List A) → map (λ (x : A). x) xs ≡ xs
@@ -65,6 +67,9 @@ plain_read value (keeps n) = refl
 plain_read value (shows n) = refl
 plain_read value (boxes n) = refl
 plain_read value dumps = refl
+plain_read value (certifies n m) = refl
+plain_read value (verifies_none n m) = refl
+plain_read value (verifies n m e es) = ap (λ (o : Option (List Entry × List Symbol)). o >>= λ es. ended (plain (verify n m es.0)) es.1) (certificate_read value e es)
 
 abbrev pub head_of : Prefix → Head
 head_of (views n h) = view_head n (heading h)

@@ -2,8 +2,9 @@
 use Rattle.std.proofs.Common.{◌≡◌, inl, inr, ℕ, Bool, true, false, List, [], ◌∷◌, ◌++◌, length, refl, sym, ap, subst, ◌∙◌, append_assoc}
 use Rattle.std.specs.Prelude.{◌==◌, Some, None, if◌then◌else◌}
 use Rattle.std.proofs.lemmas.List.{append-nil}
+use Rattle.ded_model.specs.declared.certificate.Entry.{Entry}
 use Rattle.ded_model.specs.declared.name.Column.{Column}
-use Rattle.ded_model.specs.Command.{CommandForm, header, relation, insert, delete, drop, keep, show, box_of, dump}
+use Rattle.ded_model.specs.Command.{CommandForm, header, relation, insert, delete, drop, keep, show, box_of, dump, disjoint, verify}
 use Rattle.ded_model.specs.Form.{Form}
 use Rattle.ded_model.specs.Logic.{logics}
 use Rattle.ded_grammar.specs.Building.{◌>>=◌}
@@ -12,23 +13,22 @@ use Rattle.ded_syntax.specs.declared.item.Keyword.TheVariants as words
 use Rattle.ded_syntax.specs.Symbols.{Symbol, number_of, Word, Name, Number, Open, Close, OpenBrace, CloseBrace, Colon, Define}
 use Rattle.ded_syntax.specs.Literals.{Reader}
 use Rattle.ded_syntax.specs.Atoms.{spell_comparison, comparison_form, spell_column, AreTerminals}
-use Rattle.ded_syntax.specs.Commands.{Columns, spell_heading, heading, Plain, opens, defines, inserts_none, inserts, deletes, drops, keeps, shows, boxes, dumps, spell_plain, plain_form, Prefix, views, asks, queries, explains, spell_prefix, SpellsCommand}
+use Rattle.ded_syntax.specs.Certificates.{spell_entry, entry_of}
+use Rattle.ded_syntax.specs.CertificateReading.{entry_at, entries_at}
+use Rattle.ded_syntax.specs.Commands.{Columns, spell_heading, heading, Plain, opens, defines, inserts_none, inserts, deletes, drops, keeps, shows, boxes, dumps, certifies, verifies_none, verifies, spell_plain, plain_form, Prefix, views, asks, queries, explains, spell_prefix, SpellsCommand}
 use Rattle.ded_syntax.specs.OperandReading.{name_at, number_at}
 use Rattle.ded_syntax.specs.AtomReading.{comma_at, brace_at, list_at, compare_at, column_at, terminals_at}
-use Rattle.ded_syntax.specs.CommandReading.{Head, view_head, ask_head, query_head, explain_head, head_form, Draft, plain, formed, heading_at, braces_at, ended, colon_at, define_at, formed_at, last_name, named_draft, header_by, header_draft, relation_draft, insert_draft, delete_draft, view_draft, over_draft, draft_behind, draft_at}
+use Rattle.ded_syntax.specs.CommandReading.{Head, view_head, ask_head, query_head, explain_head, head_form, Draft, plain, formed, heading_at, braces_at, certificate_at, ended, colon_at, define_at, formed_at, last_name, named_draft, header_by, header_draft, relation_draft, insert_draft, delete_draft, disjoint_draft, verify_draft, view_draft, over_draft, draft_behind, draft_at}
 use Rattle.ded_syntax.specs.Meaning.{Means}
 use Rattle.ded_syntax.proofs.Binds.{bind_some, some_same}
 use Rattle.ded_syntax.proofs.ListsRead.{list_sound, list_tail}
+use Rattle.ded_syntax.proofs.EntriesSound.{number_sound, entries_sound}
 use Rattle.ded_syntax.proofs.TerminalsSound.{comparisons_sound, columns_sound, terminals_sound}
 use Rattle.ded_syntax.proofs.CommandsRead.{same_list, head_of, prefix_is_head, IsDrafted}
 
 name_sound : (ts : List Symbol) (x : List ℕ × List Symbol) → name_at ts ≡ Some x → ts ≡ Name x.0 ∷ x.1
 name_sound (Name n ∷ ts) x e = ap (λ (y : List ℕ × List Symbol). Name y.0 ∷ y.1) (some_same _ x e)
 name_sound ts x e = absurd cc
-
-number_sound : (ts : List Symbol) (x : List ℕ × List Symbol) → number_at ts ≡ Some x → ts ≡ Number x.0 ∷ x.1
-number_sound (Number d ∷ ts) x e = ap (λ (y : List ℕ × List Symbol). Number y.0 ∷ y.1) (some_same _ x e)
-number_sound ts x e = absurd cc
 
 colon_sound : (ts us : List Symbol) → colon_at ts ≡ Some us → ts ≡ Colon ∷ us
 colon_sound (Colon ∷ ts) us e = ap (λ (l : List Symbol). Colon ∷ l) (some_same _ us e)
@@ -68,6 +68,24 @@ braces_sound value (OpenBrace ∷ CloseBrace ∷ ts) x e = λ n. subst (λ (y : 
 braces_sound value (OpenBrace ∷ []) x e = absurd cc
 braces_sound value (OpenBrace ∷ t ∷ ts) x e = some_braces value (t ∷ ts) x e
 braces_sound value ts x e = absurd cc
+
+-- what stands in braces is spelled as the certificate of a verify
+abbrev IsCertificate : Reader → List Symbol → List Entry × List Symbol → Type 0
+IsCertificate value ts x = (n m : List ℕ) → (p : Plain) × (Word words.Verify ∷ Name n ∷ Name m ∷ ts ≡ spell_plain p ++ x.1) × (verify n m x.0 ≡ plain_form value p)
+
+some_entries : (value : Reader) (ts : List Symbol) (x : List Entry × List Symbol) → entries_at value ts ≡ Some x → IsCertificate value (OpenBrace ∷ ts) x
+some_entries value ts x e n m =
+    let s = list_sound spell_entry (entry_of value) (entry_at value) brace_at CloseBrace (entries_sound value) (length ts) ts x e in (
+      verifies n m s.0 s.1,
+      ap (λ (l : List Symbol). Word words.Verify ∷ Name n ∷ Name m ∷ OpenBrace ∷ l) (s.2 ∙ sym (list_tail spell_entry s.0 s.1 CloseBrace x.1)),
+      ap (verify n m) s.3,
+    )
+
+certificate_sound : (value : Reader) (ts : List Symbol) (x : List Entry × List Symbol) → certificate_at value ts ≡ Some x → IsCertificate value ts x
+certificate_sound value (OpenBrace ∷ CloseBrace ∷ ts) x e = λ n m. subst (λ (y : List Entry × List Symbol). IsCertificate value (OpenBrace ∷ CloseBrace ∷ ts) y) (some_same _ x e) (λ n m. (verifies_none n m, refl, refl)) n m
+certificate_sound value (OpenBrace ∷ []) x e = absurd cc
+certificate_sound value (OpenBrace ∷ t ∷ ts) x e = some_entries value (t ∷ ts) x e
+certificate_sound value ts x e = absurd cc
 
 -- ---- drafts
 
@@ -138,6 +156,30 @@ delete_sound value ts d e =
       refl,
     )
 
+disjoint_sound : (value : Reader) (ts : List Symbol) (d : Draft) → disjoint_draft ts ≡ Some d → IsDraft value (Word words.Disjoint ∷ ts) d
+disjoint_sound value ts d e =
+    let n = bind_some (name_at ts) (λ n. name_at n.1 >>= λ m. ended (plain (disjoint n.0 m.0)) m.1) d e in
+    let m = bind_some (name_at n.0.1) (λ m. ended (plain (disjoint n.0.0 m.0)) m.1) d n.2 in
+    let z = ended_sound (plain (disjoint n.0.0 m.0.0)) d m.0.1 m.2 in
+    subst (IsDraft value (Word words.Disjoint ∷ ts)) z.1 (
+      certifies n.0.0 m.0.0,
+      ap (λ (l : List Symbol). Word words.Disjoint ∷ l) (name_sound ts n.0 n.1 ∙ ap (λ (l : List Symbol). Name n.0.0 ∷ l) (name_sound n.0.1 m.0 m.1 ∙ ap (λ (l : List Symbol). Name m.0.0 ∷ l) z.0)),
+      refl,
+    )
+
+verify_sound : (value : Reader) (ts : List Symbol) (d : Draft) → verify_draft value ts ≡ Some d → IsDraft value (Word words.Verify ∷ ts) d
+verify_sound value ts d e =
+    let n = bind_some (name_at ts) (λ n. name_at n.1 >>= λ m. certificate_at value m.1 >>= λ es. ended (plain (verify n.0 m.0 es.0)) es.1) d e in
+    let m = bind_some (name_at n.0.1) (λ m. certificate_at value m.1 >>= λ es. ended (plain (verify n.0.0 m.0 es.0)) es.1) d n.2 in
+    let b = bind_some (certificate_at value m.0.1) (λ es. ended (plain (verify n.0.0 m.0.0 es.0)) es.1) d m.2 in
+    let z = ended_sound (plain (verify n.0.0 m.0.0 b.0.0)) d b.0.1 b.2 in
+    let s = certificate_sound value m.0.1 b.0 b.1 n.0.0 m.0.0 in
+    subst (IsDraft value (Word words.Verify ∷ ts)) z.1 (
+      s.0,
+      ap (λ (l : List Symbol). Word words.Verify ∷ l) (name_sound ts n.0 n.1 ∙ ap (λ (l : List Symbol). Name n.0.0 ∷ l) (name_sound n.0.1 m.0 m.1)) ∙ s.1 ∙ ap (λ (l : List Symbol). spell_plain s.0 ++ l) z.0 ∙ append-nil (spell_plain s.0),
+      s.2,
+    )
+
 -- a formula behind what stands before it
 formed_sound : (value : Reader) (ts rest : List Symbol) (p : Prefix) (h : Head) (d : Draft) → ts ≡ spell_prefix p ++ rest → h ≡ head_of p → formed_at value h rest ≡ Some d → IsDraft value ts d
 formed_sound value ts rest p h d is same e =
@@ -175,6 +217,8 @@ behind_sound value words.Keep ts d e = named_sound value words.Keep keep keeps t
 behind_sound value words.Show ts d e = named_sound value words.Show show shows ts d (λ n. refl) (λ n. refl) e
 behind_sound value words.BoxOf ts d e = named_sound value words.BoxOf box_of boxes ts d (λ n. refl) (λ n. refl) e
 behind_sound value words.Dump ts d e = dump_sound value ts d e
+behind_sound value words.Disjoint ts d e = disjoint_sound value ts d e
+behind_sound value words.Verify ts d e = verify_sound value ts d e
 behind_sound value words.View ts d e = view_sound value ts d e
 behind_sound value words.Ask ts d e = formed_sound value (Word words.Ask ∷ ts) ts asks ask_head d refl refl e
 behind_sound value words.Query ts d e = over_sound value words.Query query_head queries ts d (λ h. refl) (λ h. refl) e

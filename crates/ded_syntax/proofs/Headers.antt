@@ -18,7 +18,7 @@ use Rattle.ded_syntax.specs.declared.header.Progress.TheVariants.{Nothing, Named
 use Rattle.ded_syntax.specs.declared.item.Keyword.TheVariants as words
 use Rattle.ded_syntax.specs.Symbols.{Symbol, Word, Number, symbol, number_of}
 use Rattle.ded_syntax.specs.Literals.{Reader, exact, capped_reader}
-use Rattle.ded_syntax.specs.Commands.{Plain, opens, defines, inserts_none, inserts, deletes, drops, keeps, shows, boxes, dumps, spell_plain, plain_form, Prefix, views, asks, queries, explains, prefix_form, SpellsCommand}
+use Rattle.ded_syntax.specs.Commands.{Plain, opens, defines, inserts_none, inserts, deletes, drops, keeps, shows, boxes, dumps, certifies, verifies_none, verifies, spell_plain, plain_form, Prefix, views, asks, queries, explains, prefix_form, SpellsCommand}
 use Rattle.ded_syntax.specs.Headers.{is_dedale, is_two, header_step, header_walk, opening_symbols}
 use Rattle.ded_syntax.specs.Spelling.{Spells, IsHeader, IsRead}
 use Rattle.ded_syntax.specs.CommandReading.{plain}
@@ -63,6 +63,9 @@ plain_header value (keeps n) e = absurd cc
 plain_header value (shows n) e = absurd cc
 plain_header value (boxes n) e = absurd cc
 plain_header value dumps e = absurd cc
+plain_header value (certifies n m) e = absurd cc
+plain_header value (verifies_none n m) e = absurd cc
+plain_header value (verifies n m x xs) e = absurd cc
 
 no_prefix : (p : Prefix) (f : Form) → header ≡ prefix_form p f → ⊥
 no_prefix (views n h) f e = cc

@@ -9,6 +9,8 @@ pub mod Decimals
 pub mod Denominators
 pub mod Drafted
 pub mod DraftsAlike
+pub mod EntriesRead
+pub mod EntriesSound
 pub mod Headers
 pub mod ListLoops
 pub mod ListsRead

@@ -62,7 +62,9 @@ command_tells w other h =
     (reserved w (codes "query") words.Query _ refl
     (reserved w (codes "show") words.Show _ refl
     (reserved w (codes "box") words.BoxOf _ refl
-    (reserved w (codes "explain") words.Explain _ refl h))))))))))
+    (reserved w (codes "explain") words.Explain _ refl
+    (reserved w (codes "disjoint") words.Disjoint _ refl
+    (reserved w (codes "verify") words.Verify _ refl h))))))))))))
 
 -- a word of a list is short
 unused_short : (w k : List ℕ) (b : Bool) → nat_lt 64 (length k) ≡ false → (b ≡ true → nat_lt 64 (length w) ≡ false) → (bytes_eq w k || b) ≡ true → nat_lt 64 (length w) ≡ false
@@ -77,11 +79,9 @@ unused_tells w other h = either (is_unused w) refl
   where
     short : is_unused w ≡ true → nat_lt 64 (length w) ≡ false
     short e =
-        unused_short w (codes "disjoint") _ refl
-        (unused_short w (codes "verify") _ refl
-        (unused_short w (codes "begin") _ refl
+        unused_short w (codes "begin") _ refl
         (unused_short w (codes "commit") _ refl
-        (λ f. short_word w (codes "abort") f refl)))) e
+        (λ f. short_word w (codes "abort") f refl)) e
 
     either : (b : Bool) → is_unused w ≡ b → Tells w (if b then Word words.Unused else other)
     either true e = sym (short e)
@@ -221,8 +221,10 @@ literal_word language s =
     (quiet_literal s (codes "show") (Word words.Show) _ refl
     (quiet_literal s (codes "box") (Word words.BoxOf) _ refl
     (quiet_literal s (codes "explain") (Word words.Explain) _ refl
+    (quiet_literal s (codes "disjoint") (Word words.Disjoint) _ refl
+    (quiet_literal s (codes "verify") (Word words.Verify) _ refl
     (quiet_literal s (codes "dedale") (dedale_symbol language) _ (dedale_literal language)
-    (quiet_literal s (codes "dump") (dump_symbol language) _ (dump_literal language) (unused_literal s))))))))))))))))))))))))
+    (quiet_literal s (codes "dump") (dump_symbol language) _ (dump_literal language) (unused_literal s))))))))))))))))))))))))))
 
 -- ---- lexemes
 

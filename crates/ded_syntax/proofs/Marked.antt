@@ -14,7 +14,7 @@ use Rattle.ded_syntax.specs.Symbols.{Symbol}
 use Rattle.ded_syntax.specs.Literals.{Literal, common, exact, marked, are_long_over, numerator_over, marked_numerator}
 use Rattle.ded_syntax.specs.Operands.{Side, Part, Reading, quoted, named, parts, literals, Sums, signed, put_at, no_sums, total_from, as_sum, operand_over, reading_of}
 use Rattle.ded_syntax.specs.Atoms.{compared, Comparison, comparison_form, argument, name_of, Atom, truth, relates, belongs, atom_form, IsTerminal, AreTerminals}
-use Rattle.ded_syntax.specs.Commands.{Plain, opens, defines, inserts_none, inserts, deletes, drops, keeps, shows, boxes, dumps, plain_form, views, asks, queries, explains, prefix_form, SpellsCommand}
+use Rattle.ded_syntax.specs.Commands.{Plain, opens, defines, inserts_none, inserts, deletes, drops, keeps, shows, boxes, dumps, certifies, verifies_none, verifies, plain_form, views, asks, queries, explains, prefix_form, SpellsCommand}
 use Rattle.ded_syntax.specs.Marks.{is_marked, is_marked_atom, has_mark}
 
 -- ---- over a denominator that isn't a mark
@@ -142,6 +142,9 @@ plain_exact (keeps n) free = refl
 plain_exact (shows n) free = refl
 plain_exact (boxes n) free = refl
 plain_exact dumps free = refl
+plain_exact (certifies n m) free = refl
+plain_exact (verifies_none n m) free = refl
+plain_exact (verifies n m e es) free = refl
 
 prefix_marks : (p : _) (f : Form) → has_mark (prefix_form p f) ≡ some_atom is_marked_atom f
 prefix_marks (views n h) f = refl

@@ -17,7 +17,7 @@ use Rattle.ded_syntax.specs.Symbols.{Symbol}
 use Rattle.ded_syntax.specs.Literals.{common, exact, numerator_over}
 use Rattle.ded_syntax.specs.Operands.{Side, Part, Reading, quoted, named, parts, reading_of, literals, Sums, signed, put, put_at, no_sums, total_from, operand_over}
 use Rattle.ded_syntax.specs.Atoms.{argument, Comparison, comparison_form, Atom, truth, relates, belongs, atom_form, IsTerminal, AreTerminals, SpellsFormula}
-use Rattle.ded_syntax.specs.Commands.{Plain, opens, defines, inserts_none, inserts, deletes, drops, keeps, shows, boxes, dumps, plain_form, Prefix, views, asks, queries, explains, prefix_form, SpellsCommand}
+use Rattle.ded_syntax.specs.Commands.{Plain, opens, defines, inserts_none, inserts, deletes, drops, keeps, shows, boxes, dumps, certifies, verifies_none, verifies, plain_form, Prefix, views, asks, queries, explains, prefix_form, SpellsCommand}
 use Rattle.ded_syntax.specs.Spelling.{Spells}
 use Rattle.ded_syntax.proofs.Denominators.{common_some, side_some, both_some}
 use Rattle.std.proofs.lemmas.Bool.{or_from}
@@ -121,6 +121,9 @@ plain_flat (keeps n) = tt
 plain_flat (shows n) = tt
 plain_flat (boxes n) = tt
 plain_flat dumps = tt
+plain_flat (certifies n m) = tt
+plain_flat (verifies_none n m) = tt
+plain_flat (verifies n m e es) = tt
 
 plain_before : (p : Prefix) (f : Form) → IsPlain f → IsPlainCommand (prefix_form p f)
 plain_before (views n h) f k = k

@@ -52,7 +52,7 @@ comma_end (Comma ∷ ts) x e = ap (λ (y : Bool × List Symbol). sign_of Close y
 comma_end (Close ∷ ts) x e = ap (λ (y : Bool × List Symbol). sign_of Close y.0 ∷ y.1) (some_same _ x e)
 comma_end ts x e = absurd cc
 
-brace_end : (ts : List Symbol) (x : Bool × List Symbol) → brace_at ts ≡ Some x → ts ≡ sign_of CloseBrace x.0 ∷ x.1
+pub brace_end : (ts : List Symbol) (x : Bool × List Symbol) → brace_at ts ≡ Some x → ts ≡ sign_of CloseBrace x.0 ∷ x.1
 brace_end (Comma ∷ ts) x e = ap (λ (y : Bool × List Symbol). sign_of CloseBrace y.0 ∷ y.1) (some_same _ x e)
 brace_end (CloseBrace ∷ ts) x e = ap (λ (y : Bool × List Symbol). sign_of CloseBrace y.0 ∷ y.1) (some_same _ x e)
 brace_end ts x e = absurd cc

@@ -19,7 +19,8 @@ use Rattle.ded_syntax.specs.Symbols.{Symbol, Word, Name, Plus, Minus, Times, Ope
 use Rattle.ded_syntax.specs.Literals.{Reader, Scalar, whole, quotient, decimal, spell_scalar}
 use Rattle.ded_syntax.specs.Operands.{Product, scaled, constant, lone, Side, text, sum, spell_product, spell_sign, spell_more, spell_side}
 use Rattle.ded_syntax.specs.Atoms.{spell_rest, Comparison, spell_comparison, Named, plain, closed, inner, spell_named, Atom, truth, relates, belongs, spell_atom, spell_column, sort_symbols, quantifier_symbol, IsTerminal, AreTerminals}
-use Rattle.ded_syntax.specs.Commands.{Columns, spell_heading, Plain, opens, defines, inserts_none, inserts, deletes, drops, keeps, shows, boxes, dumps, spell_plain, Prefix, views, asks, queries, explains, spell_prefix, SpellsCommand}
+use Rattle.ded_syntax.specs.Certificates.{Integer, spell_integers, ProofTree, by_text, by_rows, spell_proof, EntryTree, spell_entry}
+use Rattle.ded_syntax.specs.Commands.{Columns, spell_heading, Plain, opens, defines, inserts_none, inserts, deletes, drops, keeps, shows, boxes, dumps, certifies, verifies_none, verifies, spell_plain, Prefix, views, asks, queries, explains, spell_prefix, SpellsCommand}
 use Rattle.ded_syntax.specs.Headers.{is_dedale}
 
 -- ---- what stands in commands
@@ -108,6 +109,18 @@ terminals_used : (value : Reader) (ts : List Symbol) (ps : List TerminalForm) �
 terminals_used value ts [] e = subst AreUsed (sym e) tt
 terminals_used value ts (p ∷ ps) h = subst AreUsed (sym h.2) (both h.0 h.1 (terminal_used value h.0 p h.3) (terminals_used value h.1 ps h.4))
 
+integers_used : (is : List Integer) → AreUsed (spell_integers is)
+integers_used [] = tt
+integers_used ((true, d) ∷ is) = (tt, (tt, integers_used is))
+integers_used ((false, d) ∷ is) = (tt, integers_used is)
+
+proof_used : (p : ProofTree) → AreUsed (spell_proof p)
+proof_used by_text = (tt, tt)
+proof_used (by_rows is) = (tt, integers_used is)
+
+entry_used : (e : EntryTree) → AreUsed (spell_entry e)
+entry_used e = (tt, (tt, proof_used e.proof))
+
 plain_used : (p : Plain) → AreUsed (spell_plain p)
 plain_used (opens d two) = (tt, (tt, tt))
 plain_used (defines n h) = (tt, (tt, heading_used h))
@@ -119,6 +132,9 @@ plain_used (keeps n) = (tt, (tt, tt))
 plain_used (shows n) = (tt, (tt, tt))
 plain_used (boxes n) = (tt, (tt, tt))
 plain_used dumps = (tt, tt)
+plain_used (certifies n m) = (tt, (tt, (tt, tt)))
+plain_used (verifies_none n m) = (tt, (tt, (tt, (tt, (tt, tt)))))
+plain_used (verifies n m e es) = (tt, (tt, (tt, (tt, list_used spell_entry entry_used e es CloseBrace tt))))
 
 prefix_used : (p : Prefix) → AreUsed (spell_prefix p)
 prefix_used (views n h) = (tt, (tt, both (spell_heading h) (Define ∷ []) (heading_used h) (tt, tt)))
@@ -171,8 +187,10 @@ word_other s =
     (other s (codes "show") (Word words.Show) _ refl
     (other s (codes "box") (Word words.BoxOf) _ refl
     (other s (codes "explain") (Word words.Explain) _ refl
+    (other s (codes "disjoint") (Word words.Disjoint) _ refl
+    (other s (codes "verify") (Word words.Verify) _ refl
     (other s (codes "dedale") (dedale_symbol One) _ refl
-    (other s (codes "dump") (dump_symbol One) _ refl (unused_other s))))))))))))))))))))))))
+    (other s (codes "dump") (dump_symbol One) _ refl (unused_other s))))))))))))))))))))))))))
 
 sign_other : (s : List ℕ) → is_dedale (sign_symbol One s) ≡ false
 sign_other s =

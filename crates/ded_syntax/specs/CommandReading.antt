@@ -1,7 +1,8 @@
 -- Reading commands up to the tree of their formula, as functions on symbols.
 use Rattle.std.specs.Prelude.{ℕ, ◌==◌, if◌then◌else◌, Bool, true, List, [], ◌∷◌, length, Option, Some, None}
+use Rattle.ded_model.specs.declared.certificate.Entry.{Entry}
 use Rattle.ded_model.specs.declared.name.Column.{Column}
-use Rattle.ded_model.specs.Command.{CommandForm, header, relation, insert, delete, drop, view, keep, ask, query, show, box_of, explain, dump}
+use Rattle.ded_model.specs.Command.{CommandForm, header, relation, insert, delete, drop, view, keep, ask, query, show, box_of, explain, dump, disjoint, verify}
 use Rattle.ded_model.specs.Form.{Form}
 use Rattle.ded_model.specs.Logic.{logics}
 use Rattle.ded_grammar.specs.declared.scan.Spot.TheVariants.{Start}
@@ -14,6 +15,7 @@ use Rattle.ded_syntax.specs.Symbols.{Symbol, number_of, Open, CloseBrace, OpenBr
 use Rattle.ded_syntax.specs.Literals.{Reader}
 use Rattle.ded_syntax.specs.OperandReading.{name_at, number_at}
 use Rattle.ded_syntax.specs.AtomReading.{comma_at, brace_at, list_at, compare_at, column_at, keyword_at, terminals_at}
+use Rattle.ded_syntax.specs.CertificateReading.{entries_at}
 
 -- what stands before a formula
 pub data Head : Type 0 where
@@ -56,13 +58,18 @@ open_brace_at ts = None
 abbrev pub forms_at : Reader → List Symbol → Option (List Form × List Symbol)
 forms_at value ts = list_at (compare_at value) brace_at (length ts) ts
 
-abbrev pub braces_by_empty : Reader → List Symbol → Option (List Symbol) → Option (List Form × List Symbol)
-braces_by_empty value ts None = open_brace_at ts >>= forms_at value
-braces_by_empty value ts (Some us) = Some ([], us)
+-- a list in braces, which is empty or read so
+abbrev pub braces_by_empty : {A : Type 0} → (List Symbol → Option (List A × List Symbol)) → List Symbol → Option (List Symbol) → Option (List A × List Symbol)
+braces_by_empty read ts None = open_brace_at ts >>= read
+braces_by_empty read ts (Some us) = Some ([], us)
 
--- what stands in braces
+-- what stands in the braces of an insert
 abbrev pub braces_at : Reader → List Symbol → Option (List Form × List Symbol)
-braces_at value ts = braces_by_empty value ts (empty_at ts)
+braces_at value ts = braces_by_empty (forms_at value) ts (empty_at ts)
+
+-- the entries of a certificate in their braces
+abbrev pub certificate_at : Reader → List Symbol → Option (List Entry × List Symbol)
+certificate_at value ts = braces_by_empty (entries_at value) ts (empty_at ts)
 
 -- where nothing stands behind it
 abbrev pub ended : {A : Type 0} → A → List Symbol → Option A
@@ -108,6 +115,12 @@ delete_draft value ts = name_at ts >>= λ n. number_at n.1 >>= λ d. ended (plai
 abbrev pub view_draft : Reader → List Symbol → Option Draft
 view_draft value ts = name_at ts >>= λ n. heading_at n.1 >>= λ h. define_at h.1 >>= formed_at value (view_head n.0 h.0)
 
+abbrev pub disjoint_draft : List Symbol → Option Draft
+disjoint_draft ts = name_at ts >>= λ n. name_at n.1 >>= λ m. ended (plain (disjoint n.0 m.0)) m.1
+
+abbrev pub verify_draft : Reader → List Symbol → Option Draft
+verify_draft value ts = name_at ts >>= λ n. name_at n.1 >>= λ m. certificate_at value m.1 >>= λ es. ended (plain (verify n.0 m.0 es.0)) es.1
+
 -- a heading, a colon and a formula
 abbrev pub over_draft : Reader → (List Column → Head) → List Symbol → Option Draft
 over_draft value make ts = heading_at ts >>= λ h. colon_at h.1 >>= formed_at value (make h.0)
@@ -126,6 +139,8 @@ draft_behind value words.View ts = view_draft value ts
 draft_behind value words.Ask ts = formed_at value ask_head ts
 draft_behind value words.Query ts = over_draft value query_head ts
 draft_behind value words.Explain ts = over_draft value explain_head ts
+draft_behind value words.Disjoint ts = disjoint_draft ts
+draft_behind value words.Verify ts = verify_draft value ts
 draft_behind value w ts = None
 
 abbrev pub draft_at : Reader → List Symbol → Option Draft

@@ -1,13 +1,14 @@
 -- The grammar of commands.
 use Rattle.std.specs.Prelude.{◌≡◌, ◌⊎◌, ℕ, ◌==◌, true, List, [], ◌∷◌, ◌++◌, map}
 use Rattle.ded_model.specs.declared.name.Column.{Column}
-use Rattle.ded_model.specs.Command.{CommandForm, header, relation, insert, delete, drop, view, keep, ask, query, show, box_of, explain, dump}
+use Rattle.ded_model.specs.Command.{CommandForm, header, relation, insert, delete, drop, view, keep, ask, query, show, box_of, explain, dump, disjoint, verify}
 use Rattle.ded_model.specs.Form.{Form}
 use Rattle.ded_model.specs.Logic.{logics}
 use Rattle.ded_syntax.specs.declared.item.Keyword.TheVariants as words
 use Rattle.ded_syntax.specs.Symbols.{Symbol, number_of, Word, Name, Number, Open, Close, OpenBrace, CloseBrace, Colon, Define}
 use Rattle.ded_syntax.specs.Literals.{Reader}
 use Rattle.ded_syntax.specs.Atoms.{spell_rest, Comparison, spell_comparison, comparison_form, spell_column, SpellsFormula}
+use Rattle.ded_syntax.specs.Certificates.{EntryTree, spell_entry, entry_of}
 
 -- heading = "(" column ( "," column )* ")"
 pub record Columns : Type 0 where
@@ -27,6 +28,8 @@ heading h = h.first ∷ h.rest
 --   | "delete" name number
 --   | "drop" name | "keep" name | "show" name | "box" name
 --   | "dump"
+--   | "disjoint" name name
+--   | "verify" name name "{" [ entry ( "," entry )* ] "}"
 -- The number of the header is 2.
 pub data Plain : Type 0 where
   opens : (d : List ℕ) → (number_of d == 2) ≡ true → Plain
@@ -39,6 +42,9 @@ pub data Plain : Type 0 where
   shows : List ℕ → Plain
   boxes : List ℕ → Plain
   dumps : Plain
+  certifies : List ℕ → List ℕ → Plain
+  verifies_none : List ℕ → List ℕ → Plain
+  verifies : List ℕ → List ℕ → EntryTree → List EntryTree → Plain
 
 abbrev pub spell_plain : Plain → List Symbol
 spell_plain (opens d two) = Word words.Dedale ∷ Number d ∷ []
@@ -51,6 +57,9 @@ spell_plain (keeps n) = Word words.Keep ∷ Name n ∷ []
 spell_plain (shows n) = Word words.Show ∷ Name n ∷ []
 spell_plain (boxes n) = Word words.BoxOf ∷ Name n ∷ []
 spell_plain dumps = Word words.Dump ∷ []
+spell_plain (certifies n m) = Word words.Disjoint ∷ Name n ∷ Name m ∷ []
+spell_plain (verifies_none n m) = Word words.Verify ∷ Name n ∷ Name m ∷ OpenBrace ∷ CloseBrace ∷ []
+spell_plain (verifies n m e es) = Word words.Verify ∷ Name n ∷ Name m ∷ OpenBrace ∷ spell_entry e ++ (spell_rest spell_entry es ++ CloseBrace ∷ [])
 
 abbrev pub plain_form : Reader → Plain → CommandForm
 plain_form value (opens d two) = header
@@ -63,6 +72,9 @@ plain_form value (keeps n) = keep n
 plain_form value (shows n) = show n
 plain_form value (boxes n) = box_of n
 plain_form value dumps = dump
+plain_form value (certifies n m) = disjoint n m
+plain_form value (verifies_none n m) = verify n m []
+plain_form value (verifies n m e es) = verify n m (entry_of value e ∷ map (entry_of value) es)
 
 -- what stands before the formula of a command that has one
 -- command = .. | "view" name heading ":=" formula

@@ -1,5 +1,7 @@
 pub mod AtomReading
 pub mod Atoms
+pub mod CertificateReading
+pub mod Certificates
 pub mod CommandReading
 pub mod Commands
 pub mod DraftViews

@@ -60,16 +60,16 @@ command_word other w =
     else (if bytes_eq w (codes "show") then Word keyword.Show
     else (if bytes_eq w (codes "box") then Word keyword.BoxOf
     else (if bytes_eq w (codes "explain") then Word keyword.Explain
-    else other))))))))))
+    else (if bytes_eq w (codes "disjoint") then Word keyword.Disjoint
+    else (if bytes_eq w (codes "verify") then Word keyword.Verify
+    else other))))))))))))
 
 -- the word is reserved and stands in no command
 abbrev pub is_unused : List ℕ → Bool
 is_unused w =
-    bytes_eq w (codes "disjoint")
-    || (bytes_eq w (codes "verify")
-    || (bytes_eq w (codes "begin")
+    bytes_eq w (codes "begin")
     || (bytes_eq w (codes "commit")
-    || bytes_eq w (codes "abort"))))
+    || bytes_eq w (codes "abort"))
 
 abbrev pub unused_word : Symbol → List ℕ → Symbol
 unused_word other w = if is_unused w then Word keyword.Unused else other

@@ -86,7 +86,7 @@ pub fn heading(alloc: Global, rest: Rest<'_>) -> Result<(Heading, Rest<'_>), Rea
 }
 
 /// What stands behind two braces with nothing in them; none where the rest begins otherwise.
-fn empty(rest: Rest<'_>) -> Option<Rest<'_>>
+pub fn empty(rest: Rest<'_>) -> Option<Rest<'_>>
     ensures some { IfSome result (λ x. empty_at (left rest.entry) ≡ Some (left x)) }
     ensures none { IfNone result (empty_at (left rest.entry) ≡ None) }
     ensures low { IfSome result (λ x. length (left x) < length (left rest.entry)) }
@@ -98,7 +98,7 @@ fn empty(rest: Rest<'_>) -> Option<Rest<'_>>
 }
 
 /// What stands behind an opening brace; none where the rest begins with no such item.
-fn open_brace(rest: Rest<'_>) -> Option<Rest<'_>>
+pub fn open_brace(rest: Rest<'_>) -> Option<Rest<'_>>
     ensures some { IfSome result (λ x. open_brace_at (left rest.entry) ≡ Some (left x)) }
     ensures none { IfNone result (open_brace_at (left rest.entry) ≡ None) }
     ensures low { IfSome result (λ x. length (left x) < length (left rest.entry)) }
@@ -111,7 +111,7 @@ fn open_brace(rest: Rest<'_>) -> Option<Rest<'_>>
 
 /// What stands behind an item of a list in braces: true behind a comma, where another item is to come, and false behind
 /// the closing brace; then the rest behind that. None where the rest begins with neither.
-fn brace(rest: Rest<'_>) -> Option<(bool, Rest<'_>)>
+pub fn brace(rest: Rest<'_>) -> Option<(bool, Rest<'_>)>
     ensures some { IfSome result (λ x. brace_at (left rest.entry) ≡ Some (x.0, left x.1)) }
     ensures none { IfNone result (brace_at (left rest.entry) ≡ None) }
     ensures low { IfSome result (λ x. length (left x.1) < length (left rest.entry)) }

@@ -3,10 +3,11 @@ ghost use Rattle.std.specs.Prelude.{◌≡◌, ◌≤◌, ◌<◌, ◌^◌, ℕ,
 ghost use Rattle.std.specs.List.{list_any};
 ghost use Rattle.ded_lex.specs.Tokens.{lexeme, token_text};
 ghost use Rattle.ded_syntax.specs.Literals.{capped};
-ghost use Rattle.ded_syntax.specs.Symbols.{symbol, formula_word, command_word, is_unused, unused_word, dedale_symbol, dump_symbol, language_word, word_symbol, sum_sign, other_sign, slash_symbol, sign_symbol, decimal_symbol, number_from};
+ghost use Rattle.ded_syntax.specs.Symbols.{symbol, sum_sign, other_sign, slash_symbol, sign_symbol, decimal_symbol, number_from};
 ghost use Rattle.ded_syntax.specs.Items.{capped_of, seen, symbols, is_long_name, is_long_literal};
 
 use crate::decimal::decimal_of;
+use crate::word::word_item;
 use ded_lex::{Token, TokenKind};
 use ded_model::command::Language;
 use ded_model::formula::CompareOp;
@@ -31,6 +32,8 @@ pub enum Keyword {
     BoxOf,
     Explain,
     Dump,
+    Disjoint,
+    Verify,
     And,
     Or,
     Not,
@@ -112,132 +115,6 @@ pub fn value_behind(value: u64, digits: &[u8]) -> u64
             .min(TOO_GREAT);
     }
     value
-}
-
-/// The item of a word that is reserved in formulas or headings, or the other item where the text isn't such a word.
-fn formula_word(other: Item, text: &[u8]) -> Item
-    ensures { (bytes : List ℕ) → seen bytes result ≡ formula_word (seen bytes other) text.now }
-{
-    if text == b"and".as_slice() {
-        Item::Word(Keyword::And)
-    } else if text == b"or".as_slice() {
-        Item::Word(Keyword::Or)
-    } else if text == b"not".as_slice() {
-        Item::Word(Keyword::Not)
-    } else if text == b"implies".as_slice() {
-        Item::Word(Keyword::Implies)
-    } else if text == b"exists".as_slice() {
-        Item::Word(Keyword::Exists)
-    } else if text == b"forall".as_slice() {
-        Item::Word(Keyword::Forall)
-    } else if text == b"true".as_slice() {
-        Item::Word(Keyword::True)
-    } else if text == b"false".as_slice() {
-        Item::Word(Keyword::False)
-    } else if text == b"closure".as_slice() {
-        Item::Word(Keyword::Closure)
-    } else if text == b"interior".as_slice() {
-        Item::Word(Keyword::Interior)
-    } else if text == b"text".as_slice() {
-        Item::Word(Keyword::Text)
-    } else {
-        other
-    }
-}
-
-/// The item of a word with which a command begins, or the other item where the text isn't such a word.
-fn command_word(other: Item, text: &[u8]) -> Item
-    ensures { (bytes : List ℕ) → seen bytes result ≡ command_word (seen bytes other) text.now }
-{
-    if text == b"relation".as_slice() {
-        Item::Word(Keyword::Relation)
-    } else if text == b"insert".as_slice() {
-        Item::Word(Keyword::Insert)
-    } else if text == b"delete".as_slice() {
-        Item::Word(Keyword::Delete)
-    } else if text == b"drop".as_slice() {
-        Item::Word(Keyword::Drop)
-    } else if text == b"view".as_slice() {
-        Item::Word(Keyword::View)
-    } else if text == b"keep".as_slice() {
-        Item::Word(Keyword::Keep)
-    } else if text == b"ask".as_slice() {
-        Item::Word(Keyword::Ask)
-    } else if text == b"query".as_slice() {
-        Item::Word(Keyword::Query)
-    } else if text == b"show".as_slice() {
-        Item::Word(Keyword::Show)
-    } else if text == b"box".as_slice() {
-        Item::Word(Keyword::BoxOf)
-    } else if text == b"explain".as_slice() {
-        Item::Word(Keyword::Explain)
-    } else {
-        other
-    }
-}
-
-/// Whether the word is reserved and stands in no command.
-fn is_unused(text: &[u8]) -> bool
-    ensures { result ≡ is_unused text.now }
-{
-    text == b"disjoint".as_slice()
-        || text == b"verify".as_slice()
-        || text == b"begin".as_slice()
-        || text == b"commit".as_slice()
-        || text == b"abort".as_slice()
-}
-
-/// The item of a reserved word that stands in no command, or the other item where the text isn't such a word.
-fn unused_word(other: Item, text: &[u8]) -> Item
-    ensures { (bytes : List ℕ) → seen bytes result ≡ unused_word (seen bytes other) text.now }
-{
-    if is_unused(text) {
-        Item::Word(Keyword::Unused)
-    } else {
-        other
-    }
-}
-
-/// The item of the header's word, which stands in commands of the opening language alone.
-fn dedale(language: Language) -> Item
-    ensures { (bytes : List ℕ) → seen bytes result ≡ dedale_symbol language }
-{
-    match language {
-        Language::Opening => Item::Word(Keyword::Dedale),
-        Language::One | Language::Two => Item::Word(Keyword::Unused),
-    }
-}
-
-/// The item of the word of dumps, which stands in commands of language 2 alone.
-fn dump(language: Language) -> Item
-    ensures { (bytes : List ℕ) → seen bytes result ≡ dump_symbol language }
-{
-    match language {
-        Language::Two => Item::Word(Keyword::Dump),
-        Language::Opening | Language::One => Item::Word(Keyword::Unused),
-    }
-}
-
-/// The item of a word that stands in commands of one language alone, or the other item where the text isn't such a word.
-fn language_word(language: Language, other: Item, text: &[u8]) -> Item
-    ensures { (bytes : List ℕ) → seen bytes result ≡ language_word language (seen bytes other) text.now }
-{
-    if text == b"dedale".as_slice() {
-        dedale(language)
-    } else if text == b"dump".as_slice() {
-        dump(language)
-    } else {
-        other
-    }
-}
-
-/// The item of a word: a reserved word, or a name.
-fn word_item(bytes: &[u8], token: Token, language: Language) -> Item
-    ensures { seen bytes.now result ≡ word_symbol language (token_text bytes.now token) }
-{
-    let text = text(bytes, token);
-    let other = language_word(language, unused_word(Item::Name(token), text), text);
-    formula_word(command_word(other, text), text)
 }
 
 /// The item of a sign in sums or between the sides of a comparison, or the other item where the text isn't such a sign.

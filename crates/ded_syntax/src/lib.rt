@@ -1,7 +1,7 @@
 //! From the bytes of a statement to its command.
 //!
 //! [`read_command`] answers the command that the bytes spell, or the least refusal that bytes alone decide. The grammar
-//! stands in `specs/` over symbols (`Symbols`, `Literals`, `Operands`, `Atoms`, `Commands`), with what each part means;
+//! stands in `specs/` over symbols (`Symbols`, `Literals`, `Operands`, `Atoms`, `Certificates`, `Commands`), with what each part means;
 //! `Spelling` says when bytes spell a command in a language, and when a refusal applies. The languages differ in the symbols
 //! that lexemes are: what a language doesn't have is a symbol that stands in no command.
 //!
@@ -15,6 +15,7 @@
 
 mod arguments;
 mod atom;
+mod certificate;
 mod command;
 mod decimal;
 mod draft;
@@ -28,6 +29,7 @@ mod side;
 mod statement;
 mod sum;
 mod terminals;
+mod word;
 
 pub use command::read_command;
 pub use header::is_header;

@@ -3,9 +3,10 @@ ghost use Rattle.std.specs.Prelude.{◌≡◌, ◌≤◌, length, Some, None, If
 ghost use Rattle.ded_grammar.specs.declared.fault.ReadFault.TheVariants.{NotRead};
 ghost use Rattle.ded_syntax.specs.Items.{left};
 ghost use Rattle.ded_syntax.specs.Literals.{capped_reader};
-ghost use Rattle.ded_syntax.specs.CommandReading.{query_head, explain_head, last_name, header_draft, relation_draft, insert_draft, delete_draft, view_draft, over_draft, draft_behind, draft_at};
+ghost use Rattle.ded_syntax.specs.CommandReading.{query_head, explain_head, last_name, header_draft, relation_draft, insert_draft, delete_draft, disjoint_draft, verify_draft, view_draft, over_draft, draft_behind, draft_at};
 ghost use Rattle.ded_syntax.specs.DraftViews.{seen_draft};
 
+use crate::certificate::certificate;
 use crate::draft::{Draft, Head, braces, colon, define, ended, formed, heading};
 use crate::item::{Keyword, Rest, value_of};
 use crate::operand::name_of;
@@ -80,6 +81,37 @@ fn delete(alloc: Global, rest: Rest<'_>) -> Result<Draft, ReadFault>
     ended(Command::Delete(name, value_of(digits)), rest)
 }
 
+/// The draft of a command whose word `disjoint` stands before the rest.
+fn disjoint(alloc: Global, rest: Rest<'_>) -> Result<Draft, ReadFault>
+    ensures read { IfOk result (λ d. disjoint_draft (left rest.entry) ≡ Some (seen_draft d)) }
+    ensures unread { IfErr result (λ e. e ≡ NotRead → disjoint_draft (left rest.entry) ≡ None) }
+{
+    let Some((first, rest)) = name(rest) else {
+        return Err(ReadFault::NotRead);
+    };
+    let Some((second, rest)) = name(rest) else {
+        return Err(ReadFault::NotRead);
+    };
+    let (first, second) = (name_of(alloc, first)?, name_of(alloc, second)?);
+    ended(Command::Disjoint(first, second), rest)
+}
+
+/// The draft of a command whose word `verify` stands before the rest.
+fn verify(alloc: Global, rest: Rest<'_>) -> Result<Draft, ReadFault>
+    ensures read { IfOk result (λ d. verify_draft capped_reader (left rest.entry) ≡ Some (seen_draft d)) }
+    ensures unread { IfErr result (λ e. e ≡ NotRead → verify_draft capped_reader (left rest.entry) ≡ None) }
+{
+    let Some((first, rest)) = name(rest) else {
+        return Err(ReadFault::NotRead);
+    };
+    let Some((second, rest)) = name(rest) else {
+        return Err(ReadFault::NotRead);
+    };
+    let (entries, rest) = certificate(alloc, rest)?;
+    let (first, second) = (name_of(alloc, first)?, name_of(alloc, second)?);
+    ended(Command::Verify(first, second, entries), rest)
+}
+
 /// The draft of a command whose word `view` stands before the rest.
 fn view(alloc: Global, rest: Rest<'_>) -> Result<Draft, ReadFault>
     requires few { length (left rest) ≤ 65536 }
@@ -143,6 +175,8 @@ fn behind(alloc: Global, word: Keyword, rest: Rest<'_>) -> Result<Draft, ReadFau
         Keyword::Ask => formed(alloc, Head::Ask, rest),
         Keyword::Query => query(alloc, rest),
         Keyword::Explain => explain(alloc, rest),
+        Keyword::Disjoint => disjoint(alloc, rest),
+        Keyword::Verify => verify(alloc, rest),
         _ => Err(ReadFault::NotRead),
     }
 }

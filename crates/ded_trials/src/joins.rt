@@ -62,7 +62,7 @@ fn row(tuple: &Tuple) -> Result<Plan, NoMemory>
 }
 
 /// The union of tuples.
-fn union(alloc: Global, tuples: &[Tuple]) -> Result<Plan, NoMemory>
+pub(crate) fn union(alloc: Global, tuples: &[Tuple]) -> Result<Plan, NoMemory>
     ensures { IfOk result (λ p. (c : Catalogue) → IsEvaluable IsAnyAtom c (plan_form p)) }
 {
     let mut parts = Vec::new(alloc);

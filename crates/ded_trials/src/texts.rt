@@ -26,7 +26,7 @@ pub(crate) const X: Slot = Slot {
 };
 
 /// A column with a name of one letter.
-fn column(alloc: Global, letter: u8, sort: Sort) -> Result<Column, NoMemory>
+pub(crate) fn column(alloc: Global, letter: u8, sort: Sort) -> Result<Column, NoMemory>
     ensures { IfOk result (λ c. c.name ≡ letter ∷ []) }
 {
     let mut bytes = Vec::new(alloc);
@@ -50,8 +50,15 @@ pub(crate) fn heading(alloc: Global) -> Result<Heading, NoMemory>
 
 /// The tuples that the lines spell.
 pub(crate) fn read(alloc: Global, lines: &str) -> Result<Answer, Fail> {
+    read_over(alloc, &heading(alloc)?, lines)
+}
+
+/// The tuples over the columns that the lines spell.
+pub(crate) fn read_over(alloc: Global, heading: &Heading, lines: &str) -> Result<Answer, Fail>
+    requires { IsPlainHeading heading.now }
+{
     let text = format!(in alloc; "answer {}\n{lines}end\n", lines.lines().count())?;
-    Ok(read_answer(alloc, &heading(alloc)?, text.as_bytes())?)
+    Ok(read_answer(alloc, heading, text.as_bytes())?)
 }
 
 /// The atoms of a tuple.
@@ -64,8 +71,13 @@ pub(crate) fn conj(alloc: Global, tuple: &Tuple) -> Result<Vec<Atom>, NoMemory>
 
 /// The list that the lines spell.
 pub(crate) fn list(alloc: Global, lines: &str) -> Result<GenRel<Atoms>, Fail> {
+    list_of(alloc, &read(alloc, lines)?)
+}
+
+/// The list of the tuples.
+pub(crate) fn list_of(alloc: Global, answer: &Answer) -> Result<GenRel<Atoms>, Fail> {
     let mut list = GenRel::new(alloc);
-    for tuple in &read(alloc, lines)?.tuples.list {
+    for tuple in &answer.tuples.list {
         list.push(conj(alloc, tuple)?)?;
     }
     Ok(list)

@@ -27,7 +27,7 @@ use Rattle.ded_print.specs.Numbers.{integer_text}
 use Rattle.ded_print.specs.Tuples.{Names, term_text, later_terms_text, signed, op_text, row_with_text, theme_text, atom_text}
 use Rattle.ded_dump.specs.Comparisons.{compare_text, constant_text, stated_text, denied_text, row_comparison_text, compared_text}
 use Rattle.ded_dump.specs.Operands.{operand_text, operands_text, member_text}
-use Rattle.ded_syntax.specs.Symbols.{Name, Open, Close, Comma}
+use Rattle.ded_syntax.specs.Symbols.{Open, Close, Comma}
 use Rattle.ded_syntax.specs.Literals.{exact, marked}
 use Rattle.ded_syntax.specs.Operands.{Side, spell_side}
 use Rattle.ded_syntax.specs.Atoms.{Named, spell_named, name_of, belongs, spell_rest, argument}
@@ -42,7 +42,7 @@ use Rattle.ded_wording.proofs.Rows.{row_worded}
 use Rattle.ded_wording.proofs.Sides.{IsWholeSide, text_side, name_side, zero_side, whole_comparison}
 use Rattle.ded_wording.proofs.WordedAtoms.{IsWordedAtom, IsWordedComparison}
 use Rattle.ded_wording.proofs.MemberWords.{opened, closing, named_worded}
-use Rattle.ded_wording.proofs.Worded.{Worded, Loose, Fits, Any, then_any, then_fitting, as_worded, nothing, blank, name, lone_sign}
+use Rattle.ded_wording.proofs.Worded.{Worded, Loose, Fits, Any, then_any, then_fitting, nothing, blank, lone_sign}
 
 abbrev pub IsNoSum : Operand → Type 0
 IsNoSum (Single x) = Unit {0}

@@ -1,5 +1,5 @@
 -- The header, and the lines of relations and of their tuples.
-use Rattle.std.proofs.Common.{◌≡◌, ◌≤◌, inl, ℕ, Bool, false, List, [], ◌∷◌, ◌++◌, refl, sym, ap, subst, arith}
+use Rattle.std.proofs.Common.{◌≡◌, ◌≤◌, inl, ℕ, false, List, [], ◌∷◌, ◌++◌, refl, sym, ap, subst, arith}
 use Rattle.std.specs.Prelude.{codes}
 use Rattle.ded_lex.specs.Gaps.{Space}
 use Rattle.ded_lex.specs.Lexemes.{Word, Number, word_byte}
@@ -7,17 +7,15 @@ use Rattle.ded_lex.specs.Pieces.{IsWhole}
 use Rattle.ded_lex.specs.Tokens.{GapCell, LexemeCell, lexemes_of}
 use Rattle.ded_model.specs.declared.command.Language.TheVariants.{Two}
 use Rattle.ded_model.specs.declared.name.Column.{Column}
-use Rattle.ded_model.specs.declared.tuple.BothAtom.TheVariants.{First, Second}
-use Rattle.ded_model.specs.declared.tuple.ThemeAtom.TheVariants.{EqText, NeText, EqSlot, NeSlot}
 use Rattle.ded_model.specs.Command.{CommandForm, relation, insert}
 use Rattle.ded_model.specs.Form.{FormAtom}
 use Rattle.ded_model.specs.Known.{IsTupleOver, has_twice}
-use Rattle.ded_model.specs.Logic.{atom, AllAtomsOf, some_atom_of, Logics}
+use Rattle.ded_model.specs.Logic.{AllAtomsOf, some_atom_of, Logics}
 use Rattle.ded_model.specs.LongRows.{is_long_atom, has_long_row}
 use Rattle.ded_model.specs.Plain.{IsPlainAtom}
 use Rattle.ded_model.specs.Row.{Atom}
 use Rattle.ded_model.specs.Width.{tuple_length}
-use Rattle.ded_print.specs.Tuples.{Names, column_names, tuple_text}
+use Rattle.ded_print.specs.Tuples.{column_names, tuple_text}
 use Rattle.ded_dump.specs.Headings.{heading_text}
 use Rattle.ded_syntax.specs.declared.item.Keyword.TheVariants as words
 use Rattle.ded_syntax.specs.Symbols.{Symbol, Name, symbol, word_symbol}
@@ -27,8 +25,8 @@ use Rattle.ded_syntax.specs.Atoms.{Comparison}
 use Rattle.ded_syntax.specs.Commands.{Plain, opens, defines, inserts_none, inserts, spell_plain, plain_form, spell_heading, SpellsCommand}
 use Rattle.ded_syntax.specs.Marks.{has_mark}
 use Rattle.ded_syntax.specs.Spelling.{IsHeader}
-use Rattle.ded_restored.specs.Formulas.{tuple_compare, tuple_compares, restored_tuple}
-use Rattle.ded_restored.specs.Words.{Passes, AtomHasWords, HasTexts, TupleHasTexts, AreNamed}
+use Rattle.ded_restored.specs.Formulas.{restored_tuple}
+use Rattle.ded_restored.specs.Words.{TupleHasTexts}
 use Rattle.ded_wording.specs.Lines.{header_text, relation_text, insert_text, IsLine}
 use Rattle.ded_wording.specs.Words.{IsName, IsMember, IsText, IsHeading}
 use Rattle.ded_wording.proofs.TerminalsWords.{spaced}

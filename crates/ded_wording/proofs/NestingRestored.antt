@@ -14,7 +14,7 @@ use Rattle.ded_grammar.specs.Trees.{TerminalForm, nay, conjunct, disjunct, arrow
 use Rattle.ded_syntax.specs.Symbols.{Symbol}
 use Rattle.ded_syntax.specs.Literals.{Reader, exact}
 use Rattle.ded_syntax.specs.Atoms.{Atom, truth, relates, belongs, atom_form, IsTerminal, AreTerminals, SpellsFormula}
-use Rattle.ded_syntax.specs.Commands.{Plain, opens, defines, inserts_none, inserts, deletes, drops, keeps, shows, boxes, dumps, plain_form, Prefix, views, asks, queries, explains, prefix_form, SpellsCommand}
+use Rattle.ded_syntax.specs.Commands.{Plain, opens, defines, inserts_none, inserts, deletes, drops, keeps, shows, boxes, dumps, certifies, verifies_none, verifies, plain_form, Prefix, views, asks, queries, explains, prefix_form, SpellsCommand}
 use Rattle.ded_syntax.specs.Spelling.{IsRead}
 use Rattle.ded_print.specs.Tuples.{Names}
 use Rattle.ded_dump.specs.Comparisons.{below}
@@ -158,6 +158,9 @@ no_view value (keeps n) = refl
 no_view value (shows n) = refl
 no_view value (boxes n) = refl
 no_view value dumps = refl
+no_view value (certifies n m) = refl
+no_view value (verifies_none n m) = refl
+no_view value (verifies n m e es) = refl
 
 formula_in : (p : Prefix) (f : Form) → formula_of (prefix_form p f) ≡ f
 formula_in (views n h) f = refl

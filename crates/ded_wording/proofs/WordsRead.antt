@@ -12,7 +12,7 @@ use Rattle.ded_model.specs.Logic.{AllAtomsOf}
 use Rattle.ded_syntax.specs.Symbols.{Symbol, symbol, Close, CloseBrace, Define}
 use Rattle.ded_syntax.specs.Literals.{Reader, exact}
 use Rattle.ded_syntax.specs.Atoms.{spell_rest, spell_column, sort_symbols}
-use Rattle.ded_syntax.specs.Commands.{Columns, spell_heading, heading, Plain, opens, defines, inserts_none, inserts, deletes, drops, keeps, shows, boxes, dumps, spell_plain, plain_form, Prefix, views, asks, queries, explains, spell_prefix, prefix_form, SpellsCommand}
+use Rattle.ded_syntax.specs.Commands.{Columns, spell_heading, heading, Plain, opens, defines, inserts_none, inserts, deletes, drops, keeps, shows, boxes, dumps, certifies, verifies_none, verifies, spell_plain, plain_form, Prefix, views, asks, queries, explains, spell_prefix, prefix_form, SpellsCommand}
 use Rattle.ded_syntax.specs.Spelling.{IsRead, is_long_word}
 use Rattle.ded_restored.specs.Words.{AreNamed, AtomHasWords}
 use Rattle.ded_wording.specs.Words.{IsName, IsMember, IsText, IsHeading}
@@ -52,6 +52,9 @@ flat_good value (keeps n) q = tt
 flat_good value (shows n) q = tt
 flat_good value (boxes n) q = tt
 flat_good value dumps q = tt
+flat_good value (certifies n m) q = tt
+flat_good value (verifies_none n m) q = tt
+flat_good value (verifies n m e es) q = tt
 
 before_good : (p : Prefix) (f : Form) → AreGood (spell_prefix p) → Written f → IsGoodCommand (prefix_form p f)
 before_good (views n h) f q u = (q.1.0, heading_good h (every-left IsGoodSymbol (spell_heading h) (Define ∷ []) q.1.1), u)

@@ -69,7 +69,9 @@ command_alike w a b h =
     (reserved w (codes "query") words.Query _ _
     (reserved w (codes "show") words.Show _ _
     (reserved w (codes "box") words.BoxOf _ _
-    (reserved w (codes "explain") words.Explain _ _ h))))))))))
+    (reserved w (codes "explain") words.Explain _ _
+    (reserved w (codes "disjoint") words.Disjoint _ _
+    (reserved w (codes "verify") words.Verify _ _ h))))))))))))
 
 unused_alike : (w : List ℕ) → IsAlike w (unused_word (Name w) w) (unused_word (Name w) w)
 unused_alike w = either (is_unused w)

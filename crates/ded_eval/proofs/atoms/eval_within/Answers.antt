@@ -1,4 +1,4 @@
-use Rattle.std.proofs.Common.{sym, ◌∙◌, subst}
+use Rattle.std.proofs.Common.{refl, sym, ◌∙◌, subst}
 use Rattle.std.specs.List.{AllByRecursion}
 use Rattle.std.proofs.lemmas.Result.{IfOk-weaker}
 use Rattle.ded_model.specs.Normal.{IsNormalTheme}
@@ -16,7 +16,10 @@ evaluate_within-requires-clause-plan g c = evaluable_any (g.R.Relations.catalogu
 pub evaluate_within-requires-clause-window : goal.evaluate_within-requires-clause-window
 evaluate_within-requires-clause-window g c = subst (AllByRecursion (IsByKind IsLinearAtom IsNormalTheme)) (sym c.deref.ensures.value) (normal-is c.within.inside.atoms.items c.within.invariant)
 
-pub returns-clause-is : goal.returns-clause-is
-returns-clause-is g c =
+pub returns-in-Err-Wide-clause-is : goal.returns-in-Err-Wide-clause-is
+returns-in-Err-Wide-clause-is g c = IfOk-weaker c.evaluate_orders.result _ _ (λ r k. record { holds = λ p i inside. k.holds p i refl; slots = k.slots; lines = k.lines }) c.evaluate_orders.ensures.is
+
+pub returns-in_default-2-clause-is : goal.returns-in_default-2-clause-is
+returns-in_default-2-clause-is g c =
     IfOk-weaker c.evaluate_within.result _ _
     (λ r k. within_tuple (g.R.Relations.catalogue c.args.relations.now) (plan_form c.args.plan.now) c.args.within.now c.deref.result.now _ _ _ (c.deref.ensures.value ∙ c.within.view_is) k) c.evaluate_within.ensures.is

@@ -149,10 +149,10 @@ joined-returns-clause-is g t c =
 
 pub met_with-returns-in-Some-clause-is : goal.met_with-returns-in-Some-clause-is
 met_with-returns-in-Some-clause-is g t c =
-    subst (λ xs. IsJoinedWith g.T.Theory.holds g.T.Theory.mentions g.T.Theory.lines (g.R.Relations.catalogue c.args.relations.now) (conj_holds g.T.Theory.holds c.args.within.now) (plan_form c.args.part.now) xs c.in_ok-join_inhabited-in-Some.field-0) (sym (ap begun c.in-Some.is))
-    (met_with g.T.Theory.holds g.T.Theory.mentions g.T.Theory.lines (g.R.Relations.catalogue c.args.relations.now) (conj_holds g.T.Theory.holds c.args.within.now) (plan_form c.args.part.now) c.in-Some.list c.in_ok-next.next c.in_ok-join_inhabited-in-Some.field-0 (conj_holds g.T.Theory.holds c.deref.result.now)
+    subst (λ xs. IsJoinedWith g.T.Theory.holds g.T.Theory.mentions g.T.Theory.lines (g.R.Relations.catalogue c.args.relations.now) (conj_holds g.T.Theory.holds c.args.within.now) (plan_form c.args.part.now) xs c.in_ok-join_shorter-in-Some.field-0) (sym (ap begun c.in-Some.is))
+    (met_with g.T.Theory.holds g.T.Theory.mentions g.T.Theory.lines (g.R.Relations.catalogue c.args.relations.now) (conj_holds g.T.Theory.holds c.args.within.now) (plan_form c.args.part.now) c.in-Some.list c.in_ok-next.next c.in_ok-join_shorter-in-Some.field-0 (conj_holds g.T.Theory.holds c.deref.result.now)
     (λ p w y. ap (λ xs. conj_holds g.T.Theory.holds xs p) c.deref.ensures.value ∙ c.in_ok-inner.ensures.holds p w (ap (λ o. conjs_hold g.T.Theory.holds (begun o) p) c.in-Some.is ∙ y))
-    c.in_ok-next.ensures.is c.in_ok-join_inhabited-in-Some.ensures.is)
+    c.in_ok-next.ensures.is c.in_ok-join_shorter-in-Some.ensures)
 
 pub met_with-returns-clause-is : goal.met_with-returns-clause-is
 met_with-returns-clause-is g t c =

@@ -1,8 +1,9 @@
 -- Each command by slots is what the names accept, and is carried out as it is written.
-use Rattle.std.proofs.Common.{◌≡◌, true, refl, sym, ap, subst}
-use Rattle.ded_model.specs.declared.command.Refusal.TheVariants.{Memory}
+use Rattle.std.proofs.Common.{◌≡◌, true, refl, sym, subst}
+use Rattle.std.specs.Prelude.{IfOk, IsErrOf}
+use Rattle.ded_model.specs.declared.memory.Refused.TheVariants.{Wide}
 use Rattle.ded_model.specs.Catalogue.{Catalogue}
-use Rattle.ded_model.specs.Command.{CommandForm, ask, query, show, box_of, explain, dump}
+use Rattle.ded_model.specs.Command.{CommandForm, ask, query, show, box_of, explain, dump, disjoint, verify}
 use Rattle.ded_model.specs.Entries.{known}
 use Rattle.ded_sorts.specs.Causes.{is_relation_with}
 use Rattle.ded_catalog.specs.State.{catalogue_of}
@@ -11,9 +12,10 @@ use Rattle.ded_session.specs.Answered.{reply_form}
 use Rattle.ded_session.specs.Carrying.{Carries}
 use Rattle.ded_session.specs.Keeping.{Upholds}
 use Rattle.ded_session.specs.Replies.{done}
-use Rattle.ded_session.proofs.Accepted.{ready_relation, ready_insert, ready_delete, ready_drop, ready_show, ready_view, ready_box, ready_keep, written_relation, written_insert, written_as_insert, written_delete, written_drop, written_show, written_view, written_box, written_keep, written_header, written_dump, is_insert, left, wanting}
+use Rattle.ded_session.specs.Steps.{Does, MayBeWide}
+use Rattle.ded_session.proofs.Accepted.{ready_relation, ready_insert, ready_delete, ready_drop, ready_show, ready_view, ready_box, ready_keep, ready_disjoint, ready_verify, written_relation, written_insert, written_as_insert, written_delete, written_drop, written_show, written_view, written_box, written_keep, written_header, written_dump, written_disjoint, written_verify}
 use Rattle.ded_session.proofs.Asking.{ready_ask, ready_query, ready_explain, written_ask, written_query, written_explain}
-use Rattle.ded_session.proofs.Upheld.{same_lists, upholds_refused}
+use Rattle.ded_session.proofs.Upheld.{same_lists}
 use Rattle.ded_session.proofs.command.carry_out.Goals as goal
 
 pub define-requires : goal.define-requires
@@ -186,26 +188,47 @@ pub returns-in-Dump-clause-upholds : goal.returns-in-Dump-clause-upholds
 returns-in-Dump-clause-upholds c = λ written resolved accepted.
     subst (λ (x : CommandForm). Upholds x (reply_form c.dump.result) c.args.database.now c.args.database.now) (sym (written_dump (catalogue_at c.args.database.now) c.args.command c.requires c.in-Dump.is written resolved)) (same_lists c.args.database.now c.args.database.now refl)
 
--- ---- commands that aren't answered yet
-
 pub returns-in-Disjoint-clause-carries : goal.returns-in-Disjoint-clause-carries
 returns-in-Disjoint-clause-carries c = λ written resolved accepted.
     let cat = catalogue_at c.args.database.now in
-    subst (λ r. Carries written cat r cat) (sym c.unanswered.ensures)
-    (wanting cat written (left cat written c.args.command resolved (ap is_insert c.in-Disjoint.is)))
+    let x = disjoint c.in-Disjoint.first c.in-Disjoint.second in
+    subst (λ (y : CommandForm). Carries y cat (reply_form c.reply_of-in-Disjoint.result) cat) (sym (written_disjoint cat c.args.command c.requires c.in-Disjoint.first c.in-Disjoint.second c.in-Disjoint.is written resolved))
+    (subst (λ (k : Catalogue). Carries x k (reply_form c.reply_of-in-Disjoint.result) k) c.catalogue-in-Disjoint.ensures
+    (c.reply_of-in-Disjoint.ensures x (catalogue_of c.catalogue-in-Disjoint.result.now) refl c.disjoint.ensures.does c.disjoint.ensures.wide))
 
 pub returns-in-Disjoint-clause-upholds : goal.returns-in-Disjoint-clause-upholds
 returns-in-Disjoint-clause-upholds c = λ written resolved accepted.
-    subst (λ r. Upholds written r c.args.database.now c.args.database.now) (sym c.unanswered.ensures)
-    (upholds_refused written Memory c.args.database.now c.args.database.now (same_lists c.args.database.now c.args.database.now refl))
+    subst (λ (x : CommandForm). Upholds x (reply_form c.reply_of-in-Disjoint.result) c.args.database.now c.args.database.now)
+    (sym (written_disjoint (catalogue_at c.args.database.now) c.args.command c.requires c.in-Disjoint.first c.in-Disjoint.second c.in-Disjoint.is written resolved)) (same_lists c.args.database.now c.args.database.now refl)
 
 pub returns-in-Verify-clause-carries : goal.returns-in-Verify-clause-carries
 returns-in-Verify-clause-carries c = λ written resolved accepted.
     let cat = catalogue_at c.args.database.now in
-    subst (λ r. Carries written cat r cat) (sym c.unanswered-in-Verify.ensures)
-    (wanting cat written (left cat written c.args.command resolved (ap is_insert c.in-Verify.is)))
+    let x = verify c.in-Verify.first c.in-Verify.second c.in-Verify.entries.items in
+    let there = catalogue_of c.catalogue-in-Verify.result.now in
+    subst (λ (y : CommandForm). Carries y cat (reply_form c.reply_of-in-Verify.result) cat) (sym (written_verify cat c.args.command c.requires c.in-Verify.first c.in-Verify.second c.in-Verify.entries c.in-Verify.is written resolved))
+    (subst (λ (k : Catalogue). Carries x k (reply_form c.reply_of-in-Verify.result) k) c.catalogue-in-Verify.ensures
+    (c.reply_of-in-Verify.ensures x there refl
+    (subst (λ es. IfOk c.verified.result (λ r. Does (verify c.in-Verify.first c.in-Verify.second es) there (reply_form r) there)) c.deref.ensures.value c.verified.ensures.does)
+    (subst (λ es. IsErrOf c.verified.result Wide → MayBeWide (verify c.in-Verify.first c.in-Verify.second es) there) c.deref.ensures.value c.verified.ensures.wide)))
 
 pub returns-in-Verify-clause-upholds : goal.returns-in-Verify-clause-upholds
 returns-in-Verify-clause-upholds c = λ written resolved accepted.
-    subst (λ r. Upholds written r c.args.database.now c.args.database.now) (sym c.unanswered-in-Verify.ensures)
-    (upholds_refused written Memory c.args.database.now c.args.database.now (same_lists c.args.database.now c.args.database.now refl))
+    subst (λ (x : CommandForm). Upholds x (reply_form c.reply_of-in-Verify.result) c.args.database.now c.args.database.now)
+    (sym (written_verify (catalogue_at c.args.database.now) c.args.command c.requires c.in-Verify.first c.in-Verify.second c.in-Verify.entries c.in-Verify.is written resolved)) (same_lists c.args.database.now c.args.database.now refl)
+
+pub disjoint-requires-clause-first : goal.disjoint-requires-clause-first
+disjoint-requires-clause-first c =
+    subst (λ (k : Catalogue). is_relation_with (known k c.in-Disjoint.first) ≡ true) (sym c.catalogue-in-Disjoint.ensures) (ready_disjoint (catalogue_at c.args.database.now) c.args.command c.requires c.in-Disjoint.first c.in-Disjoint.second c.in-Disjoint.is).0
+
+pub disjoint-requires-clause-second : goal.disjoint-requires-clause-second
+disjoint-requires-clause-second c =
+    subst (λ (k : Catalogue). is_relation_with (known k c.in-Disjoint.second) ≡ true) (sym c.catalogue-in-Disjoint.ensures) (ready_disjoint (catalogue_at c.args.database.now) c.args.command c.requires c.in-Disjoint.first c.in-Disjoint.second c.in-Disjoint.is).1
+
+pub verified-requires-clause-first : goal.verified-requires-clause-first
+verified-requires-clause-first c =
+    subst (λ (k : Catalogue). is_relation_with (known k c.in-Verify.first) ≡ true) (sym c.catalogue-in-Verify.ensures) (ready_verify (catalogue_at c.args.database.now) c.args.command c.requires c.in-Verify.first c.in-Verify.second c.in-Verify.entries c.in-Verify.is).0
+
+pub verified-requires-clause-second : goal.verified-requires-clause-second
+verified-requires-clause-second c =
+    subst (λ (k : Catalogue). is_relation_with (known k c.in-Verify.second) ≡ true) (sym c.catalogue-in-Verify.ensures) (ready_verify (catalogue_at c.args.database.now) c.args.command c.requires c.in-Verify.first c.in-Verify.second c.in-Verify.entries c.in-Verify.is).1

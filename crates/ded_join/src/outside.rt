@@ -1,0 +1,76 @@
+//! Joins with a small list, by what is outside of it.
+//!
+//! The pairs of two lists may say the same many times over: of n lists of two half planes each, joined one after another, there are
+//! 2^n, and they may make up n + 1 regions alone. What is left of a conjunction when the complement of the small list is taken away
+//! from it is made of disjoint pieces, which are never more than the cells of the atoms.
+ghost use Rattle.std.specs.Prelude.{IfOk};
+ghost use Rattle.ded_genrel.specs.Operations.{IsMeet};
+ghost use Rattle.ded_genrel.specs.Rounds.{AreRational};
+
+use crate::inhabited::join_inhabited;
+use ded_complement::{complement, minus};
+use ded_genrel::GenRel;
+use ded_model::memory::NoMemory;
+use ded_model::slot::Slot;
+use ded_theory::Theory;
+use std::alloc::Global;
+
+/// Fewer pairs are never too many.
+const FEW_PAIRS: usize = 32;
+
+/// A list with more atoms isn't small: the complement of a list may have as many conjunctions as there are cells of its atoms.
+const FEW_ATOMS: usize = 32;
+
+/// A list that holds where both do: that of [`join_inhabited`], or, where that is longer than both lists and the second one is
+/// small, the first list without what is outside of the second one, if that is shorter. `met` grows as in `join_inhabited`.
+///
+/// # Errors
+/// Out of memory.
+pub fn join_shorter<T: Theory>(
+    alloc: Global,
+    a: &GenRel<T>,
+    b: &GenRel<T>,
+    slots: &[Slot],
+    met: &mut u64,
+) -> Result<GenRel<T>, NoMemory>
+    requires { AreRational slots.now }
+    ensures { IfOk result (λ r. IsMeet T.holds T.mentions T.lines a.now b.now r) }
+{
+    let pairs = join_inhabited(alloc, a, b, slots, met)?;
+    if !(has_grown(a, b, &pairs) && is_small(b)) {
+        return Ok(pairs);
+    }
+    let pieces = without_outside(alloc, a, b)?;
+    if pieces.list().len() < pairs.list().len() {
+        Ok(pieces)
+    } else {
+        Ok(pairs)
+    }
+}
+
+/// The first list without what is outside of the second one.
+fn without_outside<T: Theory>(
+    alloc: Global,
+    a: &GenRel<T>,
+    b: &GenRel<T>,
+) -> Result<GenRel<T>, NoMemory>
+    ensures { IfOk result (λ r. IsMeet T.holds T.mentions T.lines a.now b.now r) }
+{
+    let outside = complement(alloc, b)?;
+    minus(alloc, a, &outside)
+}
+
+/// Whether the pairs are many, and more than the conjunctions of either list.
+fn has_grown<T: Theory>(a: &GenRel<T>, b: &GenRel<T>, pairs: &GenRel<T>) -> bool {
+    let count = pairs.list().len();
+    count > FEW_PAIRS && count > a.list().len() && count > b.list().len()
+}
+
+/// Whether the list has few atoms.
+fn is_small<T: Theory>(list: &GenRel<T>) -> bool {
+    let mut atoms = 0_usize;
+    for conj in list.list() {
+        atoms = atoms.saturating_add(conj.len());
+    }
+    atoms <= FEW_ATOMS
+}

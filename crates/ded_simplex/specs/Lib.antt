@@ -1,0 +1,5 @@
+pub mod Columns
+pub mod Gathered
+pub mod Meeting
+pub mod Sure
+pub mod Weighing

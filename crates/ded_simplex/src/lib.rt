@@ -1,0 +1,28 @@
+//! What shows of rows that they hold somewhere, or nowhere: a point, or numbers, one for each row.
+//!
+//! Where the rows times these numbers come to a row that has no slot and is false, they hold nowhere together ([`refutes`]). Where
+//! each row holds at the point, they hold somewhere ([`meets`]). Both are checked by multiplications and sums alone, however they
+//! were found, and [`told`] says only what passes its check.
+//!
+//! They are looked for by the dual simplex, over whole numbers ([`find`]). Of the search nothing is promised but that it is safe and
+//! ends.
+#![tactic(auto)]
+
+mod exact;
+pub mod laws;
+mod meeting;
+mod reading;
+mod search;
+mod slots;
+mod table;
+mod telling;
+mod variable;
+mod weighing;
+mod witness;
+
+pub use meeting::meets;
+pub use search::{Found, find};
+pub use slots::slots_of;
+pub use telling::told;
+pub use weighing::refutes;
+pub use witness::Witness;

@@ -1,0 +1,135 @@
+//! The search for what shows that rows hold somewhere, or nowhere: the dual simplex.
+//!
+//! A line whose variable may not have its value is pivoted with the first column whose variable helps, until all variables may have
+//! their values, and so are a point, or none helps: then the numbers of the line weigh the rows to a false one. At first the line is
+//! the one with the greatest value; later it is, after Bland, the first one, which goes round in no circle.
+
+use crate::reading::{multipliers, point};
+use crate::slots::slots_of;
+use crate::table::{Line, Table};
+use crate::variable::Variable;
+use crate::witness::Witness;
+use ded_model::memory::NoMemory;
+use ded_model::row::Row;
+use std::alloc::Global;
+use std::cmp::Ordering;
+
+/// What is found.
+#[derive(Drop)]
+pub enum Found {
+    /// A point at which the rows may hold.
+    Point(Witness),
+    /// Numbers of the rows, one for each, that may weigh them to a false row.
+    Multipliers(Vec<i128>),
+    /// Neither: the search was given up.
+    Nothing,
+}
+
+/// How the search ends.
+#[derive(Clone, Copy)]
+enum End {
+    /// All variables may have their values.
+    Feasible,
+    /// The variable of the line may not have its value, which lies on this side of 0, and can't get another one.
+    Conflict(usize, Ordering),
+    /// It was given up.
+    Stuck,
+}
+
+/// What is to be done next.
+#[derive(Clone, Copy)]
+enum Step {
+    /// A pivot of a line with a column.
+    Pivot(usize, usize),
+    /// Nothing.
+    Halt(End),
+}
+
+/// Looks for a point at which the rows hold, or for numbers that show that there is none. Nothing is promised of either.
+///
+/// # Errors
+/// Out of memory.
+pub fn find(alloc: Global, rows: &[&Row]) -> Result<Found, NoMemory> {
+    let slots = slots_of(alloc, rows)?;
+    let mut table = Table::new(alloc, rows, &slots)?;
+    match solve(&mut table) {
+        End::Feasible => Ok(Found::Point(point(alloc, &table)?)),
+        End::Conflict(line, side) => {
+            Ok(Found::Multipliers(multipliers(alloc, &table, line, side, rows.len())?))
+        }
+        End::Stuck => Ok(Found::Nothing),
+    }
+}
+
+/// Pivots until the search ends.
+fn solve(table: &mut Table) -> End {
+    let size = table.lines.len().saturating_add(table.columns.len());
+    let greedy = size.saturating_mul(3);
+    for count in 0..size.saturating_mul(20).saturating_add(200) {
+        match next_step(table, count < greedy) {
+            Step::Halt(end) => return end,
+            Step::Pivot(line, column) => {
+                if !table.pivot(line, column) {
+                    return End::Stuck;
+                }
+            }
+        }
+    }
+    End::Stuck
+}
+
+/// What is to be done next: a pivot of the line with the greatest violated value, or of that with the first variable.
+fn next_step(table: &Table, greedy: bool) -> Step {
+    let found = if greedy {
+        greatest_violated(&table.lines)
+    } else {
+        first_violated(&table.lines)
+    };
+    let Some((at, line)) = found else {
+        return Step::Halt(End::Feasible);
+    };
+    let side = line.value.sign();
+    match helping(&table.columns, line, side) {
+        Some(column) => Step::Pivot(at, column),
+        None => Step::Halt(End::Conflict(at, side)),
+    }
+}
+
+/// Of the lines whose variables may not have their values, the one with the greatest value, and its place.
+fn greatest_violated(lines: &[Line]) -> Option<(usize, &Line)> {
+    lines
+        .iter()
+        .enumerate()
+        .filter(|(_, line)| line.is_violated())
+        .max_by_key(|(_, line)| line.value.whole.unsigned_abs())
+}
+
+/// Of the lines whose variables may not have their values, that of the first variable, and its place.
+fn first_violated(lines: &[Line]) -> Option<(usize, &Line)> {
+    lines
+        .iter()
+        .enumerate()
+        .filter(|(_, line)| line.is_violated())
+        .reduce(|best, next| {
+            if next.1.variable.is_before(best.1.variable) {
+                next
+            } else {
+                best
+            }
+        })
+}
+
+/// The place of the first variable among those of the columns that may change so that the value of the line comes nearer to 0.
+fn helping(columns: &[Variable], line: &Line, side: Ordering) -> Option<usize> {
+    let helpful = columns
+        .iter()
+        .zip(&line.coefs)
+        .enumerate()
+        .filter(|(_, (variable, a))| variable.may_help(**a, side));
+    let first = helpful.reduce(|best, next| if next.1.0.is_before(*best.1.0) {
+        next
+    } else {
+        best
+    })?;
+    Some(first.0)
+}
