@@ -1,5 +1,5 @@
 -- Orderly questions over a catalogue whose entries were read.
-use Rattle.std.proofs.Common.{◌≡◌, ℕ, Bool, true, false, List, [], ◌∷◌, refl, sym, subst}
+use Rattle.std.proofs.Common.{◌≡◌, false, List, [], ◌∷◌}
 use Rattle.std.specs.List.{AllByRecursion}
 use Rattle.ded_lex.specs.Pieces.{Statement, Whole}
 use Rattle.ded_lex.specs.Pieces as pieces
@@ -20,7 +20,7 @@ use Rattle.ded_model.specs.Plain.{IsPlain, IsPlainCommand}
 use Rattle.ded_model.specs.Row.{Atom}
 use Rattle.ded_orderly.specs.Orderly.{IsOrderly, IsShortReach, HasShortRows}
 use Rattle.ded_session.specs.Replies.{tuples, refused}
-use Rattle.ded_session.specs.Steps.{Does, MayBeWide, Accepted, Accepts, Step}
+use Rattle.ded_session.specs.Steps.{Does, MayBeWide, Accepts, Step}
 use Rattle.ded_session.proofs.StepLemmas.{read_short, read_plain}
 use Rattle.ded_session.proofs.WideQuestions.{HasNone, none, asked, queried}
 use Rattle.ded_reload.specs.Orderly.{IsOrderlyQuestion, IsOrderlyAnswer}
