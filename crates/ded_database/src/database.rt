@@ -83,13 +83,30 @@ impl Database {
         ensures held { result.held ≡ [] }
         ensures added { result.added ≡ 0 }
     {
+        Database::over(alloc, Catalogue::hashed_with(alloc, limit, keys))
+    }
+
+    /// A database with this catalogue and no kept view. It does not allocate.
+    pub fn over(alloc: Global, catalogue: Catalogue) -> Database
+        ensures catalogue { catalogue_at result ≡ catalogue_of catalogue }
+        ensures marks { result.marks ≡ [] }
+        ensures held { result.held ≡ [] }
+        ensures added { result.added ≡ 0 }
+    {
         Database {
-            catalogue: Catalogue::hashed_with(alloc, limit, keys),
+            catalogue,
             marks: Vec::new(alloc),
             held: Given::new(alloc),
             added: 0,
             alloc,
         }
+    }
+
+    /// The catalogue alone. It does not allocate.
+    pub fn into_catalogue(self) -> Catalogue
+        ensures { catalogue_of result ≡ catalogue_at self }
+    {
+        self.catalogue
     }
 
     /// The present catalogue. It does not allocate.

@@ -1,3 +1,4 @@
+pub mod Attained
 pub mod Bounded
 pub mod ColumnCoefs
 pub mod ColumnPoints

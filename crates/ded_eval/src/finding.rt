@@ -8,8 +8,9 @@ ghost use Rattle.ded_model.specs.PlanForm.{plan_form, plan_forms};
 ghost use Rattle.ded_model.specs.Point.{Point, IsPoint};
 ghost use Rattle.ded_genrel.specs.Lists.{conjs_hold};
 ghost use Rattle.ded_algebra.specs.Evaluation.{IsScannable, IsEvaluable};
-ghost use Rattle.ded_eval.specs.Finding.{IsFoundIn, IsFoundWith};
+ghost use Rattle.ded_eval.specs.Finding.{IsFoundIn, IsFoundWith, AreAlike, IsAttained};
 
+use crate::attaining::{are_rows_over, some_attained};
 use crate::beside::{alone, is_rows, rows_of_parts};
 use crate::evaluation::rows;
 use crate::reading::OfTuples;
@@ -29,8 +30,8 @@ const FEW: usize = 4;
 /// How many plans are looked at in all.
 const LOOKS: u32 = 32;
 
-/// Whether the plan is found to hold everywhere. Only closed plans that join parts are tried, and of each part a few conjunctions
-/// alone, so that `false` says nothing.
+/// Whether the plan is found to hold everywhere. Only closed plans that project slots or join parts are tried, and of each part a few
+/// conjunctions alone, so that `false` says nothing.
 ///
 /// # Errors
 /// Out of memory.
@@ -42,13 +43,112 @@ pub(crate) fn is_found<T: OfTuples, R: Relations>(
     requires { IsEvaluable T.reads (R.catalogue relations.now) (plan_form plan.now) }
     ensures { IfOk result (λ b. b ≡ true → (p : Point) → IsPoint p → GivenHolds (R.catalogue relations.now) (plan_form plan.now) p) }
 {
-    if !joins(plan) || !is_closed(alloc, plan, &[])? {
+    if !(projects(plan) || joins(plan)) || !is_closed(alloc, plan, &[])? {
+        return Ok(false);
+    }
+    if projects(plan) && is_attained::<T, R>(alloc, plan, relations, &[], &[])? {
+        return Ok(true);
+    }
+    if !joins(plan) {
         return Ok(false);
     }
     let everywhere = Vec::new(alloc);
     let mut looks = LOOKS;
     match few::<T, R>(alloc, plan, relations, &everywhere, &mut looks) {
         Ok(list) => Ok(has_everything(&list)),
+        Err(Refused::Wide) => Ok(false),
+        Err(Refused::Memory) => Err(AllocError),
+    }
+}
+
+/// Whether the plan is found to hold wherever a point has the numbers, at the slots, of some point at which the atoms hold: one of a few
+/// conjunctions of rows, over these slots and those that the plan projects first, holds somewhere together with the atoms. So no slot
+/// has to be eliminated.
+///
+/// # Errors
+/// Out of memory.
+#[cycle(is_attained)]
+fn is_attained<T: OfTuples, R: Relations>(
+    alloc: Global,
+    plan: &Plan,
+    relations: &R,
+    atoms: &[T::Atom],
+    slots: &[Slot],
+) -> Result<bool, NoMemory>
+    requires plan { IsEvaluable T.reads (R.catalogue relations.now) (plan_form plan.now) }
+    requires atoms { AllByRecursion T.normal atoms.now }
+    requires alike { AreAlike T.holds slots.now atoms.now }
+    ensures { IfOk result (λ b. b ≡ true → IsAttained T.holds atoms.now (R.catalogue relations.now) slots.now (plan_form plan.now)) }
+{
+    match plan {
+        Plan::Project(slot, part) => {
+            let mut inside = Vec::from_slice(alloc, slots)?;
+            inside.push(*slot)?;
+            is_attained::<T, R>(alloc, part, relations, atoms, &inside)
+        }
+        Plan::Join(parts) if others_than_rows(parts) == 1 => {
+            join_is_attained::<T, R>(alloc, parts, relations, atoms, slots)
+        }
+        Plan::Scan(_, _)
+        | Plan::Rows(_)
+        | Plan::Join(_)
+        | Plan::Union(_)
+        | Plan::Minus(_, _)
+        | Plan::Not(_) => some_of_few::<T, R>(alloc, plan, relations, atoms, slots),
+    }
+}
+
+/// The same of the join of the parts, where all but one of them are rows over the slots.
+#[cycle(is_attained)]
+fn join_is_attained<T: OfTuples, R: Relations>(
+    alloc: Global,
+    parts: &Vec<Plan>,
+    relations: &R,
+    atoms: &[T::Atom],
+    slots: &[Slot],
+) -> Result<bool, NoMemory>
+    requires parts { AllAtomsOf (IsScannable T.reads (R.catalogue relations.now)) (plan_forms parts.now.items) }
+    requires atoms { AllByRecursion T.normal atoms.now }
+    requires alike { AreAlike T.holds slots.now atoms.now }
+    ensures { IfOk result (λ b. b ≡ true → IsAttained T.holds atoms.now (R.catalogue relations.now) slots.now (every_of (plan_forms parts.now.items))) }
+{
+    let own = rows_of_parts::<T>(alloc, parts)?;
+    if !are_rows_over::<T>(&own, slots) {
+        return Ok(false);
+    }
+    let inner = both_conjs::<T>(alloc, atoms, &own)?;
+    let mut found = false;
+    for part in parts {
+        if is_rows(part) {
+            continue;
+        }
+        if found || !is_attained::<T, R>(alloc, part, relations, &inner, slots)? {
+            return Ok(false);
+        }
+        found = true;
+    }
+    Ok(found)
+}
+
+/// The same, of a few conjunctions of the plan.
+///
+/// # Errors
+/// Out of memory.
+fn some_of_few<T: OfTuples, R: Relations>(
+    alloc: Global,
+    plan: &Plan,
+    relations: &R,
+    atoms: &[T::Atom],
+    slots: &[Slot],
+) -> Result<bool, NoMemory>
+    requires plan { IsEvaluable T.reads (R.catalogue relations.now) (plan_form plan.now) }
+    requires atoms { AllByRecursion T.normal atoms.now }
+    requires alike { AreAlike T.holds slots.now atoms.now }
+    ensures { IfOk result (λ b. b ≡ true → IsAttained T.holds atoms.now (R.catalogue relations.now) slots.now (plan_form plan.now)) }
+{
+    let mut looks = LOOKS;
+    match few::<T, R>(alloc, plan, relations, atoms, &mut looks) {
+        Ok(list) => some_attained(alloc, &list, atoms, slots),
         Err(Refused::Wide) => Ok(false),
         Err(Refused::Memory) => Err(AllocError),
     }
@@ -201,6 +301,19 @@ fn has_everything<T: Theory>(list: &GenRel<T>) -> bool
 }
 
 // ---- which plans are tried
+
+/// Whether the plan projects a slot.
+fn projects(plan: &Plan) -> bool {
+    match plan {
+        Plan::Project(_, _) => true,
+        Plan::Scan(_, _)
+        | Plan::Rows(_)
+        | Plan::Join(_)
+        | Plan::Union(_)
+        | Plan::Minus(_, _)
+        | Plan::Not(_) => false,
+    }
+}
 
 /// Whether the plan joins parts under its projections, or is a union of which a part does.
 #[cycle(joins)]

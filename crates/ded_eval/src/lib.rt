@@ -30,6 +30,7 @@
 #![tactic(auto)]
 
 mod atoms;
+mod attaining;
 mod beside;
 mod closed;
 mod deciding;

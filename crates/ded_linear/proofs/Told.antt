@@ -18,3 +18,9 @@ exact_somewhere test s (Excluded f) p x =
     let o = x.near (beyond upper f) p ((outside_decides lower f (beyond upper f)).1 (beyond-outside upper f p)) in
     (o.0, o.1, o.2)
 exact_somewhere test s (Included f) p x = let a = x.attained in (a.0, a.1, a.2)
+
+-- its fraction, if it has one, is positive
+pub somewhere : (test : Point → Bool) (s : Slot) (b : Bound) → IsExactBound test s lower b → HoldsSomewhere test
+somewhere test s Infinite x = exact_somewhere test s Infinite tt x
+somewhere test s (Excluded f) x = exact_somewhere test s (Excluded f) x.positive x
+somewhere test s (Included f) x = exact_somewhere test s (Included f) x.positive x

@@ -15,11 +15,19 @@ use ded_model::bound::Bound;
 use ded_model::memory::{NoMemory, Refused};
 use ded_model::row::Row;
 use ded_model::slot::Slot;
+use ded_simplex::extent;
 use ded_theory::{Eliminated, Span};
 use std::alloc::{AllocError, Global};
 
+/// From how many rows on the ends of the slot are looked for before anything is eliminated, where a row mentions three slots or more:
+/// of fewer rows they are found sooner by eliminations.
+const MANY: usize = 8;
+
+/// The same where no row mentions more than two slots.
+const MANY_PAIRS: usize = 16;
+
 /// The exact bounds of the slot, `Nothing` where no point satisfies the rows, and no bounds at all where a number on the way
-/// got too long, which a mixing that decides never lets happen. Other slots are eliminated, that with the fewest pairs of rows first, until each row mentions at most one.
+/// got too long, which a mixing that decides never lets happen. Of many rows what shows the bounds is looked for first.
 ///
 /// # Errors
 /// Out of memory.
@@ -33,11 +41,42 @@ pub fn bounds<M: Mixing>(alloc: Global, rows: &[Row], slot: Slot) -> Result<Span
     if are_single(rows) {
         return Ok(interval(rows, slot));
     }
+    if !are_many(rows) {
+        return eliminated::<M>(alloc, rows, slot);
+    }
+    match extent(alloc, rows, slot)? {
+        Span::Around(_, _) => eliminated::<M>(alloc, rows, slot),
+        Span::Nothing => Ok(Span::Nothing),
+        Span::Exact(lower, upper) => Ok(Span::Exact(lower, upper)),
+    }
+}
+
+/// Whether the rows are so many that the ends of a slot are found sooner without eliminations. It does not allocate.
+fn are_many(rows: &[Row]) -> bool {
+    rows.len() >= MANY_PAIRS
+        || (rows.len() >= MANY && rows.iter().any(|row| row.coefs.list().len() > 2))
+}
+
+/// The bounds as [`bounds`] gives them, by eliminations alone: of other slots, that with the fewest pairs of rows first, until each row mentions at most one.
+///
+/// # Errors
+/// Out of memory.
+pub(crate) fn eliminated<M: Mixing>(
+    alloc: Global,
+    rows: &[Row],
+    slot: Slot,
+) -> Result<Span, NoMemory>
+    requires normal { AllByRecursion IsLinearAtom rows.now }
+    requires rows { AllByRecursion M.rows rows.now }
+    ensures span { IfOk result (λ s. IsSpan row_holds row_mentions row_lines rows.now slot s) }
+    ensures verdict { IfOk result (λ s. IsVerdict row_holds row_mentions row_lines rows.now (verdict_of s)) }
+    ensures exact { M.decides → IfOk result (λ s. IsAround s → ⊥) }
+{
     let others = other_slots(alloc, rows, slot)?;
     bounds_past::<M>(alloc, rows, others, slot)
 }
 
-/// The exact bounds of the slot as [`bounds`] gives them, with the other slots that the rows mention at hand.
+/// The exact bounds of the slot as [`eliminated`] gives them, with the other slots that the rows mention at hand.
 fn bounds_past<M: Mixing>(
     alloc: Global,
     rows: &[Row],

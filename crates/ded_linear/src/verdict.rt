@@ -8,7 +8,7 @@ ghost use Rattle.ded_theory.specs.Verdicts.{IsVerdict};
 ghost use Rattle.ded_elimination.specs.LinearAtoms.{IsLinearAtom};
 ghost use Rattle.ded_linear.specs.Told.{verdict_of};
 
-use crate::bounding::bounds;
+use crate::bounding;
 use crate::interval::{are_single, interval};
 use crate::order::costliest;
 use ded_elimination::Mixing;
@@ -55,7 +55,7 @@ fn eliminated<M: Mixing>(alloc: Global, rows: &[Row]) -> Result<Verdict, NoMemor
     ensures decided { M.decides → IfOk result (λ v. v ≡ Unknown → ⊥) }
 {
     let last = costliest(alloc, rows)?;
-    match bounds::<M>(alloc, rows, last) {
+    match bounding::eliminated::<M>(alloc, rows, last) {
         Ok(span) => Ok(verdict_of(&span)),
         Err(error) => Err(error),
     }

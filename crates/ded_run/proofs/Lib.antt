@@ -1,9 +1,8 @@
 pub mod Accepting
-pub mod Answering
+pub mod Hearing
 pub mod MadeCuts
 pub mod Making
 pub mod Parsing
 mod ReadBack
-pub mod Reading
 pub mod Steps
 pub mod Telling

@@ -5,12 +5,13 @@ use Rattle.std.specs.List.{flat_map}
 use Rattle.std.proofs.lemmas.Bool.Decides.{eqb_tells}
 use Rattle.std.proofs.lemmas.List.{append-nil, map-append, take_more, take-append-drop}
 use Rattle.std.proofs.lemmas.List.Concat.{flat_map-append}
-use Rattle.ded_run.specs.declared.dialogue.Dialogue.{Dialogue}
+use Rattle.ded_dialogue.specs.declared.dialogue.Dialogue.{Dialogue}
+use Rattle.ded_dialogue.specs.Runs.{Answers}
+use Rattle.ded_dialogue.specs.Streams.{Grows, Breaks}
+use Rattle.ded_dialogue.proofs.Feeding.{grows_both, grows_breaks, breaks_on}
 use Rattle.ded_run.specs.declared.made.Part.{Part}
 use Rattle.ded_run.specs.Made.{below, line, lines, land_row, road_insert, corner_question, other_corner_question, made_setup, made_questions, made_script}
 use Rattle.ded_run.specs.Parts.{part_bytes, parts_bytes}
-use Rattle.ded_run.specs.Streams.{Grows, Breaks}
-use Rattle.ded_run.proofs.Answering.{grows_both, grows_breaks, breaks_on}
 
 pub lines_both : (xs ys : List (List ℕ)) → lines (xs ++ ys) ≡ lines xs ++ lines ys
 lines_both xs ys = flat_map-append line xs ys
@@ -43,47 +44,6 @@ behind text step adds i (suc n) lt = ⊎_elim
     (before.0 ++ step n, adds n ∙ ap (λ (l : List ℕ). l ++ step n) before.1 ∙ append_assoc (text (suc i)) before.0 (step n)))
     (eqb_tells n i)
 
-module _ (a b : Dialogue) (h0 h1 h2 : Option (List ℕ)) (text step : ℕ → List ℕ) (adds : Adds text step) (i : ℕ) (so_far : Grows a b h0 h1 (text i)) where
-  grows_step : (c : Dialogue) → Grows b c h1 h2 (step i) → Grows a c h0 h2 (text (i + 1))
-  grows_step c q =
-      let next : i + 1 ≡ suc i = omega arith in
-      subst (λ (k : ℕ). Grows a c h0 h2 (text k)) (sym next) (subst (λ (l : List ℕ). Grows a c h0 h2 l) (sym (adds i)) (grows_both a b c h0 h1 h2 (text i) (step i) so_far q))
-
-  breaks_step : (n : ℕ) → i < n → Breaks b h1 h2 (step i) → Breaks a h0 h2 (text n)
-  breaks_step n lt q =
-      let here : Breaks a h0 h2 (text (suc i)) = subst (λ (l : List ℕ). Breaks a h0 h2 l) (sym (adds i)) (grows_breaks a b h0 h1 h2 (text i) (step i) so_far q) in
-      let rest = behind text step adds i n lt in
-      subst (λ (l : List ℕ). Breaks a h0 h2 l) (sym rest.1) (breaks_on a h0 h2 (text (suc i)) rest.0 here)
-
--- one statement more, and one row more
-module _ (f : ℕ → List ℕ) (a b c : Dialogue) (h0 h1 h2 : Option (List ℕ)) (i : ℕ) where
-  pub grows_line : Grows a b h0 h1 (lines (map f (below i))) → Grows b c h1 h2 (line (f i)) → Grows a c h0 h2 (lines (map f (below (i + 1))))
-  grows_line p q = grows_step a b h0 h1 h2 (λ k. lines (map f (below k))) (λ k. line (f k)) (lines_add f) i p c q
-
-pub breaks_line : (f : ℕ → List ℕ) (a b : Dialogue) (h0 h1 h2 : Option (List ℕ)) (i n : ℕ) → i < n → Grows a b h0 h1 (lines (map f (below i))) → Breaks b h1 h2 (line (f i)) → Breaks a h0 h2 (lines (map f (below n)))
-breaks_line f a b h0 h1 h2 i n lt p q = breaks_step a b h0 h1 h2 (λ k. lines (map f (below k))) (λ k. line (f k)) (lines_add f) i p n lt q
-
-module _ (g : ℕ → List (List ℕ)) (a b c : Dialogue) (h0 h1 h2 : Option (List ℕ)) (i : ℕ) where
-  pub grows_row : Grows a b h0 h1 (lines (flat_map g (below i))) → Grows b c h1 h2 (lines (g i)) → Grows a c h0 h2 (lines (flat_map g (below (i + 1))))
-  grows_row p q = grows_step a b h0 h1 h2 (λ k. lines (flat_map g (below k))) (λ k. lines (g k)) (rows_add g) i p c q
-
-pub breaks_row : (g : ℕ → List (List ℕ)) (a b : Dialogue) (h0 h1 h2 : Option (List ℕ)) (i n : ℕ) → i < n → Grows a b h0 h1 (lines (flat_map g (below i))) → Breaks b h1 h2 (lines (g i)) → Breaks a h0 h2 (lines (flat_map g (below n)))
-breaks_row g a b h0 h1 h2 i n lt p q = breaks_step a b h0 h1 h2 (λ k. lines (flat_map g (below k))) (λ k. lines (g k)) (rows_add g) i p n lt q
-
--- the sink failed at one of the parts
-pub breaks_part : (a b : Dialogue) (h0 h1 h2 : Option (List ℕ)) (parts : List Part) (i : ℕ) (d : Part) → i < length parts → Grows a b h0 h1 (parts_bytes (take i parts)) → Breaks b h1 h2 (part_bytes (get_or parts i d)) → Breaks a h0 h2 (parts_bytes parts)
-breaks_part a b h0 h1 h2 parts i d lt p q =
-    let p_i = get_or parts i d in
-    let here : parts_bytes (take (i + 1) parts) ≡ parts_bytes (take i parts) ++ part_bytes p_i =
-    ap parts_bytes (take_more parts i d lt) ∙ flat_map-append part_bytes (take i parts) (p_i ∷ [])
-    ∙ ap (λ (l : List ℕ). parts_bytes (take i parts) ++ l) (append-nil (part_bytes p_i))
-    in
-    let all : parts_bytes (take (i + 1) parts) ++ parts_bytes (drop (i + 1) parts) ≡ parts_bytes parts =
-    sym (flat_map-append part_bytes (take (i + 1) parts) (drop (i + 1) parts)) ∙ ap parts_bytes (take-append-drop (i + 1) parts)
-    in
-    let broken : Breaks a h0 h2 (parts_bytes (take (i + 1) parts)) = subst (λ (l : List ℕ). Breaks a h0 h2 l) (sym here) (grows_breaks a b h0 h1 h2 (parts_bytes (take i parts)) (part_bytes p_i) p q) in
-    subst (λ (l : List ℕ). Breaks a h0 h2 l) all (breaks_on a h0 h2 (parts_bytes (take (i + 1) parts)) (parts_bytes (drop (i + 1) parts)) broken)
-
 -- ---- texts that stand one behind another
 
 -- all begins with these bytes
@@ -93,14 +53,60 @@ Begun all front = (rest : List ℕ) × (all ≡ front ++ rest)
 shorter : (all front next : List ℕ) → Begun all (front ++ next) → Begun all front
 shorter all front next b = (next ++ b.0, b.1 ∙ append_assoc front next b.0)
 
-pub grows_as : (a b : Dialogue) (h0 h1 : Option (List ℕ)) (bytes all : List ℕ) → all ≡ bytes → Grows a b h0 h1 bytes → Grows a b h0 h1 all
-grows_as a b h0 h1 bytes all is p = subst (λ (l : List ℕ). Grows a b h0 h1 l) (sym is) p
-
-pub breaks_begun : (a : Dialogue) (h0 h1 : Option (List ℕ)) (front all : List ℕ) → Begun all front → Breaks a h0 h1 front → Breaks a h0 h1 all
-breaks_begun a h0 h1 front all b p = subst (λ (l : List ℕ). Breaks a h0 h1 l) (sym b.1) (breaks_on a h0 h1 front b.0 p)
-
 begun_all : (all front : List ℕ) → all ≡ front → Begun all front
 begun_all all front is = ([], is ∙ sym (append-nil front))
+
+-- ---- a dialogue that is fed
+
+module _ {A M : Type 0} (R : Answers M) (state : A → M) where
+  module _ (a b : Dialogue A) (h0 h1 h2 : Option (List ℕ)) (text step : ℕ → List ℕ) (adds : Adds text step) (i : ℕ) (so_far : Grows R state a b h0 h1 (text i)) where
+    grows_step : (c : Dialogue A) → Grows R state b c h1 h2 (step i) → Grows R state a c h0 h2 (text (i + 1))
+    grows_step c q =
+        let next : i + 1 ≡ suc i = omega arith in
+        subst (λ (k : ℕ). Grows R state a c h0 h2 (text k)) (sym next) (subst (λ (l : List ℕ). Grows R state a c h0 h2 l) (sym (adds i)) (grows_both R state a b c h0 h1 h2 (text i) (step i) so_far q))
+
+    breaks_step : (n : ℕ) → i < n → Breaks R state b h1 h2 (step i) → Breaks R state a h0 h2 (text n)
+    breaks_step n lt q =
+        let here : Breaks R state a h0 h2 (text (suc i)) = subst (λ (l : List ℕ). Breaks R state a h0 h2 l) (sym (adds i)) (grows_breaks R state a b h0 h1 h2 (text i) (step i) so_far q) in
+        let rest = behind text step adds i n lt in
+        subst (λ (l : List ℕ). Breaks R state a h0 h2 l) (sym rest.1) (breaks_on R state a h0 h2 (text (suc i)) rest.0 here)
+
+  -- one statement more, and one row more
+  module _ (f : ℕ → List ℕ) (a b c : Dialogue A) (h0 h1 h2 : Option (List ℕ)) (i : ℕ) where
+    pub grows_line : Grows R state a b h0 h1 (lines (map f (below i))) → Grows R state b c h1 h2 (line (f i)) → Grows R state a c h0 h2 (lines (map f (below (i + 1))))
+    grows_line p q = grows_step a b h0 h1 h2 (λ k. lines (map f (below k))) (λ k. line (f k)) (lines_add f) i p c q
+
+  pub breaks_line : (f : ℕ → List ℕ) (a b : Dialogue A) (h0 h1 h2 : Option (List ℕ)) (i n : ℕ) → i < n → Grows R state a b h0 h1 (lines (map f (below i))) → Breaks R state b h1 h2 (line (f i)) → Breaks R state a h0 h2 (lines (map f (below n)))
+  breaks_line f a b h0 h1 h2 i n lt p q = breaks_step a b h0 h1 h2 (λ k. lines (map f (below k))) (λ k. line (f k)) (lines_add f) i p n lt q
+
+  module _ (g : ℕ → List (List ℕ)) (a b c : Dialogue A) (h0 h1 h2 : Option (List ℕ)) (i : ℕ) where
+    pub grows_row : Grows R state a b h0 h1 (lines (flat_map g (below i))) → Grows R state b c h1 h2 (lines (g i)) → Grows R state a c h0 h2 (lines (flat_map g (below (i + 1))))
+    grows_row p q = grows_step a b h0 h1 h2 (λ k. lines (flat_map g (below k))) (λ k. lines (g k)) (rows_add g) i p c q
+
+  pub breaks_row : (g : ℕ → List (List ℕ)) (a b : Dialogue A) (h0 h1 h2 : Option (List ℕ)) (i n : ℕ) → i < n → Grows R state a b h0 h1 (lines (flat_map g (below i))) → Breaks R state b h1 h2 (lines (g i)) → Breaks R state a h0 h2 (lines (flat_map g (below n)))
+  breaks_row g a b h0 h1 h2 i n lt p q = breaks_step a b h0 h1 h2 (λ k. lines (flat_map g (below k))) (λ k. lines (g k)) (rows_add g) i p n lt q
+
+  -- the sink failed at one of the parts
+  pub breaks_part : (a b : Dialogue A) (h0 h1 h2 : Option (List ℕ)) (parts : List Part) (i : ℕ) (d : Part) → i < length parts → Grows R state a b h0 h1 (parts_bytes (take i parts)) → Breaks R state b h1 h2 (part_bytes (get_or parts i d)) → Breaks R state a h0 h2 (parts_bytes parts)
+  breaks_part a b h0 h1 h2 parts i d lt p q =
+      let p_i = get_or parts i d in
+      let here : parts_bytes (take (i + 1) parts) ≡ parts_bytes (take i parts) ++ part_bytes p_i =
+      ap parts_bytes (take_more parts i d lt) ∙ flat_map-append part_bytes (take i parts) (p_i ∷ [])
+      ∙ ap (λ (l : List ℕ). parts_bytes (take i parts) ++ l) (append-nil (part_bytes p_i))
+      in
+      let all : parts_bytes (take (i + 1) parts) ++ parts_bytes (drop (i + 1) parts) ≡ parts_bytes parts =
+      sym (flat_map-append part_bytes (take (i + 1) parts) (drop (i + 1) parts)) ∙ ap parts_bytes (take-append-drop (i + 1) parts)
+      in
+      let broken : Breaks R state a h0 h2 (parts_bytes (take (i + 1) parts)) = subst (λ (l : List ℕ). Breaks R state a h0 h2 l) (sym here) (grows_breaks R state a b h0 h1 h2 (parts_bytes (take i parts)) (part_bytes p_i) p q) in
+      subst (λ (l : List ℕ). Breaks R state a h0 h2 l) all (breaks_on R state a h0 h2 (parts_bytes (take (i + 1) parts)) (parts_bytes (drop (i + 1) parts)) broken)
+
+  pub grows_as : (a b : Dialogue A) (h0 h1 : Option (List ℕ)) (bytes all : List ℕ) → all ≡ bytes → Grows R state a b h0 h1 bytes → Grows R state a b h0 h1 all
+  grows_as a b h0 h1 bytes all is p = subst (λ (l : List ℕ). Grows R state a b h0 h1 l) (sym is) p
+
+  pub breaks_begun : (a : Dialogue A) (h0 h1 : Option (List ℕ)) (front all : List ℕ) → Begun all front → Breaks R state a h0 h1 front → Breaks R state a h0 h1 all
+  breaks_begun a h0 h1 front all b p = subst (λ (l : List ℕ). Breaks R state a h0 h1 l) (sym b.1) (breaks_on R state a h0 h1 front b.0 p)
+
+-- ---- the made script
 
 four : (x y z w : List ℕ) → x ++ (y ++ (z ++ w)) ≡ ((x ++ y) ++ z) ++ w
 four x y z w = sym (append_assoc (x ++ y) z w ∙ append_assoc x y (z ++ w))

@@ -1,129 +1,59 @@
--- Statements that are refused by their length or their end, and that each statement has a reply.
-use Rattle.std.proofs.Common.{◌≡◌, ◌≤◌, ◌<◌, ℕ, List, [], ◌∷◌, length, take, refl, sym, ap, ◌∙◌, ⊎_elim, inl, inr, arith, subst}
-use Rattle.std.proofs.lemmas.List.{length-take}
-use Rattle.std.proofs.lemmas.Bool.Decides.{leb_tells}
+-- Whichever statement a piece stands for, a step on the piece is one on the statement.
+use Rattle.std.proofs.Common.{◌≡◌, ◌≤◌, ◌<◌, ℕ, List, length, refl, sym, inr, arith, subst}
+use Rattle.ded_dialogue.specs.Runs.{StandsFor}
 use Rattle.ded_lex.specs.Pieces.{Statement, Whole}
 use Rattle.ded_lex.specs.Pieces as pieces
 use Rattle.ded_model.specs.declared.command.Language.{Language}
 use Rattle.ded_model.specs.declared.command.Language.TheVariants.{Opening, One, Two}
-use Rattle.ded_model.specs.declared.command.Refusal.{Refusal}
-use Rattle.ded_model.specs.declared.command.Refusal.TheVariants.{LongStatement, Unfinished, Syntax, LongName, LongNumber, Deep, Many, Twice, Unknown, Taken, Kind, Arity, Unbound, WrongSort, Used, NoTuple, Full, Spent, Level, Wide, Memory}
+use Rattle.ded_model.specs.declared.command.Refusal.TheVariants.{LongStatement, Unfinished}
 use Rattle.ded_model.specs.Catalogue.{Catalogue}
-use Rattle.ded_model.specs.Refusals.{refusal_number}
-use Rattle.ded_session.specs.Causes.{Applies, statement_bytes}
+use Rattle.ded_session.specs.Causes.{statement_bytes}
+use Rattle.ded_session.specs.Pieces.{StepsPiece, GoesOnPiece}
 use Rattle.ded_session.specs.Replies.{ReplyForm, refused}
-use Rattle.ded_session.specs.Runs.{Steps, next_language, GoesOn}
+use Rattle.ded_session.specs.Runs.{next_language, GoesOn}
 use Rattle.ded_session.specs.Steps.{Step, IsHeaderIn}
+use Rattle.ded_session.specs.declared.session.Piece.{Piece}
+use Rattle.ded_session.specs.declared.session.Piece.TheVariants as piece
+use Rattle.ded_run.specs.Following.{long_step, rest_step}
+use Rattle.ded_run.specs.OneSession.{MayAnswer, MayReply, Standing, said_of}
 
--- one refusal alone has a number below 2
-first_refusal : (q : Refusal) → refusal_number q < 2 → q ≡ LongStatement
-first_refusal LongStatement less = refl
-first_refusal Unfinished less = absurd (omega arith)
-first_refusal Syntax less = absurd (omega arith)
-first_refusal LongName less = absurd (omega arith)
-first_refusal LongNumber less = absurd (omega arith)
-first_refusal Deep less = absurd (omega arith)
-first_refusal Many less = absurd (omega arith)
-first_refusal Twice less = absurd (omega arith)
-first_refusal Unknown less = absurd (omega arith)
-first_refusal Taken less = absurd (omega arith)
-first_refusal Kind less = absurd (omega arith)
-first_refusal Arity less = absurd (omega arith)
-first_refusal Unbound less = absurd (omega arith)
-first_refusal WrongSort less = absurd (omega arith)
-first_refusal Used less = absurd (omega arith)
-first_refusal NoTuple less = absurd (omega arith)
-first_refusal Full less = absurd (omega arith)
-first_refusal Spent less = absurd (omega arith)
-first_refusal Level less = absurd (omega arith)
-first_refusal Wide less = absurd (omega arith)
-first_refusal Memory less = absurd (omega arith)
-
-none_less : (q : Refusal) → refusal_number q < 1 → ⊥
-none_less q less =
-    let one : 1 < 1 = subst (λ (r : Refusal). refusal_number r < 1) (first_refusal q (omega arith)) less in
-    absurd (omega arith)
-
--- a statement of more than 65,536 bytes
-pub long_step : (language : Language) (c : Catalogue) (s : Statement) → 65536 < length (statement_bytes s) → Step language c s (refused LongStatement) c
-long_step language c s long = (record { applies = long; least = λ q less applies. absurd (none_less q less) }, refl)
-
--- a rest of at most so many
-pub rest_step : (language : Language) (c : Catalogue) (rest : List ℕ) → length rest ≤ 65536 → Step language c (pieces.Unfinished rest) (refused Unfinished) c
-rest_step language c rest short = (record { applies = tt; least = λ q less applies. absurd (not_long q (first_refusal q less) applies) }, refl)
+-- behind a statement that isn't whole, or is long
+long_goes_on : (language next : Language) (s : Statement) → 65536 < length (statement_bytes s) → next ≡ next_language language → GoesOn language s next
+long_goes_on Opening next s long e = inr (no_long s long, e)
   where
-    not_long : (q : Refusal) → q ≡ LongStatement → Applies q language (pieces.Unfinished rest) c → ⊥
-    not_long q first applies =
-        let long : 65536 < length rest = subst (λ (r : Refusal). Applies r language (pieces.Unfinished rest) c) first applies in
-        absurd (omega arith)
+    no_long : (t : Statement) → 65536 < length (statement_bytes t) → IsHeaderIn Opening t → ⊥
+    no_long (Whole piece) long h = let short = h.0 in omega (arith, long, short)
+    no_long (pieces.Unfinished rest) long h = h
+long_goes_on One next s long e = e
+long_goes_on Two next s long e = e
 
--- the language behind a statement isn't the opening one
-pub not_opening : (language next : Language) (s : Statement) → GoesOn language s next → next ≡ Opening → ⊥
-not_opening Opening next s (inl h) e = other (sym h.1 ∙ e)
-  where
-    other : Two ≡ Opening → ⊥
-    other k = cc
-not_opening Opening next s (inr h) e = other (sym h.1 ∙ e)
-  where
-    other : One ≡ Opening → ⊥
-    other k = cc
-not_opening One next s g e = other (sym g ∙ e)
-  where
-    other : One ≡ Opening → ⊥
-    other k = cc
-not_opening Two next s g e = other (sym g ∙ e)
-  where
-    other : Two ≡ Opening → ⊥
-    other k = cc
+rest_goes_on : (language next : Language) (rest : List ℕ) → next ≡ next_language language → GoesOn language (pieces.Unfinished rest) next
+rest_goes_on Opening next rest e = inr ((λ h. h), e)
+rest_goes_on One next rest e = e
+rest_goes_on Two next rest e = e
 
--- there no statement is the header, and the language stays
-no_header : (language : Language) (s : Statement) → (language ≡ Opening → ⊥) → IsHeaderIn language s → ⊥
-no_header Opening s later h = later refl
-no_header One s later h = h
-no_header Two s later h = h
-
-goes_stays : (language : Language) (s : Statement) → (language ≡ Opening → ⊥) → GoesOn language s language
-goes_stays Opening s later = absurd (later refl)
-goes_stays One s later = refl
-goes_stays Two s later = refl
-
--- behind a long piece, and behind a rest
-pub long_goes_on : (language next : Language) (piece : List ℕ) → 65536 < length piece → next ≡ next_language language → GoesOn language (Whole piece) next
-long_goes_on Opening next piece long e = inr ((λ h. let short = h.0 in omega (arith, long, short)), e)
-long_goes_on One next piece long e = e
-long_goes_on Two next piece long e = e
-
-pub rest_goes_on : (language : Language) (rest : List ℕ) → GoesOn language (pieces.Unfinished rest) (next_language language)
-rest_goes_on Opening rest = inr ((λ h. h), refl)
-rest_goes_on One rest = refl
-rest_goes_on Two rest = refl
-
-pub same_goes_on : (language next : Language) (kept piece : List ℕ) → kept ≡ piece → GoesOn language (Whole kept) next → GoesOn language (Whole piece) next
-same_goes_on language next kept piece same goes = subst (λ (l : List ℕ). GoesOn language (Whole l) next) same goes
-
--- a reply that a statement behind the first one may get, and that changes nothing
-some_step : (language : Language) (c : Catalogue) (s : Statement) → (language ≡ Opening → ⊥) → (reply : ReplyForm) × Step language c s reply c
-some_step language c (Whole piece) later = ⊎_elim (λ t. (refused Memory, ((t.1, no_header language (Whole piece) later), refl))) (λ f. (refused LongStatement, long_step language c (Whole piece) f.1)) (leb_tells (length piece) 65536)
-some_step language c (pieces.Unfinished rest) later = ⊎_elim (λ t. (refused Unfinished, rest_step language c rest t.1)) (λ f. (refused LongStatement, long_step language c (pieces.Unfinished rest) f.1)) (leb_tells (length rest) 65536)
-
-pub some_steps : (language : Language) (c : Catalogue) (ss : List Statement) → (language ≡ Opening → ⊥) → (replies : List ReplyForm) × Steps language c ss replies c
-some_steps language c [] later = ([], refl)
-some_steps language c (s ∷ ss) later =
-    let first = some_step language c s later in
-    let others = some_steps language c ss later in
-    (first.0 ∷ others.0, (c, language, first.1, goes_stays language s later, others.1))
-
--- a reply to a statement that is told only its length
-pub long_piece : (language : Language) (c d : Catalogue) (reply : ReplyForm) (s : Statement) → reply ≡ refused LongStatement → d ≡ c → 65536 < length (statement_bytes s) → Step language c s reply d
+long_piece : (language : Language) (c d : Catalogue) (reply : ReplyForm) (s : Statement) → reply ≡ refused LongStatement → d ≡ c → 65536 < length (statement_bytes s) → Step language c s reply d
 long_piece language c d reply s is same long =
     subst (λ (e : Catalogue). Step language c s reply e) (sym same) (subst (λ (r : ReplyForm). Step language c s r c) (sym is) (long_step language c s long))
 
-pub cut_piece : (language : Language) (c d : Catalogue) (reply : ReplyForm) (rest : List ℕ) → reply ≡ refused Unfinished → d ≡ c → length rest ≤ 65536 → Step language c (pieces.Unfinished rest) reply d
+cut_piece : (language : Language) (c d : Catalogue) (reply : ReplyForm) (rest : List ℕ) → reply ≡ refused Unfinished → d ≡ c → length rest ≤ 65536 → Step language c (pieces.Unfinished rest) reply d
 cut_piece language c d reply rest is same short =
     subst (λ (e : Catalogue). Step language c (pieces.Unfinished rest) reply e) (sym same) (subst (λ (r : ReplyForm). Step language c (pieces.Unfinished rest) r c) (sym is) (rest_step language c rest short))
 
-pub same_piece : (language : Language) (c d : Catalogue) (reply : ReplyForm) (kept piece : List ℕ) → kept ≡ piece → Step language c (Whole kept) reply d → Step language c (Whole piece) reply d
-same_piece language c d reply kept piece same step = subst (λ (l : List ℕ). Step language c (Whole l) reply d) same step
+answers_step : (p : Piece) (m n : Standing) (reply : ReplyForm) → StepsPiece p m.language m.catalogue reply n.catalogue → GoesOnPiece m.language p n.language
+    → (s : Statement) → StandsFor p s → MayReply m s reply n
+answers_step (piece.Whole bytes) m n reply step goes s is = subst (λ (t : Statement). MayReply m t reply n) (sym is) (record { step = step; goes_on = goes })
+answers_step piece.Long m n reply step goes s long = record {
+  step = long_piece m.language m.catalogue n.catalogue reply s step.0 step.1 long;
+  goes_on = long_goes_on m.language n.language s long goes;
+}
+answers_step piece.Cut m n reply step goes (Whole bytes) is = absurd is
+answers_step piece.Cut m n reply step goes (pieces.Unfinished rest) short = record {
+  step = cut_piece m.language m.catalogue n.catalogue reply rest step.0 step.1 short;
+  goes_on = rest_goes_on m.language n.language rest goes;
+}
 
-pub short_piece : (kept piece : List ℕ) (ended : ℕ) → piece ≡ take ended kept → ended ≤ 65536 → length piece ≤ 65536
-short_piece kept piece ended is most = omega (arith, ap length is, length-take ended kept)
+-- whichever statement the piece stands for
+pub answers_piece : (p : Piece) (m n : Standing) (reply : ReplyForm) → StepsPiece p m.language m.catalogue reply n.catalogue → GoesOnPiece m.language p n.language
+    → (s : Statement) → StandsFor p s → MayAnswer m s (said_of reply) n
+answers_piece p m n reply step goes s is = record { reply = reply; step = answers_step p m n reply step goes s is; is = refl }

@@ -1,8 +1,8 @@
 pub mod CommandLine
-pub mod Exits
+pub mod Following
 pub mod Made
+pub mod OneSession
 pub mod Outcome
 pub mod Parts
-pub mod Streams
 pub mod Texts
 pub mod Words

@@ -1,24 +1,24 @@
 //! Runs a script: reads it from a source, answers each statement as it ends, and writes the replies to a sink.
 //!
-//! [`serve`] keeps a buffer for the statement that is coming in and one of 4,096 bytes for a read, and nothing else of
-//! the input. Where it is done, the whole script was read, and the sink holds what it held, then the text of one reply
-//! for each statement, in order, each by the rules of `ded_session` (`specs/Outcome.antt`). Where a device fails, or
-//! the script is too long, the contract says what stands written. [`Status::exit_number`] is the program's exit status.
-//! [`make`] runs a script that is made (`specs/Made.antt`), and writes the replies to its questions alone. [`run`] has
-//! `clap` read the words of the command line first (`specs/Words.antt`). [`write_reply`] writes one reply
-//! (`specs/Texts.antt`).
+//! A session answers the statements (`OneSession`), in the loop of `ded_dialogue`. [`serve`] runs it over a source: where
+//! it is done, the whole script was read, and the sink holds what it held, then the text of one reply for each statement,
+//! in order, each by the rules of `ded_session` (`specs/Outcome.antt`). Where a device fails, or the script is too long,
+//! the contract says what stands written. [`Status::exit_number`] is the program's exit status. [`make`] runs a script
+//! that is made (`specs/Made.antt`), and writes the replies to its questions alone. [`run`] has `clap` read the words of
+//! the command line first (`specs/Words.antt`). [`write_reply`] writes one reply (`specs/Texts.antt`).
 //!
-//! It stands on `ded_lex` for statements, on `ded_session` for replies, on `ded_print` for their texts, and on `ded_io`
-//! for the source and the sink.
+//! It stands on `ded_dialogue` for the loop, on `ded_session` for replies, on `ded_print` for their texts, and on
+//! `ded_io` for the source and the sink.
 #![tactic(auto)]
 
-mod dialogue;
 pub mod laws;
 mod made;
+mod one_session;
 mod program;
 mod reply;
 mod words;
 
-pub use program::{Setup, Status, make, run, serve};
+pub use ded_dialogue::Status;
+pub use program::{Setup, make, run, serve};
 pub use reply::write_reply;
 pub use words::Words;

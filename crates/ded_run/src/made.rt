@@ -2,11 +2,11 @@
 ghost use Rattle.std.specs.Prelude.{◌≡◌, ◌<◌, ◌≤◌, ◌-◌, ◌++◌, ◌∷◌, [], IfOk, OnErr, map};
 ghost use Rattle.std.specs.List.{flat_map};
 ghost use Rattle.ded_io.specs.Causes.{HasCause};
+ghost use Rattle.ded_dialogue.specs.Streams.{Grows, Breaks};
 ghost use Rattle.ded_run.specs.Made.{below, land_insert, land_row, line, lines, made_questions, made_script, road_insert};
 ghost use Rattle.ded_run.specs.Parts.{part_bytes, parts_bytes};
-ghost use Rattle.ded_run.specs.Streams.{Grows, Breaks};
 
-use crate::dialogue::Dialogue;
+use ded_dialogue::{Answering, Dialogue};
 use ded_io::{Failed, Sink};
 use itoa::Buffer;
 
@@ -21,11 +21,15 @@ enum Part<'a> {
 ///
 /// # Errors
 /// `Failed` only where the sink's count of faults rose.
-pub fn feed_script<K: Sink>(dialogue: &mut Dialogue, size: u32, sink: &mut K) -> Result<(), Failed>
+pub fn feed_script<A: Answering, K: Sink>(
+    dialogue: &mut Dialogue<A>,
+    size: u32,
+    sink: &mut K,
+) -> Result<(), Failed>
     requires low { 1 ≤ size }
     requires high { size ≤ 100 }
-    ensures grows { IfOk result (λ _. Grows dialogue.old dialogue.new (K.contents sink.old) (K.contents sink.new) (made_script size)) }
-    ensures breaks { OnErr result (Breaks dialogue.old (K.contents sink.old) (K.contents sink.new) (made_script size)) }
+    ensures grows { IfOk result (λ _. Grows A.answers A.state dialogue.old dialogue.new (K.contents sink.old) (K.contents sink.new) (made_script size)) }
+    ensures breaks { OnErr result (Breaks A.answers A.state dialogue.old (K.contents sink.old) (K.contents sink.new) (made_script size)) }
     ensures cause { HasCause (K.faults sink.old) (K.faults sink.new) result }
 {
     dialogue.feed(
@@ -42,10 +46,14 @@ const VIEW: &[u8] =
     b"view Cross(n text, k text) := exists x exists y (Land(n, x, y) and Road(k, x, y));\n";
 
 /// Feeds the inserts of all rectangles, row by row.
-fn feed_lands<K: Sink>(dialogue: &mut Dialogue, size: u32, sink: &mut K) -> Result<(), Failed>
+fn feed_lands<A: Answering, K: Sink>(
+    dialogue: &mut Dialogue<A>,
+    size: u32,
+    sink: &mut K,
+) -> Result<(), Failed>
     requires { size ≤ 100 }
-    ensures grows { IfOk result (λ _. Grows dialogue.old dialogue.new (K.contents sink.old) (K.contents sink.new) (lines (flat_map (land_row size) (below size)))) }
-    ensures breaks { OnErr result (Breaks dialogue.old (K.contents sink.old) (K.contents sink.new) (lines (flat_map (land_row size) (below size)))) }
+    ensures grows { IfOk result (λ _. Grows A.answers A.state dialogue.old dialogue.new (K.contents sink.old) (K.contents sink.new) (lines (flat_map (land_row size) (below size)))) }
+    ensures breaks { OnErr result (Breaks A.answers A.state dialogue.old (K.contents sink.old) (K.contents sink.new) (lines (flat_map (land_row size) (below size)))) }
     ensures cause { HasCause (K.faults sink.old) (K.faults sink.new) result }
 {
     for row in 0..size {
@@ -55,16 +63,16 @@ fn feed_lands<K: Sink>(dialogue: &mut Dialogue, size: u32, sink: &mut K) -> Resu
 }
 
 /// Feeds the inserts of the rectangles of a row.
-fn feed_land_row<K: Sink>(
-    dialogue: &mut Dialogue,
+fn feed_land_row<A: Answering, K: Sink>(
+    dialogue: &mut Dialogue<A>,
     row: u32,
     size: u32,
     sink: &mut K,
 ) -> Result<(), Failed>
     requires row { row < 100 }
     requires size { size ≤ 100 }
-    ensures grows { IfOk result (λ _. Grows dialogue.old dialogue.new (K.contents sink.old) (K.contents sink.new) (lines (land_row size row))) }
-    ensures breaks { OnErr result (Breaks dialogue.old (K.contents sink.old) (K.contents sink.new) (lines (land_row size row))) }
+    ensures grows { IfOk result (λ _. Grows A.answers A.state dialogue.old dialogue.new (K.contents sink.old) (K.contents sink.new) (lines (land_row size row))) }
+    ensures breaks { OnErr result (Breaks A.answers A.state dialogue.old (K.contents sink.old) (K.contents sink.new) (lines (land_row size row))) }
     ensures cause { HasCause (K.faults sink.old) (K.faults sink.new) result }
 {
     for column in 0..size {
@@ -74,16 +82,16 @@ fn feed_land_row<K: Sink>(
 }
 
 /// Feeds the insert of the rectangle in this row and column.
-fn feed_land<K: Sink>(
-    dialogue: &mut Dialogue,
+fn feed_land<A: Answering, K: Sink>(
+    dialogue: &mut Dialogue<A>,
     row: u32,
     column: u32,
     sink: &mut K,
 ) -> Result<(), Failed>
     requires row { row < 100 }
     requires column { column < 100 }
-    ensures grows { IfOk result (λ _. Grows dialogue.old dialogue.new (K.contents sink.old) (K.contents sink.new) (line (land_insert row column))) }
-    ensures breaks { OnErr result (Breaks dialogue.old (K.contents sink.old) (K.contents sink.new) (line (land_insert row column))) }
+    ensures grows { IfOk result (λ _. Grows A.answers A.state dialogue.old dialogue.new (K.contents sink.old) (K.contents sink.new) (line (land_insert row column))) }
+    ensures breaks { OnErr result (Breaks A.answers A.state dialogue.old (K.contents sink.old) (K.contents sink.new) (line (land_insert row column))) }
     ensures cause { HasCause (K.faults sink.old) (K.faults sink.new) result }
 {
     let parts = [
@@ -105,10 +113,14 @@ fn feed_land<K: Sink>(
 }
 
 /// Feeds the inserts of all bands.
-fn feed_roads<K: Sink>(dialogue: &mut Dialogue, size: u32, sink: &mut K) -> Result<(), Failed>
+fn feed_roads<A: Answering, K: Sink>(
+    dialogue: &mut Dialogue<A>,
+    size: u32,
+    sink: &mut K,
+) -> Result<(), Failed>
     requires { size ≤ 100 }
-    ensures grows { IfOk result (λ _. Grows dialogue.old dialogue.new (K.contents sink.old) (K.contents sink.new) (lines (map road_insert (below size)))) }
-    ensures breaks { OnErr result (Breaks dialogue.old (K.contents sink.old) (K.contents sink.new) (lines (map road_insert (below size)))) }
+    ensures grows { IfOk result (λ _. Grows A.answers A.state dialogue.old dialogue.new (K.contents sink.old) (K.contents sink.new) (lines (map road_insert (below size)))) }
+    ensures breaks { OnErr result (Breaks A.answers A.state dialogue.old (K.contents sink.old) (K.contents sink.new) (lines (map road_insert (below size)))) }
     ensures cause { HasCause (K.faults sink.old) (K.faults sink.new) result }
 {
     for band in 0..size {
@@ -118,10 +130,14 @@ fn feed_roads<K: Sink>(dialogue: &mut Dialogue, size: u32, sink: &mut K) -> Resu
 }
 
 /// Feeds the insert of a band.
-fn feed_road<K: Sink>(dialogue: &mut Dialogue, band: u32, sink: &mut K) -> Result<(), Failed>
+fn feed_road<A: Answering, K: Sink>(
+    dialogue: &mut Dialogue<A>,
+    band: u32,
+    sink: &mut K,
+) -> Result<(), Failed>
     requires { band < 100 }
-    ensures grows { IfOk result (λ _. Grows dialogue.old dialogue.new (K.contents sink.old) (K.contents sink.new) (line (road_insert band))) }
-    ensures breaks { OnErr result (Breaks dialogue.old (K.contents sink.old) (K.contents sink.new) (line (road_insert band))) }
+    ensures grows { IfOk result (λ _. Grows A.answers A.state dialogue.old dialogue.new (K.contents sink.old) (K.contents sink.new) (line (road_insert band))) }
+    ensures breaks { OnErr result (Breaks A.answers A.state dialogue.old (K.contents sink.old) (K.contents sink.new) (line (road_insert band))) }
     ensures cause { HasCause (K.faults sink.old) (K.faults sink.new) result }
 {
     let parts = [
@@ -137,11 +153,15 @@ fn feed_road<K: Sink>(dialogue: &mut Dialogue, band: u32, sink: &mut K) -> Resul
 }
 
 /// Feeds the questions of the made script.
-fn feed_questions<K: Sink>(dialogue: &mut Dialogue, size: u32, sink: &mut K) -> Result<(), Failed>
+fn feed_questions<A: Answering, K: Sink>(
+    dialogue: &mut Dialogue<A>,
+    size: u32,
+    sink: &mut K,
+) -> Result<(), Failed>
     requires low { 1 ≤ size }
     requires high { size ≤ 100 }
-    ensures grows { IfOk result (λ _. Grows dialogue.old dialogue.new (K.contents sink.old) (K.contents sink.new) (lines (made_questions size))) }
-    ensures breaks { OnErr result (Breaks dialogue.old (K.contents sink.old) (K.contents sink.new) (lines (made_questions size))) }
+    ensures grows { IfOk result (λ _. Grows A.answers A.state dialogue.old dialogue.new (K.contents sink.old) (K.contents sink.new) (lines (made_questions size))) }
+    ensures breaks { OnErr result (Breaks A.answers A.state dialogue.old (K.contents sink.old) (K.contents sink.new) (lines (made_questions size))) }
     ensures cause { HasCause (K.faults sink.old) (K.faults sink.new) result }
 {
     let last = Part::Number(size - 1);
@@ -160,13 +180,13 @@ fn feed_questions<K: Sink>(dialogue: &mut Dialogue, size: u32, sink: &mut K) -> 
 }
 
 /// Feeds a statement of these parts, with a `;` and a line feed.
-fn feed_statement<K: Sink>(
-    dialogue: &mut Dialogue,
+fn feed_statement<A: Answering, K: Sink>(
+    dialogue: &mut Dialogue<A>,
     parts: &[Part<'_>],
     sink: &mut K,
 ) -> Result<(), Failed>
-    ensures grows { IfOk result (λ _. Grows dialogue.old dialogue.new (K.contents sink.old) (K.contents sink.new) (line (parts_bytes parts.now))) }
-    ensures breaks { OnErr result (Breaks dialogue.old (K.contents sink.old) (K.contents sink.new) (line (parts_bytes parts.now))) }
+    ensures grows { IfOk result (λ _. Grows A.answers A.state dialogue.old dialogue.new (K.contents sink.old) (K.contents sink.new) (line (parts_bytes parts.now))) }
+    ensures breaks { OnErr result (Breaks A.answers A.state dialogue.old (K.contents sink.old) (K.contents sink.new) (line (parts_bytes parts.now))) }
     ensures cause { HasCause (K.faults sink.old) (K.faults sink.new) result }
 {
     feed_parts(dialogue, parts, sink)?;
@@ -174,13 +194,13 @@ fn feed_statement<K: Sink>(
 }
 
 /// Feeds the parts of a statement in turn.
-fn feed_parts<K: Sink>(
-    dialogue: &mut Dialogue,
+fn feed_parts<A: Answering, K: Sink>(
+    dialogue: &mut Dialogue<A>,
     parts: &[Part<'_>],
     sink: &mut K,
 ) -> Result<(), Failed>
-    ensures grows { IfOk result (λ _. Grows dialogue.old dialogue.new (K.contents sink.old) (K.contents sink.new) (parts_bytes parts.now)) }
-    ensures breaks { OnErr result (Breaks dialogue.old (K.contents sink.old) (K.contents sink.new) (parts_bytes parts.now)) }
+    ensures grows { IfOk result (λ _. Grows A.answers A.state dialogue.old dialogue.new (K.contents sink.old) (K.contents sink.new) (parts_bytes parts.now)) }
+    ensures breaks { OnErr result (Breaks A.answers A.state dialogue.old (K.contents sink.old) (K.contents sink.new) (parts_bytes parts.now)) }
     ensures cause { HasCause (K.faults sink.old) (K.faults sink.new) result }
 {
     for part in parts {
@@ -190,9 +210,13 @@ fn feed_parts<K: Sink>(
 }
 
 /// Feeds a part of a statement.
-fn feed_part<K: Sink>(dialogue: &mut Dialogue, part: Part<'_>, sink: &mut K) -> Result<(), Failed>
-    ensures grows { IfOk result (λ _. Grows dialogue.old dialogue.new (K.contents sink.old) (K.contents sink.new) (part_bytes part.entry)) }
-    ensures breaks { OnErr result (Breaks dialogue.old (K.contents sink.old) (K.contents sink.new) (part_bytes part.entry)) }
+fn feed_part<A: Answering, K: Sink>(
+    dialogue: &mut Dialogue<A>,
+    part: Part<'_>,
+    sink: &mut K,
+) -> Result<(), Failed>
+    ensures grows { IfOk result (λ _. Grows A.answers A.state dialogue.old dialogue.new (K.contents sink.old) (K.contents sink.new) (part_bytes part.entry)) }
+    ensures breaks { OnErr result (Breaks A.answers A.state dialogue.old (K.contents sink.old) (K.contents sink.new) (part_bytes part.entry)) }
     ensures cause { HasCause (K.faults sink.old) (K.faults sink.new) result }
 {
     match part {

@@ -1,15 +1,15 @@
 //! A whole run: from the bytes of a source to the texts of a sink.
-ghost use Rattle.std.specs.Prelude.{◌≡◌, ◌≢◌, ◌≤◌, ◌^◌, ◌⊎◌, false, true, ℕ, List, MatchOption, None, Option};
+ghost use Rattle.std.specs.Prelude.{◌≡◌, ◌≢◌, ◌≤◌, ◌^◌, ◌⊎◌, false, true, MatchOption, None};
 ghost use Rattle.ded_io.specs.Causes.{Rose};
 ghost use Rattle.ded_run.specs.Made.{HalfMade, Made};
-ghost use Rattle.ded_run.specs.Outcome.{Answered, Broken, Concluded, Interrupted, Overlong, Unread};
-ghost use Rattle.ded_run.specs.Streams.{Streamed};
+ghost use Rattle.ded_run.specs.Outcome.{Answered, Broken, Overlong, Unread};
 ghost use Rattle.ded_run.specs.declared.words.Options.{Options};
 ghost use Rattle.ded_run.specs.Words.{AcceptedWords, WithOptions, texts_in};
 
-use crate::dialogue::Dialogue;
 use crate::made::feed_script;
+use crate::one_session::OneSession;
 use crate::words::{WordFault, Words, options_in};
+use ded_dialogue::{Dialogue, Status, conclude};
 use ded_io::{Failed, Sink, Source};
 use ded_model::limits;
 use std::alloc::Global;
@@ -25,47 +25,6 @@ pub struct Setup {
     /// names that are slow to find.
     pub keys: (u64, u64),
 }
-
-/// How a run ended.
-#[derive(Clone, Copy, Debug, PartialEq, Eq)]
-pub enum Status {
-    /// Each statement has its reply, and none is a refusal.
-    Done,
-    /// Each statement has its reply, and some is a refusal.
-    DoneWithRefusals,
-    /// The words are no accepted list. Nothing was read or written.
-    BadWords,
-    /// The source failed.
-    ReadFault,
-    /// The sink failed.
-    WriteFault,
-    /// There was no room for the buffers and the empty catalogue. Nothing was read or written.
-    NoMemory,
-    /// The source gave more bytes than a script may have.
-    TooLong,
-}
-
-impl Status {
-    ghost use Rattle.std.specs.Prelude.{◌≡◌};
-    ghost use Rattle.ded_run.specs.Exits.{exit_number};
-
-    /// The exit status of a program whose run ended so, 0 to 6.
-    pub fn exit_number(self) -> u8
-        ensures { result ≡ exit_number self }
-    {
-        match self {
-            Status::Done => 0,
-            Status::DoneWithRefusals => 1,
-            Status::BadWords => 2,
-            Status::ReadFault => 3,
-            Status::WriteFault => 4,
-            Status::NoMemory => 5,
-            Status::TooLong => 6,
-        }
-    }
-}
-
-const READ_AT_ONCE: usize = 4_096;
 
 /// Reads a script to its end, and writes a reply to each statement.
 ///
@@ -93,46 +52,8 @@ pub fn serve<S: Source, K: Sink>(
     ensures overlong { result ≡ Status.TooLong → Overlong setup.now.limit setup.now.input_limit (S.left source.old) (S.left source.new) (K.contents sink.old) (K.contents sink.new) }
     ensures ends { (Rose (S.faults source.old) (S.faults source.new) → ⊥) → (Rose (K.faults sink.old) (K.faults sink.new) → ⊥) → result ≢ Status.NoMemory → result ≢ Status.TooLong → (result ≡ Status.Done) ⊎ (result ≡ Status.DoneWithRefusals) }
 {
-    let Ok(mut dialogue) = Dialogue::new(alloc, setup.limit, setup.keys, 0) else {
-        return Status::NoMemory;
-    };
-    let mut buffer = [0u8; READ_AT_ONCE];
-    let mut room = setup.input_limit;
-    loop {
-        let Ok(count) = source.read(&mut buffer) else {
-            return Status::ReadFault;
-        };
-        if count == 0 {
-            return conclude(&mut dialogue, sink);
-        }
-        let within = room.min(count as u64) as usize;
-        if let Err(Failed) = dialogue.feed(&buffer[..within], sink) {
-            return Status::WriteFault;
-        }
-        if within < count {
-            return Status::TooLong;
-        }
-        room -= count as u64;
-    }
-}
-
-/// Answers the last statement of an input that ended, where the end cuts one, and says how the run ended.
-fn conclude<K: Sink>(dialogue: &mut Dialogue, sink: &mut K) -> Status
-    ensures kinds { (result ≡ Status.Done) ⊎ (result ≡ Status.DoneWithRefusals) ⊎ (result ≡ Status.WriteFault) }
-    ensures done { result ≡ Status.Done → (limit silent : ℕ) (taken : List ℕ) (contents : Option (List ℕ)) →
-        Streamed limit silent dialogue.old taken contents (K.contents sink.old) → Concluded limit silent taken contents (K.contents sink.new) false }
-    ensures done_with_refusals { result ≡ Status.DoneWithRefusals → (limit silent : ℕ) (taken : List ℕ) (contents : Option (List ℕ)) →
-        Streamed limit silent dialogue.old taken contents (K.contents sink.old) → Concluded limit silent taken contents (K.contents sink.new) true }
-    ensures faultless { (result ≡ Status.Done) ⊎ (result ≡ Status.DoneWithRefusals) → K.faults sink.new ≡ K.faults sink.old }
-    ensures broken { result ≡ Status.WriteFault → (limit silent : ℕ) (taken : List ℕ) (contents : Option (List ℕ)) →
-        Streamed limit silent dialogue.old taken contents (K.contents sink.old) → Interrupted limit silent taken contents (K.contents sink.new) }
-    ensures write_fault { result ≡ Status.WriteFault → Rose (K.faults sink.old) (K.faults sink.new) }
-{
-    match dialogue.finish(sink) {
-        Ok(()) if dialogue.refused() => Status::DoneWithRefusals,
-        Ok(()) => Status::Done,
-        Err(Failed) => Status::WriteFault,
-    }
+    let session = OneSession::new(alloc, setup.limit, setup.keys);
+    ded_dialogue::serve(alloc, session, setup.input_limit, source, sink)
 }
 
 /// Runs the made script of the size, whose statements come one by one, and writes the replies to its questions alone.
@@ -153,7 +74,8 @@ pub fn make<K: Sink>(alloc: Global, setup: &Setup, size: u32, sink: &mut K) -> S
     ensures ends { (Rose (K.faults sink.old) (K.faults sink.new) → ⊥) → result ≢ Status.NoMemory → (result ≡ Status.Done) ⊎ (result ≡ Status.DoneWithRefusals) }
 {
     let silent = size * size + size + 3;
-    let Ok(mut dialogue) = Dialogue::new(alloc, setup.limit, setup.keys, silent) else {
+    let session = OneSession::new(alloc, setup.limit, setup.keys);
+    let Ok(mut dialogue) = Dialogue::new(alloc, session, silent) else {
         return Status::NoMemory;
     };
     if let Err(Failed) = feed_script(&mut dialogue, size, sink) {

@@ -1,7 +1,7 @@
 -- What a session stands for.
 use Rattle.std.specs.Prelude.{◌≡◌, ℕ, []}
 use Rattle.ded_model.specs.declared.command.Language.{Language}
-use Rattle.ded_model.specs.declared.command.Language.TheVariants.{Opening}
+use Rattle.ded_model.specs.declared.command.Language.TheVariants.{Opening, One}
 use Rattle.ded_model.specs.Catalogue.{Catalogue}
 use Rattle.ded_database.specs.State.{State, catalogue_at}
 use Rattle.ded_session.specs.declared.session.Session.{Session}
@@ -23,5 +23,12 @@ language_in s = s.language
 pub record IsFreshSession (limit : ℕ) (s : Session) : Type 0 where
   pub catalogue : catalogue_in s ≡ empty_catalogue limit
   pub language : language_in s ≡ Opening
+  pub marks : (state_in s).marks ≡ []
+  pub held : (state_in s).held ≡ []
+
+-- nothing is kept over the catalogue, and statements are read in the plain language
+pub record IsResumed (c : Catalogue) (s : Session) : Type 0 where
+  pub catalogue : catalogue_in s ≡ c
+  pub language : language_in s ≡ One
   pub marks : (state_in s).marks ≡ []
   pub held : (state_in s).held ≡ []

@@ -33,7 +33,7 @@ pub struct Session {
 }
 
 impl Session {
-    ghost use Rattle.std.specs.Prelude.{◌≡◌, ◌≤◌, true, IsOk, IfOk, IfSome, length};
+    ghost use Rattle.std.specs.Prelude.{◌≡◌, ◌≤◌, true, IsOk, IfOk, IfErr, IfSome, length};
     ghost use Rattle.std.specs.Option.{option_map};
     ghost use Rattle.ded_lex.specs.Pieces.{Whole};
     ghost use Rattle.ded_catalog.specs.State.{catalogue_of};
@@ -44,7 +44,7 @@ impl Session {
     ghost use Rattle.ded_session.specs.Pieces.{IsShortPiece, StepsPiece, GoesOnPiece};
     ghost use Rattle.ded_session.specs.Replies.{refused};
     ghost use Rattle.ded_session.specs.Runs.{next_language, GoesOn};
-    ghost use Rattle.ded_session.specs.State.{catalogue_in, language_in, state_in, IsFreshSession};
+    ghost use Rattle.ded_session.specs.State.{catalogue_in, language_in, state_in, IsFreshSession, IsResumed};
     ghost use Rattle.ded_session.specs.Steps.{Step};
 
     /// A session with an empty catalogue whose relations have at most `limit` tuples, 1 to 1,000,000, and no kept view.
@@ -74,6 +74,30 @@ impl Session {
             language: Language::Opening,
             alloc,
         }
+    }
+
+    /// A session of language 1 with this catalogue and no kept view.
+    ///
+    /// # Errors
+    /// None: nothing is allocated before the first statement. The catalogue would be handed back.
+    #[tactic(auto, unfolding(crate::specs::State::catalogue_in, crate::specs::State::language_in, crate::specs::State::state_in))]
+    pub fn resume(alloc: Global, catalogue: Catalogue) -> Result<Session, Catalogue>
+        ensures resumed { IfOk result (IsResumed (catalogue_of catalogue)) }
+        ensures handed_back { IfErr result (λ c. catalogue_of c ≡ catalogue_of catalogue) }
+    {
+        Ok(Session {
+            database: Database::over(alloc, catalogue),
+            language: Language::One,
+            alloc,
+        })
+    }
+
+    /// The present catalogue alone. It doesn't allocate.
+    #[tactic(auto, unfolding(crate::specs::State::catalogue_in))]
+    pub fn into_catalogue(self) -> Catalogue
+        ensures { catalogue_of result ≡ catalogue_in self }
+    {
+        self.database.into_catalogue()
     }
 
     /// The present catalogue. It doesn't allocate.

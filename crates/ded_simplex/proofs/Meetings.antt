@@ -1,6 +1,6 @@
 -- What a row comes to at a point that is given as data, and that rows hold somewhere which hold at such a point.
 use Rattle.std.proofs.Common.{◌≡◌, Bool, true, false, ◌&&◌, ◌||◌, Option, Some, None, MatchOption, cond, ◌<◌, List, [], ◌∷◌, map, arith, refl, sym, ap, ◌∙◌}
-use Rattle.std.specs.Prelude.{ℤ, pos, ◌+ℤ◌, ◌*ℤ◌, ◌<ℤ◌, int_lt, unsigned_abs, not}
+use Rattle.std.specs.Prelude.{ℤ, pos, ◌+ℤ◌, ◌*ℤ◌, ◌≤ℤ◌, int_lt, unsigned_abs, not}
 use Rattle.std.specs.List.{list_all}
 use Rattle.std.proofs.lemmas.Int.{ints}
 use lib.IntN.{+ℤ_idl, +ℤ_idr}
@@ -12,7 +12,7 @@ use Rattle.ded_model.specs.Row.{sum_at, row_at, sign_meets, row_holds}
 use Rattle.ded_model.proofs.Points.{and_left, and_right}
 use Rattle.ded_model.proofs.Rows.{or_right}
 use Rattle.ded_simplex.specs.Weighing.{term_is_long}
-use Rattle.ded_simplex.specs.Meeting.{point_of, number_from, sum_with, coefs_are_long, row_is_long, meets_row, meets}
+use Rattle.ded_simplex.specs.Meeting.{point_of, number_from, sum_with, coefs_are_long, row_is_long, meets_row, meets, weakly, leans_row}
 
 -- ---- numbers of slots
 
@@ -29,7 +29,7 @@ last_number z (v ∷ vs) s = go (last_number v.1 vs s) (last_number z vs s) (sam
     go e f false = f
 
 -- the number of a slot is that at the point
-number_is : (vs : List (Slot × ℤ)) (d : ℤ) (s : Slot) → number_at (point_of vs d) (slot s) ≡ number_from (pos 0) vs s
+pub number_is : (vs : List (Slot × ℤ)) (d : ℤ) (s : Slot) → number_at (point_of vs d) (slot s) ≡ number_from (pos 0) vs s
 unfolding number_at
 number_is vs d s = last_number (pos 0) vs s
 
@@ -44,14 +44,14 @@ sum_with-is vs d z (c ∷ cs) =
     sum_with-is vs d (c.1 *ℤ number_from (pos 0) vs c.0 +ℤ z) cs ∙ move (c.1 *ℤ number_from (pos 0) vs c.0) (sum_at cs (point_of vs d)) z
     ∙ ap (λ n. (c.1 *ℤ n +ℤ sum_at cs (point_of vs d)) +ℤ z) (sym (number_is vs d c.0))
 
-positive_is : (d : ℤ) → pos 0 <ℤ d → d ≡ pos (unsigned_abs d)
-positive_is d h = omega (arith, ints)
+pub not_negative_is : (d : ℤ) → pos 0 ≤ℤ d → d ≡ pos (unsigned_abs d)
+not_negative_is d h = omega (arith, ints)
 
 -- what a row comes to at the point
-pub row_with-is : (vs : List (Slot × ℤ)) (d : ℤ) (r : LinearConstraint) → pos 0 <ℤ d → sum_with vs (r.constant *ℤ d +ℤ pos 0) r.coefs ≡ row_at r (point_of vs d)
+pub row_with-is : (vs : List (Slot × ℤ)) (d : ℤ) (r : LinearConstraint) → pos 0 ≤ℤ d → sum_with vs (r.constant *ℤ d +ℤ pos 0) r.coefs ≡ row_at r (point_of vs d)
 row_with-is vs d r h =
     sum_with-is vs d (r.constant *ℤ d +ℤ pos 0) r.coefs
-    ∙ ap (λ z. sum_at r.coefs (point_of vs d) +ℤ z) (+ℤ_idr (r.constant *ℤ d) ∙ ap (λ z. r.constant *ℤ z) (positive_is d h))
+    ∙ ap (λ z. sum_at r.coefs (point_of vs d) +ℤ z) (+ℤ_idr (r.constant *ℤ d) ∙ ap (λ z. r.constant *ℤ z) (not_negative_is d h))
 
 -- what the coefficients, put to k, are told to come to
 abbrev pub AreTold : List (Slot × ℤ) → ℤ → List (Slot × ℤ) → Option ℤ → Type 0
@@ -59,7 +59,7 @@ AreTold vs k cs o = MatchOption o (coefs_are_long vs k cs ≡ true) (λ z. (coef
 
 -- what the constant and the coefficients come to
 pub row_told : (vs : List (Slot × ℤ)) (d : ℤ) (r : LinearConstraint) (k : ℤ) (o : Option ℤ)
-    → pos 0 <ℤ d → (term_is_long r.constant d (pos 0) ≡ false) × (k ≡ r.constant *ℤ d +ℤ pos 0)
+    → pos 0 ≤ℤ d → (term_is_long r.constant d (pos 0) ≡ false) × (k ≡ r.constant *ℤ d +ℤ pos 0)
     → AreTold vs k r.coefs o
     → MatchOption o (row_is_long vs d r ≡ true) (λ z. (row_is_long vs d r ≡ false) × (z ≡ row_at r (point_of vs d)))
 row_told vs d r k None p f h = or_right (term_is_long r.constant d (pos 0)) _ (ap (λ x. coefs_are_long vs x r.coefs) (sym f.1) ∙ h)
@@ -75,6 +75,13 @@ row_told vs d r k (Some z) p f h = (
 pub met_with : (vs : List (Slot × ℤ)) (d : ℤ) (r : LinearConstraint) (z : ℤ) → (row_is_long vs d r ≡ false) × (z ≡ row_at r (point_of vs d)) → sign_meets r.op z ≡ meets_row vs d r
 unfolding row_holds
 met_with vs d r z e = ap (sign_meets r.op) e.1 ∙ ap (λ b. not b && sign_meets r.op (row_at r (point_of vs d))) (sym e.0)
+
+-- the same where no sum has to be below 0
+pub leant_with : (vs : List (Slot × ℤ)) (d : ℤ) (r : LinearConstraint) (z : ℤ) → (row_is_long vs d r ≡ false) × (z ≡ row_at r (point_of vs d)) → sign_meets (weakly r.op) z ≡ leans_row vs d r
+leant_with vs d r z e = ap (sign_meets (weakly r.op)) e.1 ∙ ap (λ b. not b && sign_meets (weakly r.op) (row_at r (point_of vs d))) (sym e.0)
+
+pub not_leant : (vs : List (Slot × ℤ)) (d : ℤ) (r : LinearConstraint) → row_is_long vs d r ≡ true → false ≡ leans_row vs d r
+not_leant vs d r e = ap (λ b. not b && sign_meets (weakly r.op) (row_at r (point_of vs d))) (sym e)
 
 -- and isn't where a number is too long
 pub not_met : (vs : List (Slot × ℤ)) (d : ℤ) (r : LinearConstraint) → row_is_long vs d r ≡ true → false ≡ meets_row vs d r
@@ -96,13 +103,13 @@ are_values (v ∷ vs) = (tt, are_values vs)
 is_positive : (d : ℤ) → int_lt (pos 0) d ≡ true → 0 < unsigned_abs d
 is_positive d e = grind (arith, ints)
 
-is_point : (vs : List (Slot × ℤ)) (d : ℤ) → int_lt (pos 0) d ≡ true → IsPoint (point_of vs d)
+pub is_point : (vs : List (Slot × ℤ)) (d : ℤ) → int_lt (pos 0) d ≡ true → IsPoint (point_of vs d)
 is_point vs d h = record { positive = is_positive d h; bytes = are_values vs }
 
 both : (a b : Bool) → a ≡ true → b ≡ true → (a && b) ≡ true
 both a b h k = rw (h, k) refl
 
-all_hold : (vs : List (Slot × ℤ)) (d : ℤ) (rs : List LinearConstraint) → list_all (λ r. meets_row vs d r) rs ≡ true → conj_holds row_holds rs (point_of vs d) ≡ true
+pub all_hold : (vs : List (Slot × ℤ)) (d : ℤ) (rs : List LinearConstraint) → list_all (λ r. meets_row vs d r) rs ≡ true → conj_holds row_holds rs (point_of vs d) ≡ true
 all_hold vs d [] h = refl
 all_hold vs d (r ∷ rs) h =
     let rest = list_all (λ r. meets_row vs d r) rs in

@@ -1,4 +1,5 @@
 pub mod Columns
+pub mod Ends
 pub mod Gathered
 pub mod Meeting
 pub mod Sure

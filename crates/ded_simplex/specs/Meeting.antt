@@ -1,10 +1,12 @@
 -- Rows at a point that is given by the numbers of some slots, over one denominator.
-use Rattle.std.specs.Prelude.{ℤ, pos, ◌+ℤ◌, ◌*ℤ◌, int_lt, unsigned_abs, Bool, false, not, ◌&&◌, ◌||◌, List, [], ◌∷◌, map, if◌then◌else◌}
+use Rattle.std.specs.Prelude.{ℤ, pos, ◌+ℤ◌, ◌*ℤ◌, int_lt, int_le, unsigned_abs, Bool, false, not, ◌&&◌, ◌||◌, List, [], ◌∷◌, map, if◌then◌else◌}
 use Rattle.std.specs.List.{list_all}
 use Rattle.ded_model.specs.declared.slot.Slot.{Slot}
+use Rattle.ded_model.specs.declared.row.RowOp.{RowOp}
+use Rattle.ded_model.specs.declared.row.RowOp.TheVariants.{Zero, AtMost, Below}
 use Rattle.ded_model.specs.Constraint.{LinearConstraint}
 use Rattle.ded_model.specs.Point.{slot, number, Point, same_slot}
-use Rattle.ded_model.specs.Row.{row_holds}
+use Rattle.ded_model.specs.Row.{row_at, sign_meets, row_holds}
 use Rattle.ded_simplex.specs.Weighing.{term_is_long}
 
 -- the point with these numbers at the slots, over a denominator; any other slot has 0
@@ -37,3 +39,19 @@ meets_row vs d r = not (row_is_long vs d r) && row_holds r (point_of vs d)
 -- the denominator is positive, and all rows hold there without a number that is too long
 abbrev pub meets : List (Slot × ℤ) → ℤ → List LinearConstraint → Bool
 meets vs d rs = int_lt (pos 0) d && list_all (λ r. meets_row vs d r) rs
+
+-- ---- where no sum has to be below 0
+
+-- `<=` for `<`
+abbrev pub weakly : RowOp → RowOp
+weakly Zero = Zero
+weakly AtMost = AtMost
+weakly Below = AtMost
+
+-- the row holds so at the point, and no number on the way is too long
+abbrev pub leans_row : List (Slot × ℤ) → ℤ → LinearConstraint → Bool
+leans_row vs d r = not (row_is_long vs d r) && sign_meets (weakly r.op) (row_at r (point_of vs d))
+
+-- the denominator isn't negative, where 0 means a direction, and all rows hold so without a number that is too long
+abbrev pub leans : List (Slot × ℤ) → ℤ → List LinearConstraint → Bool
+leans vs d rs = int_le (pos 0) d && list_all (λ r. leans_row vs d r) rs

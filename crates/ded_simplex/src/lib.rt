@@ -4,13 +4,20 @@
 //! each row holds at the point, they hold somewhere ([`meets`]). Both are checked by multiplications and sums alone, however they
 //! were found, and [`told`] says only what passes its check.
 //!
+//! So are the least and the greatest value of a slot, where there are such, by [`extent`]: what attains it, comes near it or goes on
+//! without end is a point or a direction, and numbers refute the rows together with one that says that the slot is beyond.
+//!
 //! They are looked for by the dual simplex, over whole numbers ([`find`]). Of the search nothing is promised but that it is safe and
 //! ends.
 #![tactic(auto)]
 
+mod ends;
 mod exact;
+mod extremes;
+mod fraction;
 pub mod laws;
 mod meeting;
+mod reaching;
 mod reading;
 mod search;
 mod slots;
@@ -21,6 +28,7 @@ mod weighing;
 mod witness;
 
 pub use meeting::meets;
+pub use reaching::extent;
 pub use search::{Found, find};
 pub use slots::slots_of;
 pub use telling::told;

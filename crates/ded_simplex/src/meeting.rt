@@ -1,14 +1,14 @@
 //! Whether rows hold at a point that is given as data.
-ghost use Rattle.std.specs.Prelude.{◌≡◌, pos, ◌+ℤ◌, ◌*ℤ◌, ◌<ℤ◌, true, false, MatchOption};
+ghost use Rattle.std.specs.Prelude.{◌≡◌, pos, ◌+ℤ◌, ◌*ℤ◌, ◌<ℤ◌, ◌≤ℤ◌, true, false, MatchOption};
 ghost use Rattle.std.specs.List.{list_all};
 ghost use Rattle.ded_model.specs.Row.{row_at};
 ghost use Rattle.ded_simplex.specs.Weighing.{term_is_long};
 ghost use Rattle.ded_simplex.specs.Columns.{lent};
-ghost use Rattle.ded_simplex.specs.Meeting.{point_of, number_from, sum_with, coefs_are_long, row_is_long, meets_row, meets};
+ghost use Rattle.ded_simplex.specs.Meeting.{point_of, number_from, sum_with, coefs_are_long, row_is_long, meets_row, meets, weakly, leans_row, leans};
 
 use crate::weighing::with_term;
 use crate::witness::Witness;
-use ded_model::row::Row;
+use ded_model::row::{Row, RowOp};
 use ded_model::slot::Slot;
 
 /// Whether the denominator is positive and each row holds at the point. A product, or a sum on the way, of more than 127 binary
@@ -43,9 +43,51 @@ fn meets_row(row: &Row, witness: &Witness) -> bool
     }
 }
 
+/// Whether the denominator isn't negative and each row holds at the point, or along the direction that is meant with 0, where one by
+/// `<` is taken for one by `<=`. A product, or a sum on the way, of more than 127 binary digits counts as no.
+pub(crate) fn leans(rows: &[&Row], witness: &Witness) -> bool
+    ensures { result ≡ leans witness.now.values.items witness.now.denominator (lent rows.now) }
+{
+    witness.denominator >= 0 && leans_all(rows, witness)
+}
+
+/// Whether each row holds so, without a number that is too long.
+fn leans_all(rows: &[&Row], witness: &Witness) -> bool
+    requires { pos 0 ≤ℤ witness.now.denominator }
+    ensures { result ≡ list_all (λ r. leans_row witness.now.values.items witness.now.denominator r) (lent rows.now) }
+{
+    for row in rows {
+        if !leans_row(row, witness) {
+            return false;
+        }
+    }
+    true
+}
+
+/// Whether the row holds so, without a number that is too long.
+fn leans_row(row: &Row, witness: &Witness) -> bool
+    requires { pos 0 ≤ℤ witness.now.denominator }
+    ensures { result ≡ leans_row witness.now.values.items witness.now.denominator row.now }
+{
+    match row_at(row, witness) {
+        Some(sum) => weakly(row.op).meets_zero(sum),
+        None => false,
+    }
+}
+
+/// `<=` for `<`.
+fn weakly(op: RowOp) -> RowOp
+    ensures { result ≡ weakly op }
+{
+    match op {
+        RowOp::Zero => RowOp::Zero,
+        RowOp::AtMost | RowOp::Below => RowOp::AtMost,
+    }
+}
+
 /// What the row comes to at the point, over its denominator; none where a number on the way is too long.
 fn row_at(row: &Row, witness: &Witness) -> Option<i128>
-    requires { pos 0 <ℤ witness.now.denominator }
+    requires { pos 0 ≤ℤ witness.now.denominator }
     ensures { MatchOption result (row_is_long witness.now.values.items witness.now.denominator row.now ≡ true)
         (λ z. (row_is_long witness.now.values.items witness.now.denominator row.now ≡ false) × (z ≡ row_at row.now (point_of witness.now.values.items witness.now.denominator))) }
 {
@@ -82,7 +124,7 @@ fn with_coef(coef: &(Slot, i128), values: &[(Slot, i128)], sum: i128) -> Option<
 }
 
 /// The number of the slot, the last one where it has several; 0 where it has none.
-fn number_of(values: &[(Slot, i128)], slot: Slot) -> i128
+pub(crate) fn number_of(values: &[(Slot, i128)], slot: Slot) -> i128
     ensures { result ≡ number_from (pos 0) values.now slot }
 {
     let mut number = 0;

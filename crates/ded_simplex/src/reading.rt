@@ -28,6 +28,74 @@ pub(crate) fn point(alloc: Global, table: &Table) -> Result<Witness, NoMemory> {
     Ok(witness)
 }
 
+/// The point at which the variables of the columns are 0, with 0 for the arbitrarily small number.
+///
+/// # Errors
+/// Out of memory.
+pub(crate) fn corner(alloc: Global, table: &Table) -> Result<Witness, NoMemory> {
+    let mut values = Vec::new(alloc);
+    for line in &table.lines {
+        if let Variable::Slot(slot) = line.variable {
+            values.push((slot, line.value.whole))?;
+        }
+    }
+    let mut witness = Witness {
+        values,
+        denominator: table.denominator,
+    };
+    shorten_point(&mut witness);
+    Ok(witness)
+}
+
+/// The direction, over 0, in which the slots change where the variable of the column leaves 0 for this side of it.
+///
+/// # Errors
+/// Out of memory.
+pub(crate) fn ray(
+    alloc: Global,
+    table: &Table,
+    column: usize,
+    side: Ordering,
+) -> Result<Witness, NoMemory> {
+    let mut values = Vec::new(alloc);
+    if let Some(Variable::Slot(slot)) = table.columns.get(column) {
+        values.push((*slot, on_side(table.denominator, side)))?;
+    }
+    for line in &table.lines {
+        if let (Variable::Slot(slot), Some(a)) = (line.variable, line.coefs.get(column)) {
+            values.push((slot, on_side(*a, side)))?;
+        }
+    }
+    let mut witness = Witness {
+        values,
+        denominator: 0,
+    };
+    shorten_point(&mut witness);
+    Ok(witness)
+}
+
+/// The numbers that a line shows whose variable, a slot, can't get beyond its value against this side of it: that of the row which
+/// says that it does, in lowest terms, and behind it those of the rows.
+///
+/// # Errors
+/// Out of memory.
+pub(crate) fn end_multipliers(
+    alloc: Global,
+    table: &Table,
+    at: usize,
+    side: Ordering,
+    count: usize,
+) -> Result<Vec<i128>, NoMemory> {
+    let mut numbers = multipliers_of(alloc, table, at, side, count)?;
+    let first = match table.lines.get(at) {
+        Some(line) => common_divisor(line.value.whole, table.denominator),
+        None => 0,
+    };
+    numbers.insert(0, first)?;
+    shorten(&mut numbers);
+    Ok(numbers)
+}
+
 /// Into how many parts 1 has to be divided, so that with such a part as the arbitrarily small number no sum of a row gets above 0.
 fn scale(lines: &[Line]) -> i128 {
     let mut scale = 1;
@@ -65,6 +133,22 @@ pub(crate) fn multipliers(
     side: Ordering,
     count: usize,
 ) -> Result<Vec<i128>, NoMemory> {
+    let mut numbers = multipliers_of(alloc, table, at, side, count)?;
+    shorten(&mut numbers);
+    Ok(numbers)
+}
+
+/// The same, which may have a common divisor.
+///
+/// # Errors
+/// Out of memory.
+fn multipliers_of(
+    alloc: Global,
+    table: &Table,
+    at: usize,
+    side: Ordering,
+    count: usize,
+) -> Result<Vec<i128>, NoMemory> {
     let mut numbers = vec![in alloc; 0; count]?;
     if let Some(line) = table.lines.get(at) {
         put(
@@ -74,7 +158,6 @@ pub(crate) fn multipliers(
         );
         put_columns(&mut numbers, &table.columns, line, side);
     }
-    shorten(&mut numbers);
     Ok(numbers)
 }
 

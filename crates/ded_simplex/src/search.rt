@@ -27,7 +27,7 @@ pub enum Found {
 
 /// How the search ends.
 #[derive(Clone, Copy)]
-enum End {
+pub(crate) enum End {
     /// All variables may have their values.
     Feasible,
     /// The variable of the line may not have its value, which lies on this side of 0, and can't get another one.
@@ -62,7 +62,7 @@ pub fn find(alloc: Global, rows: &[&Row]) -> Result<Found, NoMemory> {
 }
 
 /// Pivots until the search ends.
-fn solve(table: &mut Table) -> End {
+pub(crate) fn solve(table: &mut Table) -> End {
     let size = table.lines.len().saturating_add(table.columns.len());
     let greedy = size.saturating_mul(3);
     for count in 0..size.saturating_mul(20).saturating_add(200) {
@@ -120,7 +120,7 @@ fn first_violated(lines: &[Line]) -> Option<(usize, &Line)> {
 }
 
 /// The place of the first variable among those of the columns that may change so that the value of the line comes nearer to 0.
-fn helping(columns: &[Variable], line: &Line, side: Ordering) -> Option<usize> {
+pub(crate) fn helping(columns: &[Variable], line: &Line, side: Ordering) -> Option<usize> {
     let helpful = columns
         .iter()
         .zip(&line.coefs)

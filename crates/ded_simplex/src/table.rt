@@ -15,6 +15,7 @@ use ded_model::memory::NoMemory;
 use ded_model::row::{Row, RowOp};
 use ded_model::slot::Slot;
 use std::alloc::Global;
+use std::cmp::Ordering;
 use std::mem;
 
 /// A variable as a sum of those of the columns, and its value, over the denominator of the table.
@@ -45,6 +46,29 @@ impl Line {
     /// Whether the variable may not have its value.
     pub fn is_violated(&self) -> bool {
         !self.variable.may_be(self.value.sign())
+    }
+
+    /// Whether the variable may not go on for ever as that of the column goes to this side of 0.
+    pub fn stops(&self, column: usize, towards: Ordering) -> bool {
+        match self.coefs.get(column) {
+            Some(a) => self.variable.is_stopped(a.cmp(&0), towards),
+            None => false,
+        }
+    }
+
+    /// Whether it is stopped before that of another line, or at once with it and comes first.
+    pub fn stops_before(&self, other: &Line, column: usize) -> bool {
+        let (Some(a), Some(b)) = (self.coefs.get(column), other.coefs.get(column)) else {
+            return false;
+        };
+        let (a, b) = (a.saturating_abs(), b.saturating_abs());
+        let order = product_order(self.value.whole, b, other.value.whole, a).then(product_order(
+            self.value.small,
+            b,
+            other.value.small,
+            a,
+        ));
+        order.is_gt() || (order.is_eq() && self.variable.is_before(other.variable))
     }
 
     /// Solves the line for the variable of a column, whose coefficient becomes the denominator, and gives that; none where it would
@@ -82,6 +106,11 @@ impl Line {
             *a = exchange.mix(*a, factor, *b);
         }
     }
+}
+
+/// How the product of the first two numbers compares with that of the others, as far as they are no longer than a number may be.
+fn product_order(a: i128, b: i128, c: i128, d: i128) -> Ordering {
+    a.saturating_mul(b).cmp(&c.saturating_mul(d))
 }
 
 /// What a pivot does to the numbers of the other lines.

@@ -59,7 +59,7 @@ fn checked_multipliers(
 }
 
 /// The rows, behind references.
-fn lent<'a>(alloc: Global, rows: &'a [Row]) -> Result<Vec<&'a Row>, NoMemory>
+pub(crate) fn lent<'a>(alloc: Global, rows: &'a [Row]) -> Result<Vec<&'a Row>, NoMemory>
     ensures { IfOk result (λ v. lent v.items ≡ rows.now) }
 {
     let mut lent = Vec::with_capacity(alloc, rows.len())?;

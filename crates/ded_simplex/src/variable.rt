@@ -30,6 +30,23 @@ impl Variable {
         }
     }
 
+    /// Whether the variable is the slot.
+    pub fn is_slot(self, slot: Slot) -> bool {
+        match self {
+            Variable::Slot(own) => own.is_same(slot),
+            Variable::Row(_, _) => false,
+        }
+    }
+
+    /// Whether the variable, with a coefficient of this sign, gets to where it may go no further as another one goes to a side of 0.
+    pub fn is_stopped(self, sign: Ordering, towards: Ordering) -> bool {
+        match self {
+            Variable::Slot(_) => false,
+            Variable::Row(_, RowOp::Zero) => sign.is_ne(),
+            Variable::Row(_, RowOp::AtMost | RowOp::Below) => sign == towards,
+        }
+    }
+
     /// The order of variables: slots before rows, each by their numbers.
     pub fn is_before(self, other: Variable) -> bool {
         match (self, other) {

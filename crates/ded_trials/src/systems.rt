@@ -1,12 +1,14 @@
-//! Verdicts on systems of many rows over three to five slots. The expected ones are another solver's.
+//! Verdicts on systems of many rows over three to five slots, and whether the first slot has values there. The expected ones are another solver's.
 ghost use Rattle.std.specs.Prelude.{IfOk};
 ghost use Rattle.ded_readback.specs.Plain.{IsPlainHeading};
 
-use crate::texts::{column, list_of, read_over};
+use crate::texts::{X, column, conj, list_of, read_over};
+use ded_eval::Atoms;
 use ded_model::memory::NoMemory;
 use ded_model::name::Heading;
 use ded_model::slot::Sort;
-use ded_theory::Verdict;
+use ded_model::tuple::Tuple;
+use ded_theory::{Span, Theory, Verdict};
 use std::alloc::Global;
 use std::test::Fail;
 
@@ -106,6 +108,39 @@ fn verdict(alloc: Global, line: &str) -> Result<Verdict, Fail> {
 fn systems_are_told(rt: HostRuntime) -> Result<(), Fail> {
     for (line, wanted) in &SYSTEMS {
         assert_eq!(rt; verdict(rt.alloc(), line)?, *wanted, "{line}");
+    }
+    Ok(())
+}
+
+/// Whether the first column has some value where the tuple holds.
+fn has_values(alloc: Global, tuple: &Tuple) -> Result<bool, NoMemory> {
+    let atoms = conj(alloc, tuple)?;
+    match <Atoms as Theory>::bounds(alloc, &atoms, X) {
+        Ok(Span::Nothing) => Ok(false),
+        Ok(Span::Exact(_, _) | Span::Around(_, _)) => Ok(true),
+        Err(error) => Err(error),
+    }
+}
+
+/// The same of each tuple of the line.
+fn have_values(alloc: Global, line: &str) -> Result<bool, Fail> {
+    for tuple in &read_over(alloc, &heading(alloc)?, line)?.tuples.list {
+        if !has_values(alloc, tuple)? {
+            return Ok(false);
+        }
+    }
+    Ok(true)
+}
+
+/// A column has bounds exactly in the systems that hold somewhere.
+#[test]
+fn systems_have_bounds(rt: HostRuntime) -> Result<(), Fail> {
+    for (line, wanted) in &SYSTEMS {
+        assert_eq!(rt;
+            have_values(rt.alloc(), line)?,
+            *wanted == Verdict::Inhabited,
+            "{line}"
+        );
     }
     Ok(())
 }

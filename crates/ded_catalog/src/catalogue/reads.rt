@@ -3,6 +3,7 @@ ghost use Rattle.std.specs.Prelude.{◌≡◌, true, false, IfOk, IfSome, is_non
 ghost use Rattle.std.specs.Option.{option_map};
 
 use super::Catalogue;
+use crate::mentions::mentioned;
 use crate::table::{heading_of, relation_of, view_of};
 use ded_hull::Window;
 use ded_model::command::Refusal;
@@ -106,6 +107,16 @@ impl Catalogue {
             Some(view) => Some(view.mentions.as_slice()),
             None => None,
         }
+    }
+
+    /// The names that a formula speaks of, each once; a closure or an interior counts by the name that it is made of.
+    ///
+    /// # Errors
+    /// Out of memory.
+    pub fn spoken_names(&self, formula: &Formula) -> Result<Vec<Name>, NoMemory>
+        ensures { IfOk result (λ ns. AreMentions ns.items (form formula.now)) }
+    {
+        mentioned(*self.names.allocator(), *self.names.hasher(), formula)
     }
 
     /// The name of the entry at a place in order of definition, from 0. None exactly where no entry stands there.

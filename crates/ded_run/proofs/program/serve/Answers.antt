@@ -1,43 +1,17 @@
-use Rattle.std.proofs.Common.{refl, ◌∙◌, arith, rules}
-use Rattle.ded_run.proofs.Reading.{begins, reads_on, stays_unread, all_answered, breaks_at_end, breaks_in, is_overlong}
+use Rattle.ded_run.proofs.Hearing.{answered, unread, overlong, broken}
 use Rattle.ded_run.proofs.program.serve.Goals as goal
 
-pub loop-count-init : goal.loop-count-init
-loop-count-init g c = record { reading = begins _ _ _ _ _ c.in-Ok.ensures; read = refl; written = refl }
+pub returns-clause-done : goal.returns-clause-done
+returns-clause-done g c = λ is. answered _ _ c.new-session.ensures _ _ _ _ _ _ (c.serve.ensures.done is)
 
-pub returns-in_default-read-clause-unread : goal.returns-in_default-read-clause-unread
-returns-in_default-read-clause-unread g c = λ is.
-    stays_unread _ _ _ _ _ _ _ _ _ c.loop-count.invariant.reading c.in_default-read.ensures.bytes
+pub returns-clause-done_with_refusals : goal.returns-clause-done_with_refusals
+returns-clause-done_with_refusals g c = λ is. answered _ _ c.new-session.ensures _ _ _ _ _ _ (c.serve.ensures.done_with_refusals is)
 
-pub returns-then-count-eq0-clause-done : goal.returns-then-count-eq0-clause-done
-returns-then-count-eq0-clause-done g c = λ is.
-    all_answered _ _ _ _ _ _ _ _ _ _ _ _ _ c.loop-count.invariant.reading c.if-count-eq0.true c.in-Ok-read.ensures.bytes.0 (c.in-Ok-read.ensures.bytes.1 c.if-count-eq0.true (search rules))
-    (λ taken s. c.conclude.ensures.done is _ 0 taken _ s)
+pub returns-clause-unread : goal.returns-clause-unread
+returns-clause-unread g c = λ is. unread _ _ c.new-session.ensures _ _ _ _ _ (c.serve.ensures.unread is)
 
-pub returns-then-count-eq0-clause-done_with_refusals : goal.returns-then-count-eq0-clause-done_with_refusals
-returns-then-count-eq0-clause-done_with_refusals g c = λ is.
-    all_answered _ _ _ _ _ _ _ _ _ _ _ _ _ c.loop-count.invariant.reading c.if-count-eq0.true c.in-Ok-read.ensures.bytes.0 (c.in-Ok-read.ensures.bytes.1 c.if-count-eq0.true (search rules))
-    (λ taken s. c.conclude.ensures.done_with_refusals is _ 0 taken _ s)
+pub returns-clause-broken : goal.returns-clause-broken
+returns-clause-broken g c = λ is. broken _ _ c.new-session.ensures _ _ _ _ (c.serve.ensures.broken is)
 
-pub returns-then-count-eq0-clause-broken : goal.returns-then-count-eq0-clause-broken
-returns-then-count-eq0-clause-broken g c = λ is.
-    breaks_at_end _ _ _ _ _ _ _ _ _ _ _ _ c.loop-count.invariant.reading c.if-count-eq0.true c.in-Ok-read.ensures.bytes.0
-    (λ taken s. c.conclude.ensures.broken is _ 0 taken _ s)
-
-pub returns-in-Err-clause-broken : goal.returns-in-Err-clause-broken
-returns-in-Err-clause-broken g c = λ is.
-    breaks_in _ _ _ _ _ _ _ _ _ _ _ _ _ c.loop-count.invariant.reading (omega (arith, c.min-within.ensures)) c.in-Ok-read.ensures.bytes.0
-    c.in-Err.ensures.breaks
-
-pub returns-then-within-count-clause-overlong : goal.returns-then-within-count-clause-overlong
-returns-then-within-count-clause-overlong g c = λ is.
-    is_overlong _ _ _ _ _ _ _ _ _ _ _ _ _ _ c.loop-count.invariant.reading c.in-Ok-read.ensures.bound.0 (omega (arith, c.min-within.ensures, c.if-within-count.true)) (omega (arith, c.min-within.ensures, c.if-within-count.true)) c.in-Ok-read.ensures.bytes.0
-    c.in_default-feed.ensures.grows
-
-pub loop-count-preserved : goal.loop-count-preserved
-loop-count-preserved g c = record {
-  reading = reads_on _ _ _ _ _ _ _ _ _ _ _ _ _ _ c.loop-count.invariant.reading c.in-Ok-read.ensures.bound.0 (omega (arith, c.min-within.ensures, c.if-within-count.false)) (omega (arith, c.min-within.ensures, c.if-within-count.false)) c.in-Ok-read.ensures.bytes.0
-      c.in_default-feed.ensures.grows _ (omega (arith, c.min-within.ensures, c.if-within-count.false));
-  read = c.in-Ok-read.ensures.cause.done ∙ c.loop-count.invariant.read;
-  written = c.in_default-feed.ensures.cause.done ∙ c.loop-count.invariant.written;
-}
+pub returns-clause-overlong : goal.returns-clause-overlong
+returns-clause-overlong g c = λ is. overlong _ _ c.new-session.ensures _ _ _ _ _ (c.serve.ensures.overlong is)

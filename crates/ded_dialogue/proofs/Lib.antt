@@ -1,0 +1,4 @@
+pub mod Feeding
+pub mod Hearing
+pub mod Reading
+pub mod Steps

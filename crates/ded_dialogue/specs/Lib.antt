@@ -1,0 +1,6 @@
+pub mod Exits
+pub mod Forms
+pub mod Outcome
+pub mod Replies
+pub mod Runs
+pub mod Streams

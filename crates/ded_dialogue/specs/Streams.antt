@@ -1,0 +1,70 @@
+-- What is answered of a script that comes in parts.
+use Rattle.std.specs.Prelude.{◌≡◌, ◌+◌, ℕ, List, [], ◌++◌, Bool, false, ◌||◌, ◌-◌, zero, suc, Option, Result, length, drop, map}
+use Rattle.std.specs.Io.KnownBytes.{Appends, Consumes}
+use Rattle.ded_io.specs.Devices.{AddsAll}
+use Rattle.ded_lex.specs.Pieces.{Statement, Whole, IsCut}
+use Rattle.ded_lex.specs.Splits.{Since}
+use Rattle.ded_session.specs.declared.session.Piece.{Piece}
+use Rattle.ded_dialogue.specs.declared.dialogue.Dialogue.{Dialogue}
+use Rattle.ded_dialogue.specs.Outcome.{Interrupted}
+use Rattle.ded_dialogue.specs.Replies.{Said, texts, some_refusal}
+use Rattle.ded_dialogue.specs.Runs.{Answers, Steps, StandsFor}
+
+-- what is written of a reply where so many more aren't written
+abbrev pub spoken : ℕ → Said → List ℕ
+spoken zero reply = reply.text
+spoken (suc left) reply = []
+
+-- The whole pieces of the bytes taken are answered, and the tail stands behind them. Of the replies the first so many aren't
+-- written, and so many of these are left. Whatever replies further statements may get in this state, they may get them behind
+-- these.
+pub record SoFar {M : Type 0} (R : Answers M) (start : M) (silent left : ℕ) (taken tail : List ℕ) (m : M) (refused : Bool) (contents now : Option (List ℕ)) : Type 0 where
+  pub pieces : List (List ℕ)
+  pub cut : IsCut taken pieces tail
+  pub replies : List Said
+  pub goes : (statements : List Statement) (more : List Said) (last : M)
+      → Steps R m statements more last
+      → Steps R start (map Whole pieces ++ statements) (replies ++ more) last
+  pub counts : left ≡ silent - length replies
+  pub written : Appends contents now (texts (drop silent replies))
+  pub refuses : some_refusal replies ≡ refused
+
+-- a piece got a reply, whose text was written where none is left that isn't, or a front of it where the sink failed
+pub record IsReplied {M T E : Type 0} (R : Answers M) (piece : Piece) (m n : M) (before refused : Bool) (silent left : ℕ) (contents now : Option (List ℕ)) (result : Result T E) : Type 0 where
+  pub reply : Said
+  pub step : (s : Statement) → StandsFor piece s → R m s reply n
+  pub refuses : refused ≡ before || reply.refuses
+  pub counts : left ≡ silent - 1
+  pub written : AddsAll contents now result (spoken silent reply)
+
+-- nothing was taken yet, and this machine will answer
+pub record IsFresh {A : Type 0} (machine : A) (silent : ℕ) (d : Dialogue A) : Type 0 where
+  pub since : Since d.splitter []
+  pub answering : d.machine ≡ machine
+  pub refused : d.refused ≡ false
+  pub left : d.silent ≡ silent
+
+-- the whole pieces of the bytes taken are answered, and the splitter was fed the tail
+pub record Streamed {A M : Type 0} (R : Answers M) (state : A → M) (start : M) (silent : ℕ) (d : Dialogue A) (taken : List ℕ) (contents now : Option (List ℕ)) : Type 0 where
+  pub tail : List ℕ
+  pub since : Since d.splitter tail
+  pub so_far : SoFar R start silent d.silent taken tail (state d.machine) d.refused contents now
+
+-- the sink failed in these bytes, however the script goes on
+abbrev pub Stopped : {M : Type 0} → Answers M → M → ℕ → List ℕ → Option (List ℕ) → Option (List ℕ) → Type 0
+Stopped R start silent bytes contents now = (more : List ℕ) → Interrupted R start silent (bytes ++ more) contents now
+
+-- the bytes were taken, and the statements that end in them are answered
+pub record Grows {A M : Type 0} (R : Answers M) (state : A → M) (before after : Dialogue A) (contents now : Option (List ℕ)) (bytes : List ℕ) : Type 0 where
+  pub on : (start : M) (silent : ℕ) (taken : List ℕ) (was : Option (List ℕ)) → Streamed R state start silent before taken was contents → Streamed R state start silent after (taken ++ bytes) was now
+
+-- the sink failed in the bytes
+pub record Breaks {A M : Type 0} (R : Answers M) (state : A → M) (before : Dialogue A) (contents now : Option (List ℕ)) (bytes : List ℕ) : Type 0 where
+  pub on : (start : M) (silent : ℕ) (taken : List ℕ) (was : Option (List ℕ)) → Streamed R state start silent before taken was contents → Stopped R start silent (taken ++ bytes) was now
+
+-- What was taken so far is answered, and so many bytes may still come.
+pub record Reading {A M : Type 0} (R : Answers M) (state : A → M) (start : M) (input_limit room : ℕ) (d : Dialogue A) (input left contents now : Option (List ℕ)) : Type 0 where
+  pub taken : List ℕ
+  pub takes : Consumes input left taken
+  pub counts : length taken + room ≡ input_limit
+  pub streamed : Streamed R state start 0 d taken contents now

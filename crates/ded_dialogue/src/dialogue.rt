@@ -1,0 +1,157 @@
+//! A script's statements, answered as their last bytes come.
+ghost use Rattle.std.specs.Prelude.{◌≡◌};
+ghost use Rattle.ded_io.specs.Causes.{HasCause};
+ghost use Rattle.ded_session.specs.Pieces.{IsShortPiece};
+ghost use Rattle.ded_dialogue.specs.Streams.{IsReplied};
+
+use crate::answering::Answering;
+use ded_io::{Failed, Sink};
+use ded_lex::{Fed, Rest, Splitter};
+use ded_model::memory::NoMemory;
+use ded_session::Piece;
+use std::alloc::Global;
+
+/// The statement that is coming in, the machine that answers it when it ends, whether some reply so far is a refusal,
+/// and how many of the next replies aren't written.
+#[derive(Drop)]
+pub struct Dialogue<A> {
+    splitter: Splitter,
+    machine: A,
+    refused: bool,
+    silent: u32,
+}
+
+impl<A: Drop> Dialogue<A> {
+    ghost use Rattle.std.specs.Prelude.{IfOk};
+    ghost use Rattle.ded_dialogue.specs.Streams.{IsFresh};
+
+    /// A dialogue with the machine to which nothing came in yet, and whose first `silent` replies won't be written.
+    ///
+    /// # Errors
+    /// Out of memory for the splitter's buffer.
+    pub fn new(alloc: Global, machine: A, silent: u32) -> Result<Dialogue<A>, NoMemory>
+        ensures { IfOk result (IsFresh machine silent) }
+    {
+        Ok(Dialogue {
+            splitter: Splitter::new(alloc)?,
+            machine,
+            refused: false,
+            silent,
+        })
+    }
+}
+
+impl<A> Dialogue<A> {
+    ghost use Rattle.std.specs.Prelude.{◌≡◌};
+
+    /// Whether some reply so far is a refusal.
+    pub fn refused(&self) -> bool
+        ensures { result ≡ self.now.refused }
+    {
+        self.refused
+    }
+}
+
+impl<A: Answering> Dialogue<A> {
+    ghost use Rattle.std.specs.Prelude.{◌≡◌, ◌∷◌, [], List, ℕ, Option, IfOk, OnErr};
+    ghost use Rattle.ded_io.specs.Causes.{HasCause};
+    ghost use Rattle.ded_dialogue.specs.Outcome.{Concluded, Interrupted};
+    ghost use Rattle.ded_dialogue.specs.Streams.{Streamed, Grows, Breaks};
+
+    /// Takes the next byte, and answers the statement that ends there, where one does.
+    fn feed_byte<K: Sink>(&mut self, byte: u8, sink: &mut K) -> Result<(), Failed>
+        ensures grows { IfOk result (λ _. Grows A.answers A.state self.old self.new (K.contents sink.old) (K.contents sink.new) (byte ∷ [])) }
+        ensures breaks { OnErr result (Breaks A.answers A.state self.old (K.contents sink.old) (K.contents sink.new) (byte ∷ [])) }
+        ensures cause { HasCause (K.faults sink.old) (K.faults sink.new) result }
+    {
+        match self.splitter.feed(byte) {
+            Fed::More => Ok(()),
+            Fed::Ended => {
+                let piece = Piece::Whole(self.splitter.piece());
+                answer(
+                    &mut self.machine,
+                    piece,
+                    &mut self.refused,
+                    &mut self.silent,
+                    sink,
+                )
+            }
+            Fed::EndedLong => answer(
+                &mut self.machine,
+                Piece::Long,
+                &mut self.refused,
+                &mut self.silent,
+                sink,
+            ),
+        }
+    }
+
+    /// Takes the next bytes, and answers the statements that end in them.
+    ///
+    /// # Errors
+    /// `Failed` only where the sink's count of faults rose.
+    pub fn feed<K: Sink>(&mut self, bytes: &[u8], sink: &mut K) -> Result<(), Failed>
+        ensures grows { IfOk result (λ _. Grows A.answers A.state self.old self.new (K.contents sink.old) (K.contents sink.new) bytes.now) }
+        ensures breaks { OnErr result (Breaks A.answers A.state self.old (K.contents sink.old) (K.contents sink.new) bytes.now) }
+        ensures cause { HasCause (K.faults sink.old) (K.faults sink.new) result }
+    {
+        for byte in bytes {
+            self.feed_byte(*byte, sink)?;
+        }
+        Ok(())
+    }
+
+    /// Answers the statement that the end of the script cuts, where there is one.
+    ///
+    /// # Errors
+    /// `Failed` only where the sink's count of faults rose.
+    pub fn finish<K: Sink>(&mut self, sink: &mut K) -> Result<(), Failed>
+        ensures concluded { IfOk result (λ _. (start : A.State) (silent : ℕ) (taken : List ℕ) (contents : Option (List ℕ)) →
+            Streamed A.answers A.state start silent self.old taken contents (K.contents sink.old) →
+            Concluded A.answers start silent taken contents (K.contents sink.new) self.new.refused) }
+        ensures stopped { OnErr result ((start : A.State) (silent : ℕ) (taken : List ℕ) (contents : Option (List ℕ)) →
+            Streamed A.answers A.state start silent self.old taken contents (K.contents sink.old) →
+            Interrupted A.answers start silent taken contents (K.contents sink.new)) }
+        ensures cause { HasCause (K.faults sink.old) (K.faults sink.new) result }
+    {
+        match self.splitter.finish() {
+            Rest::Blank => Ok(()),
+            Rest::Cut => answer(
+                &mut self.machine,
+                Piece::Cut,
+                &mut self.refused,
+                &mut self.silent,
+                sink,
+            ),
+            Rest::CutLong => answer(
+                &mut self.machine,
+                Piece::Long,
+                &mut self.refused,
+                &mut self.silent,
+                sink,
+            ),
+        }
+    }
+}
+
+/// Answers a piece, notes whether the reply is a refusal, and writes it unless it is one of those that aren't written.
+fn answer<A: Answering, K: Sink>(
+    machine: &mut A,
+    piece: Piece<'_>,
+    refused: &mut bool,
+    silent: &mut u32,
+    sink: &mut K,
+) -> Result<(), Failed>
+    requires { IsShortPiece piece }
+    ensures replied { IsReplied A.answers piece.entry (A.state machine.old) (A.state machine.new) refused.old refused.new silent.old silent.new
+        (K.contents sink.old) (K.contents sink.new) result }
+    ensures cause { HasCause (K.faults sink.old) (K.faults sink.new) result }
+{
+    let reply = machine.answer(piece);
+    *refused |= A::is_refusal(&reply);
+    if *silent > 0 {
+        *silent -= 1;
+        return Ok(());
+    }
+    A::write(&reply, sink)
+}

@@ -1,0 +1,219 @@
+-- Rows that hold at a point hold wherever the numbers are the same, and so where extensions have these numbers.
+use Rattle.std.proofs.Common.{◌≡◌, ℕ, ◌*◌, ◌+◌, ◌<◌, ◌≤◌, suc, drop, Vec, Global, length, get_or, Bool, true, false, ◌&&◌, ◌||◌, List, [], ◌∷◌, ◌++◌, ⊎_elim, ◌⊎◌, inl, inr, arith, refl, sym, ap, ap₂, ◌∙◌, subst, true≢false}
+use Rattle.std.specs.Prelude.{ℤ, pos, ◌*ℤ◌}
+use Rattle.std.specs.List.{list_all}
+use Rattle.std.proofs.Math.IntN.{zero-*ℤ}
+use Rattle.std.proofs.Math.Seq.{drop-cons}
+use Rattle.std.proofs.Math.ListN.{drop_of_length-le}
+use Rattle.ded_num.proofs.Ring.{parts, ring, diff_same, diff-pos}
+use Rattle.ded_model.specs.declared.slot.Slot.{Slot}
+use Rattle.ded_model.specs.declared.slot.Sort.{Sort}
+use Rattle.ded_model.specs.declared.slot.Sort.TheVariants.{Rat, Text}
+use Rattle.ded_model.specs.Catalogue.{Catalogue, stored, GivenHolds}
+use Rattle.ded_model.specs.Cell.{conj_holds, HoldsSomewhere}
+use Rattle.ded_model.specs.Coefs.{AreCoefs}
+use Rattle.ded_model.specs.Constraint.{LinearConstraint}
+use Rattle.ded_model.specs.Logic.{exists, every_of, logics, SatEvery}
+use Rattle.ded_model.specs.PlanForm.{PlanForm, PlanAtomHolds}
+use Rattle.ded_model.specs.Point.{slot, Point, IsPoint, IsExtension, IsNumberExtension, IsTextExtension, number_at, same_slot, stands_in}
+use Rattle.ded_model.specs.Row.{sum_at, row_at, row_holds}
+use Rattle.ded_model.proofs.Members.{or_split}
+use Rattle.ded_model.proofs.Numbers.{extended, extended_is}
+use Rattle.ded_model.proofs.PointTexts.{extension-point}
+use Rattle.ded_model.proofs.Points.{and_left, and_right, same_slot_is, same_slot_refl, number_at-extended, number_at-kept, number_at-text_kept}
+use Rattle.ded_model.proofs.Rows.{step_law, row_law, sign_meets-same}
+use Rattle.ded_model.proofs.Texts.{text_extended, text_extended_is}
+use Rattle.ded_genrel.specs.Lists.{conjs_of}
+use Rattle.ded_genrel.proofs.Items.{conjs-any-at}
+use Rattle.ded_model.specs.Row.{atom_holds}
+use Rattle.ded_model.specs.declared.tuple.BothAtom.TheVariants.{First}
+use Rattle.ded_eval.specs.Finding.{IsFoundIn, HasNumbers, AreAlike, HoldsWithNumbers, IsAttained}
+use Rattle.ded_eval.specs.Within.{is_rows, rows_hold, all_rows_hold}
+use Rattle.ded_eval.proofs.Evaluated.{every-push}
+use Rattle.ded_eval.proofs.Joined.{rows_sat}
+use Rattle.ded_theory.proofs.Conjunctions.{conj_holds-append}
+use Rattle.std.proofs.lemmas.Bool.{and_parts}
+
+-- ---- a row at points with the same numbers
+
+sums_same : (ss : List Slot) (p q : Point) (cs : List (Slot × ℤ)) → HasNumbers ss p q → AreCoefs cs → list_all (λ c. stands_in ss c.0) cs ≡ true → sum_at cs p *ℤ pos q.den ≡ sum_at cs q *ℤ pos p.den
+sums_same ss p q [] h a e = zero-*ℤ (pos q.den) ∙ sym (zero-*ℤ (pos p.den))
+sums_same ss p q (c ∷ cs) h a e =
+    let here = h c.0 a.0 (and_left (stands_in ss c.0) (list_all (λ c. stands_in ss c.0) cs) e) in
+    let rest = sums_same ss p q cs h a.4 (and_right (stands_in ss c.0) (list_all (λ c. stands_in ss c.0) cs) e) in
+    step_law c.1 (number_at p (slot c.0)) (sum_at cs p) (pos 0) (pos q.den)
+    ∙ rw (here, rest) (sym (step_law c.1 (number_at q (slot c.0)) (sum_at cs q) (pos 0) (pos p.den)))
+
+pub row_same : (ss : List Slot) (p q : Point) (r : LinearConstraint) → IsPoint p → IsPoint q → HasNumbers ss p q → AreCoefs r.coefs → list_all (λ c. stands_in ss c.0) r.coefs ≡ true → row_holds r p ≡ row_holds r q
+unfolding row_holds
+row_same ss p q r i j h a e =
+    let swapped : p.den * q.den ≡ q.den * p.den = omega arith in
+    sign_meets-same r.op (row_at r p) (row_at r q) p.den q.den i.positive j.positive
+    (row_law (sum_at r.coefs p) r.constant p.den q.den
+    ∙ rw (sums_same ss p q r.coefs h a e, swapped) (sym (row_law (sum_at r.coefs q) r.constant q.den p.den)))
+
+-- ---- slots, one more at the end
+
+either_slot : (ss : List Slot) (s t : Slot) → stands_in (ss ++ s ∷ []) t ≡ true → (stands_in ss t ≡ true) ⊎ (same_slot s t ≡ true)
+either_slot [] s t h = ⊎_elim (λ (e : same_slot s t ≡ true). inr e) (λ e. absurd (true≢false (sym e))) (or_split (same_slot s t) false h)
+either_slot (u ∷ ss) s t h = ⊎_elim
+    (λ (e : same_slot u t ≡ true). inl (first (same_slot u t) (stands_in ss t) e))
+    (λ e. ⊎_elim (λ (k : stands_in ss t ≡ true). inl (second (same_slot u t) (stands_in ss t) k)) (λ k. inr k) (either_slot ss s t e))
+    (or_split (same_slot u t) _ h)
+  where
+    first : (a b : Bool) → a ≡ true → (a || b) ≡ true
+    first a b e = rw e refl
+
+    second : (a b : Bool) → b ≡ true → (a || b) ≡ true
+    second true b e = refl
+    second false b e = e
+
+stands_before : (ss : List Slot) (s t : Slot) → stands_in ss t ≡ true → stands_in (ss ++ s ∷ []) t ≡ true
+stands_before [] s t h = absurd (true≢false (sym h))
+stands_before (u ∷ ss) s t h = ⊎_elim
+    (λ (e : same_slot u t ≡ true). first (same_slot u t) (stands_in (ss ++ s ∷ []) t) e)
+    (λ e. second (same_slot u t) (stands_in (ss ++ s ∷ []) t) (stands_before ss s t e))
+    (or_split (same_slot u t) _ h)
+  where
+    first : (a b : Bool) → a ≡ true → (a || b) ≡ true
+    first a b e = rw e refl
+
+    second : (a b : Bool) → b ≡ true → (a || b) ≡ true
+    second true b e = refl
+    second false b e = e
+
+-- ---- one slot projected
+
+here_law : (n : ℤ) (b d : ℕ) → (n *ℤ pos b) *ℤ pos d ≡ n *ℤ pos (b * d)
+here_law n b d = rw (parts n, diff-pos b, diff-pos d, diff-pos (b * d)) (simp ring (diff_same _ _ _ _ (omega arith)))
+
+away_law : (x y : ℤ) (b d : ℕ) → x *ℤ pos d ≡ y *ℤ pos b → (x *ℤ pos d) *ℤ pos d ≡ y *ℤ pos (b * d)
+away_law x y b d h = ap (λ z. z *ℤ pos d) h ∙ here_law y b d
+
+-- another slot of the list stands before the last one
+not_last : (ss : List Slot) (s t : Slot) → stands_in (ss ++ s ∷ []) t ≡ true → same_slot t s ≡ false → stands_in ss t ≡ true
+not_last ss s t stands k = ⊎_elim
+    (λ (e : stands_in ss t ≡ true). e)
+    (λ e. absurd (true≢false (sym (ap (λ (u : Slot). same_slot t u) (same_slot_is s t e) ∙ same_slot_refl t) ∙ k)))
+    (either_slot ss s t stands)
+
+-- an extension by a number of a point that has it
+number_there : (ss : List Slot) (s : Slot) (p q r : Point) (x : IsNumberExtension p (slot s) r) → x.value ≡ number_at q (slot s) *ℤ pos p.den → r.den ≡ p.den * q.den → x.factor ≡ q.den
+    → HasNumbers ss p q → HasNumbers (ss ++ s ∷ []) r q
+number_there ss s p q r x value den factor same t rational stands = by (same_slot t s) refl ∙ ap (λ n. number_at q (slot t) *ℤ pos n) (sym den)
+  where
+    by : (b : Bool) → same_slot t s ≡ b → number_at r (slot t) *ℤ pos q.den ≡ number_at q (slot t) *ℤ pos (p.den * q.den)
+    by true k =
+        ap (λ z. z *ℤ pos q.den) (number_at-extended p (slot s) r x (slot t) k ∙ value)
+        ∙ here_law (number_at q (slot s)) p.den q.den
+        ∙ ap (λ (u : Slot). number_at q (slot u) *ℤ pos (p.den * q.den)) (sym (same_slot_is t s k))
+    by false k =
+        ap (λ z. z *ℤ pos q.den) (number_at-kept p (slot s) r x (slot t) k ∙ ap (λ n. number_at p (slot t) *ℤ pos n) factor)
+        ∙ away_law (number_at p (slot t)) (number_at q (slot t)) p.den q.den (same t rational (not_last ss s t stands k))
+
+is_rational : Sort → Bool
+is_rational Rat = true
+is_rational Text = false
+
+rational_text : Rat ≡ Text → ⊥
+unfolding is_rational
+rational_text e = true≢false (ap is_rational e)
+
+-- an extension by a text
+text_there : (ss : List Slot) (s : Slot) (p q r : Point) (x : IsTextExtension p (slot s) r) → s.sort ≡ Text → HasNumbers ss p q → HasNumbers (ss ++ s ∷ []) r q
+text_there ss s p q r x sort same t rational stands = by (same_slot t s) refl
+  where
+    by : (b : Bool) → same_slot t s ≡ b → number_at r (slot t) *ℤ pos q.den ≡ number_at q (slot t) *ℤ pos r.den
+    by true k = absurd (rational_text (sym rational ∙ ap (λ (u : Slot). u.sort) (same_slot_is t s k) ∙ sort))
+    by false k =
+        ap (λ z. z *ℤ pos q.den) (number_at-text_kept p (slot s) r x (slot t) k)
+        ∙ same t rational (not_last ss s t stands k)
+        ∙ ap (λ n. number_at q (slot t) *ℤ pos n) (sym x.den)
+
+-- what holds at points with some numbers at the slots holds projected where all others have them
+pub attained_project : {A : Type 0} (holds : A → Point → Bool) (atoms : List A) (c : Catalogue) (ss : List Slot) (s : Slot) (f : PlanForm) → IsAttained holds atoms c (ss ++ s ∷ []) f → IsAttained holds atoms c ss (exists s.sort (slot s) f)
+attained_project holds atoms c ss s f h = (h.0, h.1, h.2, λ p i same. go s.sort refl p i same)
+  where
+    go : (o : Sort) → s.sort ≡ o → (p : Point) → IsPoint p → HasNumbers ss p h.0 → GivenHolds c (exists s.sort (slot s) f) p
+    go Rat e p i same =
+        let q = h.0 in
+        let m = number_at q (slot s) *ℤ pos p.den in
+        let r = extended (slot s) q.den m p in
+        let x : IsNumberExtension p (slot s) r = extended_is (slot s) q.den m p h.1.positive in
+        let y : IsExtension s.sort p (slot s) r = subst (λ z. IsExtension z p (slot s) r) (sym e) x in
+        (r, y, h.3 r (extension-point s.sort p r (slot s) i y) (number_there ss s p q r x refl refl refl same))
+    go Text e p i same =
+        let r = text_extended (slot s) [] p in
+        let x : IsTextExtension p (slot s) r = text_extended_is (slot s) [] p tt in
+        let y : IsExtension s.sort p (slot s) r = subst (λ z. IsExtension z p (slot s) r) (sym e) x in
+        (r, y, h.3 r (extension-point s.sort p r (slot s) i y) (text_there ss s p h.0 r x e same))
+
+-- a plan that holds so with no slots given holds everywhere
+pub attained_everywhere : {A : Type 0} (holds : A → Point → Bool) (atoms : List A) (c : Catalogue) (f : PlanForm) → IsAttained holds atoms c [] f → (p : Point) → IsPoint p → GivenHolds c f p
+attained_everywhere holds atoms c f h p i = h.3 p i (λ s rational stands. absurd (true≢false (sym stands)))
+
+-- a plan holds so where a list does that holds only where it does and the atoms do
+pub attained_found : {A : Type 0} (h : A → Point → Bool) (atoms : List A) (c : Catalogue) (ss : List Slot) (f : PlanForm) (xs : List (List A))
+    → AreAlike h ss atoms → IsFoundIn h c (conj_holds h atoms) f xs → HoldsWithNumbers h atoms ss xs → IsAttained h atoms c ss f
+attained_found h atoms c ss f xs alike a o = (o.0, o.1, o.2, λ p i same. a p i (alike p o.0 i o.1 same ∙ o.2) (o.3 p i same))
+
+-- ---- atoms that stand for rows
+
+pub alike_none : {A : Type 0} (h : A → Point → Bool) (ss : List Slot) → AreAlike h ss []
+alike_none h ss p q i j k = refl
+
+pub alike_more : {A : Type 0} (h : A → Point → Bool) (ss : List Slot) (a : A) (atoms : List A) → ((p q : Point) → IsPoint p → IsPoint q → HasNumbers ss p q → h a p ≡ h a q) → AreAlike h ss atoms → AreAlike h ss (a ∷ atoms)
+alike_more h ss a atoms here rest p q i j k = ap₂ (λ x y. x && y) (here p q i j k) (rest p q i j k)
+
+pub row_atom : (r : LinearConstraint) (p q : Point) → row_holds r p ≡ row_holds r q → atom_holds (First r) p ≡ atom_holds (First r) q
+unfolding atom_holds
+row_atom r p q e = e
+
+-- a conjunction of the list that holds somewhere with the atoms, and holds alike
+pub conj_attained : {A : Type 0} (h : A → Point → Bool) (atoms : List A) (ss : List Slot) (items : List (Vec A Global)) (i : ℕ) (x : Vec A Global) → i < length items → x ≡ get_or items i x
+    → AreAlike h ss x.items → HoldsSomewhere (conj_holds h (atoms ++ x.items)) → HoldsWithNumbers h atoms ss (conjs_of items)
+conj_attained h atoms ss items i x l e alike o =
+    let parts = and_parts (conj_holds h atoms o.0) (conj_holds h x.items o.0) (sym (conj_holds-append h atoms x.items o.0) ∙ o.2) in
+    (o.0, o.1, parts.0, λ p k same. conjs-any-at (λ atoms. conj_holds h atoms p) items i x l e (alike p o.0 k o.1 same ∙ parts.1))
+
+-- a step along the atoms
+pub alike_drop : {A : Type 0} (h : A → Point → Bool) (ss : List Slot) (atoms : List A) (i : ℕ) (a : A) → i < length atoms → a ≡ get_or atoms i a → ((p q : Point) → IsPoint p → IsPoint q → HasNumbers ss p q → h a p ≡ h a q)
+    → AreAlike h ss (drop (i + 1) atoms) → AreAlike h ss (drop i atoms)
+alike_drop h ss atoms i a l e here rest =
+    let one : suc i ≡ i + 1 = omega arith in
+    let at : drop i atoms ≡ a ∷ drop (i + 1) atoms = drop-cons atoms i a l ∙ ap (λ x. x ∷ drop (suc i) atoms) (sym e) ∙ ap (λ n. a ∷ drop n atoms) one in
+    subst (AreAlike h ss) (sym at) (alike_more h ss a (drop (i + 1) atoms) here rest)
+
+pub alike_end : {A : Type 0} (h : A → Point → Bool) (ss : List Slot) (atoms : List A) (i : ℕ) → length atoms ≤ i → AreAlike h ss (drop i atoms)
+alike_end h ss atoms i l = subst (AreAlike h ss) (sym (drop_of_length-le atoms l)) (alike_none h ss)
+
+-- with more slots
+pub alike_slots : {A : Type 0} (h : A → Point → Bool) (ss : List Slot) (s : Slot) (atoms : List A) → AreAlike h ss atoms → AreAlike h (ss ++ s ∷ []) atoms
+alike_slots h ss s atoms k p q i j same = k p q i j (λ t rational stands. same t rational (stands_before ss s t stands))
+
+-- both lists of atoms
+pub alike_both : {A : Type 0} (h : A → Point → Bool) (ss : List Slot) (xs ys : List A) → AreAlike h ss xs → AreAlike h ss ys → AreAlike h ss (xs ++ ys)
+alike_both h ss xs ys k l p q i j same =
+    conj_holds-append h xs ys p ∙ ap₂ (λ x y. x && y) (k p q i j same) (l p q i j same) ∙ sym (conj_holds-append h xs ys q)
+
+-- ---- the parts of a join, one after another
+
+module _ {A : Type 0} (h : A → Point → Bool) (inner : List A) (c : Catalogue) (ss : List Slot) (all : List PlanForm) where
+  -- the first parts hold where all rows do, or where a point also has the numbers of some point, at which the atoms hold
+  abbrev pub IsJoinedSo : Bool → List PlanForm → Type 0
+  IsJoinedSo false fs = (p : Point) → all_rows_hold all p ≡ true → SatEvery (PlanAtomHolds (stored c)) (logics fs) p
+  IsJoinedSo true fs = (q : Point) × IsPoint q × (conj_holds h inner q ≡ true) × ((p : Point) → IsPoint p → HasNumbers ss p q → all_rows_hold all p ≡ true → SatEvery (PlanAtomHolds (stored c)) (logics fs) p)
+
+  pub joined_rows : (b : Bool) (fs : List PlanForm) (f : PlanForm) → is_rows f ≡ true → ((p : Point) → all_rows_hold all p ≡ true → rows_hold f p ≡ true) → IsJoinedSo b fs → IsJoinedSo b (fs ++ f ∷ [])
+  joined_rows false fs f e k j = λ p x. (every-push (PlanAtomHolds (stored c)) fs f p).1 (j p x, rows_sat c f p e (k p x))
+  joined_rows true fs f e k j = (j.0, j.1, j.2, λ p i same x. (every-push (PlanAtomHolds (stored c)) fs f p).1 (j.3 p i same x, rows_sat c f p e (k p x)))
+
+  pub joined_part : (fs : List PlanForm) (f : PlanForm) → IsJoinedSo false fs → IsAttained h inner c ss f → IsJoinedSo true (fs ++ f ∷ [])
+  joined_part fs f j a = (a.0, a.1, a.2, λ p i same x. (every-push (PlanAtomHolds (stored c)) fs f p).1 (j p x, a.3 p i same))
+
+-- all parts
+pub joined_all : {A : Type 0} (h : A → Point → Bool) (atoms own inner : List A) (c : Catalogue) (ss : List Slot) (all : List PlanForm) → inner ≡ atoms ++ own → AreAlike h ss own
+    → ((p : Point) → conj_holds h own p ≡ all_rows_hold all p) → IsJoinedSo h inner c ss all true all → IsAttained h atoms c ss (every_of (logics all))
+joined_all h atoms own inner c ss all e alike is j =
+    let parts = and_parts (conj_holds h atoms j.0) (conj_holds h own j.0) (sym (conj_holds-append h atoms own j.0) ∙ ap (λ xs. conj_holds h xs j.0) (sym e) ∙ j.2) in
+    (j.0, j.1, parts.0, λ p i same. j.3 p i same (sym (is p) ∙ alike p j.0 i j.1 same ∙ parts.1))

@@ -1,0 +1,9 @@
+use Rattle.std.proofs.Common.{◌≡◌, sym, subst}
+use Rattle.ded_model.specs.Row.{atom_holds}
+use Rattle.ded_eval.specs.Reading.{atom_of}
+use Rattle.ded_eval.proofs.Attained.{row_atom}
+use Rattle.ded_eval.proofs.attaining.is_row_over.Goals as goal
+
+pub returns-in-Linear : goal.returns-in-Linear
+returns-in-Linear c = λ e p q i j h.
+    subst (λ a. atom_holds (atom_of a) p ≡ atom_holds (atom_of a) q) (sym c.in-Linear.is) (row_atom c.in-Linear.row.now p q (c.is_over.ensures e p q i j h))

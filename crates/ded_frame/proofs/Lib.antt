@@ -1,0 +1,17 @@
+pub mod KnownAlike
+pub mod Reach
+pub mod Orders
+pub mod Replaced
+pub mod Changed
+pub mod NamesAlike
+pub mod CausesAlike
+pub mod QuestionsAlike
+pub mod NoDumps
+pub mod Applying
+pub mod Doing
+pub mod Replying
+pub mod Kept
+pub mod Making
+pub mod InsertedTuples
+pub mod Formed
+pub mod FormedSteps
