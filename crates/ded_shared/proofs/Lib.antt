@@ -6,3 +6,7 @@ pub mod Moving
 pub mod OneSession
 pub mod Inside
 pub mod OneTransaction
+pub mod LeastName
+pub mod Numerals
+pub mod TagsRead
+pub mod Verbing

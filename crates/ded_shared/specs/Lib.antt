@@ -1,7 +1,9 @@
 pub mod Conflicts
+pub mod Deciding
 pub mod Events
 pub mod Forms
 pub mod Rules
 pub mod Serial
 pub mod State
 pub mod Tags
+pub mod Verbs

@@ -9,7 +9,12 @@ ghost use Rattle.ded_shared.specs.Forms.{SharedForm, plain};
 ghost use Rattle.ded_shared.specs.Rules.{SharedStep, SharedSteps};
 ghost use Rattle.ded_shared.specs.Serial.{AreSteps};
 ghost use Rattle.ded_shared.specs.State.{State, first_state};
-ghost use Rattle.ded_shared.specs.Tags.{Tagged, begins, AreTagged};
+ghost use Rattle.ded_shared.specs.Tags.{Tagged, begins, AreTagged, IsTagged};
+
+/// Each statement is some tagged one: the rules say of all what they are answered.
+pub fn tagged_statements()
+    ensures { (s : Statement) → (x : Tagged) × IsTagged s x }
+{}
 
 /// The statements outside of transactions and those of committed ones, in the order of their ends and with the replies that
 /// they got, are steps of one session from the catalogue without entries to the shared one.
