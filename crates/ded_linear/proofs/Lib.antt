@@ -1,6 +1,7 @@
 pub mod Boxes
 pub mod Exacts
 pub mod Pieces
+pub mod Prunes
 pub mod Roots
 pub mod Shadows
 pub mod SlotLists

@@ -1,4 +1,5 @@
 pub mod Intervals
 pub mod Laws
+pub mod Prunings
 pub mod SlotLists
 pub mod Told

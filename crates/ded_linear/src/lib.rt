@@ -4,7 +4,8 @@
 //! found by eliminating slot after slot, after Fourier and Motzkin, until each row mentions one slot at most. Then each slot
 //! has an interval of values, and their ends are compared exactly. Each answer is exact, and it is left open only where a
 //! number on the way would have more than 127 digits, which only wide rows come to. Of many rows a point, or numbers that refute
-//! them, are looked for before anything is eliminated, and so are the ends of a slot.
+//! them, are looked for before anything is eliminated, and so are the ends of a slot. Where an elimination makes many rows of fewer,
+//! those that the others are found to imply are dropped, so that the next one has less to combine.
 //!
 //! [`refute`] and [`bounds`] take the way of combining two rows as a parameter, a `Mixing`, so that a theory of rows of some
 //! kind, whose combinations are never refused, answers by them too. `Linear` combines any rows.
@@ -17,6 +18,7 @@
 mod bounding;
 mod interval;
 mod order;
+mod pruning;
 mod theory;
 mod verdict;
 

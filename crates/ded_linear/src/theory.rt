@@ -7,6 +7,7 @@ ghost use Rattle.ded_elimination.specs.LinearAtoms.{IsLinearAtom, is_rational};
 ghost use Rattle.ded_model.proofs.Rows.{row_holds-same};
 ghost use Rattle.ded_linear.specs.Laws.{cells_tell, owned_slots, slots_of_lines};
 
+use crate::pruning::pruned;
 use crate::{bounding, verdict};
 use ded_elimination::Checked;
 use ded_model::memory::{NoMemory, Refused};
@@ -56,7 +57,10 @@ impl Theory for Linear {
     }
 
     fn eliminate(alloc: Global, atoms: &[Row], slot: Slot) -> Result<Eliminated<Row>, Refused> {
-        ded_elimination::eliminate::<Checked>(alloc, atoms, slot)
+        match ded_elimination::eliminate::<Checked>(alloc, atoms, slot)? {
+            Eliminated::Never => Ok(Eliminated::Never),
+            Eliminated::Conj(rows) => Ok(Eliminated::Conj(pruned(alloc, rows, atoms.len())?)),
+        }
     }
 
     fn refute(alloc: Global, atoms: &[Row]) -> Result<Verdict, NoMemory> {

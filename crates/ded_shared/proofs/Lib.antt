@@ -10,3 +10,16 @@ pub mod LeastName
 pub mod Numerals
 pub mod TagsRead
 pub mod Verbing
+pub mod ClosedNames
+pub mod CommandNames
+pub mod Remembering
+pub mod PieceByPiece
+pub mod Changing
+pub mod Noting
+pub mod Ending
+pub mod Outside
+pub mod Refusing
+pub mod Sending
+pub mod Stepping
+pub mod Hearings
+pub mod TextsApart

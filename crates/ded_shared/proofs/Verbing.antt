@@ -1,8 +1,7 @@
 -- The words of transactions.
-use Rattle.std.proofs.Common.{◌≡◌, ◌≢◌, ◌↔◌, ℕ, ◌<◌, ◌≤◌, List, [], ◌∷◌, length, get_or, slice_index_or, refl, sym, ap, ◌∙◌, subst, arith}
+use Rattle.std.proofs.Common.{◌≡◌, ◌≢◌, ◌↔◌, ℕ, ◌≤◌, List, [], ◌∷◌, length, get_or, slice_index_or, refl, sym, ap, ◌∙◌, subst, arith}
 use Rattle.std.specs.Prelude.{Option, Some, None, map, codes}
 use Rattle.ded_lex.specs.declared.token.Token.{Token}
-use Rattle.ded_lex.specs.declared.token.TokenKind.{TokenKind}
 use Rattle.ded_lex.specs.declared.token.TokenKind.TheVariants as kind
 use Rattle.ded_lex.specs.Lexemes.{Lexeme, Word}
 use Rattle.ded_lex.specs.Tokens.{AreTokens, AreLexemes, lexeme, kind_of}

@@ -1,5 +1,5 @@
 -- Shared sessions as one session.
-use Rattle.std.specs.Prelude.{ℕ, List}
+use Rattle.std.specs.Prelude.{List}
 use Rattle.ded_model.specs.declared.command.Language.TheVariants.{One}
 use Rattle.ded_model.specs.Catalogue.{Catalogue}
 use Rattle.ded_session.specs.Runs.{Steps}

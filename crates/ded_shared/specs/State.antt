@@ -1,5 +1,5 @@
 -- What sessions share, and what each open transaction has of its own.
-use Rattle.std.specs.Prelude.{◌-◌, ℕ, Bool, Option, Some, None, List, [], ◌∷◌, ◌++◌, get_or, map, option_map, replicate, slice_set}
+use Rattle.std.specs.Prelude.{◌-◌, ℕ, Bool, Option, None, List, [], ◌++◌, get_or, map, option_map, replicate, slice_set}
 use Rattle.std.specs.Str.{bytes_eq}
 use Rattle.std.specs.List.{list_any}
 use Rattle.ded_model.specs.Catalogue.{Catalogue}

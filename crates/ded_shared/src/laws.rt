@@ -1,15 +1,17 @@
-//! Shared sessions as one session. Each law is the contract of a function that does nothing but call those that it rests on.
-ghost use Rattle.std.specs.Prelude.{ℕ, List};
+//! Shared sessions as one session. Each law is the contract of a function that does nothing, or calls those that it rests on.
+ghost use Rattle.std.specs.Prelude.{◌≡◌, ◌++◌, ℕ, List};
 ghost use Rattle.ded_lex.specs.Pieces.{Statement};
 ghost use Rattle.ded_model.specs.Catalogue.{Catalogue};
 ghost use Rattle.ded_session.specs.Replies.{done};
 ghost use Rattle.ded_session.specs.Runs.{empty_catalogue};
 ghost use Rattle.ded_shared.specs.Events.{serial, inside};
 ghost use Rattle.ded_shared.specs.Forms.{SharedForm, plain};
+ghost use Rattle.ded_shared.specs.PlainNames.{HavePlainNames};
 ghost use Rattle.ded_shared.specs.Rules.{SharedStep, SharedSteps};
 ghost use Rattle.ded_shared.specs.Serial.{AreSteps};
 ghost use Rattle.ded_shared.specs.State.{State, first_state};
 ghost use Rattle.ded_shared.specs.Tags.{Tagged, begins, AreTagged, IsTagged};
+ghost use Rattle.ded_shared.specs.Texts.{shared_text};
 
 /// Each statement is some tagged one: the rules say of all what they are answered.
 pub fn tagged_statements()
@@ -34,3 +36,16 @@ pub fn transactions()
 {
     ded_frame::laws::formed_catalogues();
 }
+
+/// In each state to which tagged statements lead, the names in all catalogues are words of the grammar.
+pub fn plain_names()
+    ensures first { (limit : ℕ) → HavePlainNames (first_state limit) }
+    ensures step { (s t : State) (x : Tagged) (reply : SharedForm) → HavePlainNames s → SharedStep s x reply t → HavePlainNames t }
+{}
+
+/// The bytes written tell the replies one after another: of two replies that a tagged statement may get in a state whose names are words of
+/// the grammar, no text is a proper front of the other's.
+pub fn one_text()
+    ensures { (s t u : State) (x : Tagged) (reply other : SharedForm) (xs ys : List ℕ) → HavePlainNames s → SharedStep s x reply t → SharedStep s x other u
+        → shared_text reply ++ xs ≡ shared_text other ++ ys → (shared_text reply ≡ shared_text other) × (xs ≡ ys) }
+{}

@@ -1,0 +1,12 @@
+pub mod Accepting
+pub mod Blanks
+pub mod Entries
+pub mod Inserts
+pub mod Languages
+pub mod Named
+pub mod Numbers
+pub mod Reading
+pub mod Statements
+pub mod Steps
+pub mod Telling
+pub mod Trees

@@ -1,0 +1,14 @@
+use Rattle.ded_recheck.proofs.Steps.{again_yes, again_only, long_refused, long_only}
+use Rattle.ded_recheck.proofs.laws.verified_again.Goals as goal
+
+pub returns-clause-yes : goal.returns-clause-yes
+returns-clause-yes g = λ language other c n m es piece formed few h short. again_yes language c n m es piece formed few h other short
+
+pub returns-clause-only : goal.returns-clause-only
+returns-clause-only g = λ language other c d n m es piece reply formed few h short. again_only language c n m es piece formed few h other short d reply
+
+pub returns-clause-long : goal.returns-clause-long
+returns-clause-long g = long_refused
+
+pub returns-clause-only_long : goal.returns-clause-only_long
+returns-clause-only_long g = λ other c d piece reply long. long_only other c piece long d reply

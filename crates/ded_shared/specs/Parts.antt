@@ -1,0 +1,81 @@
+-- What the parts of shared sessions in the program stand for.
+use Rattle.std.specs.Prelude.{◌≡◌, ◌≤◌, ℕ, Option, List, [], ◌∷◌, ◌++◌, if◌then◌else◌, length, take, drop, map, option_map, IfSome}
+use Rattle.std.specs.List.{AllByRecursion}
+use Rattle.ded_model.specs.Catalogue.{Catalogue}
+use Rattle.ded_model.specs.Command.{CommandForm}
+use Rattle.ded_catalog.specs.State.{Table, catalogue_of}
+use Rattle.ded_frame.specs.Touching.{touches}
+use Rattle.ded_shared.specs.Gathering.{changed_by}
+use Rattle.ded_shared.specs.Rules.{is_change}
+use Rattle.ded_shared.specs.State.{Transaction, State, is_among}
+use Rattle.ded_shared.specs.declared.transaction.Transaction as declared
+
+-- each has at most 65,536 bytes
+abbrev pub ArePieces : List (List ℕ) → Type 0
+ArePieces ps = AllByRecursion (λ (p : List ℕ). length p ≤ 65536) ps
+
+-- ---- transactions
+
+-- a transaction, where these names were changed: those behind its begin are stale
+abbrev pub transaction_in : List (List ℕ) → declared.Transaction → Transaction
+transaction_in log x = record {
+  own = catalogue_of x.own;
+  accepted = x.accepted.items;
+  touched = x.touched.items;
+  changed = x.changed.items;
+  stale = drop x.since log;
+}
+
+-- nothing is remembered yet
+pub record IsBegun (c : Catalogue) (count : ℕ) (x : declared.Transaction) : Type 0 where
+  pub own : catalogue_of x.own ≡ c
+  pub accepted : x.accepted.items ≡ []
+  pub touched : x.touched.items ≡ []
+  pub changed : x.changed.items ≡ []
+  pub since : x.since ≡ count
+
+-- what was remembered still is
+pub record KeepsFronts (old new : declared.Transaction) : Type 0 where
+  pub accepted : take (length old.accepted.items) new.accepted.items ≡ old.accepted.items
+  pub touched : take (length old.touched.items) new.touched.items ≡ old.touched.items
+  pub changed : take (length old.changed.items) new.changed.items ≡ old.changed.items
+
+-- behind it stand the bytes, if they may change a catalogue, and what the command touches and changes
+pub record Recalls (bytes : List ℕ) (x : CommandForm) (old new : declared.Transaction) : Type 0 where
+  pub accepted : new.accepted.items ≡ (if is_change x then old.accepted.items ++ bytes ∷ [] else old.accepted.items)
+  pub touched_names : List (List ℕ)
+  pub touched : new.touched.items ≡ old.touched.items ++ touched_names
+  pub touches : (n : List ℕ) → is_among touched_names n ≡ touches (catalogue_of old.own) x n
+  pub changed_names : List (List ℕ)
+  pub changed : new.changed.items ≡ old.changed.items ++ changed_names
+  pub changes : (n : List ℕ) → is_among changed_names n ≡ changed_by (catalogue_of old.own) x n
+
+-- ---- all together
+
+-- what stands under each name of the shared catalogue, the open transactions by session, and the names that were changed
+-- since one of them began
+pub record Parts : Type 0 where
+  pub table : Table
+  pub transactions : List (Option declared.Transaction)
+  pub log : List (List ℕ)
+
+abbrev pub state_of : Parts → State
+state_of s = record { shared = catalogue_of s.table; transactions = map (option_map (transaction_in s.log)) s.transactions }
+
+-- it began when at most so many names were changed, and its statements are pieces
+pub record IsWithin (count : ℕ) (x : declared.Transaction) : Type 0 where
+  pub since : x.since ≤ count
+  pub pieces : ArePieces x.accepted.items
+
+-- there is a place for each session
+pub record AreKept (s : Parts) : Type 0 where
+  pub places : length s.transactions ≡ 64
+  pub within : AllByRecursion (λ o. IfSome o (IsWithin (length s.log))) s.transactions
+
+-- the names that the command changes where it is accepted stand behind those that were changed before
+pub record Notes (x : CommandForm) (old new : Parts) : Type 0 where
+  pub table : new.table ≡ old.table
+  pub transactions : new.transactions ≡ old.transactions
+  pub names : List (List ℕ)
+  pub log : new.log ≡ old.log ++ names
+  pub changes : (n : List ℕ) → is_among names n ≡ changed_by (catalogue_of old.table) x n
