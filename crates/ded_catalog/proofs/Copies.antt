@@ -1,6 +1,5 @@
 -- A copy of the table stands for the same entries, and is kept where the table is.
 use Rattle.std.proofs.Common.{◌≡◌, ℕ, ◌≤◌, length, None, List, [], ◌∷◌, refl, sym, ap, ◌∙◌, subst}
-use Rattle.std.specs.List.{AllZip}
 use Rattle.ded_model.specs.declared.name.Column.{Column}
 use Rattle.ded_model.specs.Catalogue.{Entry}
 use Rattle.ded_model.specs.Catalogue as entry
@@ -13,13 +12,10 @@ use Rattle.ded_model.specs.Plain.{IsPlain}
 use Rattle.ded_model.specs.Slotted.{goal_of}
 use Rattle.ded_catalog.specs.declared.stored.Stored.{Stored}
 use Rattle.ded_catalog.specs.declared.stored.Stored.TheVariants.{Relation, View}
-use Rattle.ded_catalog.specs.Copies.{IsCopy}
+use Rattle.ded_catalog.specs.Copies.{IsCopy, AreCopies}
 use Rattle.ded_catalog.specs.Conditions.{IsRight, AreKept, IsKept}
 use Rattle.ded_catalog.specs.Mentions.{AreMentions}
 use Rattle.ded_catalog.specs.State.{entry_form, entry_forms}
-
-abbrev pub AreCopies : List (List ℕ × Stored) → List (List ℕ × Stored) → Type 0
-AreCopies es fs = AllZip (λ p q. (q.0 ≡ p.0) × IsCopy p.1 q.1) es fs
 
 -- a copy is the same entry
 entry_copy : (n m : List ℕ) (s w : Stored) → m ≡ n → IsCopy s w → entry_form m w ≡ entry_form n s

@@ -131,7 +131,7 @@ kept-without limit n K J (e ∷ es) w h u =
     )
 
 -- names compare alike from both sides
-turned : (m n : List ℕ) (b : Bool) → bytes_eq m n ≡ b → bytes_eq n m ≡ false → bytes_eq m n ≡ false
+pub turned : (m n : List ℕ) (b : Bool) → bytes_eq m n ≡ b → bytes_eq n m ≡ false → bytes_eq m n ≡ false
 turned m n true e o = absurd (true≢false (sym (bytes_eq-refl m) ∙ ap (λ x. bytes_eq x m) (same_names m n e) ∙ o))
 turned m n false e o = e
 

@@ -2,7 +2,9 @@ pub mod Agreeing
 pub mod Bounded
 pub mod Calls
 pub mod Coded
+pub mod CopiedEntries
 pub mod Copies
+pub mod Counting
 pub mod Gathering
 pub mod Indexed
 pub mod Indexing
@@ -17,3 +19,5 @@ pub mod Results
 pub mod Simplest
 pub mod SnapshotEntries
 pub mod SnapshotTuples
+pub mod Unused
+pub mod WithoutUsers

@@ -1,11 +1,8 @@
 -- What the table has under a name is what the catalogue has under it.
-use Rattle.std.proofs.Common.{◌≡◌, ℕ, zero, suc, ◌+◌, nat_lt, not, length, Bool, true, false, cond, List, [], ◌∷◌, ◌++◌, Option, None, Some, is_some, refl, sym, ap, ◌∙◌, true≢false, bytes_eq, slice_get, arith}
+use Rattle.std.proofs.Common.{◌≡◌, ℕ, Bool, true, false, cond, List, [], ◌∷◌, ◌++◌, map, Option, None, Some, is_some, refl, sym, ap, ◌∙◌, true≢false, bytes_eq}
 use Rattle.std.specs.Prelude.{if◌then◌else◌}
 use Rattle.std.specs.Option.{option_map}
-use Rattle.std.specs.Map.{lookup, set_value, remove_entry, keys_of}
-use Rattle.std.specs.Prelude.{position}
-use Rattle.std.specs.List.{position_or_len}
-use Rattle.indexmap.specs.IndexMap.{set_value_at}
+use Rattle.std.specs.Map.{lookup, set_value, remove_entry}
 use Rattle.std.proofs.lemmas.Option.{same_Some, none-some}
 use Rattle.std.proofs.lemmas.Slice.Eq.{bytes_eq-Decides}
 use Rattle.ded_model.specs.Catalogue.{entry_name}
@@ -14,8 +11,6 @@ use Rattle.ded_model.specs.Entries.{entry_of}
 use Rattle.ded_catalog.specs.declared.stored.Stored.{Stored}
 use Rattle.ded_catalog.specs.declared.stored.Stored.TheVariants.{View}
 use Rattle.ded_catalog.specs.declared.stored.Stored.TheVariants as stored
-use Rattle.ded_catalog.specs.declared.stored.Relation.{Relation}
-use Rattle.ded_catalog.specs.Changed.{AreRelations, ChangesRelation}
 use Rattle.ded_catalog.specs.State.{entry_form, entry_forms, stored_known, known_with}
 use Rattle.ded_catalog.specs.Conditions.{IsRight, AreKept, IsKept}
 
@@ -89,11 +84,10 @@ entry_of-lookup n (e ∷ es) =
         ∙ next
         ∙ sym (ap (λ c. option_map (entry_form n) (cond c (Some e.1) (lookup (bytes_eq n) es))) b)
 
--- the entry at a place is that of the pair there
-pub at-forms : (es : List (List ℕ × Stored)) (i : ℕ) → option_map entry_name (slice_get (entry_forms es) i) ≡ option_map (λ e. e.0) (slice_get es i)
-at-forms [] i = refl
-at-forms (e ∷ es) zero = ap Some (named e.0 e.1)
-at-forms (e ∷ es) (suc i) = at-forms es i
+-- the names of the entries
+pub names-forms : (es : List (List ℕ × Stored)) → map (λ e. e.0) es ≡ map entry_name (entry_forms es)
+names-forms [] = refl
+names-forms (e ∷ es) = λ i. sym (named e.0 e.1) i ∷ names-forms es i
 
 -- ---- what is known
 
@@ -156,54 +150,3 @@ absent_unknown (Some s) h = absurd (none-some (stored_known s) (sym h))
 pub present_known : (o : Option Stored) → is_some (known_with o None) ≡ true → is_some o ≡ true
 present_known None h = h
 present_known (Some s) h = refl
-
--- ---- writing at a place
-
-one_more : (n : ℕ) → 1 + n ≡ suc n
-one_more n = omega arith
-
--- at the place of the first name that passes
-pub set-first : (test : List ℕ → Bool) (es : List (List ℕ × Stored)) (w : Stored) → set_value_at es (position_or_len test (keys_of es)) w ≡ set_value test es w
-set-first test [] w = refl
-set-first test (e ∷ es) w = by (test e.0) refl (set-first test es w)
-  where
-    by : (b : Bool) → test e.0 ≡ b → set_value_at es (position_or_len test (keys_of es)) w ≡ set_value test es w
-        → set_value_at (e ∷ es) (position_or_len test (keys_of (e ∷ es))) w ≡ set_value test (e ∷ es) w
-    by true b next =
-        ap (λ c. set_value_at (e ∷ es) (cond (not c) (1 + position_or_len test (keys_of es)) 0) w) b
-        ∙ sym (ap (λ c. cond c ((e.0, w) ∷ es) (e ∷ set_value test es w)) b)
-    by false b next =
-        ap (λ c. set_value_at (e ∷ es) (cond (not c) (1 + position_or_len test (keys_of es)) 0) w) b
-        ∙ ap (λ k. set_value_at (e ∷ es) k w) (one_more (position_or_len test (keys_of es)))
-        ∙ ap (λ l. e ∷ l) next
-        ∙ sym (ap (λ c. cond c ((e.0, w) ∷ es) (e ∷ set_value test es w)) b)
-
-found_place : (p l : ℕ) (i : ℕ) → cond (nat_lt p l) (Some p) None ≡ Some i → p ≡ i
-found_place p l i h = by (nat_lt p l) refl
-  where
-    by : (b : Bool) → nat_lt p l ≡ b → p ≡ i
-    by true b = same_Some p i (sym (ap (λ c. cond c (Some p) None) b) ∙ h)
-    by false b = absurd (none-some i (sym (ap (λ c. cond c (Some p) None) b) ∙ h))
-
--- at the place where it is found
-pub set-place : (test : List ℕ → Bool) (es : List (List ℕ × Stored)) (i : ℕ) (w : Stored) → Some i ≡ position test (keys_of es) → set_value_at es i w ≡ set_value test es w
-set-place test es i w h =
-    ap (λ k. set_value_at es k w) (sym (found_place (position_or_len test (keys_of es)) (length (keys_of es)) i (sym h))) ∙ set-first test es w
-
--- the relation there is what stands under the name
-pub changes_relation : (es : List (List ℕ × Stored)) (n : List ℕ) (i : ℕ) (s w : Stored) (Fact : Relation → Relation → Type 0) → Some i ≡ position (bytes_eq n) (keys_of es)
-    → lookup (bytes_eq n) es ≡ Some s → AreRelations s w Fact → ChangesRelation es (set_value_at es i w) n Fact
-changes_relation es n i s w Fact at found h = record {
-  old = h.old;
-  new = h.new;
-  was = found ∙ ap Some h.was;
-  is = set-place (bytes_eq n) es i w at ∙ ap (set_value (bytes_eq n) es) h.is;
-  so = h.so;
-}
-
--- and a relation
-pub are_relations : (es : List (List ℕ × Stored)) (n : List ℕ) (s : Stored) (Fact : Relation → Relation → Type 0) (F : Relation → Type 0) → ((r t : Relation) → Fact r t → F r)
-    → lookup (bytes_eq n) es ≡ Some s → ChangesRelation es es n Fact → AreRelations s s (λ r t. F r)
-are_relations es n s Fact F f found h =
-    let is : s ≡ stored.Relation h.old = same_Some _ _ (sym found ∙ h.was) in
-    record { old = h.old; new = h.old; was = is; is = is; so = f h.old h.new h.so }

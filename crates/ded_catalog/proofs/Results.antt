@@ -28,6 +28,11 @@ pub not_err : {A E : Type 0} (r : Result A E) (G : Type 0) → is_err r ≡ fals
 not_err (Ok x) G h g = g
 not_err (Err e) G h g = absurd (true≢false h)
 
+-- a fact of an answer that isn't one of its value
+pub on_answer : {A E : Type 0} (r : Result A E) (P : A → Type 0) (G : Type 0) → ((x : A) → P x → G) → IfOk r P → OnOk r G
+on_answer (Ok x) P G f p = f x p
+on_answer (Err e) P G f p = tt
+
 -- what follows from a fact of an answer
 pub on_ok : {A E : Type 0} (r : Result A E) (G H : Type 0) → (G → H) → OnOk r G → OnOk r H
 on_ok (Ok x) G H f g = f g

@@ -11,3 +11,4 @@ pub mod Snapshots
 pub mod State
 pub mod Texts
 pub mod Tuples
+pub mod Users

@@ -5,9 +5,9 @@ ghost use Rattle.std.specs.List.{list_any};
 mod names;
 mod reads;
 
-use crate::hashing::NameHashing;
 use crate::index::Index;
 use crate::mentions::mentioned;
+use crate::shared::SharedRelation;
 use crate::stored::{Relation, Stored, View};
 use crate::table::{Table, add, delete_from, insert_into, level_in, take_out};
 use ded_model::command::Refusal;
@@ -16,7 +16,6 @@ use ded_model::goal::Goal;
 use ded_model::memory::NoMemory;
 use ded_model::name::{Heading, Name};
 use ded_model::tuple::Tuple;
-use indexmap::IndexMap;
 use std::alloc::Global;
 use std::collections::BTreeMap;
 use std::marker::Model;
@@ -85,7 +84,7 @@ impl Catalogue {
     {
         Catalogue {
             limit,
-            names: IndexMap::with_hasher(alloc, NameHashing { keys }),
+            names: Table::new(alloc, keys),
         }
     }
 
@@ -113,15 +112,16 @@ impl Catalogue {
         ensures ok { OnOk result (AddsEntry (catalogue_of self.old) (catalogue_of self.new) (relation name heading inserts [])) }
         ensures err { OnErr result (catalogue_of self.new ≡ catalogue_of self.old) }
     {
-        let alloc = *self.names.allocator();
+        let alloc = self.names.alloc();
         let tuples = BTreeMap::new(alloc);
-        let relation = Stored::Relation(Relation {
+        let relation = Relation {
             heading,
             inserts,
             tuples,
-            index: Index::new(alloc, self.names.hasher().keys),
-        });
-        add(&mut self.names, name, relation)
+            index: Index::new(alloc, self.names.hashing().keys),
+        };
+        let stored = Stored::Relation(SharedRelation::new(alloc, relation)?);
+        add(&mut self.names, name, stored)
     }
 
     /// Inserts a tuple into the relation of the name, and gives the tuple's number.
@@ -141,10 +141,15 @@ impl Catalogue {
         insert_into(&mut self.names, name, self.limit, t)
     }
 
-    /// Deletes the tuple of the number, which has to be there, from the relation of the name. It does not allocate.
-    pub fn delete(&mut self, name: &Name, number: u64)
+    /// Deletes the tuple of the number, which has to be there, from the relation of the name. It allocates only where another
+    /// catalogue shares the relation.
+    ///
+    /// # Errors
+    /// Out of memory; nothing is changed then.
+    pub fn delete(&mut self, name: &Name, number: u64) -> Result<(), NoMemory>
         requires { list_any (λ t. t.0 == number) (tuples_in (catalogue_of self.old) name.now) ≡ true }
-        ensures { Deletes (catalogue_of self.old) (catalogue_of self.new) name.now number }
+        ensures ok { OnOk result (Deletes (catalogue_of self.old) (catalogue_of self.new) name.now number) }
+        ensures err { OnErr result (catalogue_of self.new ≡ catalogue_of self.old) }
     {
         delete_from(&mut self.names, name, number)
     }
@@ -172,7 +177,7 @@ impl Catalogue {
         ensures err { OnErr result (catalogue_of self.new ≡ catalogue_of self.old) }
     {
         let level = level_in(&self.names, &f)? + 1;
-        let mentions = mentioned(*self.names.allocator(), *self.names.hasher(), &f)?;
+        let mentions = mentioned(self.names.alloc(), self.names.hashing(), &f)?;
         let view = Stored::View(View {
             heading,
             formula: f,

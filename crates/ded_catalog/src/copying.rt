@@ -15,7 +15,7 @@ impl Clone for Stored {
 
     fn clone(&self) -> Result<Stored, AllocError> {
         match self {
-            Stored::Relation(relation) => Ok(Stored::Relation(copy_relation(relation)?)),
+            Stored::Relation(relation) => Ok(Stored::Relation(relation.share()?)),
             Stored::View(view) => Ok(Stored::View(View {
                 heading: view.heading.copy()?,
                 formula: view.formula.copy()?,
@@ -27,20 +27,18 @@ impl Clone for Stored {
     }
 }
 
-/// A relation with an equal heading, as many inserts and equal tuples.
-///
-/// # Errors
-/// Out of memory.
-fn copy_relation(relation: &Relation) -> Result<Relation, NoMemory>
-    ensures { IfOk result (λ r. r ≡ relation.now) }
-{
-    let alloc = allocator_of(&relation.heading);
-    Ok(Relation {
-        heading: relation.heading.copy()?,
-        inserts: relation.inserts,
-        tuples: copy_tuples(alloc, &relation.tuples)?,
-        index: relation.index.copy(alloc)?,
-    })
+impl Clone for Relation {
+    ghost is_clone = { λ r s. s ≡ r };
+
+    fn clone(&self) -> Result<Relation, AllocError> {
+        let alloc = allocator_of(&self.heading);
+        Ok(Relation {
+            heading: self.heading.copy()?,
+            inserts: self.inserts,
+            tuples: copy_tuples(alloc, &self.tuples)?,
+            index: self.index.copy(alloc)?,
+        })
+    }
 }
 
 /// The allocator that the columns are kept by.

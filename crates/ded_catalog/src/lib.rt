@@ -1,10 +1,11 @@
 //! The catalogue: the relations and views that the statements so far have defined.
 //!
-//! Names are found by their hash, and stand in order of definition. A relation has its tuples in ascending order of their
-//! numbers, a view its formula as written, the goal of it and the names that it speaks of. Contracts see a [`Catalogue`] as
-//! the catalogue of `ded_model` that it stands for. It is well formed: names are new, tuples are normal and over their
-//! columns, views are accepted over the entries before them. Each change is one of `ded_sorts`, and a refused one changes
-//! nothing.
+//! Names are found by their hash, and are linked in order of definition. With each stands the number of the views that speak of
+//! it. So whether it is used is known at once, and it is dropped in the same time however many names there are. A relation has its
+//! tuples in ascending order of their numbers, a view its formula as written, the goal of it and the names that it speaks of.
+//! Contracts see a [`Catalogue`] as the catalogue of `ded_model` that it stands for. It is well formed: names are new, tuples are
+//! normal and over their columns, views are accepted over the entries before them. Each change is one of `ded_sorts`, and a refused
+//! one changes nothing.
 //!
 //! A [`Snapshot`] reads a catalogue as it is, or as it will be when a tuple is inserted into a relation or deleted from one. So
 //! what depends on the relations can be made anew before the change is. It borrows the catalogue and copies nothing. Contracts
@@ -15,23 +16,27 @@
 //! Contracts don't see the index: they say that no tuple is lost that holds somewhere in the window. A region that is bound by slanted
 //! rows alone is kept by its exact bounds.
 //!
-//! It stands on `ded_sorts` for what is known of names and what changes them, on `ded_hull` and `ded_linear` for the reaches, and on `indexmap`.
+//! It stands on `ded_sorts` for what is known of names and what changes them, on `ded_hull` and `ded_linear` for the reaches, on `lru` for the
+//! linked names, and on `indexmap`.
 #![tactic(auto)]
 
 mod catalogue;
 mod change;
 mod copying;
 mod ends;
+mod entries;
 mod finding;
 mod fixed;
 mod hashing;
 mod index;
 mod mentions;
 mod relation;
+mod shared;
 mod snapshot;
 mod stored;
 mod table;
 mod texts;
+mod users;
 
 pub use catalogue::Catalogue;
 pub use snapshot::Snapshot;

@@ -5,9 +5,11 @@ ghost use Rattle.std.specs.Option.{unwrap_or};
 ghost use Rattle.ded_model.specs.declared.command.Refusal.TheVariants.{Memory};
 
 use crate::index::Index;
+use crate::shared::SharedRelation;
 use ded_model::command::Refusal;
 use ded_model::formula::Formula;
 use ded_model::goal::Goal;
+use ded_model::memory::NoMemory;
 use ded_model::name::{Heading, Name};
 use ded_model::tuple::Tuple;
 use std::collections::BTreeMap;
@@ -47,24 +49,13 @@ pub(crate) struct View {
 /// What stands under a name.
 #[derive(Drop)]
 pub(crate) enum Stored {
-    Relation(Relation),
+    Relation(SharedRelation),
     View(View),
 }
 
 impl Stored {
     ghost use Rattle.ded_catalog.specs.Changed.{AreRelations};
-    ghost use Rattle.ded_catalog.specs.State.{stored_uses};
     ghost use Rattle.ded_catalog.specs.Tuples.{AreUpTo, refusal_of, IsSame, Pushes, Removes};
-
-    /// Whether this is a view whose formula speaks of the name.
-    pub(crate) fn uses(&self, name: &Name) -> bool
-        ensures { result ≡ stored_uses name.now self.now }
-    {
-        match self {
-            Stored::Relation(_) => false,
-            Stored::View(view) => view.formula.speaks_of(name),
-        }
-    }
 
     /// Inserts a tuple into the relation, and gives the tuple's number.
     ///
@@ -82,9 +73,13 @@ impl Stored {
     }
 
     /// Deletes the tuple of the number from the relation.
-    pub(crate) fn delete(&mut self, number: u64)
+    ///
+    /// # Errors
+    /// Out of memory; nothing is changed then.
+    pub(crate) fn delete(&mut self, number: u64) -> Result<(), NoMemory>
         requires { AreRelations self.old self.old (λ old new. AreUpTo old.inserts old.tuples.entries × (list_any (λ t. t.0 == number) old.tuples.entries ≡ true)) }
-        ensures { AreRelations self.old self.new (λ old new. Removes old new number) }
+        ensures ok { IfOk result (λ _. AreRelations self.old self.new (λ old new. Removes old new number)) }
+        ensures err { IfErr result (λ _. AreRelations self.old self.new (λ old new. IsSame old new)) }
     {
         match self {
             Stored::Relation(relation) => relation.remove(number),

@@ -1,50 +1,128 @@
 //! The table of names.
-ghost use Rattle.std.specs.Prelude.{◌≡◌, ◌==◌, ◌++◌, ◌∷◌, [], true, None, map, max, OnOk, OnErr, IfOk, IfErr};
+ghost use Rattle.std.specs.Prelude.{◌≡◌, ◌==◌, ◌++◌, ◌∷◌, [], true, false, None, map, max, IfSome, OnOk, OnErr, IfOk, IfErr};
 ghost use Rattle.std.specs.List.{list_any};
 ghost use Rattle.std.specs.Map.{lookup, remove_entry};
 ghost use Rattle.std.specs.Option.{option_map, unwrap_or};
 ghost use Rattle.std.specs.Str.{bytes_eq};
 ghost use Rattle.ded_model.specs.declared.command.Refusal.TheVariants.{Memory};
 ghost use Rattle.ded_model.specs.Form.{form, forms};
-ghost use Rattle.ded_model.specs.Made.{base};
 ghost use Rattle.ded_model.specs.Logic.{greatest, greatest_of};
 ghost use Rattle.ded_sorts.specs.Checks.{known_form};
 ghost use Rattle.ded_catalog.specs.declared.stored.Relation.{Relation};
 ghost use Rattle.ded_catalog.specs.Changed.{ChangesRelation};
+ghost use Rattle.ded_catalog.specs.Copies.{AreCopies};
 ghost use Rattle.ded_catalog.specs.State.{known_with, relation_at, view_at, heading_at, level_at, stored_uses, atom_level_in};
 ghost use Rattle.ded_catalog.specs.Tuples.{AreUpTo, refusal_of, IsSame, Pushes, Removes};
+ghost use Rattle.ded_catalog.specs.Users.{HasMentions};
 
+use crate::entries::{Entries, Entry};
 use crate::hashing::NameHashing;
 use crate::stored::{Relation, Stored, View};
+use crate::users::{count, discount};
 use ded_model::command::Refusal;
 use ded_model::formula::Formula;
 use ded_model::memory::NoMemory;
 use ded_model::name::{Heading, Name};
 use ded_model::tuple::Tuple;
 use ded_sorts::Known;
-use indexmap::IndexMap;
+use std::alloc::{AllocError, Global};
+use std::marker::Model;
 
-/// What stands under each name, in order of definition.
-pub(crate) type Table = IndexMap<Name, Stored, NameHashing>;
+/// What stands under each name, in order of definition, with the number of the views that speak of the name. Contracts see
+/// all but the numbers.
+#[derive(Drop)]
+pub(crate) struct Table {
+    entries: Entries,
+}
 
-/// Puts what stands under a new name at the end.
+impl Model for Table {
+    ghost use Rattle.std.specs.Prelude.{false};
+    ghost use Rattle.std.specs.Coded.{codes};
+    ghost use Rattle.ded_catalog.specs.contracts.stored.Stored as stored;
+    ghost use Rattle.ded_catalog.specs.Users.{AreCounted, Defined, without_users};
+
+    ghost Value = { Defined };
+
+    ghost coded = { Prim.hlevel (stored.the_row.coded, codes) };
+
+    ghost view = { λ t. record { entries = without_users t.entries.entries } };
+
+    ghost invariant = { λ t. AreCounted (λ n. false) t.entries.entries };
+}
+
+impl Table {
+    /// A table without names, which are hashed with the keys.
+    pub(crate) fn new(alloc: Global, keys: (u64, u64)) -> Table
+        ensures { result.entries ≡ [] }
+    {
+        Table {
+            entries: Entries::new(alloc, NameHashing { keys }),
+        }
+    }
+
+    /// The allocator of what stands under names.
+    pub(crate) fn alloc(&self) -> Global {
+        self.entries.alloc
+    }
+
+    /// How names are hashed.
+    pub(crate) fn hashing(&self) -> NameHashing {
+        self.entries.hashing
+    }
+
+    /// What stands under the name, none where it isn't defined.
+    fn get(&self, name: &Name) -> Option<&Stored>
+        ensures { option_map (λ s. s.now) result ≡ lookup (bytes_eq name.now) self.now.entries }
+    {
+        match self.entries.get(name) {
+            Some(entry) => Some(&entry.stored),
+            None => None,
+        }
+    }
+
+    /// The names, in order of definition.
+    ///
+    /// # Errors
+    /// Out of memory.
+    pub(crate) fn names(&self, alloc: Global) -> Result<Vec<&Name>, NoMemory>
+        ensures { IfOk result (λ ns. map (λ n. n.now) ns.items ≡ map (λ e. e.0) self.now.entries) }
+    {
+        self.entries.names(alloc)
+    }
+
+    /// A table of copies, in the same order.
+    ///
+    /// # Errors
+    /// Out of memory.
+    pub(crate) fn copy(&self) -> Result<Table, NoMemory>
+        ensures { IfOk result (λ t. AreCopies self.now.entries t.entries) }
+    {
+        Ok(Table {
+            entries: self.entries.copy()?,
+        })
+    }
+}
+
+/// Puts what stands under a new name at the end. No view speaks of the name yet, nor does what stands under it.
 ///
 /// # Errors
 /// Out of memory; nothing is changed then.
 pub(crate) fn add(table: &mut Table, name: Name, stored: Stored) -> Result<(), NoMemory>
-    requires { lookup (bytes_eq name) table.old.entries ≡ None }
+    requires new { lookup (bytes_eq name) table.old.entries ≡ None }
+    requires unused { list_any (stored_uses name) (map (λ e. e.1) table.old.entries) ≡ false }
+    requires own { stored_uses name stored ≡ false }
+    requires mentions { HasMentions stored }
     ensures ok { OnOk result (table.new.entries ≡ table.old.entries ++ (name, stored) ∷ []) }
     ensures err { OnErr result (table.new.entries ≡ table.old.entries) }
 {
-    let old = table.insert(name, stored)?;
-    give_up(old);
-    Ok(())
-}
-
-/// Gives up what stood under a name. It is a function of its own, so that no other proof goes through all that may
-/// stand under a name.
-fn give_up(stored: Option<Stored>) {
-    let _ = stored;
+    count(&mut table.entries, &stored);
+    match table.entries.push(name, Entry { stored, users: 0 }) {
+        Ok(()) => Ok(()),
+        Err(entry) => {
+            discount(&mut table.entries, entry.stored);
+            Err(AllocError)
+        }
+    }
 }
 
 /// The relation of the name, none where it is no relation.
@@ -52,7 +130,7 @@ pub(crate) fn relation_of<'a>(table: &'a Table, name: &Name) -> Option<&'a Relat
     ensures { option_map (λ r. r.now) result ≡ relation_at (lookup (bytes_eq name.now) table.now.entries) }
 {
     match table.get(name) {
-        Some(Stored::Relation(relation)) => Some(relation),
+        Some(Stored::Relation(relation)) => Some(relation.get()),
         _ => None,
     }
 }
@@ -65,7 +143,9 @@ pub(crate) fn known_of(table: &Table, name: &Name) -> Result<Option<Known>, NoMe
     ensures { IfOk result (λ k. known_form k ≡ known_with (lookup (bytes_eq name.now) table.now.entries) None) }
 {
     match table.get(name) {
-        Some(Stored::Relation(relation)) => Ok(Some(Known::Relation(relation.heading.copy()?))),
+        Some(Stored::Relation(relation)) => Ok(Some(Known::Relation(
+            relation.get().heading.copy()?,
+        ))),
         Some(Stored::View(view)) => Ok(Some(Known::View(view.heading.copy()?, view.level))),
         None => Ok(None),
     }
@@ -76,7 +156,7 @@ pub(crate) fn heading_of<'a>(table: &'a Table, name: &Name) -> Option<&'a Headin
     ensures { option_map (λ h. h.now) result ≡ heading_at (lookup (bytes_eq name.now) table.now.entries) }
 {
     match table.get(name) {
-        Some(Stored::Relation(relation)) => Some(&relation.heading),
+        Some(Stored::Relation(relation)) => Some(&relation.get().heading),
         Some(Stored::View(view)) => Some(&view.heading),
         None => None,
     }
@@ -107,40 +187,40 @@ pub(crate) fn insert_into(
     ensures ok { IfOk result (λ k. ChangesRelation table.old.entries table.new.entries name.now (λ old new. Pushes old new tuple k × (refusal_of limit old ≡ None))) }
     ensures err { IfErr result (λ r. ChangesRelation table.old.entries table.new.entries name.now (λ old new. IsSame old new × (r ≡ unwrap_or (refusal_of limit old) Memory))) }
 {
-    match table.get_index_of(name) {
-        Some(place) => table[place].insert(limit, tuple),
-        None => unreachable!(),
-    }
+    table.entries.insert(name, limit, tuple)
 }
 
 /// Deletes the tuple of the number from the relation of the name.
-pub(crate) fn delete_from(table: &mut Table, name: &Name, number: u64)
+///
+/// # Errors
+/// Out of memory; nothing is changed then.
+pub(crate) fn delete_from(table: &mut Table, name: &Name, number: u64) -> Result<(), NoMemory>
     requires { ChangesRelation table.old.entries table.old.entries name.now (λ old new. AreUpTo old.inserts old.tuples.entries × (list_any (λ t. t.0 == number) old.tuples.entries ≡ true)) }
-    ensures { ChangesRelation table.old.entries table.new.entries name.now (λ old new. Removes old new number) }
+    ensures ok { IfOk result (λ _. ChangesRelation table.old.entries table.new.entries name.now (λ old new. Removes old new number)) }
+    ensures err { IfErr result (λ _. ChangesRelation table.old.entries table.new.entries name.now (λ old new. IsSame old new)) }
 {
-    match table.get_index_of(name) {
-        Some(place) => table[place].delete(number),
-        None => unreachable!(),
-    }
+    table.entries.delete(name, number)
 }
 
 /// Takes out what stands under the name. The others keep their order.
 pub(crate) fn take_out(table: &mut Table, name: &Name)
+    requires { IfSome (lookup (bytes_eq name.now) table.old.entries) HasMentions }
     ensures { table.new.entries ≡ remove_entry (bytes_eq name.now) table.old.entries }
 {
-    give_up(table.shift_remove(name));
+    if let Some(entry) = table.entries.remove(name) {
+        discount(&mut table.entries, entry.stored);
+    }
 }
 
-/// Whether the formula of a view speaks of the name.
+/// Whether the formula of a view speaks of the name. None does where the name isn't defined.
 pub(crate) fn some_uses(table: &Table, name: &Name) -> bool
+    requires { lookup (bytes_eq name.now) table.now.entries ≡ None → list_any (stored_uses name.now) (map (λ e. e.1) table.now.entries) ≡ false }
     ensures { result ≡ list_any (stored_uses name.now) (map (λ e. e.1) table.now.entries) }
 {
-    for stored in table.values() {
-        if stored.uses(name) {
-            return true;
-        }
+    match table.entries.get(name) {
+        Some(entry) => entry.users > 0,
+        None => false,
     }
-    false
 }
 
 /// The greatest level of a name that the formula speaks of, 0 where it speaks of none.

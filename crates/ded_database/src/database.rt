@@ -270,7 +270,7 @@ impl Database {
             name,
             step: Step::Deleted(told_tuple(&self.catalogue, name, number)),
         };
-        bring_up_to_date(
+        let count = bring_up_to_date(
             self.alloc,
             &change,
             &self.marks,
@@ -279,8 +279,13 @@ impl Database {
         )?;
         ded_views::laws::one_change();
         laws::lasting_marks();
-        self.catalogue.delete(name, number);
-        Ok(())
+        match self.catalogue.delete(name, number) {
+            Ok(()) => Ok(()),
+            Err(refused) => {
+                self.held.keep_first(count);
+                Err(refused)
+            }
+        }
     }
 
     /// Marks a view, and makes its list where none is held. Where numbers get too long for it, none is held.

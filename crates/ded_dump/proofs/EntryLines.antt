@@ -1,7 +1,8 @@
 -- The entry at a place of a well formed catalogue is the one of its name.
-use Rattle.std.proofs.Common.{◌≡◌, ℕ, zero, suc, ◌+◌, ◌<◌, ◌≤◌, ◌⊎◌, inl, inr, Bool, true, false, List, [], ◌∷◌, ◌++◌, length, drop, get_or, append_assoc, append-nil, Option, Some, None, is_some, refl, sym, ap, ◌∙◌, subst, true≢false, bytes_eq}
+use Rattle.std.proofs.Common.{◌≡◌, ℕ, zero, suc, ◌+◌, ◌<◌, ◌≤◌, Bool, true, false, List, [], ◌∷◌, ◌++◌, length, map, drop, get_or, append_assoc, append-nil, Option, Some, None, is_some, refl, sym, ap, ◌∙◌, subst, true≢false, bytes_eq}
 use Rattle.std.proofs.Math.ListN.{drop_of_length-le}
-use Rattle.std.proofs.lemmas.Option.{slice_get_within, slice_get_cases, get_or_from_slice_get}
+use Rattle.std.proofs.lemmas.List.{length-map}
+use Rattle.std.proofs.lemmas.Option.{slice_get-get_or, slice_get-map, slice_get_within, get_or_from_slice_get}
 use Rattle.std.specs.Prelude.{if◌then◌else◌, Result, Ok, Err, OnOk}
 use Rattle.std.specs.List.{slice_get}
 use Rattle.std.specs.Option.{option_map}
@@ -72,13 +73,20 @@ next_entry c w whole done now i n at e is = by (slice_get c.entries i) refl at
         one_part whole done now (entry_lines x) (entries_lines (drop (i + 1) c.entries)) (subst (λ z. done ++ entries_lines z ≡ whole) next e)
         (is ∙ ap (λ z. done ++ lines_under z) found)
 
-pub all_entries : (c : Catalogue) (whole done : List (List ℕ)) (i : ℕ) → None ≡ option_map entry_name (slice_get c.entries i)
+-- the name at a place is that of the entry there
+pub name_there : {A : Type 0} (f : A → List ℕ) (ns : List A) (es : List Entry) (i : ℕ) (n : A) → map f ns ≡ map entry_name es → i < length ns → n ≡ get_or ns i n
+    → Some (f n) ≡ option_map entry_name (slice_get es i)
+name_there f ns es i n alike inside is =
+    sym (ap (option_map f) (slice_get-get_or ns i n inside ∙ ap Some (sym is)))
+    ∙ sym (slice_get-map f ns i)
+    ∙ ap (λ l. slice_get l i) alike
+    ∙ slice_get-map entry_name es i
+
+pub all_entries : {A : Type 0} (f : A → List ℕ) (ns : List A) (c : Catalogue) (whole done : List (List ℕ)) (i : ℕ) → map f ns ≡ map entry_name c.entries → length ns ≤ i
     → done ++ entries_lines (drop i c.entries) ≡ whole → done ≡ whole
-all_entries c whole done i at e = no_part whole done (entries_lines (drop i c.entries)) (ap entries_lines (by (slice_get_cases c.entries i).1)) e
-  where
-    by : ((x : Entry) × (i < length c.entries) × (slice_get c.entries i ≡ Some x) × (get_or c.entries i x ≡ x)) ⊎ ((length c.entries ≤ i) × (slice_get c.entries i ≡ None)) → drop i c.entries ≡ []
-    by (inl f) = absurd (none-some (entry_name f.0) (at ∙ ap (option_map entry_name) f.2))
-    by (inr f) = drop_of_length-le c.entries f.0
+all_entries f ns c whole done i alike le e =
+    let long : length c.entries ≡ length ns = sym (length-map c.entries entry_name) ∙ sym (ap length alike) ∙ length-map ns f in
+    no_part whole done (entries_lines (drop i c.entries)) (ap entries_lines (drop_of_length-le c.entries (subst (λ k. k ≤ i) (sym long) le))) e
 
 -- ---- what the calls of a catalogue tell of an entry
 

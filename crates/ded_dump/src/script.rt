@@ -8,7 +8,7 @@ use crate::entries::{add_inserts, header_line, relation_line, view_line};
 use ded_catalog::Catalogue;
 use ded_model::memory::NoMemory;
 use ded_model::name::{Heading, Name};
-use std::alloc::{AllocError, Global};
+use std::alloc::Global;
 
 /// The lines of the catalogue: a script that makes it again.
 ///
@@ -20,13 +20,11 @@ pub fn lines(alloc: Global, catalogue: &Catalogue) -> Result<Vec<Name>, NoMemory
     catalogue.formed();
     let mut lines = Vec::new(alloc);
     lines.push(header_line(alloc)?)?;
-    for place in 0..usize::MAX {
-        let Some(name) = catalogue.name_at(place) else {
-            return Ok(lines);
-        };
+    let names = catalogue.names(alloc)?;
+    for name in &names {
         add_entry(alloc, &mut lines, catalogue, name)?;
     }
-    Err(AllocError) // no memory holds so many entries
+    Ok(lines)
 }
 
 /// Adds the lines of the entry of the name.

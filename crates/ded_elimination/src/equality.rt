@@ -12,7 +12,7 @@ ghost use Rattle.ded_elimination.specs.LinearAtoms.{IsLinearAtom};
 ghost use Rattle.ded_elimination.specs.Adding.{AreLinear, HoldExtended, Adds};
 ghost use Rattle.ded_elimination.specs.Equalities.{equal_size, NoEquality, IsEqualityAt, IsLeastEquality, settled_row, settled_clash, SettledHolds};
 
-use crate::keeping::keep;
+use crate::keeping::{Kept, keep};
 use crate::mixing::Mixing;
 use ded_model::memory::Refused;
 use ded_model::row::{Row, RowOp};
@@ -50,7 +50,7 @@ fn equal_size(row: &Row, slot: Slot) -> u128
 /// # Errors
 /// `Wide` only where two lines of the rows clash at the slot, and never of a mixing that decides; otherwise out of memory.
 pub fn by_equality<M: Mixing>(
-    out: &mut Vec<Row>,
+    out: &mut Kept,
     rows: &[Row],
     place: usize,
     slot: Slot,
@@ -58,7 +58,7 @@ pub fn by_equality<M: Mixing>(
     requires normal { AreLinear rows.now }
     requires rows { AllByRecursion M.rows rows.now }
     requires equality { (n : ℕ) × IsEqualityAt slot rows.now n place }
-    ensures adds { IfOk result (λ more. Adds M.rows slot rows.now (HoldExtended slot rows.now) out.old.items more out.new.items) }
+    ensures adds { IfOk result (λ more. Adds M.rows slot rows.now (HoldExtended slot rows.now) out.old.rows.items more out.new.rows.items) }
     ensures wide { IsErrOf result Wide → clash_at slot (conj_lines row_lines rows.now) ≡ true }
     ensures never_wide { M.decides → IsErrOf result Wide → ⊥ }
 {
@@ -74,7 +74,7 @@ pub fn by_equality<M: Mixing>(
 /// Adds what is left of a row after the equality has taken the slot from it. Returns whether something may satisfy the
 /// rows.
 fn add_settled<M: Mixing>(
-    out: &mut Vec<Row>,
+    out: &mut Kept,
     equal: &Row,
     row: &Row,
     slot: Slot,
@@ -84,7 +84,7 @@ fn add_settled<M: Mixing>(
     requires normal { IsLinearAtom equal.now × IsLinearAtom row.now }
     requires rows { M.rows equal.now × M.rows row.now }
     ensures adds { IfOk result (λ more. (rows : List LinearConstraint) → AreLinear rows → In equal.now rows → In row.now rows
-        → Adds M.rows slot rows (SettledHolds slot equal.now row.now) out.old.items more out.new.items) }
+        → Adds M.rows slot rows (SettledHolds slot equal.now row.now) out.old.rows.items more out.new.rows.items) }
     ensures wide { IsErrOf result Wide → (rows : List LinearConstraint) → AreLinear rows → In equal.now rows → In row.now rows
         → clash_at slot (conj_lines row_lines rows) ≡ true }
     ensures never_wide { M.decides → IsErrOf result Wide → ⊥ }

@@ -1,5 +1,8 @@
 //! Rows that are kept together, none of which another one with its coefficients makes superfluous.
-ghost use Rattle.std.specs.Prelude.{◌≡◌, true, [], IfOk};
+//!
+//! The first few are looked through one by one. Of those behind them a hash of the coefficients tells where some stand, so that many
+//! are kept in no more than their own time. Nothing rests on the hash: a row that it hides is one too many.
+ghost use Rattle.std.specs.Prelude.{◌≡◌, ◌++◌, ◌∷◌, true, [], IfOk};
 ghost use Rattle.ded_model.specs.Coefs.{AreCoefs};
 ghost use Rattle.ded_model.specs.Normal.{IsNormalRow, is_true_with};
 ghost use Rattle.ded_elimination.specs.Keeping.{at_least, Implies, IsRival, Keeps};
@@ -7,6 +10,50 @@ ghost use Rattle.ded_elimination.specs.Keeping.{at_least, Implies, IsRival, Keep
 use ded_model::memory::NoMemory;
 use ded_model::row::{Row, RowOp};
 use ded_model::slot::Slot;
+use std::alloc::Global;
+use std::collections::HashMap;
+use std::hash::{DefaultHasher, Hash, Hasher};
+
+/// How many rows are looked through one by one.
+const FEW: usize = 32;
+
+/// Rows that are kept together, and at which place one behind the first few stands by the hash of its coefficients.
+#[derive(Drop)]
+pub struct Kept {
+    pub rows: Vec<Row>,
+    places: HashMap<u64, usize>,
+}
+
+impl Kept {
+    /// No rows. It does not allocate.
+    pub fn new(alloc: Global) -> Kept
+        ensures { result.rows.items ≡ [] }
+    {
+        Kept {
+            rows: Vec::new(alloc),
+            places: HashMap::new(alloc),
+        }
+    }
+
+    /// Adds the row at the end.
+    fn push(&mut self, row: Row) -> Result<(), NoMemory>
+        ensures { IfOk result (λ _. self.new.rows.items ≡ self.old.rows.items ++ row ∷ []) }
+    {
+        let place = self.rows.len();
+        if place >= FEW {
+            self.places.insert(hash_of(&row), place)?;
+        }
+        self.rows.push(row)?;
+        Ok(())
+    }
+}
+
+/// A hash of the row's coefficients.
+fn hash_of(row: &Row) -> u64 {
+    let mut state = DefaultHasher::new();
+    row.coefs.hash(&mut state);
+    state.finish()
+}
 
 /// What stands in the way of a row among others.
 enum Rival {
@@ -23,18 +70,18 @@ enum Rival {
 ///
 /// # Errors
 /// Out of memory.
-pub fn keep(out: &mut Vec<Row>, row: Row) -> Result<bool, NoMemory>
+pub fn keep(out: &mut Kept, row: Row) -> Result<bool, NoMemory>
     requires normal { IsNormalRow row }
-    ensures keeps { IfOk result (λ more. Keeps row out.old.items more out.new.items) }
+    ensures keeps { IfOk result (λ more. Keeps row out.old.rows.items more out.new.rows.items) }
     ensures coefs { AreCoefs row.coefs }
 {
     if row.coefs.list().is_empty() {
         return Ok(is_truth(row.op));
     }
-    match find_rival(out.as_slice(), &row) {
+    match find_rival(out, &row) {
         Rival::Nothing => out.push(row)?,
         Rival::Stronger => {},
-        Rival::Weaker(place) => out[place] = row,
+        Rival::Weaker(place) => out.rows[place] = row,
     }
     Ok(true)
 }
@@ -49,19 +96,42 @@ fn is_truth(op: RowOp) -> bool
     }
 }
 
-/// The first of the rows that has the same coefficients as the row and implies it or is implied by it.
-fn find_rival(rows: &[Row], row: &Row) -> Rival
-    ensures { IsRival rows.now row.now result }
+/// A row among those that are kept that has the same coefficients as the row and implies it or is implied by it: one of the first few, or
+/// the last of the others that has their hash.
+fn find_rival(kept: &Kept, row: &Row) -> Rival
+    ensures { IsRival kept.now.rows.items row.now result }
 {
-    for (i, other) in rows.iter().enumerate() {
-        if implies(other, row) {
-            return Rival::Stronger;
-        }
-        if implies(row, other) {
-            return Rival::Weaker(i);
+    let rows = kept.rows.as_slice();
+    for i in 0..rows.len().min(FEW) {
+        match rival_at(rows, i, row) {
+            Rival::Nothing => {}
+            rival => return rival,
         }
     }
-    Rival::Nothing
+    if rows.len() <= FEW {
+        return Rival::Nothing;
+    }
+    match kept.places.get(&hash_of(row)) {
+        Some(place) => rival_at(rows, *place, row),
+        None => Rival::Nothing,
+    }
+}
+
+/// What the row at the place is to the row.
+fn rival_at(rows: &[Row], place: usize, row: &Row) -> Rival
+    ensures { IsRival rows.now row.now result }
+{
+    if place >= rows.len() {
+        return Rival::Nothing;
+    }
+    let other = &rows[place];
+    if implies(other, row) {
+        Rival::Stronger
+    } else if implies(row, other) {
+        Rival::Weaker(place)
+    } else {
+        Rival::Nothing
+    }
 }
 
 /// Whether the two rows have the same coefficients, and the first one holds only where the second one does.

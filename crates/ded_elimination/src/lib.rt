@@ -29,6 +29,7 @@ mod mixing;
 mod pairs;
 
 use crate::equality::{by_equality, find_equality};
+use crate::keeping::Kept;
 use crate::pairs::by_pairs;
 use ded_model::memory::Refused;
 use ded_model::row::Row;
@@ -58,19 +59,19 @@ pub fn eliminate<M: Mixing>(
     ensures wide { IsErrOf result Wide → clash_at slot (conj_lines row_lines rows.now) ≡ true }
     ensures never_wide { M.decides → IsErrOf result Wide → ⊥ }
 {
-    let mut out = Vec::new(alloc);
+    let mut out = Kept::new(alloc);
     if eliminate_into::<M>(&mut out, rows, slot)? {
-        Ok(Eliminated::Conj(out))
+        Ok(Eliminated::Conj(out.rows))
     } else {
         Ok(Eliminated::Never)
     }
 }
 
 /// Adds what is left of the rows without the slot. Returns whether something may satisfy the rows.
-fn eliminate_into<M: Mixing>(out: &mut Vec<Row>, rows: &[Row], slot: Slot) -> Result<bool, Refused>
+fn eliminate_into<M: Mixing>(out: &mut Kept, rows: &[Row], slot: Slot) -> Result<bool, Refused>
     requires normal { AreLinear rows.now }
     requires rows { AllByRecursion M.rows rows.now }
-    ensures adds { IfOk result (λ more. Adds M.rows slot rows.now (HoldExtended slot rows.now) out.old.items more out.new.items) }
+    ensures adds { IfOk result (λ more. Adds M.rows slot rows.now (HoldExtended slot rows.now) out.old.rows.items more out.new.rows.items) }
     ensures wide { IsErrOf result Wide → clash_at slot (conj_lines row_lines rows.now) ≡ true }
     ensures never_wide { M.decides → IsErrOf result Wide → ⊥ }
 {

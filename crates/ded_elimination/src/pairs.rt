@@ -11,7 +11,7 @@ ghost use Rattle.ded_elimination.specs.Adding.{AreLinear, HoldExtended, Adds, Of
 ghost use Rattle.ded_elimination.specs.Equalities.{NoEquality};
 ghost use Rattle.ded_elimination.specs.Pairs.{LevelHolds, PairHolds, UpperHolds};
 
-use crate::keeping::keep;
+use crate::keeping::{Kept, keep};
 use crate::mixing::Mixing;
 use ded_model::memory::{NoMemory, Refused};
 use ded_model::row::Row;
@@ -22,11 +22,11 @@ use ded_model::slot::Slot;
 ///
 /// # Errors
 /// `Wide` only where two lines of the rows clash at the slot, and never of a mixing that decides; otherwise out of memory.
-pub fn by_pairs<M: Mixing>(out: &mut Vec<Row>, rows: &[Row], slot: Slot) -> Result<bool, Refused>
+pub fn by_pairs<M: Mixing>(out: &mut Kept, rows: &[Row], slot: Slot) -> Result<bool, Refused>
     requires normal { AreLinear rows.now }
     requires rows { AllByRecursion M.rows rows.now }
     requires none { NoEquality slot rows.now (length rows.now) }
-    ensures adds { IfOk result (λ more. Adds M.rows slot rows.now (HoldExtended slot rows.now) out.old.items more out.new.items) }
+    ensures adds { IfOk result (λ more. Adds M.rows slot rows.now (HoldExtended slot rows.now) out.old.rows.items more out.new.rows.items) }
     ensures wide { IsErrOf result Wide → clash_at slot (conj_lines row_lines rows.now) ≡ true }
     ensures never_wide { M.decides → IsErrOf result Wide → ⊥ }
 {
@@ -38,10 +38,10 @@ pub fn by_pairs<M: Mixing>(out: &mut Vec<Row>, rows: &[Row], slot: Slot) -> Resu
 }
 
 /// Adds the rows without the slot. Returns whether something may satisfy the rows.
-fn keep_level<M: Mixing>(out: &mut Vec<Row>, rows: &[Row], slot: Slot) -> Result<bool, NoMemory>
+fn keep_level<M: Mixing>(out: &mut Kept, rows: &[Row], slot: Slot) -> Result<bool, NoMemory>
     requires normal { AreLinear rows.now }
     requires rows { AllByRecursion M.rows rows.now }
-    ensures { IfOk result (λ more. Adds M.rows slot rows.now (OfFirst (LevelHolds slot) rows.now (length rows.now)) out.old.items more out.new.items) }
+    ensures { IfOk result (λ more. Adds M.rows slot rows.now (OfFirst (LevelHolds slot) rows.now (length rows.now)) out.old.rows.items more out.new.rows.items) }
 {
     for row in rows {
         if !add_level::<M>(out, row, slot)? {
@@ -52,10 +52,10 @@ fn keep_level<M: Mixing>(out: &mut Vec<Row>, rows: &[Row], slot: Slot) -> Result
 }
 
 /// Adds the row if it is without the slot. Returns whether something may satisfy the rows that it is one of.
-fn add_level<M: Mixing>(out: &mut Vec<Row>, row: &Row, slot: Slot) -> Result<bool, NoMemory>
+fn add_level<M: Mixing>(out: &mut Kept, row: &Row, slot: Slot) -> Result<bool, NoMemory>
     requires normal { IsLinearAtom row.now }
     requires rows { M.rows row.now }
-    ensures { IfOk result (λ more. (rows : List LinearConstraint) → AreLinear rows → In row.now rows → Adds M.rows slot rows (LevelHolds slot row.now) out.old.items more out.new.items) }
+    ensures { IfOk result (λ more. (rows : List LinearConstraint) → AreLinear rows → In row.now rows → Adds M.rows slot rows (LevelHolds slot row.now) out.old.rows.items more out.new.rows.items) }
 {
     if row.coefs.at(slot) == 0 {
         keep(out, row.copy()?)
@@ -66,10 +66,10 @@ fn add_level<M: Mixing>(out: &mut Vec<Row>, row: &Row, slot: Slot) -> Result<boo
 
 /// Adds the combinations of each row that bounds the slot from above with each one that bounds it from below. Returns
 /// whether something may satisfy the rows.
-fn mix_uppers<M: Mixing>(out: &mut Vec<Row>, rows: &[Row], slot: Slot) -> Result<bool, Refused>
+fn mix_uppers<M: Mixing>(out: &mut Kept, rows: &[Row], slot: Slot) -> Result<bool, Refused>
     requires normal { AreLinear rows.now }
     requires rows { AllByRecursion M.rows rows.now }
-    ensures adds { IfOk result (λ more. Adds M.rows slot rows.now (OfFirst (UpperHolds slot rows.now) rows.now (length rows.now)) out.old.items more out.new.items) }
+    ensures adds { IfOk result (λ more. Adds M.rows slot rows.now (OfFirst (UpperHolds slot rows.now) rows.now (length rows.now)) out.old.rows.items more out.new.rows.items) }
     ensures wide { IsErrOf result Wide → clash_at slot (conj_lines row_lines rows.now) ≡ true }
     ensures never_wide { M.decides → IsErrOf result Wide → ⊥ }
 {
@@ -84,7 +84,7 @@ fn mix_uppers<M: Mixing>(out: &mut Vec<Row>, rows: &[Row], slot: Slot) -> Result
 /// Adds the combinations of the row with each one that bounds the slot from below, if it bounds the slot from above.
 /// Returns whether something may satisfy the rows.
 fn add_upper<M: Mixing>(
-    out: &mut Vec<Row>,
+    out: &mut Kept,
     upper: &Row,
     rows: &[Row],
     slot: Slot,
@@ -92,7 +92,7 @@ fn add_upper<M: Mixing>(
     requires normal { AreLinear rows.now }
     requires rows { AllByRecursion M.rows rows.now }
     requires inside { In upper.now rows.now }
-    ensures adds { IfOk result (λ more. Adds M.rows slot rows.now (UpperHolds slot rows.now upper.now) out.old.items more out.new.items) }
+    ensures adds { IfOk result (λ more. Adds M.rows slot rows.now (UpperHolds slot rows.now upper.now) out.old.rows.items more out.new.rows.items) }
     ensures wide { IsErrOf result Wide → clash_at slot (conj_lines row_lines rows.now) ≡ true }
     ensures never_wide { M.decides → IsErrOf result Wide → ⊥ }
 {
@@ -106,7 +106,7 @@ fn add_upper<M: Mixing>(
 /// Adds the combinations of an upper row with each row that bounds the slot from below. Returns whether something may
 /// satisfy the rows.
 fn mix_lowers<M: Mixing>(
-    out: &mut Vec<Row>,
+    out: &mut Kept,
     upper: &Row,
     rows: &[Row],
     slot: Slot,
@@ -115,7 +115,7 @@ fn mix_lowers<M: Mixing>(
     requires rows { AllByRecursion M.rows rows.now }
     requires inside { In upper.now rows.now }
     requires above { pos 0 <ℤ coef_at upper.now.coefs slot }
-    ensures adds { IfOk result (λ more. Adds M.rows slot rows.now (OfFirst (PairHolds slot upper.now) rows.now (length rows.now)) out.old.items more out.new.items) }
+    ensures adds { IfOk result (λ more. Adds M.rows slot rows.now (OfFirst (PairHolds slot upper.now) rows.now (length rows.now)) out.old.rows.items more out.new.rows.items) }
     ensures wide { IsErrOf result Wide → clash_at slot (conj_lines row_lines rows.now) ≡ true }
     ensures never_wide { M.decides → IsErrOf result Wide → ⊥ }
 {
@@ -130,7 +130,7 @@ fn mix_lowers<M: Mixing>(
 /// Adds the combination of an upper row with a row if that bounds the slot from below. Returns whether something may
 /// satisfy the rows that both are of.
 fn add_pair<M: Mixing>(
-    out: &mut Vec<Row>,
+    out: &mut Kept,
     upper: &Row,
     lower: &Row,
     slot: Slot,
@@ -139,7 +139,7 @@ fn add_pair<M: Mixing>(
     requires rows { M.rows upper.now × M.rows lower.now }
     requires above { pos 0 <ℤ coef_at upper.now.coefs slot }
     ensures adds { IfOk result (λ more. (rows : List LinearConstraint) → AreLinear rows → In upper.now rows → In lower.now rows
-        → Adds M.rows slot rows (PairHolds slot upper.now lower.now) out.old.items more out.new.items) }
+        → Adds M.rows slot rows (PairHolds slot upper.now lower.now) out.old.rows.items more out.new.rows.items) }
     ensures wide { IsErrOf result Wide → (rows : List LinearConstraint) → AreLinear rows → In upper.now rows → In lower.now rows
         → clash_at slot (conj_lines row_lines rows) ≡ true }
     ensures never_wide { M.decides → IsErrOf result Wide → ⊥ }

@@ -48,6 +48,12 @@ pruned_none rows = record { part = sublist_refl _ rows; same = λ p i. refl }
 pub pruned_then : (new mid old : Rows) → IsPruned new mid → IsPruned mid old → IsPruned new old
 pruned_then new mid old n m = record { part = sublist_trans _ new mid old n.part m.part; same = λ p i. n.same p i ∙ m.same p i }
 
+pub pruned_before : (new old rest : Rows) → IsPruned new old → IsPruned (new ++ rest) (old ++ rest)
+pruned_before new old rest s = record {
+  part = sublist_append _ new old rest rest s.part (sublist_refl _ rest);
+  same = λ p i. conj_holds-append row_holds new rest p ∙ ap (λ b. b && conj_holds row_holds rest p) (s.same p i) ∙ sym (conj_holds-append row_holds old rest p);
+}
+
 without_same : (a x b : Bool) → (a ≡ true → b ≡ true → x ≡ true) → (a && b) ≡ (a && (x && b))
 without_same false x b f = refl
 without_same true x false f = sym (and_none x)

@@ -17,6 +17,7 @@
 
 mod bounding;
 mod interval;
+mod neighbours;
 mod order;
 mod pruning;
 mod theory;

@@ -9,6 +9,7 @@ ghost use Rattle.ded_theory.specs.Verdicts.{HoldsNowhere};
 ghost use Rattle.ded_elimination.specs.LinearAtoms.{IsLinearAtom};
 ghost use Rattle.ded_linear.specs.Prunings.{IsPruned, Imply};
 
+use crate::neighbours::neighbours;
 use ded_model::memory::NoMemory;
 use ded_model::row::Row;
 use ded_model::tuple::Negated;
@@ -37,21 +38,58 @@ pub fn pruned(alloc: Global, rows: Vec<Row>, before: usize) -> Result<Vec<Row>, 
         return Ok(rows);
     }
     let mut misses = MISSES;
-    let fewer = sifted(alloc, &rows, false, &mut misses)?;
-    sifted(alloc, &fewer, true, &mut misses)
+    let fewer = sifted(alloc, &rows, &mut misses)?;
+    needed(alloc, &fewer, &mut misses)
 }
 
-/// The rows without those that the rows kept before them are found to imply, or with `ahead` these and the rows behind.
+/// The rows without those that the rows kept before them are found to imply. Whenever twice as many are kept as were needed of them,
+/// those that the others imply are left out, so that few rows have to be asked.
 ///
 /// # Errors
 /// Out of memory.
-fn sifted(alloc: Global, rows: &[Row], ahead: bool, misses: &mut u32) -> Result<Vec<Row>, NoMemory>
+fn sifted(alloc: Global, rows: &[Row], misses: &mut u32) -> Result<Vec<Row>, NoMemory>
+    requires normal { AllByRecursion IsLinearAtom rows.now }
+    ensures { IfOk result (λ kept. IsPruned kept.items rows.now) }
+{
+    let mut kept = Vec::new(alloc);
+    let mut many = 4 * MANY;
+    for i in 0..rows.len() {
+        keep_needed(alloc, &mut kept, rows, i, false, misses)?;
+        many = leave_out(alloc, &mut kept, many, misses)?;
+    }
+    Ok(kept)
+}
+
+/// Leaves those out of many rows that the others are found to imply. Gives how many are many the next time.
+fn leave_out(
+    alloc: Global,
+    kept: &mut Vec<Row>,
+    many: usize,
+    misses: &mut u32,
+) -> Result<usize, NoMemory>
+    requires normal { AllByRecursion IsLinearAtom kept.old.items }
+    ensures { IfOk result (λ _. IsPruned kept.new.items kept.old.items) }
+{
+    if kept.len() < many {
+        return Ok(many);
+    }
+    let fewer = needed(alloc, kept, misses)?;
+    let next = fewer.len().saturating_mul(2).max(many);
+    *kept = fewer;
+    Ok(next)
+}
+
+/// The rows without those that the rows kept before them and the rows behind are found to imply.
+///
+/// # Errors
+/// Out of memory.
+fn needed(alloc: Global, rows: &[Row], misses: &mut u32) -> Result<Vec<Row>, NoMemory>
     requires normal { AllByRecursion IsLinearAtom rows.now }
     ensures { IfOk result (λ kept. IsPruned kept.items rows.now) }
 {
     let mut kept = Vec::new(alloc);
     for i in 0..rows.len() {
-        keep_needed(alloc, &mut kept, rows, i, ahead, misses)?;
+        keep_needed(alloc, &mut kept, rows, i, true, misses)?;
     }
     Ok(kept)
 }
@@ -71,7 +109,7 @@ fn keep_needed(
     ensures { IfOk result (λ _. IsPruned (kept.new.items ++ drop (place + 1) rows.now) rows.now) }
 {
     let others = behind(rows, place, ahead);
-    if imply(alloc, kept, others, &rows[place], misses)? {
+    if follows(alloc, kept, others, &rows[place], misses)? {
         return Ok(());
     }
     kept.push(rows[place].copy()?)?;
@@ -84,6 +122,41 @@ fn behind(rows: &[Row], place: usize, all: bool) -> &[Row]
     ensures { (result.now ≡ []) ⊎ (result.now ≡ drop (place + 1) rows.now) }
 {
     if all { &rows[place + 1..] } else { &[] }
+}
+
+/// Whether the row is found to hold wherever all the others do: wherever its two neighbours among those kept do, or else all.
+fn follows(
+    alloc: Global,
+    kept: &[Row],
+    behind: &[Row],
+    row: &Row,
+    misses: &mut u32,
+) -> Result<bool, NoMemory>
+    requires kept { AllByRecursion IsLinearAtom kept.now }
+    requires behind { AllByRecursion IsLinearAtom behind.now }
+    requires normal { IsLinearAtom row.now }
+    ensures { IfOk result (λ b. b ≡ true → Imply kept.now behind.now row.now) }
+{
+    if follows_from_two(alloc, kept, row)? {
+        return Ok(true);
+    }
+    imply(alloc, kept, behind, row, misses)
+}
+
+/// Whether the row is found to hold wherever its two neighbours among the rows do.
+fn follows_from_two(alloc: Global, rows: &[Row], row: &Row) -> Result<bool, NoMemory>
+    requires rows { AllByRecursion IsLinearAtom rows.now }
+    requires normal { IsLinearAtom row.now }
+    ensures { IfOk result (λ b. b ≡ true → Imply rows.now [] row.now) }
+{
+    let Some((left, right)) = neighbours(rows, row) else {
+        return Ok(false);
+    };
+    let mut two = Vec::with_capacity(alloc, 2)?;
+    two.push(rows[left].copy()?)?;
+    two.push(rows[right].copy()?)?;
+    let mut misses = MISSES;
+    imply(alloc, &two, &[], row, &mut misses)
 }
 
 /// Whether the row is found to hold wherever all the others do. Of an equality it isn't looked for, and once there are no misses left

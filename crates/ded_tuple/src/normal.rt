@@ -30,7 +30,7 @@ pub fn normal_tuple(alloc: Global, mut atoms: Vec<Atom>) -> Result<Tuple, NoMemo
     ensures lines { IfOk result (λ t. IsSubset (atoms_lines t) (atoms_lines atoms.items)) }
 {
     let mut tuple = Tuple {
-        atoms: Vec::new(alloc),
+        atoms: Vec::with_capacity(alloc, atoms.len())?,
     };
     while let Some(atom) = atoms.pop() {
         add(&mut tuple, atom)?;

@@ -1,5 +1,5 @@
 //! What a catalogue is asked. Only look-ups in windows and copies allocate.
-ghost use Rattle.std.specs.Prelude.{◌≡◌, true, false, IfOk, IfSome, is_none, slice_get};
+ghost use Rattle.std.specs.Prelude.{◌≡◌, true, false, IfOk, IfSome, is_none, map};
 ghost use Rattle.std.specs.Option.{option_map};
 
 use super::Catalogue;
@@ -116,17 +116,17 @@ impl Catalogue {
     pub fn spoken_names(&self, formula: &Formula) -> Result<Vec<Name>, NoMemory>
         ensures { IfOk result (λ ns. AreMentions ns.items (form formula.now)) }
     {
-        mentioned(*self.names.allocator(), *self.names.hasher(), formula)
+        mentioned(self.names.alloc(), self.names.hashing(), formula)
     }
 
-    /// The name of the entry at a place in order of definition, from 0. None exactly where no entry stands there.
-    pub fn name_at(&self, place: usize) -> Option<&Name>
-        ensures { option_map (λ n. n.now) result ≡ option_map entry_name (slice_get (catalogue_of self.now).entries place) }
+    /// The names of the entries, in order of definition.
+    ///
+    /// # Errors
+    /// Out of memory.
+    pub fn names(&self, alloc: Global) -> Result<Vec<&Name>, NoMemory>
+        ensures { IfOk result (λ ns. map (λ n. n.now) ns.items ≡ map entry_name (catalogue_of self.now).entries) }
     {
-        match self.names.get_index(place) {
-            Some((name, _)) => Some(name),
-            None => None,
-        }
+        self.names.names(alloc)
     }
 
     /// Why an insert into the relation would be refused, whatever the tuple: `Full` or `Spent`. None where it would be
@@ -150,7 +150,7 @@ impl Catalogue {
     {
         Ok(Catalogue {
             limit: self.limit,
-            names: self.names.clone()?,
+            names: self.names.copy()?,
         })
     }
 }

@@ -4,5 +4,5 @@ use Rattle.ded_catalog.specs.State.{catalogue_of}
 use Rattle.ded_dump.specs.Entries.{entries_lines, dump_lines}
 use Rattle.ded_dump.proofs.script.lines.Given as goal
 
-abbrev pub invariant-loop-place : goal.invariant-loop-place
-invariant-loop-place l = l.lines.items ++ entries_lines (drop l.place (catalogue_of l.catalogue).entries) ≡ dump_lines (catalogue_of l.catalogue)
+abbrev pub invariant-loop-name : goal.invariant-loop-name
+invariant-loop-name l = l.lines.items ++ entries_lines (drop l.name-index (catalogue_of l.catalogue).entries) ≡ dump_lines (catalogue_of l.catalogue)

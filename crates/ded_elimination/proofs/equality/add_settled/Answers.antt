@@ -32,7 +32,7 @@ returns-clause-adds g c = λ rows linear ie ir.
     let same : x ≡ settled_row s e r = c.in_ok-row.ensures.value in
     let normal : IsLinearAtom x = record { coefs = c.keep.ensures.coefs; row = c.in_ok-row.ensures.normal } in
     let short : (k : Line) → In k (row_lines x) → settled_clash s e r ≡ false = c.in_ok-row.ensures.short in
-    adds_kept g.M.Mixing.rows s rows (SettledHolds s e r) x c.args.out.now.items c.in_ok-keep.field-0 c.keep.new.out.items c.in_ok-keep.ensures.keeps
+    adds_kept g.M.Mixing.rows s rows (SettledHolds s e r) x c.args.out.now.rows.items c.in_ok-keep.field-0 c.keep.new.out.rows.items c.in_ok-keep.ensures.keeps
     (subst (IsRemaining g.M.Mixing.rows s rows) (sym same) (settled_remains g.M.Mixing.rows s rows linear e r ie ir c.requires.equality c.requires.mentions
     (subst (λ y. (k : Line) → In k (row_lines y) → settled_clash s e r ≡ false) same short) (subst IsLinearAtom same normal) (subst g.M.Mixing.rows same c.in_ok-row.ensures.rows)))
     (λ p d h. inr (ap (λ (y : LinearConstraint). row_holds y p) (sym same) ∙ h))

@@ -19,7 +19,7 @@ returns-in_ok-copy g c =
     let same : x ≡ r = c.in_ok-copy.ensures in
     let zero : coef_at r.coefs s ≡ pos 0 =
     is_zero c.at.result (coef_at r.coefs s) c.at.ensures.short (c.at.ensures.value ∙ ap (λ (y : LinearConstraint). coef_at y.coefs s) c.row.view_is) c.if-at-eq0.true in
-    IfOk-weaker _ (λ more. Keeps x c.args.out.now.items more c.keep.new.out.items) _
-    (λ more k. λ rows linear inside. adds_kept g.M.Mixing.rows s rows (LevelHolds s r) x c.args.out.now.items more c.keep.new.out.items k
+    IfOk-weaker _ (λ more. Keeps x c.args.out.now.rows.items more c.keep.new.out.rows.items) _
+    (λ more k. λ rows linear inside. adds_kept g.M.Mixing.rows s rows (LevelHolds s r) x c.args.out.now.rows.items more c.keep.new.out.rows.items k
     (subst (IsRemaining g.M.Mixing.rows s rows) (sym same) (level_remains g.M.Mixing.rows s rows linear r c.requires.rows inside zero)) (λ p d h z. ap (λ (y : LinearConstraint). row_holds y p) (sym same) ∙ h))
     c.keep.ensures.keeps

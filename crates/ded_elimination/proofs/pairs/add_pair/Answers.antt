@@ -43,7 +43,7 @@ returns-in_ok-keep-clause-adds g c = λ rows linear iu il.
     is_below c.at.result (coef_at l.coefs s) c.at.ensures.short (c.at.ensures.value ∙ ap (λ (y : LinearConstraint). coef_at y.coefs s) c.lower.view_is) c.if-at-lt0.true in
     let normal : IsLinearAtom x = record { coefs = c.keep.ensures.coefs; row = c.in_ok-row.ensures.normal } in
     let short : (k : Line) → In k (row_lines x) → lines_clash s u l ≡ false = c.in_ok-row.ensures.short in
-    adds_kept g.M.Mixing.rows s rows (PairHolds s u l) x c.args.out.now.items c.in_ok-keep.field-0 c.keep.new.out.items c.in_ok-keep.ensures.keeps
+    adds_kept g.M.Mixing.rows s rows (PairHolds s u l) x c.args.out.now.rows.items c.in_ok-keep.field-0 c.keep.new.out.rows.items c.in_ok-keep.ensures.keeps
     (subst (IsRemaining g.M.Mixing.rows s rows) (sym same) (mixed_remains g.M.Mixing.rows s rows linear u l iu il (above_by u.op (coef_at u.coefs s) c.requires.above) (below_by l.op (coef_at l.coefs s) low)
     (subst (λ y. (k : Line) → In k (row_lines y) → lines_clash s u l ≡ false) same short) (subst IsLinearAtom same normal) (subst g.M.Mixing.rows same c.in_ok-row.ensures.rows)))
     (λ p d h z. ap (λ (y : LinearConstraint). row_holds y p) (sym same) ∙ h)

@@ -39,9 +39,9 @@ returns-then-not-branch-clause-adds g c =
     let rows = c.args.rows.now in
     let u = c.args.upper.now in
     let x = c.lower-item.result in
-    let step = subst (λ b. Adds g.M.Mixing.rows s rows (PairHolds s u x) c.loop-lower.out.items b c.add_pair.new.out.items) c.if-not-branch.true
+    let step = subst (λ b. Adds g.M.Mixing.rows s rows (PairHolds s u x) c.loop-lower.out.rows.items b c.add_pair.new.out.rows.items) c.if-not-branch.true
     (c.in_ok-add_pair.ensures.adds rows c.requires.normal c.requires.inside (In-at rows c.loop-lower.lower-index x (omega arith) c.lower-item.is)) in
-    adds_stop g.M.Mixing.rows s rows (OfFirst (PairHolds s u) rows c.loop-lower.lower-index) (PairHolds s u x) (OfFirst (PairHolds s u) rows (length rows)) c.args.out.now.items c.loop-lower.out.items c.add_pair.new.out.items
+    adds_stop g.M.Mixing.rows s rows (OfFirst (PairHolds s u) rows c.loop-lower.lower-index) (PairHolds s u x) (OfFirst (PairHolds s u) rows (length rows)) c.args.out.now.rows.items c.loop-lower.out.rows.items c.add_pair.new.out.rows.items
     c.loop-lower.invariant step
 
 pub loop-lower-preserved : goal.loop-lower-preserved
@@ -50,6 +50,6 @@ loop-lower-preserved g c =
     let rows = c.args.rows.now in
     let u = c.args.upper.now in
     let x = c.lower-item.result in
-    let step = subst (λ b. Adds g.M.Mixing.rows s rows (PairHolds s u x) c.loop-lower.out.items b c.add_pair.new.out.items) c.if-not-branch.false
+    let step = subst (λ b. Adds g.M.Mixing.rows s rows (PairHolds s u x) c.loop-lower.out.rows.items b c.add_pair.new.out.rows.items) c.if-not-branch.false
     (c.in_ok-add_pair.ensures.adds rows c.requires.normal c.requires.inside (In-at rows c.loop-lower.lower-index x (omega arith) c.lower-item.is)) in
-    adds_more g.M.Mixing.rows s rows (PairHolds s u) rows c.loop-lower.lower-index x c.args.out.now.items c.loop-lower.out.items true c.add_pair.new.out.items (omega arith) c.lower-item.is c.loop-lower.invariant step
+    adds_more g.M.Mixing.rows s rows (PairHolds s u) rows c.loop-lower.lower-index x c.args.out.now.rows.items c.loop-lower.out.rows.items true c.add_pair.new.out.rows.items (omega arith) c.lower-item.is c.loop-lower.invariant step

@@ -13,5 +13,5 @@ loop-upper-preserved g c =
     let s = c.args.slot in
     let rows = c.args.rows.now in
     let x = c.upper-item.result in
-    let step = subst (λ b. Adds g.M.Mixing.rows s rows (UpperHolds s rows x) c.loop-upper.out.items b c.add_upper.new.out.items) c.if-not-branch.false c.in_ok-add_upper.ensures.adds in
-    adds_more g.M.Mixing.rows s rows (UpperHolds s rows) rows c.loop-upper.upper-index x c.args.out.now.items c.loop-upper.out.items true c.add_upper.new.out.items (omega arith) c.upper-item.is c.loop-upper.invariant step
+    let step = subst (λ b. Adds g.M.Mixing.rows s rows (UpperHolds s rows x) c.loop-upper.out.rows.items b c.add_upper.new.out.rows.items) c.if-not-branch.false c.in_ok-add_upper.ensures.adds in
+    adds_more g.M.Mixing.rows s rows (UpperHolds s rows) rows c.loop-upper.upper-index x c.args.out.now.rows.items c.loop-upper.out.rows.items true c.add_upper.new.out.rows.items (omega arith) c.upper-item.is c.loop-upper.invariant step

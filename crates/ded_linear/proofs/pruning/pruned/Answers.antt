@@ -12,12 +12,12 @@ returns-then-len-lt-MANY-clause-part c = let none = pruned_none c.args.rows.item
 passed : (rows given left : List LinearConstraint) (items : List LinearConstraint) → given ≡ rows → items ≡ left → IsPruned left given → IsPruned items rows
 passed rows given left items e f s = subst (λ xs. IsPruned xs rows) (sym f) (subst (IsPruned left) e s)
 
-pub sifted-requires-2 : goal.sifted-requires-2
-sifted-requires-2 c =
+pub needed-requires : goal.needed-requires
+needed-requires c =
     let s = passed c.args.rows.items c.deref.result.now c.in_ok-fewer.fewer.items c.deref-2.result.now c.deref.ensures.value c.deref-2.ensures.value c.in_ok-fewer.ensures in
     record { normal = part_normal c.deref-2.result.now c.args.rows.items s.part c.requires.normal }
 
 pub returns-clause-part : goal.returns-clause-part
 returns-clause-part c =
     let s = passed c.args.rows.items c.deref.result.now c.in_ok-fewer.fewer.items c.deref-2.result.now c.deref.ensures.value c.deref-2.ensures.value c.in_ok-fewer.ensures in
-    IfOk-weaker c.sifted-2.result _ _ (λ kept k. let all = pruned_then kept.items c.deref-2.result.now c.args.rows.items k s in all.part) c.sifted-2.ensures
+    IfOk-weaker c.needed.result _ _ (λ kept k. let all = pruned_then kept.items c.deref-2.result.now c.args.rows.items k s in all.part) c.needed.ensures

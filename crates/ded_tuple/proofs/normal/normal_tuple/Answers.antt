@@ -10,7 +10,7 @@ use Rattle.ded_tuple.proofs.normal.normal_tuple.Goals as goal
 use Rattle.ded_tuple.proofs.normal.normal_tuple.Goals.{After-drop-atoms-2}
 
 pub loop-atom-init : goal.loop-atom-init
-loop-atom-init c = record { normal = c.requires; done = ap (placed (without_true c.args.atoms.items)) c.new.ensures.items ∙ placed_none (without_true c.args.atoms.items) }
+loop-atom-init c = record { normal = c.requires; done = ap (placed (without_true c.args.atoms.items)) c.in_ok-with_capacity.ensures.items ∙ placed_none (without_true c.args.atoms.items) }
 
 pub add-requires : goal.add-requires
 add-requires c = all-last IsNormalOrTrue c.pop.new.self.items c.in-Some.atom (subst (AllByRecursion IsNormalOrTrue) c.in-Some.ensures.items c.loop-atom.invariant.normal)

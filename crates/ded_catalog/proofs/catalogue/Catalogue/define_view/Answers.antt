@@ -6,6 +6,7 @@ use Rattle.ded_catalog.specs.Conditions.{IsKept}
 use Rattle.ded_catalog.specs.State.{catalogue_of}
 use Rattle.ded_catalog.proofs.Calls.{new_name, kept-viewed, level_there}
 use Rattle.ded_catalog.proofs.Results.{after}
+use Rattle.ded_catalog.proofs.Unused.{unspoken, unused_there}
 use Rattle.ded_catalog.proofs.catalogue.Catalogue.define_view.Goals as goal
 
 pub overflow_add-level : goal.overflow_add-level
@@ -14,8 +15,16 @@ overflow_add-level c =
     let low = subst (λ t. level_of (known (catalogue_of t)) (form c.args.f) ≤ 16) (sym c.self.view_is) c.requires.level in
     omega (arith, level, low, c.in_ok-level.ensures)
 
-pub add-requires : goal.add-requires
-add-requires c = new_name c.self.inside.limit c.self.inside.names.entries c.args.name c.self.invariant (subst (λ t. known (catalogue_of t) c.args.name ≡ None) (sym c.self.view_is) c.requires.new.0)
+pub add-requires-clause-new : goal.add-requires-clause-new
+add-requires-clause-new c = new_name c.self.inside.limit c.self.inside.names.entries c.args.name c.self.invariant (subst (λ t. known (catalogue_of t) c.args.name ≡ None) (sym c.self.view_is) c.requires.new.0)
+
+pub add-requires-clause-unused : goal.add-requires-clause-unused
+add-requires-clause-unused c =
+    unused_there c.self.inside.limit c.self.inside.names.entries c.args.name c.self.invariant
+    (new_name c.self.inside.limit c.self.inside.names.entries c.args.name c.self.invariant (subst (λ t. known (catalogue_of t) c.args.name ≡ None) (sym c.self.view_is) c.requires.new.0))
+
+pub add-requires-clause-own : goal.add-requires-clause-own
+add-requires-clause-own c = unspoken (known (catalogue_of c.args.self.now)) (form c.args.f) c.args.name c.requires.accepted.known c.requires.new.0
 
 pub invariant_of-self : goal.invariant_of-self
 invariant_of-self c =

@@ -4,7 +4,11 @@ use Rattle.ded_sorts.specs.Changes.{DropsEntry}
 use Rattle.ded_model.specs.Entries.{known, entry_uses}
 use Rattle.ded_catalog.specs.State.{catalogue_of}
 use Rattle.ded_catalog.proofs.Calls.{name_there, kept-taken, drops-taken}
+use Rattle.ded_catalog.proofs.Unused.{mentions_there}
 use Rattle.ded_catalog.proofs.catalogue.Catalogue.drop_name.Goals as goal
+
+pub take_out-requires : goal.take_out-requires
+take_out-requires c = mentions_there c.self.inside.limit c.self.inside.names.entries c.args.name.now c.self.invariant
 
 pub invariant_of-self : goal.invariant_of-self
 invariant_of-self c =

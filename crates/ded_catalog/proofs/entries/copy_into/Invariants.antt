@@ -1,0 +1,5 @@
+use Rattle.ded_catalog.proofs.CopiedEntries.{AreUnderCopy}
+use Rattle.ded_catalog.proofs.entries.copy_into.Given as goal
+
+abbrev pub invariant-loop-name : goal.invariant-loop-name
+invariant-loop-name l = AreUnderCopy l.linked.entries l.name-iterator l.copies.entries
