@@ -1,7 +1,7 @@
 -- The parts of a join, one after another: those that are rows and text atoms alone hold from the start.
 use Rattle.std.proofs.Common.{◌≡◌, Bool, true, ◌||◌, List, [], ◌∷◌, ◌++◌, ◌⊎◌, ⊎_elim, inl, inr, length, arith, refl, sym, ◌∙◌, subst, true≢false}
 use Rattle.std.specs.Prelude.{◌↔◌, IsTrue}
-use Rattle.std.proofs.lemmas.Bool.{and_from, and_parts}
+use Rattle.std.proofs.lemmas.Bool.{and_from}
 use Rattle.ded_model.specs.declared.slot.Slot.{Slot}
 use Rattle.ded_model.specs.Catalogue.{Catalogue, stored}
 use Rattle.ded_model.specs.Lines.{Line, In, IsSubset, all_lines}
@@ -14,7 +14,7 @@ use Rattle.ded_model.proofs.Rows.{or_left, or_right}
 use Rattle.ded_genrel.proofs.Laws.{conjs_hold-append, conjs_mention-append, conjs_lines-append}
 use Rattle.ded_eval.specs.Joining.{IsJoinedWith}
 use Rattle.ded_genrel.specs.Lists.{conjs_hold, conjs_mention, conjs_lines}
-use Rattle.ded_genrel.specs.Operations.{IsMeet}
+use Rattle.ded_eval.specs.Inside.{IsMeetInside}
 use Rattle.ded_eval.specs.Within.{is_rows, rows_hold, all_rows_hold, AreRowsOf, IsBegun}
 use Rattle.ded_eval.proofs.Evaluated.{IsListFor, every-push, every-left}
 
@@ -54,12 +54,12 @@ module _ (c : Catalogue) where
 -- ---- one part more
 
 module _ {A : Type 0} (h : A → Point → Bool) (m : A → Slot → Bool) (l : A → List Line) (c : Catalogue) (inside : Point → Bool) (f : PlanForm) where
-  -- what is met with the list of the part
-  pub met_with : (xs ys out : List (List A)) (within : Point → Bool) → ((p : Point) → inside p ≡ true → conjs_hold h xs p ≡ true → within p ≡ true)
-      → IsListFor h m l within c f ys → IsMeet h m l xs ys out → IsJoinedWith h m l c inside f xs out
-  met_with xs ys out within k e o = record {
-    within = λ p i x. (and_parts _ _ (sym (o.holds p i) ∙ x)).0;
-    holds = λ p i w y. (λ x. (e.holds p i (k p w y)).0 (and_parts (conjs_hold h xs p) _ (sym (o.holds p i) ∙ x)).1, λ x. o.holds p i ∙ and_from _ _ y ((e.holds p i (k p w y)).1 x));
+  -- what is met with the list of the part, where rows hold that hold inside
+  pub met_with : (xs ys out : List (List A)) (within across : Point → Bool) → ((p : Point) → inside p ≡ true → conjs_hold h xs p ≡ true → within p ≡ true) → ((p : Point) → inside p ≡ true → across p ≡ true)
+      → IsListFor h m l within c f ys → IsMeetInside h m l across xs ys out → IsJoinedWith h m l c inside f xs out
+  met_with xs ys out within across k a e o = record {
+    within = λ p i x. (o.within p i x).0;
+    holds = λ p i w y. (λ x. (e.holds p i (k p w y)).0 (o.within p i x).1, λ x. o.holds p i (a p w) y ((e.holds p i (k p w y)).1 x));
     slots = λ s u. ⊎_elim (λ (x : conjs_mention m xs s ≡ true). or_left _ _ x) (λ x. or_right (conjs_mention m xs s) _ (e.slots s x)) (or_split _ _ (o.slots s u));
     lines = subset_trans (conjs_lines l out) (conjs_lines l xs ++ conjs_lines l ys) (conjs_lines l xs ++ plan_lines (stored_measures c) f) o.lines
         (subset_append (conjs_lines l xs) (conjs_lines l ys) (conjs_lines l xs) (plan_lines (stored_measures c) f) (λ x i. i) e.lines);

@@ -8,6 +8,7 @@ pub mod Distinct
 pub mod Evaluated
 pub mod Extending
 pub mod Found
+pub mod Inside
 pub mod Joined
 pub mod Names
 pub mod Narrowness

@@ -1,5 +1,6 @@
 pub mod Finding
 pub mod Given
+pub mod Inside
 pub mod Joining
 pub mod Kept
 pub mod Laws

@@ -10,9 +10,11 @@ ghost use Rattle.ded_model.specs.PlanForm.{rows, plan_form, plan_forms};
 ghost use Rattle.ded_genrel.specs.Lists.{conjs_hold, conjs_mention, conjs_lines};
 ghost use Rattle.ded_genrel.specs.Rounds.{AreRational};
 ghost use Rattle.ded_model.specs.Cell.{conj_holds};
+ghost use Rattle.ded_model.specs.Point.{Point};
 ghost use Rattle.ded_algebra.specs.Evaluation.{IsScannable, IsEvaluable, IsEvaluation, IsEvaluationWithin};
 ghost use Rattle.ded_eval.specs.Joining.{begun, IsJoinedWith};
 
+use crate::across::{join_inside, rows_across};
 use crate::beside::{alone, begun_with, is_rows, leaves_nothing, narrowed, rows_of_parts};
 use crate::lookups::is_lookup;
 use crate::reading::{OfTuples, conjunction};
@@ -23,7 +25,6 @@ use crate::window::without_slot;
 use ded_algebra::Relations;
 use ded_complement::{complement, minus};
 use ded_genrel::{GenRel, both_conjs};
-use ded_join::join_shorter;
 use ded_model::memory::{NoMemory, Refused};
 use ded_model::plan::Plan;
 use ded_model::slot::Slot;
@@ -128,7 +129,8 @@ fn complemented<T: OfTuples, R: Relations>(
 }
 
 /// The join of the parts, which ends at the first one that leaves nothing. Its rows and text atoms come first. Each other part is
-/// evaluated within the window and them, and where the parts so far leave one conjunction, within that.
+/// evaluated within the window and them, and where the parts so far leave one conjunction, within that. Pairs that hold nowhere in
+/// the window by its rows that lie across the two sides are left out.
 #[cycle(evaluate)]
 fn joined<T: OfTuples, R: Relations>(
     alloc: Global,
@@ -156,13 +158,15 @@ fn joined<T: OfTuples, R: Relations>(
         }
         let own = rational_slots(alloc, part)?;
         let near = shared(alloc, &own, &slots)?;
-        list = Some(joined_with(alloc, list, part, relations, &within, &near, met)?);
+        let across = rows_across::<T>(alloc, &within, &slots, &own)?;
+        list = Some(joined_with(alloc, list, part, relations, &within, &near, &across, met)?);
         add_all(&mut slots, &own)?;
     }
     Ok(whole(alloc, list)?)
 }
 
-/// The join of the parts so far with one more. What is looked up is looked up for each conjunction of the parts so far.
+/// The join of the parts so far with one more, within the rows across both. What is looked up is looked up for each conjunction of
+/// the parts so far.
 #[cycle(evaluate)]
 fn joined_with<T: OfTuples, R: Relations>(
     alloc: Global,
@@ -171,24 +175,27 @@ fn joined_with<T: OfTuples, R: Relations>(
     relations: &R,
     within: &[T::Atom],
     slots: &[Slot],
+    across: &[T::Atom],
     met: &mut u64,
 ) -> Result<GenRel<T>, Refused>
     requires part { IsEvaluable T.reads (R.catalogue relations.now) (plan_form part.now) }
     requires within { AllByRecursion T.normal within.now }
     requires rational { AreRational slots.now }
+    requires across { AllByRecursion T.normal across.now }
+    requires weaker { (p : Point) → conj_holds T.holds within.now p ≡ true → conj_holds T.holds across.now p ≡ true }
     ensures is { IfOk result (λ r. IsJoinedWith T.holds T.mentions T.lines (R.catalogue relations.now) (conj_holds T.holds within.now) (plan_form part.now) (begun before) r) }
     ensures wide { IsErrOf result Wide → plan_clashes (stored_measures (R.catalogue relations.now)) (plan_form part.now) ≡ true }
     ensures never_wide { T.decides → IsErrOf result Wide → ⊥ }
 {
     match before {
         Some(list) if is_lookup(alloc, &list, part, relations) => {
-            probed(alloc, &list, part, relations, within, met)
+            probed(alloc, &list, part, relations, within, across, met)
         }
-        before => met_with(alloc, before, part, relations, within, slots, met),
+        before => met_with(alloc, before, part, relations, within, slots, across, met),
     }
 }
 
-/// The join of the parts so far with one more, by the slots that they share.
+/// The join of the parts so far with one more, by the slots that they share, within the rows across both.
 #[cycle(evaluate)]
 fn met_with<T: OfTuples, R: Relations>(
     alloc: Global,
@@ -197,11 +204,14 @@ fn met_with<T: OfTuples, R: Relations>(
     relations: &R,
     within: &[T::Atom],
     slots: &[Slot],
+    across: &[T::Atom],
     met: &mut u64,
 ) -> Result<GenRel<T>, Refused>
     requires part { IsEvaluable T.reads (R.catalogue relations.now) (plan_form part.now) }
     requires within { AllByRecursion T.normal within.now }
     requires rational { AreRational slots.now }
+    requires across { AllByRecursion T.normal across.now }
+    requires weaker { (p : Point) → conj_holds T.holds within.now p ≡ true → conj_holds T.holds across.now p ≡ true }
     ensures is { IfOk result (λ r. IsJoinedWith T.holds T.mentions T.lines (R.catalogue relations.now) (conj_holds T.holds within.now) (plan_form part.now) (begun before) r) }
     ensures wide { IsErrOf result Wide → plan_clashes (stored_measures (R.catalogue relations.now)) (plan_form part.now) ≡ true }
     ensures never_wide { T.decides → IsErrOf result Wide → ⊥ }
@@ -209,7 +219,7 @@ fn met_with<T: OfTuples, R: Relations>(
     let inner = narrowed(alloc, within, &before)?;
     let next = evaluate_within(alloc, part, relations, &inner, met)?;
     match before {
-        Some(list) => Ok(join_shorter(alloc, &list, &next, slots, met)?),
+        Some(list) => Ok(join_inside(alloc, &list, &next, slots, across, met)?),
         None => Ok(next),
     }
 }
@@ -222,10 +232,13 @@ fn probed<T: OfTuples, R: Relations>(
     part: &Plan,
     relations: &R,
     within: &[T::Atom],
+    across: &[T::Atom],
     met: &mut u64,
 ) -> Result<GenRel<T>, Refused>
     requires part { IsEvaluable T.reads (R.catalogue relations.now) (plan_form part.now) }
     requires within { AllByRecursion T.normal within.now }
+    requires across { AllByRecursion T.normal across.now }
+    requires weaker { (p : Point) → conj_holds T.holds within.now p ≡ true → conj_holds T.holds across.now p ≡ true }
     ensures is { IfOk result (λ r. IsJoinedWith T.holds T.mentions T.lines (R.catalogue relations.now) (conj_holds T.holds within.now) (plan_form part.now) list.now r) }
     ensures wide { IsErrOf result Wide → plan_clashes (stored_measures (R.catalogue relations.now)) (plan_form part.now) ≡ true }
     ensures never_wide { T.decides → IsErrOf result Wide → ⊥ }
@@ -233,7 +246,7 @@ fn probed<T: OfTuples, R: Relations>(
     let mut joined = GenRel::new(alloc);
     for conj in list.list() {
         let before = Some(alone(alloc, conj)?);
-        let more = met_with(alloc, before, part, relations, within, &[], met)?;
+        let more = met_with(alloc, before, part, relations, within, &[], across, met)?;
         joined.append(more)?;
     }
     Ok(joined)

@@ -3,7 +3,8 @@
 //! The evaluation goes from the leaves of a plan to its root with the operations on lists of conjunctions: scans rename stored
 //! tuples, joins go through an index over boxes, differences and complements are cut piece by piece, and projections eliminate.
 //! What a question fixes goes down to the scans as a window ([`evaluate_within`]): tuples that hold nowhere in it needn't be read,
-//! and a part of a join that finds few tuples is looked up for each conjunction of the parts before it.
+//! and a part of a join that finds few tuples is looked up for each conjunction of the parts before it. Pairs of a join that hold
+//! nowhere together with the window's rows across its two sides are left out.
 //! Conjunctions that no point satisfies are dropped at once, and of equal ones that a union or a projection makes only the first
 //! is kept. It is written over any theory whose atoms stand for rows and text atoms ([`OfTuples`]). The list that it gives holds
 //! exactly where the plan does, mentions only slots that the plan mentions freely, and has lines among the plan's; it gives up
@@ -29,6 +30,7 @@
 //! extents.
 #![tactic(auto)]
 
+mod across;
 mod atoms;
 mod attaining;
 mod beside;

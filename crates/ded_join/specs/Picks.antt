@@ -1,5 +1,5 @@
 -- Indexes over the boxes around conjunctions, and the pairs that they pick.
-use Rattle.std.specs.Prelude.{◌≡◌, ◌<◌, ℕ, Bool, List, [], ◌∷◌, ◌++◌, length, slice_index_or}
+use Rattle.std.specs.Prelude.{◌≡◌, ◌<◌, ◌^◌, ℕ, Bool, Option, None, Some, List, [], ◌∷◌, ◌++◌, length, slice_index_or}
 use Rattle.std.specs.List.{AllByRecursion}
 use Rattle.ded_model.specs.declared.slot.Slot.{Slot}
 use Rattle.ded_model.specs.Point.{Point}
@@ -19,6 +19,11 @@ AreBoxesOf holds mentions lines ss (c ∷ cs) (x ∷ xs) = IsBoxOf holds mention
 pub record IsIndexOf {A : Type 0} (holds : A → Point → Bool) (mentions : A → Slot → Bool) (lines : A → List Line) (ss : List Slot) (cs : List (List A)) (es : List Entry) : Type 0 where
   pub each : (j : ℕ) → j < length cs → SomeEntry (λ e. (e.id ≡ j) × IsRound holds ss (slice_index_or cs j []) e.bounds) es
   pub own : AllByRecursion (λ e. (e.id < length cs) × IsBoxOf holds mentions lines ss (slice_index_or cs e.id []) e.bounds) es
+
+-- such an index, where slots are given and the list has fewer conjunctions than an index has numbers for; none where it isn't so
+abbrev pub IsIndexOver : {A : Type 0} → (A → Point → Bool) → (A → Slot → Bool) → (A → List Line) → List Slot → List (List A) → Option (List Entry) → Type 0
+IsIndexOver holds mentions lines ss cs None = 0 < length ss → length cs < 2 ^ 32 → ⊥
+IsIndexOver holds mentions lines ss cs (Some es) = (0 < length ss) × (length cs < 2 ^ 32) × IsIndexOf holds mentions lines ss cs es
 
 -- the conjunction with those at the places, in order
 abbrev pub picked : {A : Type 0} → List A → List (List A) → List ℕ → List (List A)

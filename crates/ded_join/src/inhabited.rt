@@ -8,12 +8,15 @@ ghost use Rattle.ded_genrel.specs.Operations.{IsMeet};
 ghost use Rattle.ded_genrel.specs.Rounds.{AreRational};
 ghost use Rattle.ded_join.specs.Near.{AreNearPairs};
 ghost use Rattle.ded_join.specs.Kept.{AreKept, IsCount, IsKeptMeet};
+ghost use Rattle.ded_join.specs.Picks.{IsIndexOver};
 ghost use Rattle.ded_join.specs.Taken.{AreTakenAfter};
 ghost use Rattle.ded_join.specs.declared.near.Taken.TheVariants as taken_pairs;
 
+use crate::indexing::index_of;
 use crate::joining::TOO_MANY;
-use crate::near::{Taken, near_pairs, push_both};
+use crate::near::{Taken, near_by, push_both};
 use ded_genrel::GenRel;
+use ded_index::BoxIndex;
 use ded_model::memory::NoMemory;
 use ded_model::slot::Slot;
 use ded_theory::Theory;
@@ -39,10 +42,52 @@ pub fn join_inhabited<T: Theory>(
     ensures inhabited { IfOk result (λ r. AllByRecursion (λ c. (IsWide T.mentions T.lines c → ⊥) → HoldsSomewhere (conj_holds T.holds c)) r) }
     ensures met { IfOk result (λ r. IsKeptMeet T.holds T.mentions T.lines slots.now a.now b.now r met.old met.new) }
 {
-    if slots.is_empty() || b.list().len() >= TOO_MANY {
-        meet_inhabited(alloc, a, b, met)
+    let index = index_over(alloc, b, slots)?;
+    join_over(alloc, a, b, slots, &index, met)
+}
+
+/// The index over the list by which [`join_over`] finds pairs. There is none where no slots are given, or the list has 2^32
+/// conjunctions or more.
+///
+/// # Errors
+/// Out of memory.
+pub fn index_over<T: Theory>(
+    alloc: Global,
+    list: &GenRel<T>,
+    slots: &[Slot],
+) -> Result<Option<BoxIndex>, NoMemory>
+    requires { AreRational slots.now }
+    ensures { IfOk result (λ o. IsIndexOver T.holds T.mentions T.lines slots.now list.now o) }
+{
+    if slots.is_empty() || list.list().len() >= TOO_MANY {
+        Ok(None)
     } else {
-        near_pairs(alloc, a, b, slots, Taken::Inhabited, met)
+        Ok(Some(index_of(alloc, list, slots)?))
+    }
+}
+
+/// The list of [`join_inhabited`], by an index over the second list, which is made once for many first lists. `met` grows as there.
+///
+/// # Errors
+/// Out of memory.
+pub fn join_over<T: Theory>(
+    alloc: Global,
+    a: &GenRel<T>,
+    b: &GenRel<T>,
+    slots: &[Slot],
+    index: &Option<BoxIndex>,
+    met: &mut u64,
+) -> Result<GenRel<T>, NoMemory>
+    requires rational { AreRational slots.now }
+    requires index { IsIndexOver T.holds T.mentions T.lines slots.now b.now index.now }
+    ensures is { IfOk result (λ r. IsMeet T.holds T.mentions T.lines a.now b.now r) }
+    ensures near { IfOk result (λ r. 0 < length slots.now → length b.now < 2 ^ 32 → AreNearPairs T.holds T.mentions T.lines slots.now a.now b.now r) }
+    ensures inhabited { IfOk result (λ r. AllByRecursion (λ c. (IsWide T.mentions T.lines c → ⊥) → HoldsSomewhere (conj_holds T.holds c)) r) }
+    ensures met { IfOk result (λ r. IsKeptMeet T.holds T.mentions T.lines slots.now a.now b.now r met.old met.new) }
+{
+    match index {
+        Some(index) => near_by(alloc, a, b, slots, index, Taken::Inhabited, met),
+        None => meet_inhabited(alloc, a, b, met),
     }
 }
 

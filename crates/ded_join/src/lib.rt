@@ -3,8 +3,9 @@
 //! [`join`] holds where both lists do, as `GenRel::meet` does. But it doesn't pair each conjunction of the one with each of the
 //! other: on given rational slots it puts a box of exact bounds round each conjunction, indexes those of the second list, and
 //! pairs each conjunction of the first list with those only whose boxes share values with its own. [`join_inhabited`] keeps of
-//! these pairs only what some point may satisfy. [`join_shorter`] takes the join by the complement of the second list where that is
-//! small and the pairs are more.
+//! these pairs only what some point may satisfy; [`index_over`] makes the index once for many first lists, of which [`join_over`]
+//! takes one at a time. [`join_shorter`] takes the join by the complement of the second list where that is small and the pairs are
+//! more.
 //!
 //! It stands on `ded_genrel` for lists of conjunctions over any theory and the boxes around them, on `ded_index` for the look-ups,
 //! and on `ded_complement` for complements and differences.
@@ -16,6 +17,6 @@ mod joining;
 mod near;
 mod outside;
 
-pub use inhabited::join_inhabited;
+pub use inhabited::{index_over, join_inhabited, join_over};
 pub use joining::{join, join_counted};
-pub use outside::join_shorter;
+pub use outside::{is_small, join_shorter};

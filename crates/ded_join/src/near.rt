@@ -2,12 +2,13 @@
 ghost use Rattle.std.specs.Prelude.{◌≡◌, ◌<◌, ◌^◌, ◌++◌, ◌∷◌, [], length, IfOk};
 ghost use Rattle.std.specs.List.{AllByRecursion};
 ghost use Rattle.ded_genrel.specs.Rounds.{AreRational};
-ghost use Rattle.ded_join.specs.Picks.{picked};
+ghost use Rattle.ded_join.specs.Picks.{picked, IsIndexOf};
 ghost use Rattle.ded_join.specs.Taken.{AreTakenAfter, IsTakenMeet};
 ghost use Rattle.ded_join.specs.declared.near.Taken.TheVariants as taken_pairs;
 
 use crate::indexing::index_of;
 use ded_genrel::{GenRel, both_conjs, box_round};
+use ded_index::BoxIndex;
 use ded_model::memory::NoMemory;
 use ded_model::slot::Slot;
 use ded_theory::{Theory, Verdict};
@@ -40,6 +41,27 @@ pub(crate) fn near_pairs<T: Theory>(
     ensures { IfOk result (λ r. IsTakenMeet taken T.holds T.mentions T.lines slots.now a.now b.now r met.old met.new) }
 {
     let index = index_of(alloc, b, slots)?;
+    near_by(alloc, a, b, slots, &index, taken, met)
+}
+
+/// What is taken of the pairs of conjunctions that are near, as [`near_pairs`] gives it, by an index over the second list.
+///
+/// # Errors
+/// Out of memory.
+pub(crate) fn near_by<T: Theory>(
+    alloc: Global,
+    a: &GenRel<T>,
+    b: &GenRel<T>,
+    slots: &[Slot],
+    index: &BoxIndex,
+    taken: Taken,
+    met: &mut u64,
+) -> Result<GenRel<T>, NoMemory>
+    requires some { 0 < length slots.now }
+    requires rational { AreRational slots.now }
+    requires index { IsIndexOf T.holds T.mentions T.lines slots.now b.now index.now }
+    ensures { IfOk result (λ r. IsTakenMeet taken T.holds T.mentions T.lines slots.now a.now b.now r met.old met.new) }
+{
     let mut out = GenRel::new(alloc);
     let mut count = *met;
     for conj in a.list() {

@@ -66,8 +66,8 @@ fn has_grown<T: Theory>(a: &GenRel<T>, b: &GenRel<T>, pairs: &GenRel<T>) -> bool
     count > FEW_PAIRS && count > a.list().len() && count > b.list().len()
 }
 
-/// Whether the list has few atoms.
-fn is_small<T: Theory>(list: &GenRel<T>) -> bool {
+/// Whether the list has few atoms. Of one with more [`join_shorter`] gives the list of `join_inhabited`.
+pub fn is_small<T: Theory>(list: &GenRel<T>) -> bool {
     let mut atoms = 0_usize;
     for conj in list.list() {
         atoms = atoms.saturating_add(conj.len());

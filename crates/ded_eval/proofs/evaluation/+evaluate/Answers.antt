@@ -109,12 +109,12 @@ joined-loop-part-preserved g t c =
     let holds = g.T.Theory.holds in
     let rows : (p : Point) → all_rows_hold (map plan_form items) p ≡ true → conj_holds holds c.in_ok-rows.rows.items p ≡ true
     = λ p r. c.in_ok-rows.ensures.rows.holds p ∙ ap (λ ps. all_rows_hold (map plan_form ps) p) (sym c.deref-part-items.ensures.value) ∙ r in
-    let within : (p : Point) → conj_holds holds c.args.window.now p ≡ true → all_rows_hold (map plan_form items) p ≡ true → conj_holds holds c.deref-in-loop-part-3.result.now p ≡ true
-    = λ p w r. ap (λ xs. conj_holds holds xs p) (c.deref-in-loop-part-3.ensures.value ∙ c.in_ok-within.ensures ∙ ap (λ xs. c.args.window.now ++ xs) c.deref.ensures.value)
+    let within : (p : Point) → conj_holds holds c.args.window.now p ≡ true → all_rows_hold (map plan_form items) p ≡ true → conj_holds holds c.deref-in-loop-part-6.result.now p ≡ true
+    = λ p w r. ap (λ xs. conj_holds holds xs p) (c.deref-in-loop-part-6.ensures.value ∙ c.in_ok-within.ensures ∙ ap (λ xs. c.args.window.now ++ xs) c.deref.ensures.value)
     ∙ conj_holds-append holds c.args.window.now c.in_ok-rows.rows.items p ∙ and_from _ _ w (rows p r) in (
       subst (λ fs. IsJoined g.T.Theory.holds g.T.Theory.mentions g.T.Theory.lines (conj_holds g.T.Theory.holds c.args.window.now) cat (map plan_form items) fs c.in_ok-joined_with.field-0) (sym (parts_to items i c.part-item.result c.loop-part-test.true c.part-item.is))
           (joined_more g.T.Theory.holds g.T.Theory.mentions g.T.Theory.lines (conj_holds g.T.Theory.holds c.args.window.now) cat (map plan_form items) (map plan_form (take i items)) (plan_form c.part-item.result) (begun c.loop-part.list) c.in_ok-joined_with.field-0
-          (conj_holds holds c.deref-in-loop-part-3.result.now) within
+          (conj_holds holds c.deref-in-loop-part-6.result.now) within
           (λ s u. part_mentions items i c.part-item.result (slot s) c.loop-part-test.true c.part-item.is u) (part_lines (stored_measures cat) items i c.part-item.result c.loop-part-test.true c.part-item.is)
           c.loop-part.invariant.0 c.in_ok-joined_with.ensures.is),
       c.in_ok-add_all.ensures,
@@ -149,10 +149,10 @@ joined-returns-clause-is g t c =
 
 pub met_with-returns-in-Some-clause-is : goal.met_with-returns-in-Some-clause-is
 met_with-returns-in-Some-clause-is g t c =
-    subst (λ xs. IsJoinedWith g.T.Theory.holds g.T.Theory.mentions g.T.Theory.lines (g.R.Relations.catalogue c.args.relations.now) (conj_holds g.T.Theory.holds c.args.within.now) (plan_form c.args.part.now) xs c.in_ok-join_shorter-in-Some.field-0) (sym (ap begun c.in-Some.is))
-    (met_with g.T.Theory.holds g.T.Theory.mentions g.T.Theory.lines (g.R.Relations.catalogue c.args.relations.now) (conj_holds g.T.Theory.holds c.args.within.now) (plan_form c.args.part.now) c.in-Some.list c.in_ok-next.next c.in_ok-join_shorter-in-Some.field-0 (conj_holds g.T.Theory.holds c.deref.result.now)
+    subst (λ xs. IsJoinedWith g.T.Theory.holds g.T.Theory.mentions g.T.Theory.lines (g.R.Relations.catalogue c.args.relations.now) (conj_holds g.T.Theory.holds c.args.within.now) (plan_form c.args.part.now) xs c.in_ok-join_inside-in-Some.field-0) (sym (ap begun c.in-Some.is))
+    (met_with g.T.Theory.holds g.T.Theory.mentions g.T.Theory.lines (g.R.Relations.catalogue c.args.relations.now) (conj_holds g.T.Theory.holds c.args.within.now) (plan_form c.args.part.now) c.in-Some.list c.in_ok-next.next c.in_ok-join_inside-in-Some.field-0 (conj_holds g.T.Theory.holds c.deref.result.now) (conj_holds g.T.Theory.holds c.args.across.now)
     (λ p w y. ap (λ xs. conj_holds g.T.Theory.holds xs p) c.deref.ensures.value ∙ c.in_ok-inner.ensures.holds p w (ap (λ o. conjs_hold g.T.Theory.holds (begun o) p) c.in-Some.is ∙ y))
-    c.in_ok-next.ensures.is c.in_ok-join_shorter-in-Some.ensures)
+    c.requires.weaker c.in_ok-next.ensures.is c.in_ok-join_inside-in-Some.ensures)
 
 pub met_with-returns-clause-is : goal.met_with-returns-clause-is
 met_with-returns-clause-is g t c =

@@ -9,7 +9,7 @@ use Rattle.ded_join.proofs.Joined.{places, picked_part}
 use Rattle.ded_join.proofs.Nearness.{picked_near}
 use Rattle.ded_join.proofs.Kept.{count_picked}
 use Rattle.ded_join.proofs.Taken.{IsTakenSoFar, so_far_none, so_far_more, so_far_done}
-use Rattle.ded_join.proofs.near.near_pairs.Goals as goal
+use Rattle.ded_join.proofs.near.near_by.Goals as goal
 
 pub loop-conj-init : goal.loop-conj-init
 loop-conj-init g c = so_far_none g.T.Theory.holds g.T.Theory.mentions g.T.Theory.lines c.args.taken c.args.slots.now c.args.b.now c.new-out.result c.args.met.now c.new-out.ensures c.type_inv.count.fits
@@ -25,7 +25,7 @@ push_near-requires-clause-normal g c =
 pub push_near-requires-clause-places : goal.push_near-requires-clause-places
 push_near-requires-clause-places g c =
     subst (AllByRecursion (λ j. j < length c.args.b.now)) (sym c.deref-in-loop-conj-2.ensures.value)
-    (places g.T.Theory.holds g.T.Theory.mentions g.T.Theory.lines c.args.slots.now c.deref.result.now c.args.b.now c.in_ok-index.index c.in_ok-box_round.field-0 c.in_ok-near.near.items c.in_ok-index.ensures c.in_ok-box_round.ensures c.in_ok-near.ensures)
+    (places g.T.Theory.holds g.T.Theory.mentions g.T.Theory.lines c.args.slots.now c.deref.result.now c.args.b.now c.args.index.now c.in_ok-box_round.field-0 c.in_ok-near.near.items c.requires.index c.in_ok-box_round.ensures c.in_ok-near.ensures)
 
 pub loop-conj-preserved : goal.loop-conj-preserved
 loop-conj-preserved g c =
@@ -44,8 +44,8 @@ loop-conj-preserved g c =
     let count = count_picked x.items b js c.loop-conj.count c.saturating_add-count.result (c.saturating_add-count.ensures ∙ ap (λ n. min (c.loop-conj.count + n) (2 ^ 64 - 1)) (c.len.ensures ∙ c.in_ok-near.near.ok.0)) in
     subst (λ xs. IsTakenSoFar h m l c.args.taken ss xs b c.push_near.new.out c.args.met.now c.saturating_add-count.result) (sym (conjs_to c.list-conj-items.result.now c.loop-conj.conj-index x c.loop-conj-test.true c.conj-item.is))
     (so_far_more h m l c.args.taken ss done b c.loop-conj.out c.push_near.new.out x.items added c.args.met.now c.loop-conj.count c.saturating_add-count.result c.loop-conj.invariant
-    (picked_part h m l ss x.items b c.in_ok-index.index c.in_ok-box_round.field-0 js c.in_ok-index.ensures box c.in_ok-near.ensures)
-    (picked_near h m l ss c.requires.some x.items b c.in_ok-box_round.field-0 box c.in_ok-index.index js c.in_ok-index.ensures c.in_ok-near.ensures) kept count)
+    (picked_part h m l ss x.items b c.args.index.now c.in_ok-box_round.field-0 js c.requires.index box c.in_ok-near.ensures)
+    (picked_near h m l ss c.requires.some x.items b c.in_ok-box_round.field-0 box c.args.index.now js c.requires.index c.in_ok-near.ensures) kept count)
 
 pub returns : goal.returns
 returns g c =
