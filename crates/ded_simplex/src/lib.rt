@@ -14,6 +14,7 @@
 mod ends;
 mod exact;
 mod extremes;
+mod few;
 mod fraction;
 pub mod laws;
 mod meeting;

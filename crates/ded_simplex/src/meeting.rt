@@ -86,7 +86,7 @@ fn weakly(op: RowOp) -> RowOp
 }
 
 /// What the row comes to at the point, over its denominator; none where a number on the way is too long.
-fn row_at(row: &Row, witness: &Witness) -> Option<i128>
+pub(crate) fn row_at(row: &Row, witness: &Witness) -> Option<i128>
     requires { pos 0 ≤ℤ witness.now.denominator }
     ensures { MatchOption result (row_is_long witness.now.values.items witness.now.denominator row.now ≡ true)
         (λ z. (row_is_long witness.now.values.items witness.now.denominator row.now ≡ false) × (z ≡ row_at row.now (point_of witness.now.values.items witness.now.denominator))) }

@@ -4,6 +4,7 @@
 //! their values, and so are a point, or none helps: then the numbers of the line weigh the rows to a false one. At first the line is
 //! the one with the greatest value; later it is, after Bland, the first one, which goes round in no circle.
 
+use crate::few::find_by_few;
 use crate::reading::{multipliers, point};
 use crate::slots::slots_of;
 use crate::table::{Line, Table};
@@ -45,11 +46,26 @@ enum Step {
     Halt(End),
 }
 
+/// How many rows are searched all at once.
+const MANY: usize = 64;
+
 /// Looks for a point at which the rows hold, or for numbers that show that there is none. Nothing is promised of either.
 ///
 /// # Errors
 /// Out of memory.
 pub fn find(alloc: Global, rows: &[&Row]) -> Result<Found, NoMemory> {
+    if rows.len() > MANY {
+        find_by_few(alloc, rows)
+    } else {
+        find_at_once(alloc, rows)
+    }
+}
+
+/// Looks among all the rows at once.
+///
+/// # Errors
+/// Out of memory.
+pub(crate) fn find_at_once(alloc: Global, rows: &[&Row]) -> Result<Found, NoMemory> {
     let slots = slots_of(alloc, rows)?;
     let mut table = Table::new(alloc, rows, &slots)?;
     match solve(&mut table) {
