@@ -66,7 +66,8 @@ enum Rival {
 }
 
 /// Adds a row, so that the rows hold where they held and the row does. Of two rows with the same coefficients the
-/// stronger is kept; a row without coefficients is not added. Returns whether the row holds anywhere.
+/// stronger is kept, and both where the hash of another row hides one; a row without coefficients is not added. Returns whether
+/// the row holds anywhere.
 ///
 /// # Errors
 /// Out of memory.
@@ -134,8 +135,8 @@ fn rival_at(rows: &[Row], place: usize, row: &Row) -> Rival
     }
 }
 
-/// Whether the two rows have the same coefficients, and the first one holds only where the second one does.
-fn implies(a: &Row, b: &Row) -> bool
+/// Whether the two rows have the same coefficients, and the first one holds only where the second one does. It does not allocate.
+pub fn implies(a: &Row, b: &Row) -> bool
     ensures { result ≡ true → Implies a.now b.now }
 {
     same_coefs(a.coefs.list(), b.coefs.list()) && is_at_least(a, b)

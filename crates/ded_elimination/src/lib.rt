@@ -3,7 +3,8 @@
 //! [`eliminate`] gives rows that hold at a point exactly where the given rows hold at some extension of the point at the slot.
 //! Where an equality mentions the slot, it takes the slot from every other row. Otherwise every row that bounds the slot from
 //! above is combined with every row that bounds it from below. Of rows that differ in their constant or op alone only the
-//! stronger is kept, true rows are left out, and a false row ends the work.
+//! stronger is kept, but that of many rows both stay where the hash of another row hides one; true rows are left out, and a
+//! false row ends the work.
 //!
 //! How two rows are combined is a parameter, a [`Mixing`]; [`Checked`] is that of `ded_row`, for any rows. No row of the answer
 //! mentions the slot, and its lines are among those that an elimination makes of the lines of the given rows. `Wide` comes only
@@ -35,6 +36,7 @@ use ded_model::memory::Refused;
 use ded_model::row::Row;
 use ded_model::slot::Slot;
 use ded_theory::Eliminated;
+pub use keeping::implies;
 pub use mixing::{Checked, Mixing};
 use std::alloc::Global;
 

@@ -1,5 +1,5 @@
 -- Rows without those that the others imply: they hold at the same points, and have no new slots and lines.
-use Rattle.std.proofs.Common.{◌≡◌, ℕ, ◌+◌, ◌<◌, length, get_or, drop, Bool, true, false, not, ◌&&◌, List, [], ◌∷◌, ◌++◌, ◌⊎◌, inl, inr, refl, sym, ap, ◌∙◌, subst}
+use Rattle.std.proofs.Common.{◌≡◌, ℕ, ◌+◌, ◌<◌, length, get_or, drop, Bool, true, false, not, ◌&&◌, List, [], ◌∷◌, ◌++◌, ◌⊎◌, inl, inr, refl, sym, ap, ◌∙◌, subst, true≢false}
 use Rattle.std.specs.List.{AllByRecursion}
 use Rattle.std.proofs.lemmas.List.{drop_more}
 use Rattle.ded_model.specs.declared.slot.Slot.{Slot}
@@ -14,11 +14,12 @@ use Rattle.ded_model.specs.Point.{Point}
 use Rattle.ded_model.specs.Row.{row_holds, row_mentions}
 use Rattle.ded_model.specs.Sublists.{IsSublist}
 use Rattle.ded_model.proofs.Sublists.{sublist_refl, sublist_append, sublist_trans, sublist_all}
+use Rattle.ded_model.proofs.Points.{and_left, and_right}
 use Rattle.ded_theory.specs.Conjunctions.{conj_mentions, conj_lines}
 use Rattle.ded_theory.specs.Verdicts.{HoldsNowhere}
 use Rattle.ded_theory.proofs.Conjunctions.{conj_holds-append}
 use Rattle.ded_elimination.specs.LinearAtoms.{IsLinearAtom}
-use Rattle.ded_elimination.proofs.Conjunctions.{In-mentions, mentions-In, In-lines, lines-In}
+use Rattle.ded_elimination.proofs.Conjunctions.{In-at, conj-In, In-mentions, mentions-In, In-lines, lines-In}
 use Rattle.ded_linear.specs.Prunings.{IsPruned, Imply}
 
 abbrev Rows : Type 0
@@ -94,6 +95,27 @@ implied these those r n pieces e f h p i a b =
     holds true y e h = refl
     holds false true e h = sym h
     holds false false e h = e
+
+-- where two of the kept rows hold nowhere together with a row, all of them don't, nor with others
+pub apart_by_two : (kept behind : Rows) (i j : ℕ) (a b r : LinearConstraint) → i < length kept → j < length kept → a ≡ get_or kept i a → b ≡ get_or kept j b
+    → HoldsNowhere (conj_holds row_holds (a ∷ b ∷ r ∷ [])) → HoldsNowhere (conj_holds row_holds ((kept ++ behind) ++ r ∷ []))
+apart_by_two kept behind i j a b r lt lu at au h p k = fails (conj_holds row_holds ((kept ++ behind) ++ r ∷ []) p) never
+  where
+    fails : (x : Bool) → (x ≡ true → ⊥) → x ≡ false
+    fails true f = absurd (f refl)
+    fails false f = refl
+
+    all : row_holds a p ≡ true → row_holds b p ≡ true → (row_holds r p && true) ≡ true → conj_holds row_holds (a ∷ b ∷ r ∷ []) p ≡ true
+    all e f g = ap (λ x. x && (row_holds b p && (row_holds r p && true))) e ∙ (ap (λ x. x && (row_holds r p && true)) f ∙ g)
+
+    never : conj_holds row_holds ((kept ++ behind) ++ r ∷ []) p ≡ true → ⊥
+    never t =
+        let both = conj_holds row_holds (kept ++ behind) p in
+        let last = row_holds r p && true in
+        let parts : (both && last) ≡ true = sym (conj_holds-append row_holds (kept ++ behind) (r ∷ []) p) ∙ t in
+        let own : conj_holds row_holds kept p ≡ true =
+        and_left (conj_holds row_holds kept p) (conj_holds row_holds behind p) (sym (conj_holds-append row_holds kept behind p) ∙ and_left both last parts) in
+        true≢false (sym (all (conj-In kept p a own (In-at kept i a lt at)) (conj-In kept p b own (In-at kept j b lu au)) (and_right both last parts)) ∙ h p k)
 
 -- ---- normal rows
 

@@ -16,8 +16,10 @@
 #![tactic(auto)]
 
 mod bounding;
+mod directions;
+mod implication;
 mod interval;
-mod neighbours;
+mod kept;
 mod order;
 mod pruning;
 mod theory;

@@ -56,6 +56,10 @@ impl Theory for Linear {
         ded_row::negate(atom)
     }
 
+    fn implies(one: &Row, other: &Row) -> bool {
+        ded_elimination::implies(one, other)
+    }
+
     fn eliminate(alloc: Global, atoms: &[Row], slot: Slot) -> Result<Eliminated<Row>, Refused> {
         match ded_elimination::eliminate::<Checked>(alloc, atoms, slot)? {
             Eliminated::Never => Ok(Eliminated::Never),

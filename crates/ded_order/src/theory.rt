@@ -58,6 +58,10 @@ impl Theory for Order {
         Ok(negated(ded_row::negate(atom.row())?))
     }
 
+    fn implies(one: &OrderAtom, other: &OrderAtom) -> bool {
+        ded_elimination::implies(one.row(), other.row())
+    }
+
     fn eliminate(
         alloc: Global,
         atoms: &[OrderAtom],

@@ -16,15 +16,14 @@ ghost use Rattle.ded_simplex.specs.Meeting.{meets};
 use crate::extremes::Reach;
 use crate::fraction::fraction;
 use crate::meeting::{leans, meets, number_of};
-use crate::telling::lent;
-use crate::weighing::refutes;
+use crate::telling::{are_refuted, lent};
 use crate::witness::Witness;
 use ded_box::Side;
 use ded_model::bound::{Bound, Frac};
-use ded_model::memory::{NoMemory, Refused};
+use ded_model::memory::NoMemory;
 use ded_model::row::{Coefs, Row, RowOp};
 use ded_model::slot::{Slot, Sort};
-use std::alloc::{AllocError, Global};
+use std::alloc::Global;
 
 /// The exact bound of the slot on the side, of rows that hold at a point inside; none where what is found doesn't show it.
 ///
@@ -169,11 +168,7 @@ fn are_none(
         Sort::Rat => {
             let beyond = beyond_row(alloc, slot, side, value, op)?;
             let all = with_first(alloc, &beyond, rows)?;
-            match refutes(alloc, multipliers, &all) {
-                Ok(refuted) => Ok(refuted),
-                Err(Refused::Wide) => Ok(false),
-                Err(Refused::Memory) => Err(AllocError),
-            }
+            are_refuted(alloc, multipliers, &all)
         }
     }
 }

@@ -1,8 +1,9 @@
 //! The search over a few of many rows.
 //!
-//! Of many rows most don't matter: a few show that there is no point, or lead to one. So the search begins with a few, and those that the
-//! point found last breaks most are added, until it breaks none, or the few have no point.
+//! Of many rows most don't matter: a few show that there is no point, or lead to one. So the search begins with a few, those of a hint
+//! if it has some, and those that the point found last breaks most are added, until it breaks none, or the few have no point.
 
+use crate::hint::Hint;
 use crate::meeting::row_at;
 use crate::search::{Found, find_at_once};
 use crate::witness::Witness;
@@ -10,7 +11,7 @@ use ded_model::memory::NoMemory;
 use ded_model::row::Row;
 use std::alloc::Global;
 
-/// How many rows the search begins with, about.
+/// How many rows the search begins with, about, where the hint has fewer.
 const FEW: usize = 8;
 
 /// How many rows are added at a time, about.
@@ -19,28 +20,51 @@ const MORE: usize = 4;
 /// How often rows are added before all are searched at once.
 const ROUNDS: usize = 64;
 
-/// Looks among a few of the rows, and more of them, as long as that helps.
+/// Looks among a few of the rows, those of the hint first, and more of them, as long as that helps. The hint is then those that were
+/// looked among.
 ///
 /// # Errors
 /// Out of memory.
-pub(crate) fn find_by_few(alloc: Global, rows: &[&Row]) -> Result<Found, NoMemory> {
-    let mut places = first_places(alloc, rows.len())?;
+pub(crate) fn find_by_few(
+    alloc: Global,
+    rows: &[&Row],
+    hint: &mut Hint,
+) -> Result<Found, NoMemory> {
+    let mut places = first_places(alloc, rows.len(), hint)?;
     for _ in 0..ROUNDS {
         if let Some(found) = look(alloc, rows, &mut places)? {
+            hint.remember(&found, rows, &places)?;
             return Ok(found);
         }
     }
     find_at_once(alloc, rows)
 }
 
-/// The last place of so many, and a few others.
-fn first_places(alloc: Global, count: usize) -> Result<Vec<usize>, NoMemory> {
-    let mut places = Vec::new(alloc);
-    for place in (0..count.saturating_sub(1)).step_by((count / FEW).max(1)) {
-        places.push(place)?;
+/// The places of the hint, or a few others where it has fewer, and the last one of so many.
+///
+/// # Errors
+/// Out of memory.
+fn first_places(alloc: Global, count: usize, hint: &Hint) -> Result<Vec<usize>, NoMemory> {
+    let last = count.saturating_sub(1);
+    let mut places = hint.places_below(alloc, last)?;
+    if places.len() < FEW {
+        add_spaced(&mut places, last)?;
     }
-    places.push(count.saturating_sub(1))?;
+    places.push(last)?;
     Ok(places)
+}
+
+/// Adds a few places below the end, in equal distances, unless they stand there.
+///
+/// # Errors
+/// Out of memory.
+fn add_spaced(places: &mut Vec<usize>, end: usize) -> Result<(), NoMemory> {
+    for place in (0..end).step_by((end / FEW).max(1)) {
+        if !places.contains(&place) {
+            places.push(place)?;
+        }
+    }
+    Ok(())
 }
 
 /// Looks among the rows at the places, and where their point breaks others, adds some of these. Gives what is found of all rows.

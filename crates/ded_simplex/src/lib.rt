@@ -8,7 +8,8 @@
 //! without end is a point or a direction, and numbers refute the rows together with one that says that the slot is beyond.
 //!
 //! They are looked for by the dual simplex, over whole numbers ([`find`]). Of the search nothing is promised but that it is safe and
-//! ends.
+//! ends. Whoever asks of nearly the same rows again and again hands a [`Hint`] from one question to the next ([`told_from`]), and
+//! whoever has the numbers already asks nothing but whether they refute the rows ([`are_refuted`]).
 #![tactic(auto)]
 
 mod ends;
@@ -16,6 +17,7 @@ mod exact;
 mod extremes;
 mod few;
 mod fraction;
+mod hint;
 pub mod laws;
 mod meeting;
 mod reaching;
@@ -28,10 +30,11 @@ mod variable;
 mod weighing;
 mod witness;
 
+pub use hint::Hint;
 pub use meeting::meets;
 pub use reaching::extent;
 pub use search::{Found, find};
 pub use slots::slots_of;
-pub use telling::told;
+pub use telling::{are_refuted, told, told_from};
 pub use weighing::refutes;
 pub use witness::Witness;

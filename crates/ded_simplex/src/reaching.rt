@@ -9,16 +9,15 @@ ghost use Rattle.ded_simplex.specs.Sure.{IsSureSpan};
 use crate::ends::checked_end;
 use crate::extremes::{Range, Reach, find_range};
 use crate::meeting::meets;
-use crate::telling::lent;
-use crate::weighing::refutes;
+use crate::telling::{are_refuted, lent};
 use crate::witness::Witness;
 use ded_box::Side;
 use ded_model::bound::Bound;
-use ded_model::memory::{NoMemory, Refused};
+use ded_model::memory::NoMemory;
 use ded_model::row::Row;
 use ded_model::slot::Slot;
 use ded_theory::Span;
-use std::alloc::{AllocError, Global};
+use std::alloc::Global;
 
 /// Between which values the slot stands where all the rows hold: `Nothing` and `Exact` are so, as what is found for them is checked.
 /// `Around` without bounds where nothing is found, or it doesn't pass its check.
@@ -52,10 +51,10 @@ fn checked_nothing(
     requires { AllByRecursion (λ r. AreCoefs r.coefs) (lent rows.now) }
     ensures { IfOk result (λ s. IsSureSpan (lent rows.now) slot s) }
 {
-    match refutes(alloc, multipliers, rows) {
-        Ok(true) => Ok(Span::Nothing),
-        Ok(false) | Err(Refused::Wide) => Ok(Span::Around(Bound::Infinite, Bound::Infinite)),
-        Err(Refused::Memory) => Err(AllocError),
+    if are_refuted(alloc, multipliers, rows)? {
+        Ok(Span::Nothing)
+    } else {
+        Ok(Span::Around(Bound::Infinite, Bound::Infinite))
     }
 }
 

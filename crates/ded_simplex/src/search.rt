@@ -5,6 +5,7 @@
 //! the one with the greatest value; later it is, after Bland, the first one, which goes round in no circle.
 
 use crate::few::find_by_few;
+use crate::hint::Hint;
 use crate::reading::{multipliers, point};
 use crate::slots::slots_of;
 use crate::table::{Line, Table};
@@ -54,8 +55,16 @@ const MANY: usize = 64;
 /// # Errors
 /// Out of memory.
 pub fn find(alloc: Global, rows: &[&Row]) -> Result<Found, NoMemory> {
+    find_from(alloc, rows, &mut Hint::new(alloc))
+}
+
+/// Looks for what [`find`] does. Among many rows it begins with those of the hint, which is then what the search came upon.
+///
+/// # Errors
+/// Out of memory.
+pub(crate) fn find_from(alloc: Global, rows: &[&Row], hint: &mut Hint) -> Result<Found, NoMemory> {
     if rows.len() > MANY {
-        find_by_few(alloc, rows)
+        find_by_few(alloc, rows, hint)
     } else {
         find_at_once(alloc, rows)
     }

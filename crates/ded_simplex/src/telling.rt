@@ -1,12 +1,16 @@
 //! Whether rows hold somewhere, as far as the search finds what shows it.
-ghost use Rattle.std.specs.Prelude.{◌≡◌, IfOk};
+ghost use Rattle.std.specs.Prelude.{◌≡◌, true, IfOk};
 ghost use Rattle.std.specs.List.{AllByRecursion};
+ghost use Rattle.ded_model.specs.Cell.{conj_holds};
 ghost use Rattle.ded_model.specs.Coefs.{AreCoefs};
+ghost use Rattle.ded_model.specs.Row.{row_holds};
+ghost use Rattle.ded_theory.specs.Verdicts.{HoldsNowhere};
 ghost use Rattle.ded_simplex.specs.Columns.{lent};
 ghost use Rattle.ded_simplex.specs.Sure.{IsSure};
 
+use crate::hint::Hint;
 use crate::meeting::meets;
-use crate::search::{Found, find};
+use crate::search::{Found, find_from};
 use crate::weighing::refutes;
 use crate::witness::Witness;
 use ded_model::memory::{NoMemory, Refused};
@@ -24,9 +28,21 @@ pub fn told(alloc: Global, rows: &[Row]) -> Result<Verdict, NoMemory>
     ensures { IfOk result (λ v. IsSure rows.now v) }
 {
     let lent = lent(alloc, rows)?;
-    match find(alloc, &lent)? {
-        Found::Point(witness) => Ok(checked_point(&lent, &witness)),
-        Found::Multipliers(multipliers) => checked_multipliers(alloc, &lent, &multipliers),
+    told_from(alloc, &lent, &mut Hint::new(alloc))
+}
+
+/// Whether some point satisfies all the rows, as [`told`] says it. The search among many rows begins with those of the hint, which is
+/// then what it came upon, for the next search over nearly the same rows.
+///
+/// # Errors
+/// Out of memory.
+pub fn told_from(alloc: Global, rows: &[&Row], hint: &mut Hint) -> Result<Verdict, NoMemory>
+    requires { AllByRecursion (λ r. AreCoefs r.coefs) (lent rows.now) }
+    ensures { IfOk result (λ v. IsSure (lent rows.now) v) }
+{
+    match find_from(alloc, rows, hint)? {
+        Found::Point(witness) => Ok(checked_point(rows, &witness)),
+        Found::Multipliers(multipliers) => checked_multipliers(alloc, rows, &multipliers),
         Found::Nothing => Ok(Verdict::Unknown),
     }
 }
@@ -51,9 +67,24 @@ fn checked_multipliers(
     requires { AllByRecursion (λ r. AreCoefs r.coefs) (lent rows.now) }
     ensures { IfOk result (λ v. IsSure (lent rows.now) v) }
 {
+    if are_refuted(alloc, multipliers, rows)? {
+        Ok(Verdict::Empty)
+    } else {
+        Ok(Verdict::Unknown)
+    }
+}
+
+/// Whether the numbers refute the rows, which then hold nowhere together. A number on the way that is too long counts as no.
+///
+/// # Errors
+/// Out of memory.
+pub fn are_refuted(alloc: Global, multipliers: &[i128], rows: &[&Row]) -> Result<bool, NoMemory>
+    requires { AllByRecursion (λ r. AreCoefs r.coefs) (lent rows.now) }
+    ensures { IfOk result (λ b. b ≡ true → HoldsNowhere (conj_holds row_holds (lent rows.now))) }
+{
     match refutes(alloc, multipliers, rows) {
-        Ok(true) => Ok(Verdict::Empty),
-        Ok(false) | Err(Refused::Wide) => Ok(Verdict::Unknown),
+        Ok(refuted) => Ok(refuted),
+        Err(Refused::Wide) => Ok(false),
         Err(Refused::Memory) => Err(AllocError),
     }
 }

@@ -8,3 +8,4 @@ pub mod Loops
 pub mod Pinning
 pub mod Ruling
 pub mod Turning
+pub mod Unlike

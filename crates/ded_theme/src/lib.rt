@@ -9,6 +9,7 @@
 
 mod classes;
 mod elimination;
+mod implying;
 mod renaming;
 mod substitution;
 mod theory;

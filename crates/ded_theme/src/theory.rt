@@ -8,8 +8,8 @@ ghost use Rattle.ded_theme.specs.Sources.{owns_sort};
 ghost use Rattle.ded_theme.specs.Laws.{cells-tell, owned-slots};
 
 use crate::classes::hold_somewhere;
-use crate::elimination;
 use crate::renaming::{renamed_theme, turned};
+use crate::{elimination, implying};
 use ded_model::bound::Bound;
 use ded_model::memory::{NoMemory, Refused};
 use ded_model::slot::{Slot, Sort};
@@ -55,6 +55,10 @@ impl Theory for Theme {
 
     fn negate(atom: &ThemeAtom) -> Result<Negated<ThemeAtom>, NoMemory> {
         Ok(Negated::One(turned(atom)?))
+    }
+
+    fn implies(one: &ThemeAtom, other: &ThemeAtom) -> bool {
+        implying::implies(one, other)
     }
 
     fn eliminate(

@@ -82,6 +82,14 @@ impl<A: OfNumbers, B: OfTexts> Theory for Both<A, B> {
         }
     }
 
+    fn implies(one: &BothAtom<A::Atom, B::Atom>, other: &BothAtom<A::Atom, B::Atom>) -> bool {
+        match (one, other) {
+            (BothAtom::First(one), BothAtom::First(other)) => A::implies(one, other),
+            (BothAtom::Second(one), BothAtom::Second(other)) => B::implies(one, other),
+            _ => false,
+        }
+    }
+
     fn eliminate(
         alloc: Global,
         atoms: &[BothAtom<A::Atom, B::Atom>],

@@ -91,6 +91,10 @@ pub trait Theory {
         ensures lines { IfOk result (λ n. EachPiece (λ a. lines a ≡ lines atom.now) n) }
         ensures cells { IfOk result (λ n. EachPiece (λ a. (p q : Point) → cell atom.now p ≡ cell atom.now q → holds a p ≡ holds a q) n) };
 
+    /// Whether it is plain that the one atom holds only where the other one does. It does not allocate.
+    fn implies(one: &Self::Atom, other: &Self::Atom) -> bool
+        ensures { result ≡ true → (p : Point) → 0 < p.den → holds one.now p ≡ true → holds other.now p ≡ true };
+
     /// A conjunction that holds at a point exactly where some extension of the point at the slot satisfies all the atoms;
     /// `Never` holds nowhere. It doesn't mention the slot and mentions no new one, and its lines are among those that the
     /// elimination makes of the atoms' lines. So its numbers have at most 2b + 1 digits where the atoms' have at most b.

@@ -1,5 +1,4 @@
 use Rattle.std.proofs.Common.{◌≡◌, List, sym, subst}
-use Rattle.std.proofs.lemmas.Result.{IfOk-weaker}
 use Rattle.ded_model.specs.Constraint.{LinearConstraint}
 use Rattle.ded_linear.specs.Prunings.{IsPruned}
 use Rattle.ded_linear.proofs.Prunes.{pruned_none, pruned_then, part_normal}
@@ -20,4 +19,5 @@ needed-requires c =
 pub returns-clause-part : goal.returns-clause-part
 returns-clause-part c =
     let s = passed c.args.rows.items c.deref.result.now c.in_ok-fewer.fewer.items c.deref-2.result.now c.deref.ensures.value c.deref-2.ensures.value c.in_ok-fewer.ensures in
-    IfOk-weaker c.needed.result _ _ (λ kept k. let all = pruned_then kept.items c.deref-2.result.now c.args.rows.items k s in all.part) c.needed.ensures
+    let all = pruned_then c.in_ok-kept.kept.rows.items c.deref-2.result.now c.args.rows.items c.in_ok-kept.ensures s in
+    all.part
