@@ -1,23 +1,19 @@
 -- A conjunction without atoms that its last one implies holds alike.
-use Rattle.std.proofs.Common.{◌≡◌, Bool, true, false, not, ◌&&◌, List, [], ◌∷◌, ◌++◌, inl, inr, refl, sym, ap, ◌∙◌, subst}
-use Rattle.std.specs.Prelude.{ℤ, pos}
+use Rattle.std.proofs.Common.{◌≡◌, Bool, true, false, ◌&&◌, List, [], ◌∷◌, ◌++◌, inl, inr, refl, sym, ap, ◌∙◌, subst}
+use Rattle.std.specs.Prelude.{pos}
 use Rattle.std.specs.List.{AllByRecursion}
 use Rattle.ded_model.specs.declared.slot.Slot.{Slot}
-use Rattle.ded_model.specs.declared.tuple.Negated.{Negated}
-use Rattle.ded_model.specs.declared.tuple.Negated.TheVariants.{Two}
 use Rattle.ded_model.specs.Point.{Point, IsPoint}
 use Rattle.ded_model.specs.Cell.{conj_holds}
 use Rattle.ded_model.specs.Lines.{Line, In, IsSubset}
 use Rattle.ded_model.proofs.Rows.{or_left, or_right}
 use Rattle.ded_model.proofs.Members.{In-left, In-right, In-split, or_split}
 use Rattle.ded_theory.specs.Conjunctions.{conj_mentions, conj_lines}
-use Rattle.ded_theory.specs.Verdicts.{HoldsNowhere}
 use Rattle.ded_theory.proofs.Conjunctions.{conj_mentions-append}
 use Rattle.ded_genrel.proofs.Items.{all-push}
 use Rattle.ded_genrel.proofs.Laws.{conj_lines-append}
 use Rattle.ded_complement.specs.Pieces.{IsAlike}
 use Rattle.ded_complement.proofs.PieceLaws.{conj_push}
-use Rattle.ded_complement.proofs.Cutting.{IsNegation, two_nowhere}
 
 and_swap : (k a l : Bool) → ((k && a) && l) ≡ ((k && l) && a)
 and_swap true true true = refl
@@ -26,11 +22,11 @@ and_swap true false true = refl
 and_swap true false false = refl
 and_swap false a l = refl
 
-and_implied : (d a l : Bool) → ((l && true) && not a) ≡ false → (d && l) ≡ ((d && a) && l)
-and_implied true true l e = refl
-and_implied true false true e = e
-and_implied true false false e = refl
-and_implied false a l e = refl
+and_implied : (d a l : Bool) → (l ≡ true → a ≡ true) → (d && l) ≡ ((d && a) && l)
+and_implied true true l k = refl
+and_implied true false true k = sym (k refl)
+and_implied true false false k = refl
+and_implied false a l k = refl
 
 module _ {A : Type 0} (h : A → Point → Bool) (m : A → Slot → Bool) (l : A → List Line) where
   pub alike_same : (c d : List A) → d ≡ c → IsAlike h m l c d
@@ -75,7 +71,7 @@ module _ {A : Type 0} (h : A → Point → Bool) (m : A → Slot → Bool) (l : 
     }))
 
     -- and one that the last one implies
-    pub shortened_dropped : (last : A) (done next kept : List A) (a : A) → next ≡ done ++ a ∷ [] → HoldsNowhere (λ p. conj_holds h (last ∷ []) p && not (h a p)) → Shortened last done kept → Shortened last next kept
+    pub shortened_dropped : (last : A) (done next kept : List A) (a : A) → next ≡ done ++ a ∷ [] → ((p : Point) → IsPoint p → h last p ≡ true → h a p ≡ true) → Shortened last done kept → Shortened last next kept
     shortened_dropped last done next kept a e z s = subst (λ xs. Shortened last xs kept) (sym e) (record {
       holds = λ p i. s.holds p i ∙ and_implied (conj_holds h done p) (h a p) (h last p) (z p i) ∙ ap (λ b. b && h last p) (sym (push done a p));
       slots = λ t i. conj_mentions-append m done (a ∷ []) t ∙ or_left (conj_mentions m done t) (conj_mentions m (a ∷ []) t) (s.slots t i);
@@ -90,12 +86,3 @@ module _ {A : Type 0} (h : A → Point → Bool) (m : A → Slot → Bool) (l : 
       slots = slots_of kept (last ∷ []) rest (last ∷ []) s.slots (λ t i. i);
       lines = lines_of kept (last ∷ []) rest (last ∷ []) s.lines (λ x i. i);
     })
-
-  -- ---- two atoms
-
-  pub excluded : (one other : A) (both : List A) → both ≡ one ∷ other ∷ [] → HoldsNowhere (conj_holds h both) → HoldsNowhere (λ p. conj_holds h (one ∷ []) p && h other p)
-  excluded one other both e k = λ p i. sym (ap (λ xs. conj_holds h xs p) e ∙ conj_push h m l (λ b q. pos 0) (one ∷ []) other p) ∙ k p i
-
-  pub both_nowhere : (cell : A → Point → ℤ) (rest : List A) (a b c : A) (k : Negated A) → k ≡ Two b c → IsNegation h m l cell a k → HoldsNowhere (λ p. conj_holds h rest p && h b p) → HoldsNowhere (λ p. conj_holds h rest p && h c p)
-      → HoldsNowhere (λ p. conj_holds h rest p && not (h a p))
-  both_nowhere cell rest a b c k e i x y = two_nowhere h m l cell rest rest a b c k false false false e refl i refl (λ z. x) (λ z. y) refl

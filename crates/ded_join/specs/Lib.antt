@@ -1,4 +1,5 @@
 pub mod Kept
+pub mod Merged
 pub mod Near
 pub mod Picks
 pub mod Taken

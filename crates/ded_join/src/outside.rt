@@ -6,7 +6,9 @@
 ghost use Rattle.std.specs.Prelude.{IfOk};
 ghost use Rattle.ded_genrel.specs.Operations.{IsMeet};
 ghost use Rattle.ded_genrel.specs.Rounds.{AreRational};
+ghost use Rattle.ded_join.specs.Merged.{AreAlike};
 
+use crate::condensing::condensed;
 use crate::inhabited::join_inhabited;
 use ded_complement::{complement, minus};
 use ded_genrel::GenRel;
@@ -18,11 +20,15 @@ use std::alloc::Global;
 /// Fewer pairs are never too many.
 const FEW_PAIRS: usize = 32;
 
+/// Of more pairs it isn't asked which lie within others, which takes time in proportion to their square.
+const MANY_PAIRS: usize = 128;
+
 /// A list with more atoms isn't small: the complement of a list may have as many conjunctions as there are cells of its atoms.
 const FEW_ATOMS: usize = 32;
 
-/// A list that holds where both do: that of [`join_inhabited`], or, where that is longer than both lists and the second one is
-/// small, the first list without what is outside of the second one, if that is shorter. `met` grows as in `join_inhabited`.
+/// A list that holds where both do: that of [`join_inhabited`], where the second list isn't small. Otherwise no more of its pairs than
+/// differ plainly, or, where these are still more than both lists have, the first list without what is outside of the second one, if
+/// that is shorter. `met` grows as in `join_inhabited`.
 ///
 /// # Errors
 /// Out of memory.
@@ -37,7 +43,11 @@ pub fn join_shorter<T: Theory>(
     ensures { IfOk result (λ r. IsMeet T.holds T.mentions T.lines a.now b.now r) }
 {
     let pairs = join_inhabited(alloc, a, b, slots, met)?;
-    if !(has_grown(a, b, &pairs) && is_small(b)) {
+    if !is_small(b) {
+        return Ok(pairs);
+    }
+    let pairs = condensed_few(alloc, pairs)?;
+    if !has_grown(a, b, &pairs) {
         return Ok(pairs);
     }
     let pieces = without_outside(alloc, a, b)?;
@@ -45,6 +55,20 @@ pub fn join_shorter<T: Theory>(
         Ok(pieces)
     } else {
         Ok(pairs)
+    }
+}
+
+/// The list condensed, where it is short.
+///
+/// # Errors
+/// Out of memory.
+fn condensed_few<T: Theory>(alloc: Global, list: GenRel<T>) -> Result<GenRel<T>, NoMemory>
+    ensures { IfOk result (λ r. AreAlike T.holds T.mentions T.lines list r) }
+{
+    if list.list().len() <= MANY_PAIRS {
+        condensed(alloc, list)
+    } else {
+        Ok(list)
     }
 }
 
