@@ -7,7 +7,8 @@ ghost use Rattle.ded_model.specs.PlanForm.{plan_form};
 ghost use Rattle.ded_model.specs.Row.{tuple_holds, tuples_hold, tuples_mention};
 ghost use Rattle.ded_model.specs.Lines.{tuples_lines};
 ghost use Rattle.ded_model.specs.Measure.{stored_measures, plan_clashes};
-ghost use Rattle.ded_hull.specs.Windows.{AreLent, lent};
+ghost use Rattle.ded_hull.specs.Windows.{AreLent};
+ghost use Rattle.ded_packed.specs.Lent.{lent};
 ghost use Rattle.ded_algebra.specs.Evaluation.{AreGiven, given_tuples, IsAnyAtom, IsEvaluable, IsEvaluation, IsEvaluationWithin, IsMet};
 
 use ded_hull::Window;
@@ -15,6 +16,7 @@ use ded_model::memory::{NoMemory, Refused};
 use ded_model::name::Name;
 use ded_model::plan::Plan;
 use ded_model::tuple::{Tuple, Tuples};
+use ded_packed::Lent;
 use std::alloc::Global;
 
 /// Named lists of tuples that a plan is evaluated over. A value stands for the catalogue in which each of its names is a relation
@@ -40,29 +42,15 @@ pub trait Relations {
         alloc: Global,
         name: &Name,
         window: &Window,
-    ) -> Result<Option<Vec<&Tuple>>, NoMemory>
+    ) -> Result<Option<Vec<Lent<'_>>>, NoMemory>
         ensures { IfOk result (λ o. AreLent window.now (option_map (λ ts. lent ts.items) o) (given_tuples (catalogue self.now) name.now)) };
 
     /// All tuples of the name in order, also those that hold nowhere; none exactly where the name isn't given.
     ///
     /// # Errors
     /// Out of memory.
-    fn all(&self, alloc: Global, name: &Name) -> Result<Option<Vec<&Tuple>>, NoMemory>
+    fn all(&self, alloc: Global, name: &Name) -> Result<Option<Vec<Lent<'_>>>, NoMemory>
         ensures { IfOk result (λ o. option_map (λ ts. lent ts.items) o ≡ given_tuples (catalogue self.now) name.now) };
-}
-
-/// References to the tuples, in order.
-///
-/// # Errors
-/// Out of memory.
-pub fn lend(alloc: Global, tuples: &[Tuple]) -> Result<Vec<&Tuple>, NoMemory>
-    ensures { IfOk result (λ v. lent v.items ≡ tuples.now) }
-{
-    let mut list = Vec::with_capacity(alloc, tuples.len())?;
-    for tuple in tuples {
-        list.push(tuple)?;
-    }
-    Ok(list)
 }
 
 /// What evaluates plans.

@@ -16,4 +16,4 @@ mod evaluation;
 mod scanning;
 
 pub use compiling::compile;
-pub use evaluation::{Evaluate, Relations, lend};
+pub use evaluation::{Evaluate, Relations};

@@ -2,13 +2,14 @@
 ghost use Rattle.std.specs.Prelude.{◌≡◌, ◌++◌, IfOk};
 ghost use Rattle.std.specs.Option.{option_map};
 ghost use Rattle.ded_model.specs.Catalogue.{tuples_of};
-ghost use Rattle.ded_hull.specs.Windows.{lent};
+ghost use Rattle.ded_packed.specs.Lent.{lent};
 ghost use Rattle.ded_catalog.specs.Nearby.{numbered};
 ghost use Rattle.ded_catalog.specs.Changing.{inserted_in, deleted_in, is_left_out, without_number, with_last};
 
 use ded_model::memory::NoMemory;
 use ded_model::name::Name;
 use ded_model::tuple::Tuple;
+use ded_packed::{Lent, Packed};
 use std::alloc::Global;
 
 /// Nothing, one tuple more in the relation of the name, or the tuple of the number less.
@@ -61,15 +62,15 @@ impl<'a> Change<'a> {
 /// Out of memory.
 pub(crate) fn left_of<'a>(
     alloc: Global,
-    found: &Vec<(u32, &'a Tuple)>,
+    found: &Vec<(u32, &'a Packed)>,
     left_out: Option<u64>,
-) -> Result<Vec<&'a Tuple>, NoMemory>
+) -> Result<Vec<Lent<'a>>, NoMemory>
     ensures { IfOk result (λ ts. lent ts.items ≡ tuples_of (without_number left_out (numbered found.entry.now.items))) }
 {
     let mut left = Vec::with_capacity(alloc, found.len())?;
     for (number, tuple) in found {
         if !is_left_out(left_out, *number) {
-            left.push(*tuple)?;
+            left.push(Lent::Packed(*tuple))?;
         }
     }
     Ok(left)
@@ -90,13 +91,13 @@ fn is_left_out(left_out: Option<u64>, number: u32) -> bool
 /// # Errors
 /// Out of memory.
 pub(crate) fn with_inserted<'a>(
-    mut list: Vec<&'a Tuple>,
+    mut list: Vec<Lent<'a>>,
     last: Option<&'a Tuple>,
-) -> Result<Vec<&'a Tuple>, NoMemory>
+) -> Result<Vec<Lent<'a>>, NoMemory>
     ensures { IfOk result (λ ts. lent ts.items ≡ with_last (lent list.entry.items) (option_map (λ t. t.now) last.entry)) }
 {
     if let Some(tuple) = last {
-        list.push(tuple)?;
+        list.push(Lent::Plain(tuple))?;
     }
     Ok(list)
 }

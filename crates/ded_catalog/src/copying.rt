@@ -4,7 +4,7 @@ ghost use Rattle.std.specs.Prelude.{◌≡◌, IfOk};
 use crate::stored::{Relation, Stored, View};
 use ded_model::memory::NoMemory;
 use ded_model::name::Heading;
-use ded_model::tuple::Tuple;
+use ded_packed::Packed;
 use std::alloc::{AllocError, Global};
 use std::collections::BTreeMap;
 
@@ -49,8 +49,8 @@ fn allocator_of(heading: &Heading) -> Global {
 /// Copies of the tuples, under the same numbers.
 fn copy_tuples(
     alloc: Global,
-    tuples: &BTreeMap<u32, Tuple>,
-) -> Result<BTreeMap<u32, Tuple>, NoMemory>
+    tuples: &BTreeMap<u32, Packed>,
+) -> Result<BTreeMap<u32, Packed>, NoMemory>
     ensures { IfOk result (λ ts. ts.entries ≡ tuples.now.entries) }
 {
     let mut copies = BTreeMap::new(alloc);

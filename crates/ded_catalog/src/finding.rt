@@ -5,7 +5,7 @@ ghost use Rattle.ded_catalog.specs.Nearby.{numbered, AreNear, AddsNear, with_num
 
 use ded_hull::Sieve;
 use ded_model::memory::NoMemory;
-use ded_model::tuple::Tuple;
+use ded_packed::Packed;
 use std::alloc::Global;
 use std::collections::BTreeMap;
 
@@ -15,14 +15,14 @@ use std::collections::BTreeMap;
 /// Out of memory.
 pub(crate) fn sifted<'a>(
     alloc: Global,
-    tuples: &'a BTreeMap<u32, Tuple>,
+    tuples: &'a BTreeMap<u32, Packed>,
     sieve: &Sieve,
-) -> Result<Vec<(u32, &'a Tuple)>, NoMemory>
+) -> Result<Vec<(u32, &'a Packed)>, NoMemory>
     ensures { IfOk result (λ found. AreNear sieve.now (numbered found.items) tuples.now.entries) }
 {
     let mut found = Vec::new(alloc);
     for (number, tuple) in tuples {
-        push_if_near(sieve, *number, tuple, &mut found)?;
+        push_if_near(alloc, sieve, *number, tuple, &mut found)?;
     }
     Ok(found)
 }
@@ -33,8 +33,8 @@ pub(crate) fn sifted<'a>(
 /// Out of memory.
 pub(crate) fn listed(
     alloc: Global,
-    tuples: &BTreeMap<u32, Tuple>,
-) -> Result<Vec<(u32, &Tuple)>, NoMemory>
+    tuples: &BTreeMap<u32, Packed>,
+) -> Result<Vec<(u32, &Packed)>, NoMemory>
     ensures { IfOk result (λ list. numbered list.items ≡ tuples.now.entries) }
 {
     let mut list = Vec::with_capacity(alloc, tuples.len())?;
@@ -50,15 +50,15 @@ pub(crate) fn listed(
 /// Out of memory.
 pub(crate) fn looked_up<'a>(
     alloc: Global,
-    tuples: &'a BTreeMap<u32, Tuple>,
+    tuples: &'a BTreeMap<u32, Packed>,
     numbers: &[u32],
     sieve: &Sieve,
-) -> Result<Vec<(u32, &'a Tuple)>, NoMemory>
+) -> Result<Vec<(u32, &'a Packed)>, NoMemory>
     ensures { IfOk result (λ found. AreNear sieve.now (numbered found.items) (picked numbers.now tuples.now.entries)) }
 {
     let mut found = Vec::new(alloc);
     for number in numbers {
-        push_if_there(sieve, *number, tuples.get(number), &mut found)?;
+        push_if_there(alloc, sieve, *number, tuples.get(number), &mut found)?;
     }
     Ok(found)
 }
@@ -68,15 +68,16 @@ pub(crate) fn looked_up<'a>(
 /// # Errors
 /// Out of memory.
 fn push_if_there<'a>(
+    alloc: Global,
     sieve: &Sieve,
     number: u32,
-    tuple: Option<&'a Tuple>,
-    found: &mut Vec<(u32, &'a Tuple)>,
+    tuple: Option<&'a Packed>,
+    found: &mut Vec<(u32, &'a Packed)>,
 ) -> Result<(), NoMemory>
     ensures { IfOk result (λ _. AddsNear sieve.now (with_number number (option_map (λ t. t.now) tuple.entry)) (numbered found.old.items) (numbered found.new.items)) }
 {
     match tuple {
-        Some(tuple) => push_if_near(sieve, number, tuple, found),
+        Some(tuple) => push_if_near(alloc, sieve, number, tuple, found),
         None => Ok(()),
     }
 }
@@ -86,14 +87,15 @@ fn push_if_there<'a>(
 /// # Errors
 /// Out of memory.
 fn push_if_near<'a>(
+    alloc: Global,
     sieve: &Sieve,
     number: u32,
-    tuple: &'a Tuple,
-    found: &mut Vec<(u32, &'a Tuple)>,
+    tuple: &'a Packed,
+    found: &mut Vec<(u32, &'a Packed)>,
 ) -> Result<(), NoMemory>
     ensures { IfOk result (λ _. AddsNear sieve.now ((number, tuple.now) ∷ []) (numbered found.old.items) (numbered found.new.items)) }
 {
-    if sieve.may_hold(tuple) {
+    if sieve.may_hold(&tuple.unpack(alloc)?) {
         found.push((number, tuple))?;
     }
     Ok(())

@@ -1,13 +1,16 @@
 //! Relations: their tuples, found by number.
-ghost use Rattle.std.specs.Prelude.{◌≡◌, ◌==◌, ◌+◌, ◌<◌, ◌^◌, ◌++◌, ◌∷◌, [], true, None, IfOk, IfErr, OnErr};
+ghost use Rattle.std.specs.Prelude.{◌≡◌, ◌==◌, ◌+◌, ◌<◌, ◌^◌, ◌++◌, ◌∷◌, [], true, Some, None, IfOk, IfErr, OnOk, OnErr};
+ghost use Rattle.std.specs.BTreeMap.{is_at};
 ghost use Rattle.std.specs.List.{list_any};
+ghost use Rattle.std.specs.Map.{lookup};
 ghost use Rattle.std.specs.Option.{unwrap_or};
+ghost use Rattle.std.specs.Ordering.{nat_cmp};
 ghost use Rattle.ded_model.specs.declared.command.Refusal.TheVariants.{Memory};
 ghost use Rattle.ded_catalog.specs.Nearby.{numbered, AreNear};
 ghost use Rattle.ded_catalog.specs.Relations.{IsIndexOf};
 ghost use Rattle.ded_catalog.specs.Tuples.{AreUpTo, refusal_of, IsSame, Pushes, Removes};
 
-use crate::finding::{looked_up, sifted};
+use crate::finding::{listed, looked_up, sifted};
 use crate::index::Index;
 use crate::stored::Relation;
 use ded_hull::{Sieve, Window};
@@ -16,6 +19,7 @@ use ded_model::limits;
 use ded_model::memory::NoMemory;
 use ded_model::name::Heading;
 use ded_model::tuple::Tuple;
+use ded_packed::Packed;
 use std::alloc::{AllocError, Global};
 use std::collections::BTreeMap;
 
@@ -52,7 +56,7 @@ impl Relation {
             &mut self.index,
             &self.heading,
             self.inserts,
-            tuple,
+            &tuple,
         ) {
             Ok(number) => {
                 self.inserts = number;
@@ -71,15 +75,34 @@ impl Relation {
     }
 
     /// Takes the tuple of the number out of the relation.
-    pub(crate) fn remove(&mut self, number: u64)
+    ///
+    /// # Errors
+    /// Out of memory; nothing is changed then.
+    pub(crate) fn remove(&mut self, number: u64) -> Result<(), NoMemory>
         requires numbers { AreUpTo self.old.inserts self.old.tuples.entries }
         requires present { list_any (λ t. t.0 == number) self.old.tuples.entries ≡ true }
-        ensures { Removes self.old self.new number }
+        ensures ok { OnOk result (Removes self.old self.new number) }
+        ensures err { OnErr result (IsSame self.old self.new) }
     {
         prove!(number <= u64::from(self.inserts));
-        if let Some(tuple) = self.tuples.remove(&(number as u32)) {
-            self.index.remove(&self.heading, number as u32, &tuple);
-        }
+        let tuple = self.told(number as u32)?;
+        self.tuples.remove(&(number as u32));
+        self.index.remove(&self.heading, number as u32, &tuple);
+        Ok(())
+    }
+
+    /// The tuple of the number, which is there.
+    ///
+    /// # Errors
+    /// Out of memory.
+    fn told(&self, number: u32) -> Result<Tuple, NoMemory>
+        requires { list_any (λ t. t.0 == number) self.now.tuples.entries ≡ true }
+        ensures { IfOk result (λ t. lookup (is_at (nat_cmp number)) self.now.tuples.entries ≡ Some t) }
+    {
+        let Some(packed) = self.tuples.get(&number) else {
+            unreachable!()
+        };
+        packed.unpack(*self.heading.columns.allocator())
     }
 
     /// The tuples that may hold in the window, with their numbers, in ascending order of these.
@@ -90,9 +113,12 @@ impl Relation {
         &'a self,
         alloc: Global,
         window: &Window,
-    ) -> Result<Vec<(u32, &'a Tuple)>, NoMemory>
+    ) -> Result<Vec<(u32, &'a Packed)>, NoMemory>
         ensures { IfOk result (λ found. AreNear window.now (numbered found.items) self.now.tuples.entries) }
     {
+        if window.limits.is_empty() && window.texts.is_empty() {
+            return listed(alloc, &self.tuples);
+        }
         let sieve = Sieve::new(alloc, window)?;
         let count = self.tuples.len(); // for the order of the numbers too
         match self.index.find(alloc, &self.heading, window, count)? {
@@ -107,26 +133,27 @@ impl Relation {
 /// # Errors
 /// Out of memory; the tuples stay as they are then, and the index is one of them.
 fn push_next(
-    tuples: &mut BTreeMap<u32, Tuple>,
+    tuples: &mut BTreeMap<u32, Packed>,
     index: &mut Index,
     heading: &Heading,
     last: u32,
-    tuple: Tuple,
+    tuple: &Tuple,
 ) -> Result<u32, NoMemory>
     requires room { last + 1 < 2 ^ 32 }
     requires numbers { AreUpTo last tuples.old.entries }
     requires index { IsIndexOf heading.now index.old tuples.old.entries }
     ensures number { IfOk result (λ k. k ≡ last + 1) }
-    ensures pushed { IfOk result (λ k. tuples.new.entries ≡ tuples.old.entries ++ (k, tuple) ∷ []) }
+    ensures pushed { IfOk result (λ k. tuples.new.entries ≡ tuples.old.entries ++ (k, tuple.now) ∷ []) }
     ensures unchanged { OnErr result (tuples.new.entries ≡ tuples.old.entries) }
     ensures index { IsIndexOf heading.now index.new tuples.new.entries }
 {
     let number = last + 1;
-    index.insert(heading, number, &tuple)?;
-    match tuples.insert(number, tuple) {
+    let packed = Packed::pack(*heading.columns.allocator(), tuple)?;
+    index.insert(heading, number, tuple)?;
+    match tuples.insert(number, packed) {
         Ok(_) => Ok(number),
-        Err(failed) => {
-            index.remove(heading, number, &failed.value.1);
+        Err(_) => {
+            index.remove(heading, number, tuple);
             Err(AllocError)
         }
     }

@@ -90,7 +90,6 @@ impl SharedRelation {
         ensures err { OnErr result (IsSame self.old self.new) }
     {
         let relation = Rc::make_mut(&mut self.relation)?;
-        relation.remove(number);
-        Ok(())
+        relation.remove(number)
     }
 }

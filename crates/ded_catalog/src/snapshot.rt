@@ -11,6 +11,7 @@ use ded_model::goal::Goal;
 use ded_model::memory::NoMemory;
 use ded_model::name::{Heading, Name};
 use ded_model::tuple::Tuple;
+use ded_packed::Lent;
 use std::alloc::Global;
 use std::marker::Model;
 
@@ -49,7 +50,8 @@ impl<'a> Snapshot<'a> {
     ghost use Rattle.ded_model.specs.Width.{tuple_length};
     ghost use Rattle.ded_sorts.specs.Causes.{insert_refusal, is_relation_with};
     ghost use Rattle.ded_sorts.specs.Changes.{Inserts, Deletes};
-    ghost use Rattle.ded_hull.specs.Windows.{AreLent, lent};
+    ghost use Rattle.ded_hull.specs.Windows.{AreLent};
+    ghost use Rattle.ded_packed.specs.Lent.{lent};
     ghost use Rattle.ded_catalog.specs.State.{catalogue_of};
     ghost use Rattle.ded_catalog.specs.Snapshots.{snapshot_of};
 
@@ -126,7 +128,7 @@ impl<'a> Snapshot<'a> {
         alloc: Global,
         name: &Name,
         window: &Window,
-    ) -> Result<Option<Vec<&Tuple>>, NoMemory>
+    ) -> Result<Option<Vec<Lent<'_>>>, NoMemory>
         ensures { IfOk result (λ found. AreLent window.now (option_map (λ v. lent v.items) found) (option_map tuples_of (relation_in (entry_of (snapshot_of self.now).entries name.now)))) }
     {
         let catalogue = self.catalogue;
@@ -141,7 +143,7 @@ impl<'a> Snapshot<'a> {
     ///
     /// # Errors
     /// Out of memory.
-    pub fn all(&self, alloc: Global, name: &Name) -> Result<Option<Vec<&Tuple>>, NoMemory>
+    pub fn all(&self, alloc: Global, name: &Name) -> Result<Option<Vec<Lent<'_>>>, NoMemory>
         ensures { IfOk result (λ list. option_map (λ v. lent v.items) list ≡ option_map tuples_of (relation_in (entry_of (snapshot_of self.now).entries name.now))) }
     {
         let catalogue = self.catalogue;

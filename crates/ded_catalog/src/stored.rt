@@ -12,16 +12,17 @@ use ded_model::goal::Goal;
 use ded_model::memory::NoMemory;
 use ded_model::name::{Heading, Name};
 use ded_model::tuple::Tuple;
+use ded_packed::Packed;
 use std::collections::BTreeMap;
 use std::marker::Model;
 
-/// A relation: its heading, how many inserts it has accepted, its tuples by their numbers, and an index of these. Contracts see all
+/// A relation: its heading, how many inserts it has accepted, its tuples by their numbers, packed, and an index of these. Contracts see all
 /// but the index, in which each tuple has its reach under its number, and the keys of its texts.
 #[derive(Drop)]
 pub(crate) struct Relation {
     pub(crate) heading: Heading,
     pub(crate) inserts: u32,
-    pub(crate) tuples: BTreeMap<u32, Tuple>,
+    pub(crate) tuples: BTreeMap<u32, Packed>,
     pub(crate) index: Index,
 }
 

@@ -8,6 +8,7 @@ use crate::certifying::{Outcome, certify};
 use ded_model::certificate::{Entry, Proof};
 use ded_model::memory::Refused;
 use ded_model::tuple::Tuple;
+use ded_packed::Packed;
 use std::alloc::Global;
 use std::collections::BTreeMap;
 
@@ -27,15 +28,16 @@ pub enum Disjointness {
 /// `Wide` only where some pair is wide, otherwise out of memory.
 pub fn certify_all(
     alloc: Global,
-    first: &BTreeMap<u32, Tuple>,
-    second: &BTreeMap<u32, Tuple>,
+    first: &BTreeMap<u32, Packed>,
+    second: &BTreeMap<u32, Packed>,
 ) -> Result<Disjointness, Refused>
     ensures is { IfOk result (IsTold (pairs_of first.now.entries second.now.entries)) }
     ensures wide { IsErrOf result Wide → SomePair IsWide (pairs_of first.now.entries second.now.entries) }
 {
     let mut entries = Vec::new(alloc);
-    for (number, tuple) in first {
-        if let Some(other) = add_entries(alloc, &mut entries, *number, tuple, second)? {
+    for (number, packed) in first {
+        let tuple = packed.unpack(alloc)?;
+        if let Some(other) = add_entries(alloc, &mut entries, *number, &tuple, second)? {
             return Ok(Disjointness::Meet(*number, other));
         }
     }
@@ -49,15 +51,16 @@ fn add_entries(
     entries: &mut Vec<Entry>,
     number: u32,
     tuple: &Tuple,
-    second: &BTreeMap<u32, Tuple>,
+    second: &BTreeMap<u32, Packed>,
 ) -> Result<Option<u32>, Refused>
     ensures is { IfOk result (λ m. (done : List (Numbered × Numbered)) → AreEntriesOf done entries.old.items →
         MatchOption m (AreEntriesOf (done ++ pairs_with (number, tuple.now) second.now.entries) entries.new.items)
         (λ j. IsFirstMeeting (pairs_with (number, tuple.now) second.now.entries) number j)) }
     ensures wide { IsErrOf result Wide → SomePair IsWide (pairs_with (number, tuple.now) second.now.entries) }
 {
-    for (other, next) in second {
-        match certify(alloc, tuple, next)? {
+    for (other, packed) in second {
+        let next = packed.unpack(alloc)?;
+        match certify(alloc, tuple, &next)? {
             Outcome::Common => return Ok(Some(*other)),
             Outcome::Apart(proof) => entries.push(entry(number, *other, proof))?,
         }

@@ -9,6 +9,7 @@ use crate::checking::check;
 use ded_model::certificate::Entry;
 use ded_model::memory::Refused;
 use ded_model::tuple::Tuple;
+use ded_packed::Packed;
 use std::alloc::Global;
 use std::collections::BTreeMap;
 
@@ -19,15 +20,16 @@ use std::collections::BTreeMap;
 /// `Wide` only where in the check of the first entry of some pair a number is too long, otherwise out of memory.
 pub fn verify_all(
     alloc: Global,
-    first: &BTreeMap<u32, Tuple>,
-    second: &BTreeMap<u32, Tuple>,
+    first: &BTreeMap<u32, Packed>,
+    second: &BTreeMap<u32, Packed>,
     entries: &[Entry],
 ) -> Result<bool, Refused>
     ensures is { IfOk result (λ b. IsTrue b ↔ AllByRecursion (IsVerified entries.now) (pairs_of first.now.entries second.now.entries)) }
     ensures wide { IsErrOf result Wide → SomePair (IsLongCheck entries.now) (pairs_of first.now.entries second.now.entries) }
 {
-    for (number, tuple) in first {
-        if !are_verified(alloc, *number, tuple, second, entries)? {
+    for (number, packed) in first {
+        let tuple = packed.unpack(alloc)?;
+        if !are_verified(alloc, *number, &tuple, second, entries)? {
             return Ok(false);
         }
     }
@@ -39,17 +41,18 @@ fn are_verified(
     alloc: Global,
     number: u32,
     tuple: &Tuple,
-    second: &BTreeMap<u32, Tuple>,
+    second: &BTreeMap<u32, Packed>,
     entries: &[Entry],
 ) -> Result<bool, Refused>
     ensures is { IfOk result (λ b. IsTrue b ↔ AllByRecursion (IsVerified entries.now) (pairs_with (number, tuple.now) second.now.entries)) }
     ensures wide { IsErrOf result Wide → SomePair (IsLongCheck entries.now) (pairs_with (number, tuple.now) second.now.entries) }
 {
-    for (other, next) in second {
+    for (other, packed) in second {
         let Some(entry) = entry_for(entries, u64::from(number), u64::from(*other)) else {
             return Ok(false);
         };
-        if !check(alloc, tuple, next, &entry.proof)? {
+        let next = packed.unpack(alloc)?;
+        if !check(alloc, tuple, &next, &entry.proof)? {
             return Ok(false);
         }
     }

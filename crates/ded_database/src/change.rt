@@ -3,12 +3,13 @@
 use ded_catalog::{Catalogue, Snapshot};
 use ded_model::name::Name;
 use ded_model::tuple::Tuple;
+use ded_packed::Packed;
 
 /// The tuple that is inserted, or the one that is deleted, where it is told.
 #[derive(Clone, Copy)]
 pub enum Step<'b> {
     Inserted(&'b Tuple),
-    Deleted(Option<&'b Tuple>),
+    Deleted(Option<&'b Packed>),
 }
 
 /// The catalogue before a change and as it will be, the relation's name, and the tuple that comes or goes.

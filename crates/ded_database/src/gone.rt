@@ -5,14 +5,14 @@ ghost use Rattle.ded_database.specs.Changes.{DeletesTuple};
 
 use ded_catalog::Catalogue;
 use ded_model::name::Name;
-use ded_model::tuple::Tuple;
+use ded_packed::Packed;
 
 /// The tuple of the number in the relation of the name, where there is one: the one that a delete of the number takes.
 pub(crate) fn told_tuple<'a>(
     catalogue: &'a Catalogue,
     name: &Name,
     number: u64,
-) -> Option<&'a Tuple>
+) -> Option<&'a Packed>
     ensures { IfSome result (λ t. DeletesTuple (catalogue_of catalogue.now) name.now number t.now) }
 {
     catalogue.formed();

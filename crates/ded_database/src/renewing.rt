@@ -148,7 +148,10 @@ fn followed(
             Ok(tuples)
         }
         Step::Deleted(told) => match told {
-            Some(gone) => list_without(alloc, change, gone, mark, list, held),
+            Some(gone) => {
+                let gone = gone.unpack(alloc)?;
+                list_without(alloc, change, &gone, mark, list, held)
+            }
             None => anew(alloc, change, mark, held),
         },
     }

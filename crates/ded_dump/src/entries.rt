@@ -14,6 +14,7 @@ use ded_model::goal::Goal;
 use ded_model::memory::NoMemory;
 use ded_model::name::{Heading, Name};
 use ded_model::tuple::Tuple;
+use ded_packed::Packed;
 use std::alloc::Global;
 use std::collections::BTreeMap;
 
@@ -53,12 +54,13 @@ pub(crate) fn add_inserts(
     lines: &mut Vec<Name>,
     name: &Name,
     heading: &Heading,
-    tuples: &BTreeMap<u32, Tuple>,
+    tuples: &BTreeMap<u32, Packed>,
 ) -> Result<(), NoMemory>
     ensures { OnOk result (lines.new.items ≡ lines.old.items ++ insert_lines name.now heading.now tuples.now.entries) }
 {
-    for (_, tuple) in tuples {
-        lines.push(insert_line(alloc, name, heading, tuple)?)?;
+    for (_, packed) in tuples {
+        let tuple = packed.unpack(alloc)?;
+        lines.push(insert_line(alloc, name, heading, &tuple)?)?;
     }
     Ok(())
 }

@@ -1,5 +1,5 @@
 -- The first tuples that are lent of a relation, renamed, hold only where a scan does.
-use Rattle.std.proofs.Common.{◌≡◌, ℕ, zero, suc, ◌*◌, ◌<◌, Bool, true, List, [], ◌∷◌, take, ⊎_elim, inl, inr, arith, sym, ap, ◌∙◌, subst, true≢false, map, Bor}
+use Rattle.std.proofs.Common.{◌≡◌, ℕ, zero, suc, ◌*◌, ◌<◌, Bool, true, List, [], ◌∷◌, take, ⊎_elim, inl, inr, arith, sym, ap, ◌∙◌, subst, true≢false, map}
 use Rattle.std.specs.List.{AllByRecursion}
 use Rattle.ded_model.specs.declared.slot.Slot.{Slot}
 use Rattle.ded_model.specs.Point.{Point, stands_in, AreDistinctSlots}
@@ -17,7 +17,9 @@ use Rattle.ded_genrel.specs.Lists.{conjs_hold, conjs_mention, conjs_lines}
 use Rattle.ded_genrel.specs.Operations.{IsRenaming}
 use Rattle.ded_genrel.proofs.Items.{all_weaker}
 use Rattle.ded_hull.specs.declared.window.Window.{Window}
-use Rattle.ded_hull.specs.Windows.{IsNear, lent}
+use Rattle.ded_hull.specs.Windows.{IsNear}
+use Rattle.ded_packed.specs.declared.lent.Lent.{Lent}
+use Rattle.ded_packed.specs.Lent.{tuple_of, lent}
 use Rattle.ded_hull.proofs.Near.{near_all}
 use Rattle.ded_eval.specs.Finding.{IsFoundIn}
 use Rattle.ded_eval.specs.Reading.{IsListOf}
@@ -37,16 +39,16 @@ near_only w p us (t ∷ ts) (inr m) x =
     (or_split (tuple_holds t p) (tuples_hold m.0 p) (sym (ap (λ (vs : List (List Atom)). tuples_hold vs p) m.1) ∙ x))
 
 -- so do the first ones
-first_only : (p : Point) (k : ℕ) (bs : List (Bor (List Atom))) → tuples_hold (lent (take k bs)) p ≡ true → tuples_hold (lent bs) p ≡ true
+first_only : (p : Point) (k : ℕ) (bs : List Lent) → tuples_hold (lent (take k bs)) p ≡ true → tuples_hold (lent bs) p ≡ true
 unfolding tuples_hold
 first_only p zero [] x = x
 first_only p zero (b ∷ bs) x = absurd (true≢false (sym x))
 first_only p (suc k) [] x = x
 first_only p (suc k) (b ∷ bs) x =
-    ⊎_elim (λ (y : tuple_holds b.now p ≡ true). or_left (tuple_holds b.now p) (tuples_hold (lent bs) p) y) (λ y. or_right (tuple_holds b.now p) (tuples_hold (lent bs) p) (first_only p k bs y))
-    (or_split (tuple_holds b.now p) (tuples_hold (lent (take k bs)) p) x)
+    ⊎_elim (λ (y : tuple_holds (tuple_of b) p ≡ true). or_left (tuple_holds (tuple_of b) p) (tuples_hold (lent bs) p) y) (λ y. or_right (tuple_holds (tuple_of b) p) (tuples_hold (lent bs) p) (first_only p k bs y))
+    (or_split (tuple_holds (tuple_of b) p) (tuples_hold (lent (take k bs)) p) x)
 
-first_all : (P : List Atom → Type 0) (k : ℕ) (bs : List (Bor (List Atom))) → AllByRecursion P (lent bs) → AllByRecursion P (lent (take k bs))
+first_all : (P : List Atom → Type 0) (k : ℕ) (bs : List Lent) → AllByRecursion P (lent bs) → AllByRecursion P (lent (take k bs))
 first_all P zero [] a = tt
 first_all P zero (b ∷ bs) a = tt
 first_all P (suc k) [] a = tt
@@ -59,7 +61,7 @@ pub record IsSomeOf (Reads : Atom → Type 0) (c : Catalogue) (n : List ℕ) (ss
   pub over : AllByRecursion (λ t. IsTupleOver found.heading t × AllByRecursion Reads t) us
   pub only : (p : Point) → tuples_hold us p ≡ true → tuples_hold all p ≡ true
 
-pub first_lent : (Reads : Atom → Type 0) (c : Catalogue) (n : List ℕ) (ss : List Slot) (w : Window) (k : ℕ) (bs : List (Bor (List Atom))) → IsLent Reads c n ss w (lent bs) → IsSomeOf Reads c n ss (lent (take k bs))
+pub first_lent : (Reads : Atom → Type 0) (c : Catalogue) (n : List ℕ) (ss : List Slot) (w : Window) (k : ℕ) (bs : List Lent) → IsLent Reads c n ss w (lent bs) → IsSomeOf Reads c n ss (lent (take k bs))
 first_lent Reads c n ss w k bs a = record {
   all = a.all;
   found = a.found;

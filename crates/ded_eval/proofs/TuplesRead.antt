@@ -14,8 +14,8 @@ use Rattle.ded_theory.proofs.Conjunctions.{conj_holds-append, conj_mentions-appe
 use Rattle.ded_genrel.specs.Lists.{conjs_lines}
 use Rattle.ded_genrel.proofs.Laws.{conj_lines-append, conjs_hold-append, conjs_mention-append, conjs_lines-append}
 use Rattle.std.specs.List.{AllByRecursion}
-use Rattle.std.specs.Borrow.{Bor}
-use Rattle.ded_hull.specs.Windows.{lent}
+use Rattle.ded_packed.specs.declared.lent.Lent.{Lent}
+use Rattle.ded_packed.specs.Lent.{tuple_of, lent}
 use Rattle.ded_eval.specs.Reading.{StandsFor, IsConjunctionOf, IsListOf}
 
 -- ---- one atom, or one tuple, more
@@ -58,9 +58,9 @@ normal-atom (b ∷ t) zero a l e n = subst IsNormalAtom (sym e) n.0
 normal-atom (b ∷ t) (suc i) a l e n = normal-atom t i a (omega (arith, l)) e n.2
 
 -- what is so of all tuples behind references is so of each
-pub lent_at : (P : List Atom → Type 0) (us : List (Bor (List Atom))) (i : ℕ) (u : Bor (List Atom)) → i < length us → u ≡ get_or us i u → AllByRecursion P (lent us) → P u.now
+pub lent_at : (P : List Atom → Type 0) (us : List Lent) (i : ℕ) (u : Lent) → i < length us → u ≡ get_or us i u → AllByRecursion P (lent us) → P (tuple_of u)
 lent_at P [] i u l e k = absurd (omega (arith, l))
-lent_at P (v ∷ us) zero u l e k = subst (λ (x : Bor (List Atom)). P x.now) (sym e) k.0
+lent_at P (v ∷ us) zero u l e k = subst (λ (x : Lent). P (tuple_of x)) (sym e) k.0
 lent_at P (v ∷ us) (suc i) u l e k = lent_at P us i u (omega (arith, l)) e k.1
 
 module _ {A : Type 0} (h : A → Point → Bool) (m : A → Slot → Bool) (l : A → List Line) where

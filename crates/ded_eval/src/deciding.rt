@@ -5,7 +5,7 @@ ghost use Rattle.ded_model.specs.declared.memory.Refused.TheVariants.{Wide};
 ghost use Rattle.ded_model.specs.Logic.{some_atom, some_atom_of};
 ghost use Rattle.ded_model.specs.PlanForm.{plan_form, plan_forms};
 ghost use Rattle.ded_genrel.specs.Lists.{conjs_hold, conjs_mention, conjs_lines};
-ghost use Rattle.ded_hull.specs.Windows.{lent};
+ghost use Rattle.ded_packed.specs.Lent.{lent, tuple_of};
 ghost use Rattle.ded_algebra.specs.Evaluation.{given_tuples, IsAnyAtom, IsEvaluable, IsEvaluation};
 ghost use Rattle.ded_eval.specs.Orders.{has_other, has_other_under, has_other_in, AreOrderRows};
 
@@ -18,6 +18,7 @@ use ded_model::memory::{NoMemory, Refused};
 use ded_model::name::Name;
 use ded_model::plan::Plan;
 use ded_model::tuple::Tuple;
+use ded_packed::Lent;
 use ded_theory::Theory;
 use std::alloc::Global;
 
@@ -102,19 +103,32 @@ fn name_has_other<R: Relations>(alloc: Global, name: &Name, relations: &R) -> Re
     ensures { IfOk result (λ b. b ≡ has_other_under (given_tuples (R.catalogue relations.now) name.now)) }
 {
     match relations.all(alloc, name)? {
-        Some(tuples) => Ok(have_other(&tuples)),
+        Some(tuples) => have_other(alloc, &tuples),
         None => Ok(false),
     }
 }
 
-/// Whether some row of the tuples is none. It does not allocate.
-fn have_other(tuples: &[&Tuple]) -> bool
-    ensures { result ≡ list_any has_other (lent tuples.now) }
+/// Whether some row of the tuples is none.
+///
+/// # Errors
+/// Out of memory.
+fn have_other(alloc: Global, tuples: &[Lent<'_>]) -> Result<bool, NoMemory>
+    ensures { IfOk result (λ b. b ≡ list_any has_other (lent tuples.now)) }
 {
-    for tuple in tuples {
-        if !are_orders(&tuple.atoms) {
-            return true;
+    for &tuple in tuples {
+        if has_other(alloc, tuple)? {
+            return Ok(true);
         }
     }
-    false
+    Ok(false)
+}
+
+/// Whether some row of the tuple is none.
+fn has_other(alloc: Global, tuple: Lent<'_>) -> Result<bool, NoMemory>
+    ensures { IfOk result (λ b. b ≡ has_other (tuple_of tuple.entry)) }
+{
+    match tuple {
+        Lent::Plain(tuple) => Ok(!are_orders(&tuple.atoms)),
+        Lent::Packed(packed) => Ok(!are_orders(&packed.unpack(alloc)?.atoms)),
+    }
 }

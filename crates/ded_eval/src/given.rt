@@ -2,11 +2,12 @@
 ghost use Rattle.std.specs.Prelude.{◌≡◌, ◌++◌, ◌∷◌, [], false, length, take, OnOk, OnErr};
 ghost use Rattle.std.specs.Option.{option_map};
 
-use ded_algebra::{Relations, lend};
+use ded_algebra::Relations;
 use ded_hull::Window;
 use ded_model::memory::NoMemory;
 use ded_model::name::{Heading, Name};
 use ded_model::tuple::{Tuple, Tuples};
+use ded_packed::{Lent, lend};
 use std::alloc::Global;
 use std::marker::Model;
 
@@ -138,14 +139,14 @@ impl Relations for Given {
         alloc: Global,
         name: &Name,
         window: &Window,
-    ) -> Result<Option<Vec<&Tuple>>, NoMemory> {
+    ) -> Result<Option<Vec<Lent<'_>>>, NoMemory> {
         match self.tuples(name) {
             Some(tuples) => Ok(Some(window.near(alloc, tuples)?)),
             None => Ok(None),
         }
     }
 
-    fn all(&self, alloc: Global, name: &Name) -> Result<Option<Vec<&Tuple>>, NoMemory> {
+    fn all(&self, alloc: Global, name: &Name) -> Result<Option<Vec<Lent<'_>>>, NoMemory> {
         match self.tuples(name) {
             Some(tuples) => Ok(Some(lend(alloc, tuples)?)),
             None => Ok(None),

@@ -10,7 +10,7 @@ use ded_model::memory::NoMemory;
 use ded_model::name::Name;
 use ded_model::plan::Plan;
 use ded_model::slot::Slots;
-use ded_model::tuple::Tuple;
+use ded_packed::Lent;
 use std::alloc::Global;
 
 /// An index has to pass over three of four tuples.
@@ -83,7 +83,7 @@ fn is_selective<T: OfTuples, R: Relations>(
 }
 
 /// How many tuples are lent.
-fn count(tuples: Option<Vec<&Tuple>>) -> usize {
+fn count(tuples: Option<Vec<Lent<'_>>>) -> usize {
     match tuples {
         Some(tuples) => tuples.len(),
         None => 0,

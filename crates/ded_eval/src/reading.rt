@@ -2,13 +2,14 @@
 ghost use Rattle.std.specs.Prelude.{IfOk};
 ghost use Rattle.std.specs.List.{AllByRecursion};
 ghost use Rattle.ded_model.specs.Normal.{IsNormalAtom, IsNormalTuple};
-ghost use Rattle.ded_hull.specs.Windows.{lent};
+ghost use Rattle.ded_packed.specs.Lent.{lent, tuple_of};
 ghost use Rattle.ded_eval.specs.Reading.{IsConjunctionOf, IsListOf};
 
 use ded_genrel::GenRel;
 use ded_model::memory::NoMemory;
 use ded_model::row::Row;
 use ded_model::tuple::{Atom, ThemeAtom, Tuple};
+use ded_packed::Lent;
 use ded_theory::Theory;
 use std::alloc::Global;
 use std::hash::Hash;
@@ -78,14 +79,26 @@ pub(crate) fn conjunction<T: OfTuples>(
 /// Out of memory.
 pub(crate) fn conjunctions<T: OfTuples>(
     alloc: Global,
-    tuples: &[&Tuple],
+    tuples: &[Lent<'_>],
 ) -> Result<GenRel<T>, NoMemory>
     requires { AllByRecursion (λ t. AllByRecursion T.reads t) (lent tuples.now) }
     ensures { IfOk result (λ r. IsListOf T.holds T.mentions T.lines r (lent tuples.now)) }
 {
     let mut list = GenRel::new(alloc);
-    for tuple in tuples {
-        list.push(conjunction::<T>(alloc, tuple)?)?;
+    for &tuple in tuples {
+        list.push(lent_conjunction::<T>(alloc, tuple)?)?;
     }
     Ok(list)
+}
+
+/// The conjunction that stands for a tuple that is lent.
+fn lent_conjunction<T: OfTuples>(alloc: Global, tuple: Lent<'_>) -> Result<Vec<T::Atom>, NoMemory>
+    requires { AllByRecursion T.reads (tuple_of tuple) }
+    ensures stands { IfOk result (λ v. IsConjunctionOf T.holds T.mentions T.lines v.items (tuple_of tuple.entry)) }
+    ensures normal { IfOk result (λ v. AllByRecursion T.normal v.items) }
+{
+    match tuple {
+        Lent::Plain(tuple) => conjunction::<T>(alloc, tuple),
+        Lent::Packed(packed) => conjunction::<T>(alloc, &packed.unpack(alloc)?),
+    }
 }

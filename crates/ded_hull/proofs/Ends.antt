@@ -1,40 +1,22 @@
 -- Ends of reaches: rounded outward, and those that contain both.
 use Rattle.std.proofs.Common.{◌≡◌, ℕ, Bool, true, false, cond, Option, Some, None, arith, refl, sym, ap, ◌∙◌, subst, SFits}
-use Rattle.std.specs.Prelude.{ℤ, pos, ◌+ℤ◌, ◌-ℤ◌, ◌*ℤ◌, ◌≤ℤ◌, ◌<ℤ◌, int_lt, neg_ℤ, unsigned_abs}
+use Rattle.std.specs.Prelude.{ℤ, pos, ◌*ℤ◌, ◌≤ℤ◌, ◌<ℤ◌, int_lt, neg_ℤ}
 use Rattle.std.specs.Option.{IfSome, SomeIff}
-use Rattle.std.specs.Int.{w128, int_div_euclid, int_rem_euclid}
+use Rattle.std.specs.Int.{w128, int_div_euclid}
+use Rattle.std.specs.Ordering.{int_eq}
 use Rattle.std.proofs.lemmas.Int.{ints}
 use borrow.Author.Differences.{up}
 use Rattle.ded_num.proofs.Ring.{parts, diff_same, ring}
-use Rattle.ded_num.proofs.Fractions.{whole_and_rest_is}
-use Rattle.ded_model.specs.declared.row.RowOp.TheVariants.{AtMost}
+use Rattle.ded_model.specs.declared.bound.Bound.{Bound}
 use Rattle.ded_model.specs.declared.bound.Bound.TheVariants.{Included}
 use Rattle.ded_model.specs.Bound.{Fraction}
-use Rattle.ded_model.proofs.Core.{Meets, meets_unscale}
 use Rattle.ded_hull.specs.declared.reach.Range.{Range}
-use Rattle.ded_hull.specs.Reaches.{fine, IsFloor, IsCeil, NotAbove, NotBelow, lower_of, higher_of, IsPart, joined, everywhere}
-use Rattle.ded_hull.proofs.Numbers.{times_up, times_neg, le_self, of_lt_true, of_lt_false}
+use Rattle.ded_hull.specs.Codes.{fine, lowest, units_of, code_of, end_of, is_none, is_lower}
+use Rattle.ded_hull.specs.Coding.{code_under}
+use Rattle.ded_hull.specs.Reaches.{IsAbove, IsBelow, IsFloor, IsCeil, NotAbove, NotBelow, lower_of, higher_of, both_low, both_high, IsPart, joined, everywhere}
+use Rattle.ded_hull.specs.Scaling.{times_up, times_neg, le_self, of_lt_true, of_lt_false, le_unscale, not_negative, commute, quotient_at_most}
 
 -- ---- rounding
-
--- the whole quotient, times the divisor
-pub quotient_at_most : (n d : ℤ) → pos 0 <ℤ d → (int_div_euclid n d *ℤ d) ≤ℤ n
-quotient_at_most n d h = less (int_div_euclid n d *ℤ d) n (unsigned_abs (int_rem_euclid n d)) (whole_and_rest_is n d h)
-  where
-    less : (q n : ℤ) (r : ℕ) → n ≡ q +ℤ pos r → q ≤ℤ n
-    less q n r e = omega (arith, ints)
-
-pub le_unscale : (d x y : ℤ) → pos 0 <ℤ d → (d *ℤ x) ≤ℤ (d *ℤ y) → x ≤ℤ y
-le_unscale d x y p h = at_most x y (meets_unscale AtMost d (x -ℤ y) p (subst (Meets AtMost) (law d x y) (difference (d *ℤ x) (d *ℤ y) h)))
-  where
-    law : (d x y : ℤ) → d *ℤ x -ℤ d *ℤ y ≡ d *ℤ (x -ℤ y)
-    law d x y = rw (parts d, parts x, parts y) (simp ring (diff_same _ _ _ _ (omega arith)))
-
-    difference : (a b : ℤ) → a ≤ℤ b → Meets AtMost (a -ℤ b)
-    difference a b h = omega (arith, ints)
-
-    at_most : (x y : ℤ) → Meets AtMost (x -ℤ y) → x ≤ℤ y
-    at_most x y h = omega (arith, ints)
 
 chain : (a b c d e f : ℤ) → a ≡ b → b ≤ℤ c → c ≡ d → d ≤ℤ e → e ≡ f → a ≤ℤ f
 chain a b c d e f p h q k r = omega (arith, ints)
@@ -47,9 +29,6 @@ units_below u k fn fd n d up pf pd h l =
   where
     turn : (a b c : ℤ) → a *ℤ (b *ℤ c) ≡ c *ℤ (b *ℤ a)
     turn a b c = rw (parts a, parts b, parts c) (simp ring (diff_same _ _ _ _ (omega arith)))
-
-pub not_negative : (n : ℕ) → pos 0 ≤ℤ pos n
-not_negative n = omega (arith, ints)
 
 pub floor_is : (o : Option ℤ) (f : Fraction) → pos 0 <ℤ f.den → IfSome o (λ k. (k *ℤ f.den) ≤ℤ (f.num *ℤ pos fine)) → IsFloor (Included f) o
 floor_is None f p h = λ n d out. tt
@@ -79,6 +58,79 @@ whole_is u q n d o h e f p =
 
 pub units_are : (o : Option ℤ) (u d r m : ℤ) → IfSome o (λ k. (k *ℤ d) ≤ℤ (r *ℤ pos fine)) → o ≡ Some u → r ≡ m → (u *ℤ d) ≤ℤ (m *ℤ pos fine)
 units_are o u d r m h e f = subst (λ x. (u *ℤ d) ≤ℤ (x *ℤ pos fine)) f (subst (λ o. IfSome o (λ k. (k *ℤ d) ≤ℤ (r *ℤ pos fine))) e h)
+
+-- ---- further out
+
+le_trans : (a b c : ℤ) → a ≤ℤ b → b ≤ℤ c → a ≤ℤ c
+le_trans a b c h k = omega (arith, ints)
+
+times_den : (a b : ℤ) (d : ℕ) → a ≤ℤ b → (a *ℤ pos d) ≤ℤ (b *ℤ pos d)
+times_den a b d h = turn (pos d *ℤ a) (a *ℤ pos d) (pos d *ℤ b) (b *ℤ pos d) (commute (pos d) a) (commute (pos d) b) (times_up (pos d) a b (not_negative d) h)
+  where
+    turn : (a b c d : ℤ) → a ≡ b → c ≡ d → a ≤ℤ c → b ≤ℤ d
+    turn a b c d e f h = omega (arith, ints)
+
+pub above_lower : (p o : Option ℤ) (n : ℤ) (d : ℕ) → NotAbove p o → IsAbove o n d → IsAbove p n d
+above_lower None o n d h k = tt
+above_lower (Some a) None n d h k = absurd h
+above_lower (Some a) (Some b) n d h k = le_trans (a *ℤ pos d) (b *ℤ pos d) (n *ℤ pos fine) (times_den a b d h) k
+
+pub below_higher : (p o : Option ℤ) (n : ℤ) (d : ℕ) → NotBelow p o → IsBelow o n d → IsBelow p n d
+below_higher None o n d h k = tt
+below_higher (Some a) None n d h k = absurd h
+below_higher (Some a) (Some b) n d h k = le_trans (n *ℤ pos fine) (b *ℤ pos d) (a *ℤ pos d) k (times_den b a d h)
+
+pub floor_lower : (b : Bound) (p o : Option ℤ) → NotAbove p o → IsFloor b o → IsFloor b p
+floor_lower b p o h k = λ n d out. above_lower p o n d h (k n d out)
+
+pub ceil_higher : (b : Bound) (p o : Option ℤ) → NotBelow p o → IsCeil b o → IsCeil b p
+ceil_higher b p o h k = λ n d out. below_higher p o n d h (k n d out)
+
+-- the end of a code that is rounded down
+pub down_is : (c k : ℤ) → c ≡ code_of k → NotAbove (end_of c) (Some k)
+down_is c k e = by (int_eq c lowest)
+  where
+    by : (i : Bool) → NotAbove (cond i None (Some (units_of c))) (Some k)
+    by true = tt
+    by false = subst (λ x. x ≤ℤ k) (ap units_of (sym e)) (code_under k)
+
+-- ---- by the order of ends
+
+pub both_low_is : (a b : Option ℤ) (i : Bool) → is_lower a b ≡ i → cond i b a ≡ both_low a b
+both_low_is a b i h = ap (λ i. cond i b a) (sym h) ∙ by a b
+  where
+    by : (a b : Option ℤ) → cond (is_lower a b) b a ≡ both_low a b
+    by None None = refl
+    by None (Some b) = refl
+    by (Some a) None = refl
+    by (Some a) (Some b) = refl
+
+pub lower_of_is : (a b : Option ℤ) (i : Bool) → is_lower b a ≡ i → cond i b a ≡ lower_of a b
+lower_of_is a b i h = ap (λ i. cond i b a) (sym h) ∙ by a b
+  where
+    by : (a b : Option ℤ) → cond (is_lower b a) b a ≡ lower_of a b
+    by None None = refl
+    by None (Some b) = refl
+    by (Some a) None = refl
+    by (Some a) (Some b) = refl
+
+pub both_high_is : (a b : Option ℤ) (i j k : Bool) → is_none a ≡ i → is_none b ≡ j → is_lower b a ≡ k → cond i b (cond j a (cond k b a)) ≡ both_high a b
+both_high_is a b i j k h l m = ap (λ i. cond i b (cond j a (cond k b a))) (sym h) ∙ ap (λ j. cond (is_none a) b (cond j a (cond k b a))) (sym l) ∙ ap (λ k. cond (is_none a) b (cond (is_none b) a (cond k b a))) (sym m) ∙ by a b
+  where
+    by : (a b : Option ℤ) → cond (is_none a) b (cond (is_none b) a (cond (is_lower b a) b a)) ≡ both_high a b
+    by None None = refl
+    by None (Some b) = refl
+    by (Some a) None = refl
+    by (Some a) (Some b) = refl
+
+pub higher_of_is : (a b : Option ℤ) (i j k : Bool) → is_none a ≡ i → is_none b ≡ j → is_lower a b ≡ k → cond i a (cond j b (cond k b a)) ≡ higher_of a b
+higher_of_is a b i j k h l m = ap (λ i. cond i a (cond j b (cond k b a))) (sym h) ∙ ap (λ j. cond (is_none a) a (cond j b (cond k b a))) (sym l) ∙ ap (λ k. cond (is_none a) a (cond (is_none b) b (cond k b a))) (sym m) ∙ by a b
+  where
+    by : (a b : Option ℤ) → cond (is_none a) a (cond (is_none b) b (cond (is_lower a b) b a)) ≡ higher_of a b
+    by None None = refl
+    by None (Some b) = refl
+    by (Some a) None = refl
+    by (Some a) (Some b) = refl
 
 -- ---- ends that contain both
 
@@ -132,18 +184,12 @@ above_trans o p None h k = tt
 above_trans o None (Some c) h k = absurd k
 above_trans None (Some b) (Some c) h k = absurd h
 above_trans (Some a) (Some b) (Some c) h k = le_trans c b a k h
-  where
-    le_trans : (a b c : ℤ) → a ≤ℤ b → b ≤ℤ c → a ≤ℤ c
-    le_trans a b c h k = omega (arith, ints)
 
 below_trans : (o p q : Option ℤ) → NotBelow p o → NotBelow q p → NotBelow q o
 below_trans o p None h k = tt
 below_trans o None (Some c) h k = absurd k
 below_trans None (Some b) (Some c) h k = absurd h
 below_trans (Some a) (Some b) (Some c) h k = le_trans a b c h k
-  where
-    le_trans : (a b c : ℤ) → a ≤ℤ b → b ≤ℤ c → a ≤ℤ c
-    le_trans a b c h k = omega (arith, ints)
 
 pub part_trans : (r s t : Range) → IsPart r s → IsPart s t → IsPart r t
 part_trans r s t h k = record { low = above_trans r.low s.low t.low h.low k.low; high = below_trans r.high s.high t.high h.high k.high }

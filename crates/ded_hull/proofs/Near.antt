@@ -1,5 +1,5 @@
 -- Lists without tuples that hold nowhere in a window: what is true of them where it is of the whole lists.
-use Rattle.std.proofs.Common.{◌≡◌, ◌||◌, ℕ, ◌+◌, ◌<◌, true, List, [], ◌∷◌, ◌++◌, map, length, get_or, take, inl, inr, refl, sym, ap, ◌∙◌, subst, append-nil, Bor}
+use Rattle.std.proofs.Common.{◌≡◌, ◌||◌, ℕ, ◌+◌, ◌<◌, true, List, [], ◌∷◌, ◌++◌, length, get_or, take, inl, inr, refl, sym, ap, ◌∙◌, subst, append-nil}
 use Rattle.std.specs.List.{AllByRecursion}
 use Rattle.ded_model.specs.Point.{Point, IsPoint}
 use Rattle.ded_model.specs.Row.{Atom, tuple_holds, tuples_hold}
@@ -7,7 +7,9 @@ use Rattle.ded_model.specs.Lines.{IsSubset, atoms_lines, tuples_lines}
 use Rattle.ded_model.proofs.Members.{In-right, subset_refl, subset_append}
 use Rattle.ded_model.proofs.Sublists.{sublist_refl, sublist_none, sublist_append, sublist_trans, sublist_all}
 use Rattle.ded_hull.specs.declared.window.Window.{Window}
-use Rattle.ded_hull.specs.Windows.{is_within, IsMissed, IsNear, lent}
+use Rattle.ded_hull.specs.Windows.{is_within, IsMissed, IsNear}
+use Rattle.ded_packed.specs.declared.lent.Lent.{Lent}
+use Rattle.ded_packed.specs.Lent.{tuple_of, lent}
 use Rattle.ded_hull.proofs.Found.{taken_more}
 
 -- ---- of tuples
@@ -38,18 +40,18 @@ near_lines w us (t ∷ ts) (inr m) = subst (λ us. IsSubset (tuples_lines us) (t
 
 -- ---- one tuple more, which is kept or passed over
 
-lent-append : (us vs : List (Bor (List Atom))) → lent (us ++ vs) ≡ lent us ++ lent vs
+lent-append : (us vs : List Lent) → lent (us ++ vs) ≡ lent us ++ lent vs
 lent-append [] vs = refl
-lent-append (u ∷ us) vs = ap (λ ts. u.now ∷ ts) (lent-append us vs)
+lent-append (u ∷ us) vs = ap (λ ts. tuple_of u ∷ ts) (lent-append us vs)
 
 module _ (w : Window) (ts : List (List Atom)) (i : ℕ) (t : List Atom) (inside : i < length ts) (is : get_or ts i t ≡ t) where
   one_longer : take (i + 1) ts ≡ take i ts ++ t ∷ []
   one_longer = taken_more ts i t inside ∙ ap (λ (x : List Atom). take i ts ++ x ∷ []) is
 
-  pub kept_more : (old new : List (Bor (List Atom))) (b : Bor (List Atom)) → b.now ≡ t → new ≡ old ++ b ∷ [] → IsNear w (lent old) (take i ts) → IsNear w (lent new) (take (i + 1) ts)
+  pub kept_more : (old new : List Lent) (b : Lent) → tuple_of b ≡ t → new ≡ old ++ b ∷ [] → IsNear w (lent old) (take i ts) → IsNear w (lent new) (take (i + 1) ts)
   kept_more old new b e n k =
       subst (IsNear w (lent new)) (sym one_longer) (subst (λ us. IsNear w us (take i ts ++ t ∷ [])) (sym (ap lent n ∙ lent-append old (b ∷ []) ∙ ap (λ (x : List Atom). lent old ++ x ∷ []) e)) (near_append w (lent old) (take i ts) (t ∷ []) (t ∷ []) k (near_same w (t ∷ []))))
 
-  pub passed_more : (old : List (Bor (List Atom))) → IsMissed w t → IsNear w (lent old) (take i ts) → IsNear w (lent old) (take (i + 1) ts)
+  pub passed_more : (old : List Lent) → IsMissed w t → IsNear w (lent old) (take i ts) → IsNear w (lent old) (take (i + 1) ts)
   passed_more old m k =
       subst (IsNear w (lent old)) (sym one_longer) (subst (λ us. IsNear w us (take i ts ++ t ∷ [])) (append-nil (lent old)) (near_append w (lent old) (take i ts) [] (t ∷ []) k (sublist_none (IsMissed w) (t ∷ []) (m, tt))))

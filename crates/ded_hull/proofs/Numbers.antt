@@ -1,34 +1,20 @@
 -- Numbers that are kept as far as 127 binary digits go, and products with signs.
-use Rattle.std.proofs.Common.{◌≡◌, ℕ, zero, suc, ◌+◌, ◌*◌, ◌-◌, ◌^◌, ◌<◌, ◌≤◌, Bool, true, false, cond, Option, Some, None, arith, refl, sym, ap, ◌∙◌, subst, true≢false, ◌⊎◌, inl, inr, SFits}
+use Rattle.std.proofs.Common.{◌≡◌, ℕ, zero, suc, ◌-◌, ◌^◌, ◌<◌, ◌≤◌, Bool, true, false, cond, Option, Some, None, arith, refl, sym, ap, ◌∙◌, subst, true≢false, ◌⊎◌, inl, inr, SFits}
 use Rattle.std.specs.Prelude.{ℤ, pos, negsuc, ◌+ℤ◌, ◌*ℤ◌, ◌≤ℤ◌, ◌<ℤ◌, int_lt, int_le, neg_ℤ, unsigned_abs}
 use Rattle.std.specs.Int.{w128}
 use Rattle.std.specs.Option.{SomeIff}
 use Rattle.ded_num.specs.Length.{IsShort}
 use Rattle.std.proofs.lemmas.Int.{ints}
-use Rattle.std.proofs.Math.Nat.{mul-le-mul_left}
 use Rattle.std.proofs.Math.IntN.{*ℤ-zero}
-use borrow.Author.Differences.{up, down, le_out}
-use Rattle.ded_num.proofs.Ring.{parts, diff_same, diff_le, ring, ring_pos}
 use Rattle.ded_hull.specs.Reaches.{NotAbove}
 use Rattle.ded_hull.specs.Limits.{kept, turned, is_same_sign, beyond}
+use Rattle.ded_hull.specs.Scaling.{lt_true, lt_false, of_lt_true, of_lt_false, le_self, times_up, times_neg}
 
 -- ---- what is kept
 
 -- below n, from both sides
 abbrev cut : ℕ → ℤ → Option ℤ
 cut n z = cond (int_lt (neg_ℤ (pos n)) z) (cond (int_lt z (pos n)) (Some z) (Some (pos (n - 1)))) None
-
-pub lt_true : (a b : ℤ) → a <ℤ b → int_lt a b ≡ true
-lt_true a b h = grind (arith, ints)
-
-pub lt_false : (a b : ℤ) → b ≤ℤ a → int_lt a b ≡ false
-lt_false a b h = grind (arith, ints)
-
-pub of_lt_true : (a b : ℤ) → int_lt a b ≡ true → a <ℤ b
-of_lt_true a b h = grind (arith, ints)
-
-pub of_lt_false : (a b : ℤ) → int_lt a b ≡ false → b ≤ℤ a
-of_lt_false a b h = grind (arith, ints)
 
 cut_same : (n : ℕ) (z : ℤ) → neg_ℤ (pos n) <ℤ z → z <ℤ pos n → cut n z ≡ Some z
 cut_same n z h k = rw (lt_true (neg_ℤ (pos n)) z h, lt_true z (pos n) k) refl
@@ -46,9 +32,6 @@ cut_low n z h = rw (lt_false (neg_ℤ (pos n)) z h) refl
 abbrev pub UpTo : Option ℤ → ℤ → Type 0
 UpTo None z = Unit {0}
 UpTo (Some k) z = k ≤ℤ z
-
-pub le_self : (z : ℤ) → z ≤ℤ z
-le_self z = omega (arith, ints)
 
 one_less : (n : ℕ) (z : ℤ) → pos n ≤ℤ z → pos (n - 1) ≤ℤ z
 one_less n z h = omega (arith, ints)
@@ -103,16 +86,6 @@ unfolding kept
 kept_mono x y h = cut_mono (2 ^ 127) x y h
 
 -- ---- products
-
-pub times_up : (k x y : ℤ) → pos 0 ≤ℤ k → x ≤ℤ y → (k *ℤ x) ≤ℤ (k *ℤ y)
-times_up (negsuc n) x y h l = absurd (omega (arith, ints))
-times_up (pos n) x y h l = rw (parts x, parts y) (simp ring_pos (diff_le _ _ _ _ (grow n (up x) (down x) (up y) (down y) (le_out x y l))))
-  where
-    grow : (n a b c d : ℕ) → a + d ≤ c + b → n * a + 0 * b + (n * d + 0 * c) ≤ n * c + 0 * d + (n * b + 0 * a)
-    grow n a b c d h = omega (arith, mul-le-mul_left n h)
-
-pub times_neg : (k x : ℤ) → neg_ℤ k *ℤ x ≡ neg_ℤ (k *ℤ x)
-times_neg k x = rw (parts k, parts x) (simp ring (diff_same _ _ _ _ (omega arith)))
 
 pub times_down : (k x y : ℤ) → k ≤ℤ pos 0 → x ≤ℤ y → (k *ℤ y) ≤ℤ (k *ℤ x)
 times_down k x y h l =

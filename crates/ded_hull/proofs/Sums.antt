@@ -10,9 +10,11 @@ use Rattle.ded_model.specs.Row.{sign_meets}
 use Rattle.ded_model.proofs.Core.{Meets, meets_scale, meets_unscale}
 use Rattle.ded_hull.specs.declared.reach.Range.{Range}
 use Rattle.ded_hull.specs.declared.limit.Limit.{Limit}
-use Rattle.ded_hull.specs.Reaches.{fine, IsAbove, IsBelow, IsIn, Lies, range_at, NotAbove, NotBelow, IsPart, IsWithin}
+use Rattle.ded_hull.specs.Codes.{fine}
+use Rattle.ded_hull.specs.Reaches.{IsAbove, IsBelow, IsIn, Lies, range_at, NotAbove, NotBelow, IsPart, IsWithin}
 use Rattle.ded_hull.specs.Limits.{Term, sum_of, is_met, are_met, kept, plus, times, least_end, least, turned, turn, least_of, at_most_zero, below_zero, may_stand, may_be, may_meet, may_hold}
-use Rattle.ded_hull.proofs.Numbers.{UpTo, kept_under, kept_mono, times_up, times_down, times_neg, lt_true, of_lt_true, of_lt_false, le_self}
+use Rattle.ded_hull.proofs.Numbers.{UpTo, kept_under, kept_mono, times_down}
+use Rattle.ded_hull.specs.Scaling.{times_up, times_neg, lt_true, of_lt_true, of_lt_false, le_self, not_negative, commute}
 
 -- ---- sums at values
 
@@ -20,12 +22,6 @@ use Rattle.ded_hull.proofs.Numbers.{UpTo, kept_under, kept_mono, times_up, times
 abbrev Under : ℕ → Option ℤ → ℤ → Type 0
 Under d None z = Unit {0}
 Under d (Some k) z = (k *ℤ pos d) ≤ℤ z
-
-not_negative : (d : ℕ) → pos 0 ≤ℤ pos d
-not_negative d = omega (arith, ints)
-
-commute : (a b : ℤ) → a *ℤ b ≡ b *ℤ a
-commute a b = rw (parts a, parts b) (simp ring (diff_same _ _ _ _ (omega arith)))
 
 pub le_trans : (a b c : ℤ) → a ≤ℤ b → b ≤ℤ c → a ≤ℤ c
 le_trans a b c h k = omega (arith, ints)

@@ -1,8 +1,9 @@
 -- The values of a column of which a multiple and a constant stand to 0, and reaches narrowed to them.
-use Rattle.std.proofs.Common.{◌≡◌, ℕ, zero, suc, ◌+◌, ◌<◌, ◌≤◌, Bool, true, false, cond, Option, Some, None, List, [], ◌∷◌, ◌++◌, length, get_or, set, arith, refl, sym, ap, ◌∙◌, subst, add-one}
+use Rattle.std.proofs.Common.{◌≡◌, ℕ, zero, suc, ◌+◌, ◌<◌, ◌≤◌, Bool, true, false, cond, Option, Some, None, List, [], ◌∷◌, ◌++◌, length, get_or, set, arith, refl, sym, ap, ◌∙◌, subst, add-one, take_at}
 use Rattle.std.specs.Prelude.{ℤ, pos, ◌+ℤ◌, ◌-ℤ◌, ◌*ℤ◌, ◌≤ℤ◌, ◌<ℤ◌, int_lt, int_le, neg_ℤ}
 use Rattle.std.specs.Ordering.{int_eq}
 use Rattle.std.specs.Option.{IfSome}
+use Rattle.std.specs.List.{refill}
 use Rattle.std.proofs.Math.IntN.{*ℤ-zero}
 use Rattle.std.proofs.lemmas.Int.{ints}
 use Rattle.ded_num.proofs.Ring.{parts, diff_same, ring}
@@ -10,11 +11,12 @@ use Rattle.ded_model.specs.declared.row.RowOp.{RowOp}
 use Rattle.ded_model.specs.declared.row.RowOp.TheVariants.{Zero, AtMost, Below}
 use Rattle.ded_model.specs.Row.{sign_meets}
 use Rattle.ded_hull.specs.declared.reach.Range.{Range}
-use Rattle.ded_hull.specs.Reaches.{fine, IsAbove, IsBelow, IsIn, Lies, everywhere, range_at, both_low, both_high, met, narrowed, all_values}
+use Rattle.ded_hull.specs.Codes.{fine}
+use Rattle.ded_hull.specs.Reaches.{IsAbove, IsBelow, NotAbove, NotBelow, IsIn, Lies, everywhere, range_at, both_low, both_high, met, narrowed, all_values}
 use Rattle.ded_hull.specs.Limits.{Term, sum_of}
 use Rattle.ded_hull.specs.Tuples.{IsRangeOf}
-use Rattle.ded_hull.proofs.Ends.{le_unscale, not_negative}
-use Rattle.ded_hull.proofs.Numbers.{times_up}
+use Rattle.ded_hull.proofs.Ends.{above_lower, below_higher}
+use Rattle.ded_hull.specs.Scaling.{le_unscale, not_negative, times_up}
 
 -- ---- one end
 
@@ -47,16 +49,29 @@ low a c k n u d pa pu pd g h =
     join : (x p q s z y : ℤ) → x ≡ p → p ≤ℤ q → s ≤ℤ z → z ≡ pos 0 → q -ℤ s ≡ y → x ≤ℤ y
     join x p q s z y e h f g i = omega (arith, ints)
 
-pub high_is : (o : Option ℤ) (a c : ℤ) → pos 0 <ℤ a → IfSome o (λ k. (neg_ℤ k *ℤ a) ≤ℤ (c *ℤ pos fine)) → (num : ℤ) (den : ℕ) → (a *ℤ num +ℤ c *ℤ pos den) ≤ℤ pos 0 → IsIn (record { low = None; high = o }) num den
+high_is : (o : Option ℤ) (a c : ℤ) → pos 0 <ℤ a → IfSome o (λ k. (neg_ℤ k *ℤ a) ≤ℤ (c *ℤ pos fine)) → (num : ℤ) (den : ℕ) → (a *ℤ num +ℤ c *ℤ pos den) ≤ℤ pos 0 → IsIn (record { low = None; high = o }) num den
 high_is None a c p s n d h = record { low = tt; high = tt }
 high_is (Some k) a c p s n d h = record { low = tt; high = high a c k n (pos fine) (pos d) p (not_negative fine) (not_negative d) s h }
 
-pub low_is : (o : Option ℤ) (a c : ℤ) → a <ℤ pos 0 → IfSome o (λ k. (k *ℤ neg_ℤ a) ≤ℤ (c *ℤ pos fine)) → (num : ℤ) (den : ℕ) → (a *ℤ num +ℤ c *ℤ pos den) ≤ℤ pos 0 → IsIn (record { low = o; high = None }) num den
+low_is : (o : Option ℤ) (a c : ℤ) → a <ℤ pos 0 → IfSome o (λ k. (k *ℤ neg_ℤ a) ≤ℤ (c *ℤ pos fine)) → (num : ℤ) (den : ℕ) → (a *ℤ num +ℤ c *ℤ pos den) ≤ℤ pos 0 → IsIn (record { low = o; high = None }) num den
 low_is None a c p s n d h = record { low = tt; high = tt }
 low_is (Some k) a c p s n d h = record { low = low a c k n (pos fine) (pos d) (turned a p) (not_negative fine) (not_negative d) s h; high = tt }
   where
     turned : (a : ℤ) → a <ℤ pos 0 → pos 0 <ℤ neg_ℤ a
     turned a p = omega (arith, ints)
+
+-- the ends that are kept may be further out
+pub high_at : (z p o : Option ℤ) (a c : ℤ) → z ≡ None → NotBelow p o → pos 0 <ℤ a → IfSome o (λ k. (neg_ℤ k *ℤ a) ≤ℤ (c *ℤ pos fine)) → (num : ℤ) (den : ℕ) → (a *ℤ num +ℤ c *ℤ pos den) ≤ℤ pos 0 → IsIn (record { low = z; high = p }) num den
+high_at z p o a c e f h s n d m = record {
+  low = subst (λ z. IsAbove z n d) (sym e) tt;
+  high = below_higher p o n d f (high_is o a c h s n d m).high;
+}
+
+pub low_at : (z p o : Option ℤ) (a c : ℤ) → z ≡ None → NotAbove p o → a <ℤ pos 0 → IfSome o (λ k. (k *ℤ neg_ℤ a) ≤ℤ (c *ℤ pos fine)) → (num : ℤ) (den : ℕ) → (a *ℤ num +ℤ c *ℤ pos den) ≤ℤ pos 0 → IsIn (record { low = p; high = z }) num den
+low_at z p o a c e f h s n d m = record {
+  low = above_lower p o n d f (low_is o a c h s n d m).low;
+  high = subst (λ z. IsBelow z n d) (sym e) tt;
+}
 
 pub in_everywhere : (n : ℤ) (d : ℕ) → IsIn everywhere n d
 in_everywhere n d = record { low = tt; high = tt }
@@ -139,6 +154,17 @@ pub narrowed_past : (rs : List Range) (p : ℕ) (s : Range) → length rs ≤ p 
 narrowed_past [] p s h = refl
 narrowed_past (r ∷ rs) zero s h = absurd (omega (arith, h))
 narrowed_past (r ∷ rs) (suc p) s h = ap (λ xs. r ∷ xs) (narrowed_past rs p s (omega (arith, h)))
+
+narrowed-length : (rs : List Range) (p : ℕ) (s : Range) → length (narrowed rs p s) ≡ length rs
+narrowed-length [] p s = refl
+narrowed-length (r ∷ rs) zero s = refl
+narrowed-length (r ∷ rs) (suc p) s = ap suc (narrowed-length rs p s)
+
+-- what was lent is narrowed
+pub narrowed_held : (old items lent new : List Range) (p : ℕ) (r : Range) → items ≡ old → lent ≡ items → new ≡ narrowed lent p r → refill (length items) items new ≡ narrowed old p r
+narrowed_held old items lent new p r e f g =
+    let is : new ≡ narrowed items p r = g ∙ ap (λ (rs : List Range). narrowed rs p r) f in
+    take_at new _ (length items) (ap (λ (rs : List Range). length rs) is ∙ narrowed-length items p r) ∙ is ∙ ap (λ (rs : List Range). narrowed rs p r) e
 
 pub all_values-more : (n : ℕ) → all_values n ++ everywhere ∷ [] ≡ all_values (n + 1)
 all_values-more zero = refl

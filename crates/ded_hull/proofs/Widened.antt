@@ -1,6 +1,7 @@
 -- Hulls, place by place: they contain both reaches, and are made in place.
-use Rattle.std.proofs.Common.{◌≡◌, ℕ, zero, suc, ◌<◌, ◌≤◌, List, [], ◌∷◌, length, get_or, set, arith, refl, ap, ◌∙◌, Option, Some, None}
+use Rattle.std.proofs.Common.{◌≡◌, ℕ, zero, suc, ◌<◌, ◌≤◌, List, [], ◌∷◌, length, get_or, set, arith, refl, ap, ap₂, ◌∙◌, take_at, Option, Some, None}
 use Rattle.std.specs.Prelude.{ℤ}
+use Rattle.std.specs.List.{refill}
 use Rattle.ded_hull.specs.declared.reach.Range.{Range}
 use Rattle.ded_hull.specs.Reaches.{everywhere, range_at, lower_of, higher_of, joined, hull, IsWithin}
 use Rattle.ded_hull.proofs.Ends.{part_first, part_second, part_trans, part_self, part_everywhere}
@@ -77,3 +78,14 @@ widened-length rs ss zero = refl
 widened-length [] ss (suc i) = refl
 widened-length (r ∷ rs) [] (suc i) = ap suc (widened-length rs [] i)
 widened-length (r ∷ rs) (s ∷ ss) (suc i) = ap suc (widened-length rs ss i)
+
+hull-length : (rs ss : List Range) → length (hull rs ss) ≡ length rs
+hull-length [] ss = refl
+hull-length (r ∷ rs) [] = ap suc (hull-length rs [])
+hull-length (r ∷ rs) (s ∷ ss) = ap suc (hull-length rs ss)
+
+-- what was lent is widened
+pub hull_held : (old items lent other others new : List Range) → items ≡ old → lent ≡ items → others ≡ other → new ≡ hull lent others → refill (length items) items new ≡ hull old other
+hull_held old items lent other others new e f g h =
+    let is : new ≡ hull items others = h ∙ ap (λ (rs : List Range). hull rs others) f in
+    take_at new _ (length items) (ap (λ (rs : List Range). length rs) is ∙ hull-length items others) ∙ is ∙ ap₂ hull e g

@@ -1,6 +1,9 @@
+pub mod Codes
+pub mod Coding
 pub mod Entries
 pub mod Limits
 pub mod Reaches
+pub mod Scaling
 pub mod Trees
 pub mod Tuples
 pub mod Windows

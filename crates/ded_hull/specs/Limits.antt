@@ -7,7 +7,8 @@ use Rattle.ded_model.specs.declared.row.RowOp.TheVariants.{Zero, AtMost, Below}
 use Rattle.ded_model.specs.Row.{sign_meets}
 use Rattle.ded_hull.specs.declared.reach.Range.{Range}
 use Rattle.ded_hull.specs.declared.limit.Limit.{Limit}
-use Rattle.ded_hull.specs.Reaches.{fine, range_at, Lies}
+use Rattle.ded_hull.specs.Codes.{fine}
+use Rattle.ded_hull.specs.Reaches.{range_at, Lies}
 
 -- ---- limits at values: numerators at the places, over one denominator
 

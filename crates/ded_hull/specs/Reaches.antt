@@ -1,13 +1,10 @@
 -- Reaches: for each column the values between two ends, and the least reach that contains two.
-use Rattle.std.specs.Prelude.{◌≡◌, ◌^◌, ◌≤ℤ◌, ◌*ℤ◌, ℕ, zero, suc, ℤ, pos, false, int_lt, List, [], ◌∷◌, if◌then◌else◌, Option, Some, None}
+use Rattle.std.specs.Prelude.{◌≡◌, ◌≤ℤ◌, ◌*ℤ◌, ℕ, zero, suc, ℤ, pos, false, int_lt, List, [], ◌∷◌, if◌then◌else◌, Option, Some, None}
 use Rattle.ded_model.specs.declared.bound.Bound.{Bound}
 use Rattle.ded_model.specs.declared.bound.Bound.TheVariants.{Infinite, Excluded, Included}
 use Rattle.ded_model.specs.Bound.{Fraction, End, lower, upper, is_outside}
 use Rattle.ded_hull.specs.declared.reach.Range.{Range}
-
--- how many units are 1
-abbrev pub fine : ℕ
-fine = 2 ^ 32
+use Rattle.ded_hull.specs.Codes.{fine}
 
 -- ---- ends
 

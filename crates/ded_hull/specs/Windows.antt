@@ -1,6 +1,5 @@
 -- Windows: what is asked of the values of columns, and the tuples that may hold there.
-use Rattle.std.specs.Prelude.{◌≡◌, ◌&&◌, ℕ, ℤ, Bool, true, false, Option, Some, None, List, map}
-use Rattle.std.specs.Borrow.{Bor}
+use Rattle.std.specs.Prelude.{◌≡◌, ◌&&◌, ℕ, ℤ, Bool, true, false, Option, Some, None, List}
 use Rattle.std.specs.Str.{bytes_eq}
 use Rattle.std.specs.List.{list_all}
 use Rattle.ded_model.specs.declared.slot.Sort.TheVariants.{Rat, Text}
@@ -44,7 +43,3 @@ AreLent w None None = Unit {0}
 AreLent w None (Some ts) = ⊥
 AreLent w (Some us) None = ⊥
 AreLent w (Some us) (Some ts) = IsNear w us ts
-
--- the tuples behind references
-abbrev pub lent : List (Bor (List Atom)) → List (List Atom)
-lent ts = map (λ t. t.now) ts

@@ -124,7 +124,7 @@ fn spread(entries: &[Entry], place: usize) -> i128 {
 
 /// The middle of a range, or its one end.
 fn middle(range: Range) -> i128 {
-    match (range.low, range.high) {
+    match (range.low.units(), range.high.units()) {
         (Some(low), Some(high)) => low / 2 + high / 2,
         (Some(low), None) => low,
         (None, Some(high)) => high,

@@ -183,10 +183,22 @@ fn merged(alloc: Global, trees: &[Tree], tail: &[Entry], from: usize) -> Result<
     requires { from ≤ length trees.now }
     ensures { IfOk result (λ t. IsPermutation (all_of (drop from trees.now) ++ tail.now) t) }
 {
-    let mut entries = Vec::new(alloc);
+    let mut entries = Vec::with_capacity(
+        alloc,
+        count_from(trees, from).saturating_add(tail.len()),
+    )?;
     copy_trees(trees, from, &mut entries)?;
     copy_all(tail, &mut entries)?;
     Tree::build(alloc, entries)
+}
+
+/// How many entries the trees from a place on have, as far as they can be counted.
+fn count_from(trees: &[Tree], from: usize) -> usize {
+    let mut count: usize = 0;
+    for i in from..trees.len() {
+        count = count.saturating_add(trees[i].count());
+    }
+    count
 }
 
 /// Adds copies of the entries of the trees from a place on.

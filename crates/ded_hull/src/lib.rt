@@ -11,6 +11,7 @@
 //! holds somewhere in the window. [`reach_of`] is a reach of a tuple, by which it is kept in an index.
 #![tactic(auto)]
 
+mod end;
 mod entry;
 mod hulls;
 mod limit;
@@ -22,6 +23,7 @@ mod tree;
 mod tuple;
 mod window;
 
+pub use end::End;
 pub use entry::Entry;
 pub use hulls::Hulls;
 pub use limit::{Limit, may_hold};

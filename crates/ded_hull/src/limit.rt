@@ -3,8 +3,9 @@ ghost use Rattle.std.specs.Prelude.{◌≡◌, ◌*ℤ◌, false, true};
 ghost use Rattle.ded_hull.specs.Limits.{plus, times, turned, least_end, least_of, at_most_zero, below_zero, may_be, may_meet, may_hold, IsSound};
 ghost use Rattle.ded_hull.specs.Tuples.{terms_of};
 
+use crate::end::{End, FINE};
 use crate::number::{product, sum};
-use crate::reach::{FINE, Range, Reach};
+use crate::reach::{Range, Reach};
 use ded_model::row::{Row, RowOp};
 use ded_model::slot::Slot;
 
@@ -114,8 +115,8 @@ fn with_term(sum_before: Option<i128>, range: Range, a: i128, flipped: bool) -> 
 }
 
 /// The number with that of a coefficient times an end more.
-fn added(sum_before: Option<i128>, flipped: bool, a: i128, end: Option<i128>) -> Option<i128>
+fn added(sum_before: Option<i128>, flipped: bool, a: i128, end: End) -> Option<i128>
     ensures { result ≡ plus sum_before (times (turned flipped a) end) }
 {
-    sum(sum_before?, product(flipped, a, end?)?)
+    sum(sum_before?, product(flipped, a, end.units()?)?)
 }

@@ -1,28 +1,28 @@
 //! Reaches, and their ends from exact bounds.
-ghost use Rattle.std.specs.Prelude.{◌≡◌, ℕ, ℤ, ◌<ℤ◌, ◌≤ℤ◌, ◌*ℤ◌, pos, neg_ℤ, [], ◌++◌, ◌∷◌, IfOk, OnErr, IfSome};
+ghost use Rattle.std.specs.Prelude.{◌≡◌, ℕ, ℤ, ◌<◌, ◌<ℤ◌, ◌≤ℤ◌, ◌*ℤ◌, pos, neg_ℤ, [], ◌++◌, ◌∷◌, length, IfOk, OnErr, IfSome};
 ghost use Rattle.ded_model.specs.declared.bound.Bound.TheVariants.{Included};
-ghost use Rattle.ded_hull.specs.Reaches.{fine, IsFloor, IsCeil, IsWithin, lower_of, higher_of, joined, range_at, hull, IsIn, Lies, both_low, both_high, everywhere, met, narrowed, all_values};
+ghost use Rattle.ded_hull.specs.Codes.{fine};
+ghost use Rattle.ded_hull.specs.Reaches.{IsFloor, IsCeil, IsWithin, lower_of, higher_of, joined, range_at, hull, IsIn, Lies, both_low, both_high, everywhere, met, narrowed, all_values};
 
+use crate::end::{End, FINE};
 use crate::number::directed;
 use ded_model::bound::{Bound, Frac};
 use ded_model::memory::NoMemory;
+use smallvec::SmallVec;
 use std::alloc::Global;
 use std::marker::Model;
 
-/// How many units are 1.
-pub(crate) const FINE: i128 = 4294967296;
-
-/// The values between two ends, each in units of 2 to the power of -32, or none.
-#[derive(Clone, Copy)]
+/// The values between two ends.
+#[derive(Clone, Copy, Default)]
 pub struct Range {
-    pub low: Option<i128>,
-    pub high: Option<i128>,
+    pub low: End,
+    pub high: End,
 }
 
-/// A range for each column in order. Contracts see the list.
+/// A range for each column in order. Contracts see the list. Up to three stand in the value itself.
 #[derive(Drop)]
 pub struct Reach {
-    ranges: Vec<Range>,
+    ranges: SmallVec<Range, 3>,
 }
 
 impl Model for Reach {
@@ -40,7 +40,7 @@ impl Reach {
         ensures { result ≡ [] }
     {
         Reach {
-            ranges: Vec::new(alloc),
+            ranges: SmallVec::new(alloc),
         }
     }
 
@@ -48,7 +48,7 @@ impl Reach {
     pub fn ranges(&self) -> &[Range]
         ensures { result.now ≡ self.now }
     {
-        &self.ranges
+        self.ranges.as_slice()
     }
 
     /// The reach of all values of so many columns.
@@ -58,7 +58,7 @@ impl Reach {
     pub fn everywhere(alloc: Global, width: usize) -> Result<Reach, NoMemory>
         ensures { IfOk result (λ r. r ≡ all_values width) }
     {
-        let mut ranges = Vec::with_capacity(alloc, width)?;
+        let mut ranges = SmallVec::with_capacity(alloc, width)?;
         for _ in 0..width {
             ranges.push(everywhere())?;
         }
@@ -85,7 +85,7 @@ impl Reach {
         ensures { IfOk result (λ r. r ≡ self.now) }
     {
         Ok(Reach {
-            ranges: self.ranges.clone()?,
+            ranges: SmallVec::from_slice(*self.ranges.allocator(), self.ranges())?,
         })
     }
 
@@ -93,11 +93,7 @@ impl Reach {
     pub fn at(&self, place: usize) -> Range
         ensures { result ≡ range_at self.now place }
     {
-        if place < self.ranges.len() {
-            self.ranges[place]
-        } else {
-            everywhere()
-        }
+        range_at(self.ranges(), place)
     }
 
     /// Narrows the range at a place, if there is one, to the values that lie in another one too.
@@ -105,9 +101,7 @@ impl Reach {
         ensures value { self.new ≡ narrowed self.old place range }
         ensures lies { (v : ℕ → ℤ) (den : ℕ) → Lies self.old v den → IsIn range (v place) den → Lies self.new v den }
     {
-        if place < self.ranges.len() {
-            self.ranges[place] = met(self.ranges[place], range);
-        }
+        narrow(self.ranges.as_mut_slice(), place, range);
     }
 
     /// Widens it to the least reach, place by place, that contains the other too.
@@ -116,16 +110,36 @@ impl Reach {
         ensures own { IsWithin self.old self.new }
         ensures other { IsWithin other.now self.new }
     {
-        widen(&mut self.ranges, other);
+        widen(self.ranges.as_mut_slice(), other.ranges());
+    }
+}
+
+/// The range at a place, all values where there is none.
+fn range_at(ranges: &[Range], place: usize) -> Range
+    ensures { result ≡ range_at ranges.now place }
+{
+    if place < ranges.len() {
+        ranges[place]
+    } else {
+        everywhere()
+    }
+}
+
+/// Narrows the range at a place, if there is one, to the values that lie in another one too.
+fn narrow(ranges: &mut [Range], place: usize, range: Range)
+    ensures { ranges.new ≡ narrowed ranges.old place range }
+{
+    if place < ranges.len() {
+        ranges[place] = met(ranges[place], range);
     }
 }
 
 /// Widens each range to the least one that contains the other's too.
-fn widen(ranges: &mut Vec<Range>, other: &Reach)
-    ensures { ranges.new.items ≡ hull ranges.old.items other.now }
+fn widen(ranges: &mut [Range], other: &[Range])
+    ensures { ranges.new ≡ hull ranges.old other.now }
 {
     for i in 0..ranges.len() {
-        ranges[i] = joined(ranges[i], other.at(i));
+        ranges[i] = joined(ranges[i], range_at(other, i));
     }
 }
 
@@ -144,8 +158,8 @@ pub(crate) fn everywhere() -> Range
     ensures { result ≡ everywhere }
 {
     Range {
-        low: None,
-        high: None,
+        low: End::none(),
+        high: End::none(),
     }
 }
 
@@ -160,49 +174,65 @@ pub(crate) fn met(a: Range, b: Range) -> Range
 }
 
 /// The higher of two low ends.
-fn both_low(a: Option<i128>, b: Option<i128>) -> Option<i128>
+fn both_low(a: End, b: End) -> End
     ensures { result ≡ both_low a b }
 {
-    match (a, b) {
-        (Some(a), Some(b)) => Some(if a < b { b } else { a }),
-        (None, _) => b,
-        (_, None) => a,
-    }
+    if a.is_lower(b) { b } else { a }
 }
 
 /// The lower of two high ends.
-fn both_high(a: Option<i128>, b: Option<i128>) -> Option<i128>
+fn both_high(a: End, b: End) -> End
     ensures { result ≡ both_high a b }
 {
-    match (a, b) {
-        (Some(a), Some(b)) => Some(if b < a { b } else { a }),
-        (None, _) => b,
-        (_, None) => a,
+    if a.is_none() {
+        b
+    } else if b.is_none() {
+        a
+    } else if b.is_lower(a) {
+        b
+    } else {
+        a
     }
 }
 
 /// The lower of two low ends.
-fn lower_of(a: Option<i128>, b: Option<i128>) -> Option<i128>
+fn lower_of(a: End, b: End) -> End
     ensures { result ≡ lower_of a b }
 {
-    match (a, b) {
-        (Some(a), Some(b)) => Some(if b < a { b } else { a }),
-        _ => None,
-    }
+    if b.is_lower(a) { b } else { a }
 }
 
 /// The higher of two high ends.
-fn higher_of(a: Option<i128>, b: Option<i128>) -> Option<i128>
+fn higher_of(a: End, b: End) -> End
     ensures { result ≡ higher_of a b }
 {
-    match (a, b) {
-        (Some(a), Some(b)) => Some(if a < b { b } else { a }),
-        _ => None,
+    if a.is_none() {
+        a
+    } else if b.is_none() {
+        b
+    } else if a.is_lower(b) {
+        b
+    } else {
+        a
     }
 }
 
 /// The low end of a lower bound, rounded down. There is none where the bound is infinite, or its number too long.
-pub fn floor_of(bound: Bound) -> Option<i128>
+pub fn floor_of(bound: Bound) -> End
+    ensures { IsFloor bound result }
+{
+    End::at_most(floor_units(bound))
+}
+
+/// The high end of an upper bound, rounded up. There is none where the bound is infinite, or its number too long.
+pub fn ceil_of(bound: Bound) -> End
+    ensures { IsCeil bound result }
+{
+    End::at_least(ceil_units(bound))
+}
+
+/// The number of units of a lower bound, rounded down.
+fn floor_units(bound: Bound) -> Option<i128>
     ensures { IsFloor bound result }
 {
     match bound {
@@ -212,8 +242,8 @@ pub fn floor_of(bound: Bound) -> Option<i128>
     }
 }
 
-/// The high end of an upper bound, rounded up. There is none where the bound is infinite, or its number too long.
-pub fn ceil_of(bound: Bound) -> Option<i128>
+/// The number of units of an upper bound, rounded up.
+fn ceil_units(bound: Bound) -> Option<i128>
     ensures { IsCeil bound result }
 {
     match bound {

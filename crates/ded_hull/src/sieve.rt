@@ -2,7 +2,8 @@
 ghost use Rattle.std.specs.Prelude.{◌≡◌, false, IfOk};
 ghost use Rattle.std.specs.List.{list_all};
 ghost use Rattle.ded_hull.specs.Tuples.{is_text_column, may_equal, may_differ, agrees, atom_may_hold, tuple_may_hold};
-ghost use Rattle.ded_hull.specs.Windows.{IsMissed, IsNear, lent};
+ghost use Rattle.ded_hull.specs.Windows.{IsMissed, IsNear};
+ghost use Rattle.ded_packed.specs.Lent.{lent};
 
 use crate::limit::row_may_hold;
 use crate::reach::Reach;
@@ -11,6 +12,7 @@ use ded_model::memory::NoMemory;
 use ded_model::name::Name;
 use ded_model::slot::{Slot, Sort};
 use ded_model::tuple::{Atom, BothAtom, ThemeAtom, Tuple};
+use ded_packed::Lent;
 use std::alloc::Global;
 use std::marker::Model;
 
@@ -59,14 +61,14 @@ impl Window {
     ///
     /// # Errors
     /// Out of memory.
-    pub fn near<'a>(&self, alloc: Global, tuples: &'a [Tuple]) -> Result<Vec<&'a Tuple>, NoMemory>
+    pub fn near<'a>(&self, alloc: Global, tuples: &'a [Tuple]) -> Result<Vec<Lent<'a>>, NoMemory>
         ensures { IfOk result (λ found. IsNear self.now (lent found.items) tuples.now) }
     {
         let sieve = Sieve::new(alloc, self)?;
         let mut found = Vec::new(alloc);
         for tuple in tuples {
             if sieve.may_hold(tuple) {
-                found.push(tuple)?;
+                found.push(Lent::Plain(tuple))?;
             }
         }
         Ok(found)

@@ -1,9 +1,11 @@
 //! The values of a column at which a multiple of them and a constant stand to 0 in one way or another.
 ghost use Rattle.std.specs.Prelude.{◌≡◌, true, ◌+ℤ◌, ◌*ℤ◌, ◌<ℤ◌, ◌≤ℤ◌, ℕ, ℤ, pos, neg_ℤ, IfSome};
 ghost use Rattle.ded_model.specs.Row.{sign_meets};
-ghost use Rattle.ded_hull.specs.Reaches.{fine, IsIn, Lies};
+ghost use Rattle.ded_hull.specs.Codes.{fine};
+ghost use Rattle.ded_hull.specs.Reaches.{IsIn, Lies};
 ghost use Rattle.ded_hull.specs.Tuples.{IsRangeOf};
 
+use crate::end::End;
 use crate::reach::{Range, Reach, everywhere, met, negative, whole};
 use ded_model::row::RowOp;
 
@@ -42,21 +44,21 @@ fn at_most(a: i128, constant: i128) -> Range
 {
     if 0 < a {
         Range {
-            low: None,
-            high: high_end(a, constant),
+            low: End::none(),
+            high: End::at_least(high_units(a, constant)),
         }
     } else if a < 0 {
         Range {
-            low: low_end(a, constant),
-            high: None,
+            low: End::at_most(low_units(a, constant)),
+            high: End::none(),
         }
     } else {
         everywhere()
     }
 }
 
-/// An end at or above the values, whose coefficient is positive.
-fn high_end(a: i128, constant: i128) -> Option<i128>
+/// A number of units at or above the values, whose coefficient is positive.
+fn high_units(a: i128, constant: i128) -> Option<i128>
     requires { pos 0 <ℤ a }
     ensures { IfSome result (λ k. (neg_ℤ k *ℤ a) ≤ℤ (constant *ℤ pos fine)) }
 {
@@ -66,8 +68,8 @@ fn high_end(a: i128, constant: i128) -> Option<i128>
     }
 }
 
-/// An end at or below the values, whose coefficient is negative.
-fn low_end(a: i128, constant: i128) -> Option<i128>
+/// A number of units at or below the values, whose coefficient is negative.
+fn low_units(a: i128, constant: i128) -> Option<i128>
     requires { a <ℤ pos 0 }
     ensures { IfSome result (λ k. (k *ℤ neg_ℤ a) ≤ℤ (constant *ℤ pos fine)) }
 {

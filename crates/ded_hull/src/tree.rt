@@ -150,6 +150,7 @@ pub(crate) fn build(alloc: Global, mut entries: Vec<Entry>) -> Result<Vec<Node>,
     }
     arrange(&mut entries, &hull);
     let rest = entries.split_off(entries.len() / 2)?;
+    entries.shrink_to_fit();
     let first = build(alloc, entries)?;
     let second = build(alloc, rest)?;
     joined(alloc, hull, first, second)
@@ -161,7 +162,7 @@ fn one(alloc: Global, hull: Reach, entries: Vec<Entry>) -> Result<Vec<Node>, NoM
     ensures tree { IfOk result (λ ns. IsTree ns.items) }
     ensures entries { IfOk result (λ ns. entries_of ns.items ≡ entries.items) }
 {
-    let mut nodes = Vec::new(alloc);
+    let mut nodes = Vec::with_capacity(alloc, 1)?;
     nodes.push(Node {
         hull,
         below: 0,
@@ -183,10 +184,11 @@ fn joined(
     ensures tree { IfOk result (λ ns. IsTree ns.items) }
     ensures entries { IfOk result (λ ns. entries_of ns.items ≡ entries_of first.items ++ entries_of second.items) }
 {
-    let mut nodes = Vec::new(alloc);
+    let below = first.len() + second.len();
+    let mut nodes = Vec::with_capacity(alloc, below + 1)?;
     nodes.push(Node {
         hull,
-        below: first.len() + second.len(),
+        below,
         entries: Vec::new(alloc),
     })?;
     nodes.append(&mut first)?;

@@ -9,12 +9,13 @@ ghost use Rattle.ded_model.specs.Row.{tuples_hold, tuples_mention};
 ghost use Rattle.ded_algebra.specs.Evaluation.{IsAnyAtom, IsEvaluable, IsEvaluation};
 ghost use Rattle.ded_keep.specs.Adding.{with_alone};
 
-use ded_algebra::{Evaluate, Relations, lend};
+use ded_algebra::{Evaluate, Relations};
 use ded_hull::Window;
 use ded_model::memory::{NoMemory, Refused};
 use ded_model::name::{Heading, Name};
 use ded_model::plan::Plan;
 use ded_model::tuple::{Tuple, Tuples};
+use ded_packed::{Lent, lend};
 use std::alloc::Global;
 
 /// The tuples alone under the name, which the other relations don't give, and these as they are.
@@ -41,7 +42,7 @@ impl<'a, R: Relations> Relations for Alone<'a, R> {
         alloc: Global,
         name: &Name,
         window: &Window,
-    ) -> Result<Option<Vec<&Tuple>>, NoMemory> {
+    ) -> Result<Option<Vec<Lent<'_>>>, NoMemory> {
         if name.is_same(self.name) {
             Ok(Some(window.near(alloc, self.tuples)?))
         } else {
@@ -49,7 +50,7 @@ impl<'a, R: Relations> Relations for Alone<'a, R> {
         }
     }
 
-    fn all(&self, alloc: Global, name: &Name) -> Result<Option<Vec<&Tuple>>, NoMemory> {
+    fn all(&self, alloc: Global, name: &Name) -> Result<Option<Vec<Lent<'_>>>, NoMemory> {
         if name.is_same(self.name) {
             Ok(Some(lend(alloc, self.tuples)?))
         } else {

@@ -7,7 +7,7 @@ ghost use Rattle.ded_model.specs.Made.{base, is_made, reading, closure_of, inter
 ghost use Rattle.ded_model.specs.Measure.{measures};
 ghost use Rattle.ded_catalog.specs.Snapshots.{snapshot_of};
 ghost use Rattle.ded_eval.specs.Given.{has_name};
-ghost use Rattle.ded_hull.specs.Windows.{lent};
+ghost use Rattle.ded_packed.specs.Lent.{lent};
 ghost use Rattle.ded_query.specs.Gathering.{IsGivenOf, IsGivenAs};
 ghost use Rattle.ded_query.specs.Made.{IsStanding, IsMadeBy, IsTooWide};
 ghost use Rattle.ded_query.specs.Over.{over_relations};
@@ -20,6 +20,7 @@ use ded_hull::Window;
 use ded_model::memory::{NoMemory, Refused};
 use ded_model::name::Name;
 use ded_model::tuple::{Tuple, Tuples};
+use ded_packed::Lent;
 use ded_topology::{closed_tuples, inner_tuples, laws};
 use std::alloc::Global;
 
@@ -114,12 +115,12 @@ fn standing(
 ///
 /// # Errors
 /// Out of memory.
-fn copied(alloc: Global, tuples: &[&Tuple]) -> Result<Tuples, NoMemory>
+fn copied(alloc: Global, tuples: &[Lent<'_>]) -> Result<Tuples, NoMemory>
     ensures { IfOk result (λ ts. ts ≡ lent tuples.now) }
 {
-    let mut list = Vec::new(alloc);
+    let mut list = Vec::with_capacity(alloc, tuples.len())?;
     for &tuple in tuples {
-        list.push(tuple.copy()?)?;
+        list.push(tuple.copy(alloc)?)?;
     }
     Ok(Tuples { list })
 }

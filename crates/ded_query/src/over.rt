@@ -7,7 +7,7 @@ use ded_eval::Given;
 use ded_hull::Window;
 use ded_model::memory::NoMemory;
 use ded_model::name::Name;
-use ded_model::tuple::Tuple;
+use ded_packed::Lent;
 use std::alloc::Global;
 
 /// What is given, and the relations of a catalogue under all other names but the hidden one. Nothing is copied.
@@ -51,7 +51,7 @@ impl<'a, 'b, 'c> Relations for Over<'a, 'b, 'c> {
         alloc: Global,
         name: &Name,
         window: &Window,
-    ) -> Result<Option<Vec<&Tuple>>, NoMemory> {
+    ) -> Result<Option<Vec<Lent<'_>>>, NoMemory> {
         self.snapshot.formed();
         if self.given.has(name) {
             self.given.near(alloc, name, window)
@@ -62,7 +62,7 @@ impl<'a, 'b, 'c> Relations for Over<'a, 'b, 'c> {
         }
     }
 
-    fn all(&self, alloc: Global, name: &Name) -> Result<Option<Vec<&Tuple>>, NoMemory> {
+    fn all(&self, alloc: Global, name: &Name) -> Result<Option<Vec<Lent<'_>>>, NoMemory> {
         self.snapshot.formed();
         if self.given.has(name) {
             self.given.all(alloc, name)

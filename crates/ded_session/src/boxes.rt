@@ -21,7 +21,7 @@ use ded_eval::extended;
 use ded_model::bound::BoxReply;
 use ded_model::memory::Refused;
 use ded_model::name::{Heading, Name};
-use ded_model::tuple::Tuple;
+use ded_packed::Packed;
 use std::alloc::Global;
 use std::collections::BTreeMap;
 
@@ -49,7 +49,7 @@ pub(crate) fn bounds(alloc: Global, catalogue: &Catalogue, name: &Name) -> Resul
 fn extent(
     alloc: Global,
     heading: &Heading,
-    stored: &BTreeMap<u32, Tuple>,
+    stored: &BTreeMap<u32, Packed>,
 ) -> Result<BoxReply, Refused>
     requires { AllByRecursion (IsTupleOver heading.now) (tuples_of stored.now.entries) }
     ensures is { IfOk result (λ r. IsBox (tuples_hold (tuples_of stored.now.entries)) heading.now r) }
@@ -57,8 +57,9 @@ fn extent(
     ensures orders { IsErrOf result Wide → AllByRecursion AreOrderAtoms (tuples_of stored.now.entries) → ⊥ }
 {
     let mut extent = BoxReply::Nowhere;
-    for (_, tuple) in stored {
-        extent = extended(alloc, heading, extent, tuple)?;
+    for (_, packed) in stored {
+        let tuple = packed.unpack(alloc)?;
+        extent = extended(alloc, heading, extent, &tuple)?;
     }
     Ok(extent)
 }

@@ -14,12 +14,12 @@ use ded_cert::{Disjointness, certify_all, verify_all};
 use ded_model::certificate::Entry;
 use ded_model::memory::Refused;
 use ded_model::name::Name;
-use ded_model::tuple::Tuple;
+use ded_packed::Packed;
 use std::alloc::Global;
 use std::collections::BTreeMap;
 
 /// The tuples of a relation under their numbers.
-fn tuples<'a>(catalogue: &'a Catalogue, name: &Name) -> &'a BTreeMap<u32, Tuple>
+fn tuples<'a>(catalogue: &'a Catalogue, name: &Name) -> &'a BTreeMap<u32, Packed>
     requires { is_relation_with (known (catalogue_of catalogue.now) name.now) ≡ true }
     ensures { result.now.entries ≡ tuples_in (catalogue_of catalogue.now) name.now }
 {

@@ -3,6 +3,7 @@ ghost use Rattle.std.specs.Prelude.{◌≡◌, IfOk};
 
 use ded_model::memory::NoMemory;
 use ded_model::tuple::Tuple;
+use ded_packed::Packed;
 use std::alloc::Global;
 use std::collections::BTreeMap;
 use std::marker::Model;
@@ -27,12 +28,12 @@ impl StoredTuples {
     ///
     /// # Errors
     /// Out of memory.
-    pub fn copy_of(alloc: Global, stored: &BTreeMap<u32, Tuple>) -> Result<StoredTuples, NoMemory>
+    pub fn copy_of(alloc: Global, stored: &BTreeMap<u32, Packed>) -> Result<StoredTuples, NoMemory>
         ensures { IfOk result (λ t. t ≡ stored.now.entries) }
     {
         let mut list = Vec::with_capacity(alloc, stored.len())?;
-        for (number, tuple) in stored {
-            list.push((*number, tuple.copy()?))?;
+        for (number, packed) in stored {
+            list.push((*number, packed.unpack(alloc)?))?;
         }
         Ok(StoredTuples { list })
     }

@@ -11,7 +11,7 @@ use ded_model::formula::Formula;
 use ded_model::goal::Goal;
 use ded_model::memory::NoMemory;
 use ded_model::name::{Heading, Name};
-use ded_model::tuple::Tuple;
+use ded_packed::Packed;
 use std::alloc::Global;
 use std::collections::BTreeMap;
 
@@ -46,7 +46,7 @@ impl Catalogue {
     }
 
     /// The tuples of a relation by their numbers, in ascending order. None exactly where the name is no relation.
-    pub fn stored(&self, name: &Name) -> Option<&BTreeMap<u32, Tuple>>
+    pub fn stored(&self, name: &Name) -> Option<&BTreeMap<u32, Packed>>
         ensures { option_map (λ ts. ts.now.entries) result ≡ relation_in (entry_of (catalogue_of self.now).entries name.now) }
     {
         match relation_of(&self.names, name) {
@@ -65,7 +65,7 @@ impl Catalogue {
         alloc: Global,
         name: &Name,
         window: &Window,
-    ) -> Result<Option<Vec<(u32, &'a Tuple)>>, NoMemory>
+    ) -> Result<Option<Vec<(u32, &'a Packed)>>, NoMemory>
         ensures { IfOk result (λ found. AreFound window.now (option_map (λ v. numbered v.items) found) (relation_in (entry_of (catalogue_of self.now).entries name.now))) }
     {
         match relation_of(&self.names, name) {

@@ -1,13 +1,13 @@
-use Rattle.std.proofs.Common.{ap, ◌∙◌}
+use Rattle.std.proofs.Common.{sym, ap, subst, ◌∙◌}
 use Rattle.ded_database.specs.declared.change.Step.TheVariants.{Deleted}
-use Rattle.ded_database.specs.Changes.{before, after, inserted_in}
+use Rattle.ded_database.specs.Changes.{before, after, inserted_in, IsDelete}
 use Rattle.ded_database.proofs.Told.{step_told, step_inserts}
 use Rattle.ded_database.proofs.renewing.followed.Goals as goal
 
 pub list_without-requires-clause-delete : goal.list_without-requires-clause-delete
 list_without-requires-clause-delete c =
     let x = c.args.change.now in
-    step_told (before x) (after x) x.name.now x.step _ (c.in-Deleted.is ∙ ap Deleted c.in-Some.is) c.requires.told
+    subst (IsDelete (before x) (after x) x.name.now) (sym c.in_ok-gone-in-Some.ensures) (step_told (before x) (after x) x.name.now x.step _ (c.in-Deleted.is ∙ ap Deleted c.in-Some.is) c.requires.told)
 
 pub extended-requires-clause-insert : goal.extended-requires-clause-insert
 extended-requires-clause-insert c =

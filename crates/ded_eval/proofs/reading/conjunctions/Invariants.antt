@@ -1,5 +1,5 @@
 use Rattle.std.proofs.Common.{take}
-use Rattle.ded_hull.specs.Windows.{lent}
+use Rattle.ded_packed.specs.Lent.{lent}
 use Rattle.ded_eval.specs.Reading.{IsListOf}
 use Rattle.ded_eval.proofs.reading.conjunctions.Given as goal
 

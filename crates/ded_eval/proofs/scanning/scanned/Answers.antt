@@ -6,7 +6,7 @@ use Rattle.ded_model.specs.Point.{AreDistinctSlots}
 use Rattle.ded_model.specs.Renaming.{IsOneToOne, KeepsSorts}
 use Rattle.ded_genrel.specs.Lists.{AreNormal, conjs_hold, conjs_mention, conjs_lines}
 use Rattle.ded_genrel.specs.Operations.{IsRenaming}
-use Rattle.ded_hull.specs.Windows.{lent}
+use Rattle.ded_packed.specs.Lent.{lent}
 use Rattle.ded_eval.specs.Scanning.{column_pairs}
 use Rattle.ded_eval.specs.Within.{IsWindowOf}
 use Rattle.ded_eval.proofs.Found.{lent_found, lent_reads}

@@ -3,4 +3,4 @@ use Rattle.ded_hull.proofs.Widened.{widened}
 use Rattle.ded_hull.proofs.reach.widen.Given as goal
 
 abbrev pub invariant-loop-i : goal.invariant-loop-i
-invariant-loop-i l = l.ranges.items ≡ widened l.initial.ranges.items l.other l.i
+invariant-loop-i l = l.ranges ≡ widened l.initial.ranges l.other l.i

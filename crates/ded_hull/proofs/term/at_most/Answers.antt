@@ -2,7 +2,7 @@ use Rattle.std.proofs.Common.{rules, SFits}
 use Rattle.std.specs.Prelude.{pos, ◌<ℤ◌}
 use Rattle.std.specs.Int.{w128}
 use Rattle.std.proofs.lemmas.Int.{to_z-of_z}
-use Rattle.ded_hull.proofs.Terms.{high_is, low_is}
+use Rattle.ded_hull.proofs.Terms.{high_at, low_at}
 use Rattle.ded_hull.proofs.term.at_most.Goals as goal
 
 pub returns-then-a-gt0 : goal.returns-then-a-gt0
@@ -10,11 +10,11 @@ returns-then-a-gt0 c =
     let a : SFits w128 c.args.a = c.ranges.a in
     let k : SFits w128 c.args.constant = c.ranges.constant in
     let above : pos 0 <ℤ c.args.a = search rules in
-    high_is c.high_end.result c.args.a c.args.constant above (simp to_z-of_z at c.high_end.ensures)
+    high_at c.none.result c.at_least.result c.high_units.result c.args.a c.args.constant c.none.ensures c.at_least.ensures above (simp to_z-of_z at c.high_units.ensures)
 
 pub returns-then-a-lt0 : goal.returns-then-a-lt0
 returns-then-a-lt0 c =
     let a : SFits w128 c.args.a = c.ranges.a in
     let k : SFits w128 c.args.constant = c.ranges.constant in
     let below : c.args.a <ℤ pos 0 = search rules in
-    low_is c.low_end.result c.args.a c.args.constant below (simp to_z-of_z at c.low_end.ensures)
+    low_at c.none-then-a-lt0.result c.at_most.result c.low_units.result c.args.a c.args.constant c.none-then-a-lt0.ensures c.at_most.ensures below (simp to_z-of_z at c.low_units.ensures)

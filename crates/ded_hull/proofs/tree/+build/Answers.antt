@@ -1,4 +1,4 @@
-use Rattle.std.proofs.Common.{rules, ◌≡◌, ◌<◌, ◌/◌, ◌++◌, List, sym, subst, length, arith}
+use Rattle.std.proofs.Common.{rules, ◌≡◌, ◌∙◌, ◌<◌, ◌/◌, ◌++◌, List, sym, subst, length, arith}
 use Rattle.std.proofs.lemmas.Result.{IfOk-weaker}
 use Rattle.std.specs.List.Sorted.{IsPermutation}
 use Rattle.std.proofs.lemmas.List.Sorted.{length_permutation}
@@ -25,13 +25,13 @@ pub joined-requires-clause-covers : goal.joined-requires-clause-covers
 joined-requires-clause-covers t c =
     covers_moved c.in_ok-hull.hull c.args.entries.items (entries_of c.in_ok-first.first.items ++ entries_of c.in_ok-second.second.items)
     (halves c.args.entries.items c.arrange.new.entries.items (c.len-2.result / 2) (entries_of c.in_ok-first.first.items) (entries_of c.in_ok-second.second.items) c.arrange.ensures
-    (subst (λ (es : List Entry). IsPermutation es (entries_of c.in_ok-first.first.items)) c.in_ok-rest.ensures.items c.in_ok-first.ensures.entries)
+    (subst (λ (es : List Entry). IsPermutation es (entries_of c.in_ok-first.first.items)) (c.shrink_to_fit.ensures.items ∙ c.in_ok-rest.ensures.items) c.in_ok-first.ensures.entries)
     (subst (λ (es : List Entry). IsPermutation es (entries_of c.in_ok-second.second.items)) c.in_ok-rest.ensures.tail c.in_ok-second.ensures.entries))
     (subst (Covers c.in_ok-hull.hull) c.deref.ensures.value c.in_ok-hull.ensures)
 
 pub returns-clause-entries : goal.returns-clause-entries
 returns-clause-entries t c =
     let all = halves c.args.entries.items c.arrange.new.entries.items (c.len-2.result / 2) (entries_of c.in_ok-first.first.items) (entries_of c.in_ok-second.second.items) c.arrange.ensures
-    (subst (λ (es : List Entry). IsPermutation es (entries_of c.in_ok-first.first.items)) c.in_ok-rest.ensures.items c.in_ok-first.ensures.entries)
+    (subst (λ (es : List Entry). IsPermutation es (entries_of c.in_ok-first.first.items)) (c.shrink_to_fit.ensures.items ∙ c.in_ok-rest.ensures.items) c.in_ok-first.ensures.entries)
     (subst (λ (es : List Entry). IsPermutation es (entries_of c.in_ok-second.second.items)) c.in_ok-rest.ensures.tail c.in_ok-second.ensures.entries) in
     IfOk-weaker c.joined.result (λ ns. entries_of ns.items ≡ entries_of c.in_ok-first.first.items ++ entries_of c.in_ok-second.second.items) _ (λ ns e. subst (IsPermutation c.args.entries.items) (sym e) all) c.joined.ensures.entries

@@ -1,5 +1,5 @@
 use Rattle.std.proofs.Common.{◌≡◌, take}
-use Rattle.ded_hull.specs.Windows.{lent}
+use Rattle.ded_packed.specs.Lent.{lent}
 use Rattle.ded_query.proofs.made.copied.Given as goal
 
 abbrev pub invariant-loop-tuple : goal.invariant-loop-tuple

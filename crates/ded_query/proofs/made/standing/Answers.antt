@@ -1,10 +1,11 @@
-use Rattle.std.proofs.Common.{◌≡◌, ◌∙◌, List, None, Some, Option, Vec, Bor, sym, ap, subst}
+use Rattle.std.proofs.Common.{◌∙◌, None, sym, ap, subst}
 use Rattle.std.specs.Option.{option_map}
 use Rattle.std.proofs.lemmas.Result.{IfOk-weaker}
 use Rattle.ded_algebra.specs.Evaluation.{given_tuples}
 use Rattle.ded_catalog.specs.Snapshots.{snapshot_of}
 use Rattle.ded_eval.specs.Given.{given_catalogue}
-use Rattle.ded_hull.specs.Windows.{AreLent, lent}
+use Rattle.ded_hull.specs.Windows.{AreLent}
+use Rattle.ded_packed.specs.Lent.{lent}
 use Rattle.ded_query.specs.Made.{IsStanding}
 use Rattle.ded_query.specs.Over.{over_relations}
 use Rattle.ded_query.proofs.MadeNames.{known_plain, stands_found, never_none}

@@ -1,5 +1,5 @@
 use Rattle.ded_session.proofs.Bounding.{Bounded}
 use Rattle.ded_session.proofs.boxes.extent.Given as goal
 
-abbrev pub invariant-loop-tuple : goal.invariant-loop-tuple
-invariant-loop-tuple l = Bounded l.heading l.stored.entries l.tuple-iterator l.extent
+abbrev pub invariant-loop-packed : goal.invariant-loop-packed
+invariant-loop-packed l = Bounded l.heading l.stored.entries l.packed-iterator l.extent

@@ -1,14 +1,22 @@
-use Rattle.std.proofs.Common.{rules, ◌≡◌, List, ℕ, ap, subst}
+use Rattle.std.proofs.Common.{rules, ◌≡◌, List, ℕ, sym, ap, ◌∙◌, subst}
 use Rattle.ded_model.specs.Row.{Atom}
 use Rattle.ded_hull.specs.declared.window.Window.{Window}
 use Rattle.ded_hull.specs.Windows.{IsMissed}
-use Rattle.ded_model.proofs.Sublists.{sublist_trans}
+use Rattle.ded_model.proofs.Sublists.{sublist_refl, sublist_trans}
 use Rattle.ded_catalog.specs.Nearby.{numbered, AreNear, picked}
 use Rattle.ded_catalog.specs.Relations.{Relation, Finds}
 use Rattle.ded_catalog.proofs.Indexing.{index_misses}
 use Rattle.ded_catalog.proofs.Picked.{picked_near}
 use Rattle.ded_catalog.proofs.Results.{if_ok_by}
 use Rattle.ded_catalog.proofs.stored.Relation.near.Goals as goal
+
+pub returns-then-is_empty-2 : goal.returns-then-is_empty-2
+returns-then-is_empty-2 c =
+    let w = c.args.window.now in
+    let ts = c.args.self.now.tuples.entries in
+    let same : c.self.inside.tuples.entries ≡ ts = ap (λ (r : Relation). r.tuples.entries) c.self.view_is in
+    if_ok_by c.listed.result (λ v. numbered v.items ≡ c.self.inside.tuples.entries) _
+    (λ v e. subst (λ (us : List (ℕ × List Atom)). AreNear w us ts) (sym (e ∙ same)) (sublist_refl (λ t. IsMissed w t.1) ts)) c.listed.ensures
 
 pub returns-in-Some : goal.returns-in-Some
 returns-in-Some c =

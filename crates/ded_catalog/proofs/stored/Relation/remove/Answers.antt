@@ -13,17 +13,15 @@ prove-unreachable-requires c =
     let inserts : c.self.inside.inserts ≡ c.args.self.now.inserts = ap (λ (r : Relation). r.inserts) c.self.view_is in
     true≢false (sym c.requires.present ∙ above_none c.args.self.now.inserts c.args.number c.args.self.now.tuples.entries (omega (arith, c.if-prove.true, c.from.ensures, inserts)) c.requires.numbers)
 
+pub told-requires : goal.told-requires
+told-requires c = c.requires.present
+
 pub invariant_of-self : goal.invariant_of-self
 invariant_of-self c =
-    index_taken_out c.self.inside.heading c.self.inside.index c.remove-in-Some.new.self c.args.number c.self.inside.tuples.entries c.remove.new.self.entries (ap (λ (r : Relation). list_any (λ t. t.0 == c.args.number) r.tuples.entries) c.self.view_is ∙ c.requires.present)
-    c.remove.ensures.entries c.remove.ensures.updates.1 c.self.invariant c.remove-in-Some.ensures
+    index_taken_out c.self.inside.heading c.self.inside.index c.remove-2.new.self c.args.number c.self.inside.tuples.entries c.remove.new.self.entries (ap (λ (r : Relation). list_any (λ t. t.0 == c.args.number) r.tuples.entries) c.self.view_is ∙ c.requires.present)
+    c.remove.ensures.entries c.remove.ensures.updates.1 c.self.invariant c.remove-2.ensures
 
-pub returns-in-Some : goal.returns-in-Some
-returns-in-Some c =
-    removes c.args.self.now _ c.args.number c.requires.present (ap (λ (r : Relation). r.heading) c.self.view_is) (ap (λ (r : Relation). r.inserts) c.self.view_is)
-    (c.remove.ensures.entries ∙ ap (λ (r : Relation). remove_entry (is_at (nat_cmp c.args.number)) r.tuples.entries) c.self.view_is)
-
-pub returns-in_default : goal.returns-in_default
-returns-in_default c =
+pub returns-clause-ok : goal.returns-clause-ok
+returns-clause-ok c =
     removes c.args.self.now _ c.args.number c.requires.present (ap (λ (r : Relation). r.heading) c.self.view_is) (ap (λ (r : Relation). r.inserts) c.self.view_is)
     (c.remove.ensures.entries ∙ ap (λ (r : Relation). remove_entry (is_at (nat_cmp c.args.number)) r.tuples.entries) c.self.view_is)

@@ -1,18 +1,12 @@
-use Rattle.std.proofs.Common.{rules, ◌≡◌, ◌<◌, ◌≤◌, length}
-use Rattle.std.specs.Prelude.{slice_set}
-use Rattle.ded_hull.proofs.Terms.{lies_as, narrowed_in_place, narrowed_past}
+use Rattle.std.proofs.Common.{length}
+use Rattle.std.specs.List.{refill}
+use Rattle.ded_hull.proofs.Terms.{lies_as, narrowed_held}
 use Rattle.ded_hull.proofs.reach.Reach.narrow.Goals as goal
 
-pub returns-then-place-len-clause-value : goal.returns-then-place-len-clause-value
-returns-then-place-len-clause-value c =
-    let view : c.self.inside.ranges.items ≡ c.args.self.now = search rules in
-    let inside : c.args.place < length c.args.self.now = search rules in
-    narrowed_in_place c.args.self.now c.self.inside.ranges.items c.args.place c.args.range c.index.result.now c.met.result view inside c.index.ensures c.met.ensures
+pub returns-clause-value : goal.returns-clause-value
+returns-clause-value c =
+    narrowed_held c.args.self.now c.self.inside.ranges.items c.as_mut_slice.result.now c.narrow.new.ranges c.args.place c.args.range c.self.view_is c.as_mut_slice.ensures.value c.narrow.ensures
 
-pub returns-then-place-len-clause-lies : goal.returns-then-place-len-clause-lies
-returns-then-place-len-clause-lies c = lies_as c.args.self.now (slice_set c.self.inside.ranges.items c.args.place c.met.result) c.args.place c.args.range (returns-then-place-len-clause-value c)
-
-pub returns-else-place-len-clause-value : goal.returns-else-place-len-clause-value
-returns-else-place-len-clause-value c =
-    let past : length c.args.self.now ≤ c.args.place = search rules in
-    narrowed_past c.args.self.now c.args.place c.args.range past
+pub returns-clause-lies : goal.returns-clause-lies
+returns-clause-lies c =
+    lies_as c.args.self.now (refill (length c.self.inside.ranges.items) c.self.inside.ranges.items c.narrow.new.ranges) c.args.place c.args.range (returns-clause-value c)

@@ -1,7 +1,8 @@
-use Rattle.std.proofs.Common.{rules, ◌≡◌, ◌∙◌, take, ◌+◌, false, refl, sym, subst, List, Bor}
-use Rattle.ded_model.specs.Row.{Atom}
+use Rattle.std.proofs.Common.{rules, ◌≡◌, ◌∙◌, take, ◌+◌, false, refl, sym, subst, List}
 use Rattle.ded_hull.specs.declared.window.Window.{Window}
-use Rattle.ded_hull.specs.Windows.{IsMissed, IsNear, lent}
+use Rattle.ded_hull.specs.Windows.{IsMissed, IsNear}
+use Rattle.ded_packed.specs.declared.lent.Lent.{Lent}
+use Rattle.ded_packed.specs.Lent.{lent}
 use Rattle.ded_hull.proofs.Near.{kept_more, passed_more}
 use Rattle.ded_hull.proofs.window.Window.near.Goals as goal
 use Rattle.ded_hull.proofs.window.Window.near.Goals.{then-may_hold+in_ok-push, else-may_hold}
@@ -19,6 +20,6 @@ loop-tuple-preserved c =
           let apart : c.may_hold.result ≡ false = search rules in
           let items : c.if-may_hold.found.items ≡ c.loop-tuple.found.items = search rules in
           let same : c.in_ok-sieve.sieve ≡ c.args.self.now = search rules in
-          subst (λ (us : List (Bor (List Atom))). IsNear c.args.self.now (lent us) (take (i + 1) ts)) (sym items)
+          subst (λ (us : List Lent). IsNear c.args.self.now (lent us) (take (i + 1) ts)) (sym items)
           (passed_more c.args.self.now ts i t c.loop-tuple-test.true (sym c.tuple-item.is) c.loop-tuple.found.items (subst (λ (v : Window). IsMissed v t) same (c.may_hold.ensures apart)) c.loop-tuple.invariant)
     ]

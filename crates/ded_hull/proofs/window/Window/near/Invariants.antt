@@ -1,5 +1,6 @@
 use Rattle.std.proofs.Common.{take}
-use Rattle.ded_hull.specs.Windows.{IsNear, lent}
+use Rattle.ded_hull.specs.Windows.{IsNear}
+use Rattle.ded_packed.specs.Lent.{lent}
 use Rattle.ded_hull.proofs.window.Window.near.Given as goal
 
 abbrev pub invariant-loop-tuple : goal.invariant-loop-tuple
