@@ -4,7 +4,7 @@
 -- These share no point and are all of the piece, so what of the one is outside of the list and what of the other is, one after
 -- another, are what of the piece is. A conjunction of the list whose box shares no value with that of a half takes nothing away
 -- from it.
-use Rattle.std.proofs.Common.{◌≡◌, ℕ, zero, suc, ◌+◌, ◌<◌, ℤ, Bool, true, false, not, ◌&&◌, ◌||◌, List, [], ◌∷◌, ◌++◌, length, take, get_or, arith, refl, sym, ap, ap₂, ◌∙◌, subst, add-one, append_assoc, append-nil, inl, inr}
+use Rattle.std.proofs.Common.{◌≡◌, ℕ, zero, suc, ◌+◌, ◌<◌, ℤ, Bool, true, false, not, ◌&&◌, ◌||◌, List, [], ◌∷◌, ◌++◌, length, take, get_or, arith, refl, sym, ap, ap₂, ◌∙◌, subst, add-one, append_assoc, append-nil}
 use Rattle.std.specs.List.{AllByRecursion}
 use Rattle.ded_model.specs.declared.slot.Slot.{Slot}
 use Rattle.ded_model.specs.declared.tuple.Negated.{Negated}
@@ -20,7 +20,7 @@ use Rattle.ded_complement.specs.declared.parts.Halves.{Halves}
 use Rattle.ded_complement.specs.Boxed.{conjs_in}
 use Rattle.ded_complement.specs.Parts.{conj_at, conjs_at, IsSameOutside, IsPart, AreHalves, AreCarved}
 use Rattle.ded_complement.specs.Pieces.{all_atoms, IsAmong, AreAmong, IsAlike, ArePieces}
-use Rattle.ded_complement.proofs.PieceLaws.{among_left, among_right, among_self, all_left, all_right, made_piece, made_append, made_among, made_alike, conj_push, conjs_push, pieces_same, more_trans}
+use Rattle.ded_complement.proofs.PieceLaws.{among_left, among_right, among_self, all_among, all_left, all_right, made_piece, made_append, made_among, made_alike, conj_push, conjs_push, pieces_same, more_trans}
 use Rattle.ded_complement.proofs.Cutting.{IsNegation, Outside, AreOutside, passed, not_or, less_sum, less_apart}
 use Rattle.std.proofs.Math.Seq.{take-suc}
 
@@ -88,12 +88,6 @@ module _ {A : Type 0} where
   all_at_places P bs (i ∷ is) k = subst (AllByRecursion P) (sym (all_atoms-append (conj_at bs i) (conjs_at bs is)))
       (all-append P (all_atoms (conj_at bs i)) (all_atoms (conjs_at bs is)) (all_at P bs i k) (all_at_places P bs is k))
 
-  -- and of an atom among them
-  all_among : (P : A → Type 0) (xs : List A) (a : A) → AllByRecursion P xs → IsAmong xs a → P a
-  all_among P [] a k i = absurd i
-  all_among P (x ∷ xs) a k (inl e) = subst P (sym e) k.0
-  all_among P (x ∷ xs) a k (inr i) = all_among P xs a k.1 i
-
   -- the atoms of a conjunction of the list are among its atoms
   pub among_in : (bs : List (Boxed A)) (i : ℕ) (b : Boxed A) → i < length bs → b ≡ get_or bs i b → AreAmong (all_atoms (conjs_in bs)) b.conj.items
   among_in [] i b lt e = absurd (omega (arith, lt))
@@ -121,10 +115,10 @@ module _ {A : Type 0} (h : A → Point → Bool) (m : A → Slot → Bool) (l : 
   -- ---- halves
 
   -- what of a conjunction satisfies the one piece of the negation, and what satisfies the atom
-  pub halves_are : (n : A → Type 0) (ss : List Slot) (taken : List (Boxed A)) (c : List A) (r : Halves A) (a b : A) (k : Negated A) → k ≡ One b → IsNegation h m l cell a k → ((a : A) (p q : Point) → cell a p ≡ cell a q → h a p ≡ h a q)
-      → IsAmong (all_atoms (conjs_in taken)) a → IsAlike h m l (c ++ b ∷ []) r.first.piece.conj.items → IsAlike h m l (c ++ a ∷ []) r.second.piece.conj.items → IsPart h n ss taken r.first → IsPart h n ss taken r.second
+  pub halves_are : (n : A → Type 0) (ss : List Slot) (taken : List (Boxed A)) (c : List A) (r : Halves A) (a b : A) (k : Negated A) → k ≡ One b → IsNegation h m l cell a k
+      → IsAmong (all_atoms (conjs_in taken)) a → IsAlike h (c ++ b ∷ []) r.first.piece.conj.items → IsAlike h (c ++ a ∷ []) r.second.piece.conj.items → IsPart h n ss taken r.first → IsPart h n ss taken r.second
       → AreHalves h m l cell n ss taken c r
-  halves_are n ss taken c r a b k e f tell i d s u v =
+  halves_are n ss taken c r a b k e f i d s u v =
       let g = subst (IsNegation h m l cell a) e f in
       let first = λ (p : Point) (j : IsPoint p). d.holds p j ∙ conj_push h m l cell c b p ∙ ap (λ z. conj_holds h c p && z) (g.holds p j.positive) in
       let second = λ (p : Point) (j : IsPoint p). s.holds p j ∙ conj_push h m l cell c a p in
@@ -133,10 +127,10 @@ module _ {A : Type 0} (h : A → Point → Bool) (m : A → Slot → Bool) (l : 
         second = v;
         apart = λ p j. ap₂ (λ x y. x && y) (first p j) (second p j) ∙ halves_apart (conj_holds h c p) (h a p);
         all = λ p j. halves_all (conj_holds h c p) (h a p) ∙ ap₂ (λ x y. x || y) (sym (first p j)) (sym (second p j));
-        made_first = λ atoms t w. made_alike h m l cell atoms (c ++ b ∷ []) r.first.piece.conj.items
-            (made_append h m l cell atoms c (b ∷ []) t (made_piece h m l cell atoms a b (all_among (λ z. IsAmong atoms z) (all_atoms (conjs_in taken)) a w i) g.cells g.slots g.lines)) d;
-        made_second = λ atoms t w. made_alike h m l cell atoms (c ++ a ∷ []) r.second.piece.conj.items
-            (made_append h m l cell atoms c (a ∷ []) t (made_among h m l cell tell atoms (a ∷ []) (all_among (λ z. IsAmong atoms z) (all_atoms (conjs_in taken)) a w i, tt))) s;
+        made_first = λ atoms t w. made_alike m l cell h atoms (c ++ b ∷ []) r.first.piece.conj.items
+            (made_append m l cell atoms c (b ∷ []) t (made_piece m l cell atoms a b (all_among (λ z. IsAmong atoms z) (all_atoms (conjs_in taken)) a w i) g.cells g.slots g.lines)) d;
+        made_second = λ atoms t w. made_alike m l cell h atoms (c ++ a ∷ []) r.second.piece.conj.items
+            (made_append m l cell atoms c (a ∷ []) t (made_among m l cell atoms (a ∷ []) (all_among (λ z. IsAmong atoms z) (all_atoms (conjs_in taken)) a w i, tt))) s;
       }
 
   -- ---- what is carved

@@ -64,6 +64,26 @@ module _ {A : Type 0} where
   among_self [] = tt
   among_self (x ∷ xs) = (inl refl, all_weaker (λ a. IsAmong xs a) (λ a. IsAmong (x ∷ xs) a) xs (λ a i. inr i) (among_self xs))
 
+  -- among more
+  pub among_front : (us vs xs : List A) → AreAmong us xs → AreAmong (us ++ vs) xs
+  among_front us vs xs i = all_weaker (λ a. IsAmong us a) (λ a. IsAmong (us ++ vs) a) xs (λ a k. among_left us vs a k) i
+
+  pub among_back : (us vs xs : List A) → AreAmong vs xs → AreAmong (us ++ vs) xs
+  among_back us vs xs i = all_weaker (λ a. IsAmong vs a) (λ a. IsAmong (us ++ vs) a) xs (λ a k. among_right us vs a k) i
+
+  -- those of two lists
+  pub among_both : (us vs xs ys : List A) → AreAmong us xs → AreAmong vs ys → AreAmong (us ++ vs) (xs ++ ys)
+  among_both us vs xs ys i j = all-append (λ a. IsAmong (us ++ vs) a) xs ys (among_front us vs xs i) (among_back us vs ys j)
+
+  -- what holds of all holds of one among them
+  pub all_among : (P : A → Type 0) (xs : List A) (a : A) → AllByRecursion P xs → IsAmong xs a → P a
+  all_among P [] a k i = absurd i
+  all_among P (x ∷ xs) a k (inl e) = subst P (sym e) k.0
+  all_among P (x ∷ xs) a k (inr i) = all_among P xs a k.1 i
+
+  pub among_trans : (us vs xs : List A) → AreAmong us vs → AreAmong vs xs → AreAmong us xs
+  among_trans us vs xs i j = all_weaker (λ a. IsAmong vs a) (λ a. IsAmong us a) xs (λ a k. all_among (λ b. IsAmong us b) vs a i k) j
+
   pub all_left : (P : A → Type 0) (xs ys : List A) → AllByRecursion P (xs ++ ys) → AllByRecursion P xs
   all_left P [] ys h = tt
   all_left P (x ∷ xs) ys h = (h.0, all_left P xs ys h.1)
@@ -74,11 +94,11 @@ module _ {A : Type 0} where
 
 -- ---- what is made of atoms
 
-abbrev head_of : List ℤ → ℤ
+abbrev pub head_of : List ℤ → ℤ
 head_of [] = pos 0
 head_of (z ∷ zs) = z
 
-abbrev tail_of : List ℤ → List ℤ
+abbrev pub tail_of : List ℤ → List ℤ
 tail_of [] = []
 tail_of (z ∷ zs) = zs
 
@@ -89,11 +109,25 @@ module _ {A : Type 0} (cell : A → Point → ℤ) where
   among_cell (x ∷ xs) a p q (inl j) e = ap (λ z. cell z p) j ∙ ap head_of e ∙ ap (λ z. cell z q) (sym j)
   among_cell (x ∷ xs) a p q (inr j) e = among_cell xs a p q j (ap tail_of e)
 
+  -- and one cell of all that are among the atoms
+  among_cells : (atoms xs : List A) (p q : Point) → AreAmong atoms xs → cells cell atoms p ≡ cells cell atoms q → cells cell xs p ≡ cells cell xs q
+  among_cells atoms [] p q i e = refl
+  among_cells atoms (x ∷ xs) p q i e = ap₂ (λ z zs. z ∷ zs) (among_cell atoms x p q i.0 e) (among_cells atoms xs p q i.1 e)
+
+  -- points of one cell of both lists
+  cells_append : (xs ys : List A) (p q : Point) → cells cell xs p ≡ cells cell xs q → cells cell ys p ≡ cells cell ys q → cells cell (xs ++ ys) p ≡ cells cell (xs ++ ys) q
+  cells_append [] ys p q e f = f
+  cells_append (x ∷ xs) ys p q e f = ap₂ (λ z zs. z ∷ zs) (ap head_of e) (cells_append xs ys p q (ap tail_of e) f)
+
 module _ {A : Type 0} (m : A → Slot → Bool) where
   among_slots : (atoms : List A) (a : A) (s : Slot) → IsAmong atoms a → m a s ≡ true → conj_mentions m atoms s ≡ true
   among_slots [] a s i e = absurd i
   among_slots (x ∷ xs) a s (inl j) e = or_left (m x s) (conj_mentions m xs s) (ap (λ z. m z s) (sym j) ∙ e)
   among_slots (x ∷ xs) a s (inr j) e = or_right (m x s) (conj_mentions m xs s) (among_slots xs a s j e)
+
+  pub all_among_slots : (atoms xs : List A) (s : Slot) → AreAmong atoms xs → conj_mentions m xs s ≡ true → conj_mentions m atoms s ≡ true
+  all_among_slots atoms [] s i e = absurd (true≢false (sym e))
+  all_among_slots atoms (x ∷ xs) s i e = elim (or_split (m x s) (conj_mentions m xs s) e) [ inl j ↦ among_slots atoms x s i.0 j | inr k ↦ all_among_slots atoms xs s i.1 k ]
 
   -- all atoms mention what the list does
   pub all_atoms-mention : (conjs : List (List A)) (s : Slot) → conj_mentions m (all_atoms conjs) s ≡ conjs_mention m conjs s
@@ -106,44 +140,57 @@ module _ {A : Type 0} (l : A → List Line) where
   among_lines (y ∷ ys) a (inl j) x k = In-left x (l y) (conj_lines l ys) (subst (λ z. In x (l z)) j k)
   among_lines (y ∷ ys) a (inr j) x k = In-right x (l y) (conj_lines l ys) (among_lines ys a j x k)
 
+  pub all_among_lines : (atoms xs : List A) → AreAmong atoms xs → IsSubset (conj_lines l xs) (conj_lines l atoms)
+  all_among_lines atoms [] i x k = absurd k
+  all_among_lines atoms (y ∷ ys) i x k = elim (In-split x (l y) (conj_lines l ys) k) [ inl j ↦ among_lines atoms y i.0 x j | inr n ↦ all_among_lines atoms ys i.1 x n ]
+
   -- all atoms have the lines of the list
   pub all_atoms-lines : (conjs : List (List A)) → conj_lines l (all_atoms conjs) ≡ conjs_lines l conjs
   all_atoms-lines [] = refl
   all_atoms-lines (c ∷ conjs) = conj_lines-append l c (all_atoms conjs) ∙ ap (λ ls. conj_lines l c ++ ls) (all_atoms-lines conjs)
 
-module _ {A : Type 0} (h : A → Point → Bool) (m : A → Slot → Bool) (l : A → List Line) (cell : A → Point → ℤ) where
+module _ {A : Type 0} (m : A → Slot → Bool) (l : A → List Line) (cell : A → Point → ℤ) where
   -- the conjunction of no atom
-  pub made_none : (atoms : List A) → IsMadeOf h m l cell atoms []
-  made_none atoms = record { cells = λ p q i j e. refl; slots = λ s i. absurd (true≢false (sym i)); lines = λ x i. absurd i }
+  pub made_none : (atoms : List A) → IsMadeOf m l cell atoms []
+  made_none atoms = record { cells = λ p q e. refl; slots = λ s i. absurd (true≢false (sym i)); lines = λ x i. absurd i }
 
   -- the atoms of two
-  pub made_append : (atoms xs ys : List A) → IsMadeOf h m l cell atoms xs → IsMadeOf h m l cell atoms ys → IsMadeOf h m l cell atoms (xs ++ ys)
+  pub made_append : (atoms xs ys : List A) → IsMadeOf m l cell atoms xs → IsMadeOf m l cell atoms ys → IsMadeOf m l cell atoms (xs ++ ys)
   made_append atoms xs ys a b = record {
-    cells = λ p q i j e. conj_holds-append h xs ys p ∙ ap₂ (λ x y. x && y) (a.cells p q i j e) (b.cells p q i j e) ∙ sym (conj_holds-append h xs ys q);
+    cells = λ p q e. cells_append cell xs ys p q (a.cells p q e) (b.cells p q e);
     slots = λ s i. elim (or_split (conj_mentions m xs s) (conj_mentions m ys s) (sym (conj_mentions-append m xs ys s) ∙ i)) [ inl j ↦ a.slots s j | inr k ↦ b.slots s k ];
     lines = λ x i. elim (In-split x (conj_lines l xs) (conj_lines l ys) (subst (In x) (conj_lines-append l xs ys) i)) [ inl j ↦ a.lines x j | inr k ↦ b.lines x k ];
   }
 
-  -- an atom that holds alike at points of one cell of one of the atoms, has its lines and mentions only its slots
-  pub made_piece : (atoms : List A) (a n : A) → IsAmong atoms a → ((p q : Point) → cell a p ≡ cell a q → h n p ≡ h n q) → ((s : Slot) → m n s ≡ true → m a s ≡ true) → l n ≡ l a → IsMadeOf h m l cell atoms (n ∷ [])
+  -- an atom that tells apart no points of one cell of one of the atoms, has its lines and mentions only its slots
+  pub made_piece : (atoms : List A) (a n : A) → IsAmong atoms a → ((p q : Point) → cell a p ≡ cell a q → cell n p ≡ cell n q) → ((s : Slot) → m n s ≡ true → m a s ≡ true) → l n ≡ l a → IsMadeOf m l cell atoms (n ∷ [])
   made_piece atoms a n i tell slots same = record {
-    cells = λ p q _ _ e. ap (λ b. b && true) (tell p q (among_cell cell atoms a p q i e));
+    cells = λ p q e. ap (λ z. z ∷ []) (tell p q (among_cell cell atoms a p q i e));
     slots = λ s j. among_slots m atoms a s i (slots s (sym (or-false (m n s)) ∙ j));
     lines = λ x j. among_lines l atoms a i x (subst (In x) (append-nil (l n) ∙ same) j);
   }
 
-  pub made_among : ((a : A) (p q : Point) → cell a p ≡ cell a q → h a p ≡ h a q) → (atoms xs : List A) → AreAmong atoms xs → IsMadeOf h m l cell atoms xs
-  made_among tell atoms [] i = made_none atoms
-  made_among tell atoms (x ∷ xs) i = made_append atoms (x ∷ []) xs (made_piece atoms x x i.0 (tell x) (λ s j. j) refl) (made_among tell atoms xs i.1)
+  pub made_among : (atoms xs : List A) → AreAmong atoms xs → IsMadeOf m l cell atoms xs
+  made_among atoms xs i = record { cells = λ p q e. among_cells cell atoms xs p q i e; slots = λ s e. all_among_slots m atoms xs s i e; lines = λ x k. all_among_lines l atoms xs i x k }
+
+  -- what is made of what is made of the atoms
+  pub made_trans : (atoms c d : List A) → IsMadeOf m l cell atoms c → IsMadeOf m l cell c d → IsMadeOf m l cell atoms d
+  made_trans atoms c d a b = record { cells = λ p q e. b.cells p q (a.cells p q e); slots = λ s i. a.slots s (b.slots s i); lines = λ x i. a.lines x (b.lines x i) }
 
   -- what is alike is made of the same
-  pub made_alike : (atoms c d : List A) → IsMadeOf h m l cell atoms c → IsAlike h m l c d → IsMadeOf h m l cell atoms d
-  made_alike atoms c d a e = record { cells = λ p q i j k. e.holds p i ∙ a.cells p q i j k ∙ sym (e.holds q j); slots = λ s i. a.slots s (e.slots s i); lines = λ x i. a.lines x (e.lines x i) }
+  pub made_alike : (h : A → Point → Bool) (atoms c d : List A) → IsMadeOf m l cell atoms c → IsAlike h c d → IsMadeOf m l cell atoms d
+  made_alike h atoms c d a e = made_trans atoms c d a (made_among c d e.among)
+
+  -- the atoms of conjunctions that are made of the atoms
+  pub made_all : (atoms : List A) (conjs : List (List A)) → AllByRecursion (λ c. IsMadeOf m l cell atoms c) conjs → IsMadeOf m l cell atoms (all_atoms conjs)
+  made_all atoms [] k = made_none atoms
+  made_all atoms (c ∷ conjs) k = made_append atoms c (all_atoms conjs) k.0 (made_all atoms conjs k.1)
 
   -- wide pieces come of wide atoms
-  pub made_wide : (atoms c : List A) → IsMadeOf h m l cell atoms c → IsWide m l c → IsWide m l atoms
+  pub made_wide : (atoms c : List A) → IsMadeOf m l cell atoms c → IsWide m l c → IsWide m l atoms
   made_wide atoms c a w = wide_more m l m l c atoms a.lines a.slots w
 
+module _ {A : Type 0} (h : A → Point → Bool) (m : A → Slot → Bool) (l : A → List Line) (cell : A → Point → ℤ) where
   -- ---- lists of pieces
 
   pub conj_push : (xs : List A) (a : A) (p : Point) → conj_holds h (xs ++ a ∷ []) p ≡ (conj_holds h xs p && h a p)
@@ -172,7 +219,7 @@ module _ {A : Type 0} (h : A → Point → Bool) (m : A → Slot → Bool) (l : 
   pub pieces_none : (atoms : List A) (test : Point → Bool) → ((p : Point) → IsPoint p → test p ≡ false) → ArePieces h m l cell atoms test []
   pieces_none atoms test e = record { holds = λ p i. sym (e p i); disjoint = tt; made = tt; inhabited = λ n. tt }
 
-  pub pieces_one : (atoms c : List A) → IsMadeOf h m l cell atoms c → ((IsWide m l atoms → ⊥) → HoldsSomewhere (conj_holds h c)) → ArePieces h m l cell atoms (conj_holds h c) (c ∷ [])
+  pub pieces_one : (atoms c : List A) → IsMadeOf m l cell atoms c → ((IsWide m l atoms → ⊥) → HoldsSomewhere (conj_holds h c)) → ArePieces h m l cell atoms (conj_holds h c) (c ∷ [])
   pieces_one atoms c a w = record {
     holds = λ p i. or-false (conj_holds h c p);
     disjoint = (λ p i. and_false (conj_holds h c p), tt);
@@ -192,7 +239,7 @@ module _ {A : Type 0} (h : A → Point → Bool) (m : A → Slot → Bool) (l : 
   pieces_append atoms f g xs ys a b o = record {
     holds = λ p i. conjs_hold-append h xs ys p ∙ ap₂ (λ x y. x || y) (a.holds p i) (b.holds p i);
     disjoint = disjoint_append xs ys a.disjoint b.disjoint (λ p i. ap₂ (λ x y. x && y) (a.holds p i) (b.holds p i) ∙ o p i);
-    made = all-append (IsMadeOf h m l cell atoms) xs ys a.made b.made;
+    made = all-append (IsMadeOf m l cell atoms) xs ys a.made b.made;
     inhabited = λ n. all-append (λ c. HoldsSomewhere (conj_holds h c)) xs ys (a.inhabited n) (b.inhabited n);
   }
 
@@ -201,15 +248,15 @@ module _ {A : Type 0} (h : A → Point → Bool) (m : A → Slot → Bool) (l : 
   pieces_front atoms f xs c a = record {
     holds = λ p i. refl;
     disjoint = (disjoint_front xs c a.disjoint).0;
-    made = all_left (IsMadeOf h m l cell atoms) xs (c ∷ []) a.made;
+    made = all_left (IsMadeOf m l cell atoms) xs (c ∷ []) a.made;
     inhabited = λ n. all_left (λ d. HoldsSomewhere (conj_holds h d)) xs (c ∷ []) (a.inhabited n);
   }
 
   -- and the last one
   pub pieces_last : (atoms : List A) (f : Point → Bool) (xs : List (List A)) (c : List A) → ArePieces h m l cell atoms f (xs ++ c ∷ [])
-      → IsMadeOf h m l cell atoms c × ((IsWide m l atoms → ⊥) → HoldsSomewhere (conj_holds h c)) × ((p : Point) → IsPoint p → (conjs_hold h xs p && conj_holds h c p) ≡ false)
+      → IsMadeOf m l cell atoms c × ((IsWide m l atoms → ⊥) → HoldsSomewhere (conj_holds h c)) × ((p : Point) → IsPoint p → (conjs_hold h xs p && conj_holds h c p) ≡ false)
   pieces_last atoms f xs c a = (
-    (all_right (IsMadeOf h m l cell atoms) xs (c ∷ []) a.made).0,
+    (all_right (IsMadeOf m l cell atoms) xs (c ∷ []) a.made).0,
     λ n. (all_right (λ d. HoldsSomewhere (conj_holds h d)) xs (c ∷ []) (a.inhabited n)).0,
     (disjoint_front xs c a.disjoint).1,
   )
@@ -220,7 +267,7 @@ module _ {A : Type 0} (h : A → Point → Bool) (m : A → Slot → Bool) (l : 
   more_none G f old new e z = record { pieces = []; list = e ∙ sym (append-nil old); are = λ atoms k. pieces_none atoms f z }
 
   pub more_one : (G : List A → Type 0) (f : Point → Bool) (old new : List (List A)) (c : List A) → new ≡ old ++ c ∷ [] → ((p : Point) → IsPoint p → f p ≡ conj_holds h c p)
-      → ((atoms : List A) → G atoms → IsMadeOf h m l cell atoms c × ((IsWide m l atoms → ⊥) → HoldsSomewhere (conj_holds h c))) → IsMore h m l cell G f old new
+      → ((atoms : List A) → G atoms → IsMadeOf m l cell atoms c × ((IsWide m l atoms → ⊥) → HoldsSomewhere (conj_holds h c))) → IsMore h m l cell G f old new
   more_one G f old new c e z w = record {
     pieces = c ∷ [];
     list = e;

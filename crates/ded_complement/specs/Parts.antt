@@ -43,9 +43,9 @@ pub record AreHalves {A : Type 0} (h : A → Point → Bool) (m : A → Slot →
   pub second : IsPart h n ss taken r.second
   pub apart : (p : Point) → IsPoint p → (conj_holds h r.first.piece.conj.items p && conj_holds h r.second.piece.conj.items p) ≡ false
   pub all : (p : Point) → IsPoint p → conj_holds h c p ≡ (conj_holds h r.first.piece.conj.items p || conj_holds h r.second.piece.conj.items p)
-  pub made_first : (atoms : List A) → IsMadeOf h m l cell atoms c → AreAmong atoms (all_atoms (conjs_in taken)) → IsMadeOf h m l cell atoms r.first.piece.conj.items
-  pub made_second : (atoms : List A) → IsMadeOf h m l cell atoms c → AreAmong atoms (all_atoms (conjs_in taken)) → IsMadeOf h m l cell atoms r.second.piece.conj.items
+  pub made_first : (atoms : List A) → IsMadeOf m l cell atoms c → AreAmong atoms (all_atoms (conjs_in taken)) → IsMadeOf m l cell atoms r.first.piece.conj.items
+  pub made_second : (atoms : List A) → IsMadeOf m l cell atoms c → AreAmong atoms (all_atoms (conjs_in taken)) → IsMadeOf m l cell atoms r.second.piece.conj.items
 
 -- pieces of what satisfies the conjunction and is outside of the list were set at the end
 abbrev pub AreCarved : {A : Type 0} → (A → Point → Bool) → (A → Slot → Bool) → (A → List Line) → (A → Point → ℤ) → List (Boxed A) → List A → List (List A) → List (List A) → Type 0
-AreCarved h m l cell taken c old new = IsMore h m l cell (λ atoms. IsMadeOf h m l cell atoms c × AreAmong atoms (all_atoms (conjs_in taken))) (λ p. conj_holds h c p && not (conjs_hold h (conjs_in taken) p)) old new
+AreCarved h m l cell taken c old new = IsMore h m l cell (λ atoms. IsMadeOf m l cell atoms c × AreAmong atoms (all_atoms (conjs_in taken))) (λ p. conj_holds h c p && not (conjs_hold h (conjs_in taken) p)) old new

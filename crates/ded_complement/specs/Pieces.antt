@@ -34,25 +34,24 @@ IsAmong (x ∷ xs) a = (a ≡ x) ⊎ IsAmong xs a
 abbrev pub AreAmong : {A : Type 0} → List A → List A → Type 0
 AreAmong atoms c = AllByRecursion (λ a. IsAmong atoms a) c
 
--- the conjunction holds alike at points of one cell of the atoms, mentions only slots that they mention, and its lines are among
+-- the conjunction tells apart no points of one cell of the atoms, mentions only slots that they mention, and its lines are among
 -- theirs
-pub record IsMadeOf {A : Type 0} (h : A → Point → Bool) (m : A → Slot → Bool) (l : A → List Line) (cell : A → Point → ℤ) (atoms c : List A) : Type 0 where
-  pub cells : (p q : Point) → IsPoint p → IsPoint q → cells cell atoms p ≡ cells cell atoms q → conj_holds h c p ≡ conj_holds h c q
+pub record IsMadeOf {A : Type 0} (m : A → Slot → Bool) (l : A → List Line) (cell : A → Point → ℤ) (atoms c : List A) : Type 0 where
+  pub cells : (p q : Point) → cells cell atoms p ≡ cells cell atoms q → cells cell c p ≡ cells cell c q
   pub slots : (s : Slot) → conj_mentions m c s ≡ true → conj_mentions m atoms s ≡ true
   pub lines : IsSubset (conj_lines l c) (conj_lines l atoms)
 
--- the second conjunction holds where the first one does, mentions only slots that it mentions, and its lines are among its lines
-pub record IsAlike {A : Type 0} (h : A → Point → Bool) (m : A → Slot → Bool) (l : A → List Line) (c d : List A) : Type 0 where
+-- the second conjunction holds where the first one does, and its atoms are among the atoms of that
+pub record IsAlike {A : Type 0} (h : A → Point → Bool) (c d : List A) : Type 0 where
   pub holds : (p : Point) → IsPoint p → conj_holds h d p ≡ conj_holds h c p
-  pub slots : (s : Slot) → conj_mentions m d s ≡ true → conj_mentions m c s ≡ true
-  pub lines : IsSubset (conj_lines l d) (conj_lines l c)
+  pub among : AreAmong c d
 
 -- disjoint conjunctions that are made of the atoms and together hold at the points that pass the test; where the atoms aren't
 -- wide, each of them holds somewhere
 pub record ArePieces {A : Type 0} (h : A → Point → Bool) (m : A → Slot → Bool) (l : A → List Line) (cell : A → Point → ℤ) (atoms : List A) (test : Point → Bool) (out : List (List A)) : Type 0 where
   pub holds : (p : Point) → IsPoint p → conjs_hold h out p ≡ test p
   pub disjoint : AreDisjoint h out
-  pub made : AllByRecursion (IsMadeOf h m l cell atoms) out
+  pub made : AllByRecursion (IsMadeOf m l cell atoms) out
   pub inhabited : (IsWide m l atoms → ⊥) → AllByRecursion (λ c. HoldsSomewhere (conj_holds h c)) out
 
 -- such pieces were set at the end of the old list, whichever atoms they are made of, where these are as given

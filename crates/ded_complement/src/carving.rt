@@ -82,7 +82,7 @@ fn inhabited<T: Theory>(
     piece: Boxed<T::Atom>,
 ) -> Result<Vec<Boxed<T::Atom>>, NoMemory>
     requires { AllByRecursion T.normal piece.conj.items }
-    ensures more { IfOk result (λ v. IsMore T.holds T.mentions T.lines T.cell (λ atoms. IsMadeOf T.holds T.mentions T.lines T.cell atoms piece.conj.items) (conj_holds T.holds piece.conj.items) [] (conjs_in v.items)) }
+    ensures more { IfOk result (λ v. IsMore T.holds T.mentions T.lines T.cell (λ atoms. IsMadeOf T.mentions T.lines T.cell atoms piece.conj.items) (conj_holds T.holds piece.conj.items) [] (conjs_in v.items)) }
     ensures boxed { IfOk result (λ v. (ss : List Slot) → IsBoxed T.holds T.normal ss piece → AreBoxed T.holds T.normal ss v.items) }
 {
     match T::refute(alloc, &piece.conj)? {

@@ -53,7 +53,7 @@ fn push_without<T: Theory>(
     requires boxed { AreBoxed T.holds T.normal slots.now out.old.items }
     requires boxed_piece { IsBoxed T.holds T.normal slots.now piece }
     requires boxed_conj { IsBoxed T.holds T.normal slots.now conj.now }
-    ensures is { IfOk result (λ _. IsMore T.holds T.mentions T.lines T.cell (λ atoms. IsMadeOf T.holds T.mentions T.lines T.cell atoms piece.conj.items × AreAmong atoms conj.now.conj.items × ((IsWide T.mentions T.lines atoms → ⊥) → HoldsSomewhere (conj_holds T.holds piece.conj.items))) (λ p. conj_holds T.holds piece.conj.items p && not (conj_holds T.holds conj.now.conj.items p)) (conjs_in out.old.items) (conjs_in out.new.items)) }
+    ensures is { IfOk result (λ _. IsMore T.holds T.mentions T.lines T.cell (λ atoms. IsMadeOf T.mentions T.lines T.cell atoms piece.conj.items × AreAmong atoms conj.now.conj.items × ((IsWide T.mentions T.lines atoms → ⊥) → HoldsSomewhere (conj_holds T.holds piece.conj.items))) (λ p. conj_holds T.holds piece.conj.items p && not (conj_holds T.holds conj.now.conj.items p)) (conjs_in out.old.items) (conjs_in out.new.items)) }
     ensures boxed { IfOk result (λ _. AreBoxed T.holds T.normal slots.now out.new.items) }
 {
     let alloc = *out.allocator();

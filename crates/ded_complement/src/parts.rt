@@ -71,7 +71,7 @@ pub(crate) fn half<T: Theory>(
     requires rational { AreRational slots.now }
     requires boxed { AreBoxed T.holds T.normal slots.now taken.now }
     requires part { IsPart T.holds T.normal slots.now taken.now part.now }
-    ensures alike { IfOk result (λ r. IsAlike T.holds T.mentions T.lines (part.now.piece.conj.items ++ atom ∷ []) r.piece.conj.items) }
+    ensures alike { IfOk result (λ r. IsAlike T.holds (part.now.piece.conj.items ++ atom ∷ []) r.piece.conj.items) }
     ensures part { IfOk result (λ r. IsPart T.holds T.normal slots.now taken.now r) }
 {
     let alloc = *part.near.allocator();

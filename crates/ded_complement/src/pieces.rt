@@ -26,7 +26,7 @@ pub(crate) fn push_outside<T: Theory>(
 ) -> Result<(), NoMemory>
     requires normal { AllByRecursion T.normal piece.items }
     requires normal_conj { AllByRecursion T.normal conj.now }
-    ensures { IfOk result (λ _. IsMore T.holds T.mentions T.lines T.cell (λ atoms. IsMadeOf T.holds T.mentions T.lines T.cell atoms piece.items × AreAmong atoms conj.now) (λ p. conj_holds T.holds piece.items p && not (conj_holds T.holds conj.now p)) out.old out.new) }
+    ensures { IfOk result (λ _. IsMore T.holds T.mentions T.lines T.cell (λ atoms. IsMadeOf T.mentions T.lines T.cell atoms piece.items × AreAmong atoms conj.now) (λ p. conj_holds T.holds piece.items p && not (conj_holds T.holds conj.now p)) out.old out.new) }
 {
     let Some((last, others)) = conj.split_last() else {
         return Ok(());
@@ -50,7 +50,7 @@ fn push_negated<T: Theory>(
 ) -> Result<bool, NoMemory>
     requires normal { AllByRecursion T.normal rest.items }
     requires normal_atom { T.normal atom.now }
-    ensures more { IfOk result (λ _. IsMore T.holds T.mentions T.lines T.cell (λ atoms. IsMadeOf T.holds T.mentions T.lines T.cell atoms rest.items × IsAmong atoms atom.now) (λ p. conj_holds T.holds rest.items p && not (T.holds atom.now p)) out.old out.new) }
+    ensures more { IfOk result (λ _. IsMore T.holds T.mentions T.lines T.cell (λ atoms. IsMadeOf T.mentions T.lines T.cell atoms rest.items × IsAmong atoms atom.now) (λ p. conj_holds T.holds rest.items p && not (T.holds atom.now p)) out.old out.new) }
     ensures dropped { IfOk result (λ kept. kept ≡ false → HoldsNowhere (λ p. conj_holds T.holds rest.items p && not (T.holds atom.now p))) }
 {
     match T::negate(atom)? {
@@ -72,7 +72,7 @@ fn push_with<T: Theory>(
 ) -> Result<bool, NoMemory>
     requires normal { AllByRecursion T.normal rest.items }
     requires normal_last { T.normal last }
-    ensures more { IfOk result (λ _. IsMore T.holds T.mentions T.lines T.cell (λ atoms. IsMadeOf T.holds T.mentions T.lines T.cell atoms rest.items × IsMadeOf T.holds T.mentions T.lines T.cell atoms (last ∷ [])) (λ p. conj_holds T.holds rest.items p && T.holds last p) out.old out.new) }
+    ensures more { IfOk result (λ _. IsMore T.holds T.mentions T.lines T.cell (λ atoms. IsMadeOf T.mentions T.lines T.cell atoms rest.items × IsMadeOf T.mentions T.lines T.cell atoms (last ∷ [])) (λ p. conj_holds T.holds rest.items p && T.holds last p) out.old out.new) }
     ensures dropped { IfOk result (λ kept. kept ≡ false → HoldsNowhere (λ p. conj_holds T.holds rest.items p && T.holds last p)) }
 {
     let piece = with_last::<T>(rest, last)?;
@@ -82,7 +82,7 @@ fn push_with<T: Theory>(
 /// Sets the piece at the end where it may hold somewhere. Returns whether it was set.
 fn push_piece<T: Theory>(out: &mut GenRel<T>, piece: Vec<T::Atom>) -> Result<bool, NoMemory>
     requires normal { AllByRecursion T.normal piece.items }
-    ensures more { IfOk result (λ _. IsMore T.holds T.mentions T.lines T.cell (λ atoms. IsMadeOf T.holds T.mentions T.lines T.cell atoms piece.items) (conj_holds T.holds piece.items) out.old out.new) }
+    ensures more { IfOk result (λ _. IsMore T.holds T.mentions T.lines T.cell (λ atoms. IsMadeOf T.mentions T.lines T.cell atoms piece.items) (conj_holds T.holds piece.items) out.old out.new) }
     ensures dropped { IfOk result (λ kept. kept ≡ false → HoldsNowhere (conj_holds T.holds piece.items)) }
 {
     let alloc = *piece.allocator();

@@ -19,7 +19,7 @@ pub(crate) fn with_last<T: Theory>(
 ) -> Result<Vec<T::Atom>, NoMemory>
     requires normal { AllByRecursion T.normal rest.items }
     requires normal_last { T.normal last }
-    ensures alike { IfOk result (λ v. IsAlike T.holds T.mentions T.lines (rest.items ++ last ∷ []) v.items) }
+    ensures alike { IfOk result (λ v. IsAlike T.holds (rest.items ++ last ∷ []) v.items) }
     ensures normal { IfOk result (λ v. AllByRecursion T.normal v.items) }
 {
     if rest.len() < LONG {
@@ -36,7 +36,7 @@ pub(crate) fn with_last<T: Theory>(
 pub fn shortened<T: Theory>(rest: Vec<T::Atom>, last: T::Atom) -> Result<Vec<T::Atom>, NoMemory>
     requires normal { AllByRecursion T.normal rest.items }
     requires normal_last { T.normal last }
-    ensures alike { IfOk result (λ v. IsAlike T.holds T.mentions T.lines (rest.items ++ last ∷ []) v.items) }
+    ensures alike { IfOk result (λ v. IsAlike T.holds (rest.items ++ last ∷ []) v.items) }
     ensures normal { IfOk result (λ v. AllByRecursion T.normal v.items) }
 {
     let alloc = *rest.allocator();

@@ -39,7 +39,7 @@ pub fn narrow_atoms()
 
 /// Where the atoms of all conjunctions of a list together are narrow, they aren't wide, which is what the complement asks, and no
 /// conjunction of the list is wide, which is what joins ask. Where those of two lists together are narrow, they aren't wide, which
-/// is what the difference asks.
+/// is what the difference and the join with a small list ask.
 pub fn narrow_lists()
     ensures together { (conjs : List (List Atom)) → AreNormal ⟦<Atoms as Theory>⟧.normal conjs → IsNarrowList (all_atoms conjs) → IsWide ⟦<Atoms as Theory>⟧.mentions ⟦<Atoms as Theory>⟧.lines (all_atoms conjs) → ⊥ }
     ensures each { (conjs : List (List Atom)) → AreNormal ⟦<Atoms as Theory>⟧.normal conjs → IsNarrowList (all_atoms conjs) → AllByRecursion (λ c. IsWide ⟦<Atoms as Theory>⟧.mentions ⟦<Atoms as Theory>⟧.lines c → ⊥) conjs }

@@ -3,15 +3,16 @@ use Rattle.std.proofs.Common.{◌≡◌, ℕ, ◌+◌, take, Bool, true, false, 
 use Rattle.ded_model.specs.declared.slot.Slot.{Slot}
 use Rattle.ded_model.specs.Point.{Point}
 use Rattle.ded_model.specs.Cell.{conj_holds}
-use Rattle.ded_model.specs.Lines.{Line, In, IsSubset}
+use Rattle.ded_model.specs.Lines.{Line, IsSubset}
 use Rattle.ded_model.proofs.Rows.{or_left, or_right}
 use Rattle.ded_model.proofs.Members.{In-left, subset_append, subset_refl, subset_trans, or_split}
-use Rattle.ded_theory.specs.Conjunctions.{conj_mentions, conj_lines}
-use Rattle.ded_theory.proofs.Conjunctions.{conj_holds-append, conj_mentions-append}
+use Rattle.ded_theory.specs.Conjunctions.{conj_mentions}
+use Rattle.ded_theory.proofs.Conjunctions.{conj_holds-append}
 use Rattle.ded_genrel.specs.Lists.{conjs_hold, conjs_mention, conjs_lines}
 use Rattle.ded_genrel.specs.Operations.{IsMeet}
-use Rattle.ded_genrel.proofs.Laws.{conj_lines-append, conjs_hold-append, conjs_mention-append, conjs_lines-append}
+use Rattle.ded_genrel.proofs.Laws.{conjs_hold-append, conjs_mention-append, conjs_lines-append}
 use Rattle.ded_complement.specs.Pieces.{IsAlike}
+use Rattle.ded_complement.proofs.PieceLaws.{among_front, among_both, among_self, among_trans, all_among_slots, all_among_lines}
 use Rattle.ded_join.specs.Merged.{IsWithin, IsWithinList, AreAlike, AreLeft}
 use Rattle.std.proofs.Math.Bool.{or-false}
 
@@ -39,19 +40,35 @@ or_swap false true false = refl
 or_swap false false true = refl
 or_swap false false false = refl
 
+module _ {A : Type 0} (h : A → Point → Bool) where
+  -- ---- conjunctions
+
+  pub alike_none : IsAlike h [] []
+  alike_none = record { holds = λ p i. refl; among = tt }
+
+  -- an atom that the others imply
+  pub alike_implied : (c : List A) (a : A) → IsWithin h c (a ∷ []) → IsAlike h (c ++ a ∷ []) c
+  alike_implied c a k = record {
+    holds = λ p i. and_within (conj_holds h c p) (conj_holds h (a ∷ []) p) (k p i) ∙ sym (conj_holds-append h c (a ∷ []) p);
+    among = among_front c (a ∷ []) c (among_self c);
+  }
+
+  -- one more atom
+  pub alike_more : (done kept new : List A) (a : A) → IsAlike h done kept → IsAlike h (kept ++ a ∷ []) new → IsAlike h (done ++ a ∷ []) new
+  alike_more done kept new a r q = record {
+    holds = λ p i. q.holds p i ∙ conj_holds-append h kept (a ∷ []) p ∙ ap (λ b. b && conj_holds h (a ∷ []) p) (r.holds p i) ∙ sym (conj_holds-append h done (a ∷ []) p);
+    among = among_trans (done ++ a ∷ []) (kept ++ a ∷ []) new (among_both done (a ∷ []) kept (a ∷ []) r.among (among_self (a ∷ []))) q.among;
+  }
+
+  -- a conjunction lies within one more atom
+  pub within_more : (c d : List A) (i : ℕ) (a : A) → take (i + 1) d ≡ take i d ++ a ∷ [] → IsWithin h c (take i d) → IsWithin h c (a ∷ []) → IsWithin h c (take (i + 1) d)
+  within_more c d i a e k n p q x = ap (λ xs. conj_holds h xs p) e ∙ conj_holds-append h (take i d) (a ∷ []) p ∙ both (conj_holds h (take i d) p) (conj_holds h (a ∷ []) p) (k p q x) (n p q x)
+    where
+      both : (b c : Bool) → b ≡ true → c ≡ true → (b && c) ≡ true
+      both b c e f = ap (λ x. x && c) e ∙ f
+
 module _ {A : Type 0} (h : A → Point → Bool) (m : A → Slot → Bool) (l : A → List Line) where
   -- ---- slots and lines of two lists
-
-  mentions_grow : (xs ys us vs : List A) → ((s : Slot) → conj_mentions m xs s ≡ true → conj_mentions m us s ≡ true) → ((s : Slot) → conj_mentions m ys s ≡ true → conj_mentions m vs s ≡ true)
-      → (s : Slot) → conj_mentions m (xs ++ ys) s ≡ true → conj_mentions m (us ++ vs) s ≡ true
-  mentions_grow xs ys us vs f g s e = conj_mentions-append m us vs s ∙ elim (or_split (conj_mentions m xs s) (conj_mentions m ys s) (sym (conj_mentions-append m xs ys s) ∙ e)) [
-    | inl a ↦ or_left (conj_mentions m us s) (conj_mentions m vs s) (f s a)
-    | inr b ↦ or_right (conj_mentions m us s) (conj_mentions m vs s) (g s b)
-  ]
-
-  lines_grow : (xs ys us vs : List A) → IsSubset (conj_lines l xs) (conj_lines l us) → IsSubset (conj_lines l ys) (conj_lines l vs) → IsSubset (conj_lines l (xs ++ ys)) (conj_lines l (us ++ vs))
-  lines_grow xs ys us vs f g = subst (λ ls. IsSubset ls (conj_lines l (us ++ vs))) (sym (conj_lines-append l xs ys)) (subst (IsSubset (conj_lines l xs ++ conj_lines l ys)) (sym (conj_lines-append l us vs))
-      (subset_append (conj_lines l xs) (conj_lines l ys) (conj_lines l us) (conj_lines l vs) f g))
 
   all_mention_grow : (xs ys us vs : List (List A)) → ((s : Slot) → conjs_mention m xs s ≡ true → conjs_mention m us s ≡ true) → ((s : Slot) → conjs_mention m ys s ≡ true → conjs_mention m vs s ≡ true)
       → (s : Slot) → conjs_mention m (xs ++ ys) s ≡ true → conjs_mention m (us ++ vs) s ≡ true
@@ -71,48 +88,20 @@ module _ {A : Type 0} (h : A → Point → Bool) (m : A → Slot → Bool) (l : 
   lines_front : (xs us vs : List (List A)) → IsSubset (conjs_lines l xs) (conjs_lines l us) → IsSubset (conjs_lines l xs) (conjs_lines l (us ++ vs))
   lines_front xs us vs f = subst (IsSubset (conjs_lines l xs)) (sym (conjs_lines-append l us vs)) (λ x i. In-left x (conjs_lines l us) (conjs_lines l vs) (f x i))
 
-  -- ---- conjunctions
-
-  pub alike_none : IsAlike h m l [] []
-  alike_none = record { holds = λ p i. refl; slots = λ s e. e; lines = λ x i. i }
-
-  -- an atom that the others imply
-  pub alike_implied : (c : List A) (a : A) → IsWithin h c (a ∷ []) → IsAlike h m l (c ++ a ∷ []) c
-  alike_implied c a k = record {
-    holds = λ p i. and_within (conj_holds h c p) (conj_holds h (a ∷ []) p) (k p i) ∙ sym (conj_holds-append h c (a ∷ []) p);
-    slots = λ s e. conj_mentions-append m c (a ∷ []) s ∙ or_left (conj_mentions m c s) (conj_mentions m (a ∷ []) s) e;
-    lines = λ x i. subst (In x) (sym (conj_lines-append l c (a ∷ []))) (In-left x (conj_lines l c) (conj_lines l (a ∷ [])) i);
-  }
-
-  -- one more atom
-  pub alike_more : (done kept new : List A) (a : A) → IsAlike h m l done kept → IsAlike h m l (kept ++ a ∷ []) new → IsAlike h m l (done ++ a ∷ []) new
-  alike_more done kept new a r q = record {
-    holds = λ p i. q.holds p i ∙ conj_holds-append h kept (a ∷ []) p ∙ ap (λ b. b && conj_holds h (a ∷ []) p) (r.holds p i) ∙ sym (conj_holds-append h done (a ∷ []) p);
-    slots = λ s e. mentions_grow kept (a ∷ []) done (a ∷ []) r.slots (λ t k. k) s (q.slots s e);
-    lines = subset_trans _ _ _ q.lines (lines_grow kept (a ∷ []) done (a ∷ []) r.lines (subset_refl _));
-  }
-
-  -- a conjunction lies within one more atom
-  pub within_more : (c d : List A) (i : ℕ) (a : A) → take (i + 1) d ≡ take i d ++ a ∷ [] → IsWithin h c (take i d) → IsWithin h c (a ∷ []) → IsWithin h c (take (i + 1) d)
-  within_more c d i a e k n p q x = ap (λ xs. conj_holds h xs p) e ∙ conj_holds-append h (take i d) (a ∷ []) p ∙ both (conj_holds h (take i d) p) (conj_holds h (a ∷ []) p) (k p q x) (n p q x)
-    where
-      both : (b c : Bool) → b ≡ true → c ≡ true → (b && c) ≡ true
-      both b c e f = ap (λ x. x && c) e ∙ f
-
   -- ---- lists
 
   pub list_none : AreAlike h m l [] []
   list_none = record { holds = λ p i. refl; slots = λ s e. e; lines = λ x i. i }
 
   -- one more conjunction, and what is alike
-  pub list_more : (done out new : List (List A)) (c d : List A) → AreAlike h m l done out → IsAlike h m l c d → AreAlike h m l (out ++ d ∷ []) new → AreAlike h m l (done ++ c ∷ []) new
+  pub list_more : (done out new : List (List A)) (c d : List A) → AreAlike h m l done out → IsAlike h c d → AreAlike h m l (out ++ d ∷ []) new → AreAlike h m l (done ++ c ∷ []) new
   list_more done out new c d r k q = record {
     holds = λ p i. q.holds p i ∙ conjs_hold-append h out (d ∷ []) p ∙ ap (λ b. b || conjs_hold h (d ∷ []) p) (r.holds p i) ∙ ap (λ b. conjs_hold h done p || (b || false)) (k.holds p i) ∙ sym (conjs_hold-append h done (c ∷ []) p);
     slots = λ s e. all_mention_grow out (d ∷ []) done (c ∷ []) r.slots (λ t f. elim (or_split (conj_mentions m d t) false f) [
-      | inl a ↦ or_left (conj_mentions m c t) false (k.slots t a)
+      | inl a ↦ or_left (conj_mentions m c t) false (all_among_slots m c d t k.among a)
       | inr b ↦ or_right (conj_mentions m c t) false b
     ]) s (q.slots s e);
-    lines = subset_trans _ _ _ q.lines (all_lines_grow out (d ∷ []) done (c ∷ []) r.lines (subset_append _ [] _ [] k.lines (subset_refl [])));
+    lines = subset_trans _ _ _ q.lines (all_lines_grow out (d ∷ []) done (c ∷ []) r.lines (subset_append _ [] _ [] (all_among_lines l c d k.among) (subset_refl [])));
   }
 
   -- one that lies within the others

@@ -15,7 +15,7 @@ use std::alloc::Global;
 /// Out of memory.
 pub(crate) fn merged<T: Theory>(alloc: Global, conj: Vec<T::Atom>) -> Result<Vec<T::Atom>, NoMemory>
     requires normal { AllByRecursion T.normal conj.items }
-    ensures alike { IfOk result (λ v. IsAlike T.holds T.mentions T.lines conj.items v.items) }
+    ensures alike { IfOk result (λ v. IsAlike T.holds conj.items v.items) }
     ensures normal { IfOk result (λ v. AllByRecursion T.normal v.items) }
 {
     let mut kept = Vec::with_capacity(alloc, conj.len())?;
@@ -32,7 +32,7 @@ pub(crate) fn merged<T: Theory>(alloc: Global, conj: Vec<T::Atom>) -> Result<Vec
 fn with_atom<T: Theory>(mut kept: Vec<T::Atom>, atom: T::Atom) -> Result<Vec<T::Atom>, NoMemory>
     requires normal { AllByRecursion T.normal kept.items }
     requires normal_atom { T.normal atom }
-    ensures alike { IfOk result (λ v. IsAlike T.holds T.mentions T.lines (kept.items ++ atom ∷ []) v.items) }
+    ensures alike { IfOk result (λ v. IsAlike T.holds (kept.items ++ atom ∷ []) v.items) }
     ensures normal { IfOk result (λ v. AllByRecursion T.normal v.items) }
 {
     if imply::<T>(&kept, &atom) {

@@ -78,7 +78,7 @@ pub trait Theory {
         ensures lines { IfOk result (λ a. lines a ≡ mapped_lines map.now (lines atom.now)) };
 
     /// The negation of the atom: pieces that exclude each other and hold together exactly where the atom doesn't. They mention
-    /// its slots alone, have its lines, and hold alike at points of one cell of the atom.
+    /// its slots alone, have its lines, and tell apart no points of one cell of the atom.
     ///
     /// # Errors
     /// Out of memory.
@@ -89,7 +89,7 @@ pub trait Theory {
         ensures normal { IfOk result (λ n. EachPiece normal n) }
         ensures slots { IfOk result (λ n. EachPiece (λ a. (s : Slot) → mentions a s ≡ true → mentions atom.now s ≡ true) n) }
         ensures lines { IfOk result (λ n. EachPiece (λ a. lines a ≡ lines atom.now) n) }
-        ensures cells { IfOk result (λ n. EachPiece (λ a. (p q : Point) → cell atom.now p ≡ cell atom.now q → holds a p ≡ holds a q) n) };
+        ensures cells { IfOk result (λ n. EachPiece (λ a. (p q : Point) → cell atom.now p ≡ cell atom.now q → cell a p ≡ cell a q) n) };
 
     /// Whether it is plain that the one atom holds only where the other one does. It does not allocate.
     fn implies(one: &Self::Atom, other: &Self::Atom) -> bool

@@ -11,7 +11,7 @@ returns-clause-is g c =
     let l = g.T.Theory.lines in
     let cell = g.T.Theory.cell in
     let all = ap conjs_in c.deref-2.ensures.value ∙ c.in_ok-boxed.ensures.same in
-    IfOk-weaker c.outside.result _ _ (λ out k. (complement_is h m l cell c.args.rel.now out c.new.result.items c.new.ensures.items (subst (λ ts. AreOutside h m l cell c.new.result.items ts out) all k)).is) c.outside.ensures
+    IfOk-weaker c.outside.result _ _ (λ out k. (complement_is h m l cell g.met.T.Theory.cells_tell c.args.rel.now out c.new.result.items c.new.ensures.items (subst (λ ts. AreOutside h m l cell c.new.result.items ts out) all k)).is) c.outside.ensures
 
 pub returns-clause-disjoint : goal.returns-clause-disjoint
 returns-clause-disjoint g c =
@@ -20,7 +20,7 @@ returns-clause-disjoint g c =
     let l = g.T.Theory.lines in
     let cell = g.T.Theory.cell in
     let all = ap conjs_in c.deref-2.ensures.value ∙ c.in_ok-boxed.ensures.same in
-    IfOk-weaker c.outside.result _ _ (λ out k. (complement_is h m l cell c.args.rel.now out c.new.result.items c.new.ensures.items (subst (λ ts. AreOutside h m l cell c.new.result.items ts out) all k)).disjoint) c.outside.ensures
+    IfOk-weaker c.outside.result _ _ (λ out k. (complement_is h m l cell g.met.T.Theory.cells_tell c.args.rel.now out c.new.result.items c.new.ensures.items (subst (λ ts. AreOutside h m l cell c.new.result.items ts out) all k)).disjoint) c.outside.ensures
 
 pub returns-clause-cells : goal.returns-clause-cells
 returns-clause-cells g c =
@@ -29,7 +29,7 @@ returns-clause-cells g c =
     let l = g.T.Theory.lines in
     let cell = g.T.Theory.cell in
     let all = ap conjs_in c.deref-2.ensures.value ∙ c.in_ok-boxed.ensures.same in
-    IfOk-weaker c.outside.result _ _ (λ out k. (complement_is h m l cell c.args.rel.now out c.new.result.items c.new.ensures.items (subst (λ ts. AreOutside h m l cell c.new.result.items ts out) all k)).cells) c.outside.ensures
+    IfOk-weaker c.outside.result _ _ (λ out k. (complement_is h m l cell g.met.T.Theory.cells_tell c.args.rel.now out c.new.result.items c.new.ensures.items (subst (λ ts. AreOutside h m l cell c.new.result.items ts out) all k)).cells) c.outside.ensures
 
 pub returns-clause-inhabited : goal.returns-clause-inhabited
 returns-clause-inhabited g c =
@@ -38,4 +38,13 @@ returns-clause-inhabited g c =
     let l = g.T.Theory.lines in
     let cell = g.T.Theory.cell in
     let all = ap conjs_in c.deref-2.ensures.value ∙ c.in_ok-boxed.ensures.same in
-    IfOk-weaker c.outside.result _ _ (λ out k. (complement_is h m l cell c.args.rel.now out c.new.result.items c.new.ensures.items (subst (λ ts. AreOutside h m l cell c.new.result.items ts out) all k)).inhabited) c.outside.ensures
+    IfOk-weaker c.outside.result _ _ (λ out k. (complement_is h m l cell g.met.T.Theory.cells_tell c.args.rel.now out c.new.result.items c.new.ensures.items (subst (λ ts. AreOutside h m l cell c.new.result.items ts out) all k)).inhabited) c.outside.ensures
+
+pub returns-clause-made : goal.returns-clause-made
+returns-clause-made g c =
+    let h = g.T.Theory.holds in
+    let m = g.T.Theory.mentions in
+    let l = g.T.Theory.lines in
+    let cell = g.T.Theory.cell in
+    let all = ap conjs_in c.deref-2.ensures.value ∙ c.in_ok-boxed.ensures.same in
+    IfOk-weaker c.outside.result _ _ (λ out k. (complement_is h m l cell g.met.T.Theory.cells_tell c.args.rel.now out c.new.result.items c.new.ensures.items (subst (λ ts. AreOutside h m l cell c.new.result.items ts out) all k)).made) c.outside.ensures

@@ -28,10 +28,10 @@ loop-conj-preserved g c =
     let out = c.in_ok-pieces.pieces in
     let piece = c.in_ok-copy_conj.field-0.items in
     let outside = subst (λ ts. AreOutside h m l cell piece ts out) (ap conjs_in c.deref-in-loop-conj-2.ensures.value ∙ c.in_ok-boxed.ensures.same) c.in_ok-pieces.ensures in
-    subtracting_more h m l cell atoms c.args.taken.now (conjs_of (take c.loop-conj.conj-index c.list-conj-items.result.now)) (conjs_of (take (c.loop-conj.conj-index + 1) c.list-conj-items.result.now)) c.loop-conj.out c.append.new.self out
+    subtracting_more h m l cell g.met.T.Theory.cells_tell atoms c.args.taken.now (conjs_of (take c.loop-conj.conj-index c.list-conj-items.result.now)) (conjs_of (take (c.loop-conj.conj-index + 1) c.list-conj-items.result.now)) c.loop-conj.out c.append.new.self out
     c.conj-item.result.items piece (conjs_to c.list-conj-items.result.now c.loop-conj.conj-index c.conj-item.result c.loop-conj-test.true c.conj-item.is) c.in_ok-append.ensures same c.loop-conj.invariant
     (outside atoms
-    (from_made h m l cell g.met.T.Theory.cells_tell c.args.from.now c.args.taken.now c.list-conj-items.result.now c.loop-conj.conj-index c.conj-item.result piece c.loop-conj-test.true c.conj-item.is c.list-conj-items.ensures.list same)
+    (from_made h m l cell c.args.from.now c.args.taken.now c.list-conj-items.result.now c.loop-conj.conj-index c.conj-item.result piece c.loop-conj-test.true c.conj-item.is c.list-conj-items.ensures.list same)
     (taken_among h m l cell c.args.from.now c.args.taken.now))
 
 pub returns-clause-is : goal.returns-clause-is
@@ -42,3 +42,7 @@ returns-clause-is g c =
 pub returns-clause-cells : goal.returns-clause-cells
 returns-clause-cells g c =
     (subst (λ xs. Subtracting g.T.Theory.holds g.T.Theory.mentions g.T.Theory.lines g.T.Theory.cell (all_atoms c.args.from.now ++ all_atoms c.args.taken.now) c.args.taken.now xs c.loop-conj.out) (conjs_done c.list-conj-items.result.now c.loop-conj.conj-index c.loop-conj-test.false ∙ c.list-conj-items.ensures.list) c.loop-conj.invariant).cells
+
+pub returns-clause-made : goal.returns-clause-made
+returns-clause-made g c =
+    (subst (λ xs. Subtracting g.T.Theory.holds g.T.Theory.mentions g.T.Theory.lines g.T.Theory.cell (all_atoms c.args.from.now ++ all_atoms c.args.taken.now) c.args.taken.now xs c.loop-conj.out) (conjs_done c.list-conj-items.result.now c.loop-conj.conj-index c.loop-conj-test.false ∙ c.list-conj-items.ensures.list) c.loop-conj.invariant).made

@@ -28,7 +28,7 @@ loop-atom-preserved g c =
       | then-branch+in_ok-copy+in_ok-push w ↦ cutting_added g.T.Theory.holds g.T.Theory.mentions g.T.Theory.lines g.T.Theory.cell g.T.Theory.normal c.args.piece.items (take c.loop-atom.atom-index c.in-Some.others.now) (take (c.loop-atom.atom-index + 1) c.in-Some.others.now) c.args.out.now c.loop-atom.out c.push_negated.new.out
           c.loop-atom.rest.items c.in_ok-copy_conj.field-0.items c.if-branch.rest.items c.atom-item.result w.in_ok-copy.field-0 next same (ap (λ (v : Vec g.row.T-Atom.Denot Global). v.items) w.rest-is ∙ w.in_ok-push.ensures.items) w.in_ok-copy.ensures
           (all-at g.T.Theory.normal c.in-Some.others.now c.loop-atom.atom-index c.atom-item.result c.loop-atom-test.true c.atom-item.is (all_left g.T.Theory.normal c.in-Some.others.now (c.in-Some.last.now ∷ []) (subst (AllByRecursion g.T.Theory.normal) e c.requires.normal_conj)))
-          c.loop-atom.invariant c.in_ok-push_negated.ensures.more g.met.T.Theory.cells_tell
+          c.loop-atom.invariant c.in_ok-push_negated.ensures.more
       | else-branch w ↦ cutting_implied g.T.Theory.holds g.T.Theory.mentions g.T.Theory.lines g.T.Theory.cell g.T.Theory.normal c.args.piece.items (take c.loop-atom.atom-index c.in-Some.others.now) (take (c.loop-atom.atom-index + 1) c.in-Some.others.now) c.args.out.now c.loop-atom.out c.push_negated.new.out
           c.loop-atom.rest.items c.in_ok-copy_conj.field-0.items c.if-branch.rest.items c.atom-item.result next same (ap (λ (v : Vec g.row.T-Atom.Denot Global). v.items) w.rest-is)
           c.loop-atom.invariant c.in_ok-push_negated.ensures.more (c.in_ok-push_negated.ensures.dropped w.if-branch.false)

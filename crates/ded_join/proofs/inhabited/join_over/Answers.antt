@@ -1,4 +1,4 @@
-use Rattle.std.proofs.Common.{◌≡◌, ◌<◌, ◌^◌, length, subst}
+use Rattle.std.proofs.Common.{subst}
 use Rattle.std.proofs.lemmas.Result.{IfOk-weaker}
 use Rattle.ded_join.specs.Picks.{IsIndexOver}
 use Rattle.ded_join.proofs.Kept.{all_kept, kept_is, kept_near, kept_hold}

@@ -3,6 +3,6 @@ use Rattle.ded_join.proofs.merging.merged.Goals as goal
 
 pub loop-atom-preserved : goal.loop-atom-preserved
 loop-atom-preserved g c = record {
-  alike = alike_more g.T.Theory.holds g.T.Theory.mentions g.T.Theory.lines c.loop-atom.yielded c.loop-atom.kept.items c.in_ok-kept-2.kept.items c.in-Some.atom c.loop-atom.invariant.alike c.in_ok-kept-2.ensures.alike;
+  alike = alike_more g.T.Theory.holds c.loop-atom.yielded c.loop-atom.kept.items c.in_ok-kept-2.kept.items c.in-Some.atom c.loop-atom.invariant.alike c.in_ok-kept-2.ensures.alike;
   normal = c.in_ok-kept-2.ensures.normal;
 }

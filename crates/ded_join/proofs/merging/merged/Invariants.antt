@@ -4,6 +4,6 @@ use Rattle.ded_join.proofs.merging.merged.Given as goal
 
 abbrev pub invariant-loop-atom : goal.invariant-loop-atom
 invariant-loop-atom g l = record {
-  alike : IsAlike g.T.Theory.holds g.T.Theory.mentions g.T.Theory.lines l.yielded l.kept.items;
+  alike : IsAlike g.T.Theory.holds l.yielded l.kept.items;
   normal : AllByRecursion g.T.Theory.normal l.kept.items;
 }
