@@ -13,9 +13,10 @@ use Rattle.ded_hull.specs.declared.window.Window.{Window}
 use Rattle.ded_hull.specs.declared.entry.Entry.{Entry}
 use Rattle.ded_hull.specs.Entries.{IsComplete}
 use Rattle.ded_catalog.specs.declared.index.Index.{Index}
-use Rattle.ded_catalog.specs.Relations.{IsEntryOf, IsIndex, IsIndexOf, IsCopied, IsIndexed, IsUndone, IsUnindexed, Finds}
+use Rattle.ded_catalog.specs.declared.texts.Texts.{Texts}
+use Rattle.ded_catalog.specs.Relations.{IsEntryOf, IsIndex, IsIndexOf, IsCopied, IsIndexed, IsUndone, IsPruned, Finds}
 use Rattle.ded_catalog.specs.Texts.{text_in, code, key, IsThere, Keeps}
-use Rattle.ded_catalog.proofs.Indexed.{IsFree, moved, pushed, undone, taken_out, missed, taken_free}
+use Rattle.ded_catalog.proofs.Indexed.{IsFree, moved, longer, pushed, missed, taken_free}
 use Rattle.ded_catalog.proofs.Picked.{Misses}
 
 -- ---- keys of texts
@@ -46,20 +47,21 @@ index_undone cs old new k ts free h x = record {
 }
 
 -- the insert that found no memory for the tuple
-pub index_taken_back : (cs : List Column) (old mid new : Index) (k : ℕ) (t : List Atom) (ts us : List (ℕ × List Atom)) → IsFree k ts → us ≡ ts → IsIndexOf cs old ts → IsIndexed cs (k, t) old mid → IsUnindexed k mid new → IsIndexOf cs new us
-index_taken_back cs old mid new k t ts us free e h x u = record {
-  reaches = subst (λ (es : List Entry). IsIndex es us) (sym u.reaches) (undone k old.hulls mid.hulls ts us t free e h.reaches x.reaches);
-  texts = subst (Every (IsThere new.texts.keys cs new.texts.set)) (sym e) (with_texts cs mid new ts u.keys (texts_kept mid.texts.keys cs k mid.texts.set new.texts.set ts free u.keeps (with_texts cs old mid ts x.keys (texts_kept old.texts.keys cs k old.texts.set mid.texts.set ts free x.keeps h.texts))));
-}
+pub index_taken_back : (cs : List Column) (old mid new : Index) (k : ℕ) (t : List Atom) (ts us : List (ℕ × List Atom)) → IsFree k ts → us ≡ ts → IsIndexOf cs old ts → IsIndexed cs (k, t) old mid → IsUndone k mid new → IsIndexOf cs new us
+index_taken_back cs old mid new k t ts us free e h x u = subst (IsIndexOf cs new) (sym e) (index_undone cs mid new k ts free (record {
+  reaches = longer old.hulls mid.hulls ts (k, t) h.reaches x.reaches;
+  texts = with_texts cs old mid ts x.keys (texts_kept old.texts.keys cs k old.texts.set mid.texts.set ts free x.keeps h.texts);
+}) u)
 
 -- what a map does that gives up the number
-pub index_taken_out : (cs : List Column) (old new : Index) (k : ℕ) (ts us : List (ℕ × List Atom)) → list_any (λ t. t.0 == k) ts ≡ true → us ≡ remove_entry (is_at (nat_cmp k)) ts → lookup (is_at (nat_cmp k)) us ≡ None → IsIndexOf cs old ts → IsUnindexed k old new → IsIndexOf cs new us
+pub index_taken_out : (cs : List Column) (old new : Index) (k : ℕ) (ts us : List (ℕ × List Atom)) → list_any (λ t. t.0 == k) ts ≡ true → us ≡ remove_entry (is_at (nat_cmp k)) ts → lookup (is_at (nat_cmp k)) us ≡ None → IsIndexOf cs old ts → IsUndone k old new → IsIndexOf cs new us
 index_taken_out cs old new k ts us present is gone h u =
     let free = taken_free k ts us present is gone in
-    record {
-      reaches = subst (λ (es : List Entry). IsIndex es us) (sym u.reaches) (taken_out k old.hulls ts us present is gone h.reaches);
-      texts = with_texts cs old new us u.keys (texts_kept old.texts.keys cs k old.texts.set new.texts.set us free.0 u.keeps (free.1 (IsThere old.texts.keys cs old.texts.set) h.texts));
-    }
+    index_undone cs old new k us free.0 (record { reaches = free.1 (λ t. Some (IsEntryOf t) old.hulls) h.reaches; texts = free.1 (IsThere old.texts.keys cs old.texts.set) h.texts }) u
+
+-- what had the number of no tuple is out of the reaches
+pub index_pruned : (cs : List Column) (old new : Index) (ts : List (ℕ × List Atom)) → IsIndexOf cs old ts → IsPruned ts old new → IsIndexOf cs new ts
+index_pruned cs old new ts h x = record { reaches = x.reaches h.reaches; texts = subst (λ (k : Texts). Every (IsThere k.keys cs k.set) ts) (sym x.texts) h.texts }
 
 pub index_copied : (cs : List Column) (old new : Index) (ts us : List (ℕ × List Atom)) → us ≡ ts → IsCopied old new → IsIndexOf cs old ts → IsIndexOf cs new us
 index_copied cs old new ts us e x h = subst (IsIndexOf cs new) (sym e) (record {
@@ -80,7 +82,7 @@ pub finds_reaches : (w : Window) (cs : List Column) (x : Index) (ids : List ℕ)
 finds_reaches w cs x ids up complete = record { ascending = up; missed = λ t s there none. missed w x.hulls ids t complete s none }
 
 pub index_misses : (w : Window) (cs : List Column) (x : Index) (ids : List ℕ) (ts : List (ℕ × List Atom)) → Finds w cs x ids → IsIndexOf cs x ts → Misses w (Contains ids) ts
-index_misses w cs x ids ts f h = each ts h.reaches.all h.texts
+index_misses w cs x ids ts f h = each ts h.reaches h.texts
   where
     each : (ts : List (ℕ × List Atom)) → Every (λ t. Some (IsEntryOf t) x.hulls) ts → Every (IsThere x.texts.keys cs x.texts.set) ts → Misses w (Contains ids) ts
     each [] a b = tt

@@ -56,3 +56,8 @@ on_err (Err e) P G f p = f e p
 pub an_err : {A E : Type 0} (r : Result A E) (G : Type 0) → is_err r ≡ true → OnErr r G → G
 an_err (Ok x) G h g = absurd (true≢false (sym h))
 an_err (Err e) G h g = g
+
+-- what follows from each of both
+pub either_way : {A E G : Type 0} (r : Result A E) (P Q : Type 0) → OnOk r P → OnErr r Q → (P → G) → (Q → G) → G
+either_way (Ok x) P Q p q f g = f p
+either_way (Err e) P Q p q f g = g q

@@ -7,7 +7,6 @@ use Rattle.ded_model.specs.Row.{Atom, tuple_holds}
 use Rattle.ded_model.proofs.Lists.{Every, Some}
 use Rattle.ded_hull.specs.declared.entry.Entry.{Entry}
 use Rattle.ded_hull.specs.declared.window.Window.{Window}
-use Rattle.ded_hull.specs.Entries.{without}
 use Rattle.ded_hull.specs.Tuples.{IsReachOf}
 use Rattle.ded_hull.specs.Windows.{IsMissed}
 use Rattle.ded_catalog.specs.declared.index.Index.{Index}
@@ -27,10 +26,9 @@ pub record Relation : Type 0 where
 abbrev pub IsEntryOf : ℕ × List Atom → Entry → Type 0
 IsEntryOf t e = (e.id ≡ t.0) × IsReachOf e.reach (tuple_holds t.1)
 
--- each tuple has an entry, and no entry has a number that isn't that of a tuple
-pub record IsIndex (es : List Entry) (ts : List (ℕ × List Atom)) : Type 0 where
-  pub all : Every (λ t. Some (IsEntryOf t) es) ts
-  pub only : Every (λ e. Some (λ t. t.0 ≡ e.id) ts) es
+-- each tuple has an entry
+abbrev pub IsIndex : List Entry → List (ℕ × List Atom) → Type 0
+IsIndex es ts = Every (λ t. Some (IsEntryOf t) es) ts
 
 -- the entries, in some order, and one more of the tuple
 pub record Indexes (t : ℕ × List Atom) (old new : List Entry) : Type 0 where
@@ -58,17 +56,16 @@ pub record IsIndexed (cs : List Column) (t : ℕ × List Atom) (old new : Index)
   pub there : IsThere old.texts.keys cs new.texts.set t
   pub keeps : Keeps t.0 old.texts.set new.texts.set
 
--- all but what has the number is in the index
+-- the reaches are as they were, and all keys but those of the number
 pub record IsUndone (k : ℕ) (old new : Index) : Type 0 where
   pub reaches : new.hulls ≡ old.hulls
   pub keys : new.texts.keys ≡ old.texts.keys
   pub keeps : Keeps k old.texts.set new.texts.set
 
--- what has the number is out of the index
-pub record IsUnindexed (k : ℕ) (old new : Index) : Type 0 where
-  pub reaches : new.hulls ≡ without k old.hulls
-  pub keys : new.texts.keys ≡ old.texts.keys
-  pub keeps : Keeps k old.texts.set new.texts.set
+-- the texts are as they were, and the reaches of the tuples are in it yet
+pub record IsPruned (ts : List (ℕ × List Atom)) (old new : Index) : Type 0 where
+  pub reaches : IsIndex old.hulls ts → IsIndex new.hulls ts
+  pub texts : new.texts ≡ old.texts
 
 -- the numbers ascend, and a tuple of the index whose number isn't among them holds nowhere in the window
 pub record Finds (w : Window) (cs : List Column) (x : Index) (ids : List ℕ) : Type 0 where

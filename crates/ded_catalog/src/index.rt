@@ -1,6 +1,6 @@
 //! An index of the tuples of a relation.
 ghost use Rattle.std.specs.Prelude.{◌≡◌, [], IfOk, IfSome, OnOk, OnErr};
-ghost use Rattle.ded_catalog.specs.Relations.{IsCopied, IsIndexed, IsUndone, IsUnindexed, Finds};
+ghost use Rattle.ded_catalog.specs.Relations.{IsCopied, IsIndexed, IsUndone, IsPruned, Finds};
 
 use crate::ends::reach_of;
 use crate::texts::Texts;
@@ -8,12 +8,15 @@ use ded_hull::{Hulls, Window};
 use ded_model::memory::NoMemory;
 use ded_model::name::Heading;
 use ded_model::tuple::Tuple;
+use ded_packed::Packed;
 use std::alloc::Global;
+use std::collections::BTreeMap;
 
 /// How many tuples with a text are few.
 const FEW: usize = 64;
 
-/// The tuples of a relation by their reaches, and by the texts that they fix.
+/// The tuples of a relation by their reaches, and by the texts that they fix. Reaches of deleted tuples stay until they are more than
+/// the others: no tuple has their numbers, so what is found of them is passed over.
 #[derive(Drop)]
 pub(crate) struct Index {
     pub hulls: Hulls,
@@ -78,12 +81,20 @@ impl Index {
         self.hulls.insert(number, reach)
     }
 
-    /// Takes out a tuple over the columns. It does not allocate.
+    /// Takes out the texts of a tuple over the columns. It does not allocate.
     pub(crate) fn remove(&mut self, heading: &Heading, number: u32, tuple: &Tuple)
-        ensures { IsUnindexed number self.old self.new }
+        ensures { IsUndone number self.old self.new }
     {
-        self.hulls.remove(number);
         self.texts.remove(heading, number, tuple);
+    }
+
+    /// Takes out the reaches under numbers that no tuple has, if they are more than the others and there is memory for it.
+    pub(crate) fn prune(&mut self, tuples: &BTreeMap<u32, Packed>)
+        ensures { IsPruned tuples.now.entries self.old self.new }
+    {
+        if self.hulls.count() / 2 > tuples.len().saturating_add(FEW) {
+            let _ = self.hulls.retain(tuples);
+        }
     }
 
     /// The numbers of the tuples over the columns that may hold in the window, ascending. None where the index doesn't tell them

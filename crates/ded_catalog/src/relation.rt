@@ -88,6 +88,7 @@ impl Relation {
         let tuple = self.told(number as u32)?;
         self.tuples.remove(&(number as u32));
         self.index.remove(&self.heading, number as u32, &tuple);
+        self.index.prune(&self.tuples);
         Ok(())
     }
 

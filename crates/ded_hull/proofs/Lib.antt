@@ -4,7 +4,6 @@ pub mod Found
 pub mod Merged
 pub mod Near
 pub mod Numbers
-pub mod Removed
 pub mod Rooted
 pub mod Sums
 pub mod Terms

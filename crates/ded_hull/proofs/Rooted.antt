@@ -1,7 +1,7 @@
--- Trees in lists: joined, and looked through.
-use Rattle.std.proofs.Common.{◌≡◌, ℕ, zero, suc, ◌+◌, ◌-◌, ◌/◌, min, ◌<◌, ◌≤◌, false, List, [], ◌∷◌, ◌++◌, take, drop, length, get_or, arith, refl, sym, ap, ap₂, ◌∙◌, subst, add-one, append_assoc, length-append}
-use Rattle.std.proofs.Math.Seq.{drop-cons, take-length}
-use Rattle.std.proofs.lemmas.List.{take-append-le, take-append-drop, length-take, length-drop}
+-- Trees in lists: built of halves, and looked through.
+use Rattle.std.proofs.Common.{◌≡◌, ℕ, zero, suc, ◌+◌, ◌-◌, ◌≤◌, false, List, [], ◌∷◌, ◌++◌, take, drop, length, arith, refl, sym, ap, ap₂, ◌∙◌, subst, append_assoc, length-append}
+use Rattle.std.proofs.Math.Seq.{take-length}
+use Rattle.std.proofs.lemmas.List.{take-append-le, drop-append-le, take_all, take-append-drop, drop-drop, length-drop}
 use Rattle.std.specs.List.Sorted.{IsPermutation}
 use Rattle.std.proofs.lemmas.List.Sorted.{IsPermutation-trans, IsPermutation-append_left, IsPermutation-append_right}
 use Rattle.ded_hull.specs.declared.limit.Limit.{Limit}
@@ -9,155 +9,144 @@ use Rattle.ded_hull.specs.declared.entry.Entry.{Entry}
 use Rattle.ded_hull.specs.declared.tree.Node.{Node}
 use Rattle.ded_hull.specs.Limits.{may_hold}
 use Rattle.ded_hull.specs.Entries.{ids_in, Covers}
-use Rattle.ded_hull.specs.Trees.{entries_of, IsRoot, IsTree, IsStep}
+use Rattle.ded_hull.specs.Trees.{owns, owned, IsRoot, IsTree, IsStep}
 use Rattle.ded_hull.proofs.Found.{ids_in-append, nothing_found}
 
-pub entries_of-append : (ns ms : List Node) → entries_of (ns ++ ms) ≡ entries_of ns ++ entries_of ms
-entries_of-append [] ms = refl
-entries_of-append (n ∷ ns) ms = ap (λ es. n.entries.items ++ es) (entries_of-append ns ms) ∙ sym (append_assoc n.entries.items (entries_of ns) (entries_of ms))
+-- ---- what nodes own
+
+-- no more than its count
+owns-most : (b c : ℕ) → owns b c ≤ c
+owns-most zero c = omega arith
+owns-most (suc b) c = omega arith
+
+own_inside : (n : Node) (ns : List Node) (es : List Entry) → IsRoot n ns es → owns n.below n.count ≤ length es
+own_inside n ns es r = within (owns n.below n.count) n.count (length es) (owns-most n.below n.count) r.inside
+  where
+    within : (a b c : ℕ) → a ≤ b → b ≤ c → a ≤ c
+    within a b c h k = omega arith
+
+-- the nodes of a tree own all its entries
+owned_all : (ns : List Node) (es : List Entry) → IsTree ns es → owned ns ≡ length es
+owned_all [] es t = sym (ap (λ (es : List Entry). length es) t)
+owned_all (n ∷ ns) es t = sum (owns n.below n.count) (owned ns) (length es) (own_inside n ns es t.0) (owned_all ns (drop (owns n.below n.count) es) t.1 ∙ length-drop (owns n.below n.count) es)
+  where
+    sum : (o a b : ℕ) → o ≤ b → a ≡ b - o → o + a ≡ b
+    sum o a b h e = omega arith
 
 -- ---- joined
 
-root_longer : (n : Node) (ns ms : List Node) → IsRoot n ns → IsRoot n (ns ++ ms)
-root_longer n ns ms r = record {
+root_longer : (n : Node) (ns ms : List Node) (xs ys : List Entry) → IsRoot n ns xs → IsRoot n (ns ++ ms) (xs ++ ys)
+root_longer n ns ms xs ys r = record {
   fits = longer n.below (length ns) (length ms) (length (ns ++ ms)) r.fits (length-append ns ms);
-  own = r.own;
-  all = subst (λ xs. Covers n.hull (entries_of xs)) (sym (take-append-le n.below ns ms r.fits)) r.all;
+  inside = longer n.count (length xs) (length ys) (length (xs ++ ys)) r.inside (length-append xs ys);
+  covers = subst (Covers n.hull) (sym (take-append-le n.count xs ys r.inside)) r.covers;
+  whole = ap (λ ks. owns n.below n.count + owned ks) (take-append-le n.below ns ms r.fits) ∙ r.whole;
 }
   where
     longer : (a b c d : ℕ) → a ≤ b → d ≡ b + c → a ≤ d
     longer a b c d h e = omega arith
 
-pub tree-append : (ns ms : List Node) → IsTree ns → IsTree ms → IsTree (ns ++ ms)
-tree-append [] ms t u = u
-tree-append (n ∷ ns) ms t u = (root_longer n ns ms t.0, tree-append ns ms t.1 u)
+pub tree-append : (ns ms : List Node) (xs ys : List Entry) → IsTree ns xs → IsTree ms ys → IsTree (ns ++ ms) (xs ++ ys)
+tree-append [] ms xs ys t u = subst (λ zs. IsTree ms (zs ++ ys)) (sym t) u
+tree-append (n ∷ ns) ms xs ys t u =
+    (root_longer n ns ms xs ys t.0, subst (IsTree (ns ++ ms)) (sym (drop-append-le (owns n.below n.count) xs ys (own_inside n ns xs t.0))) (tree-append ns ms (drop (owns n.below n.count) xs) ys t.1 u))
 
-pub tree_joined : (n : Node) (ns ms all : List Node) → all ≡ n ∷ (ns ++ ms) → n.below ≡ length ns + length ms → n.entries.items ≡ [] → IsTree ns → IsTree ms → Covers n.hull (entries_of ns ++ entries_of ms) → IsTree all
-tree_joined n ns ms all e b o t u c = subst IsTree (sym e) (root, tree-append ns ms t u)
+pub tree_joined : (n : Node) (ns ms all : List Node) (xs ys es : List Entry) → all ≡ n ∷ (ns ++ ms) → es ≡ xs ++ ys → n.below ≡ length ns + length ms → n.count ≡ length es → IsTree ns xs → IsTree ms ys → Covers n.hull es → IsTree all es
+tree_joined n ns ms all xs ys es e f b k t u c = subst (λ zs. IsTree zs es) (sym e) (root, subst (λ j. IsTree (ns ++ ms) (drop j es)) (sym own) both)
   where
+    both : IsTree (ns ++ ms) es
+    both = subst (IsTree (ns ++ ms)) (sym f) (tree-append ns ms xs ys t u)
+
     count : n.below ≡ length (ns ++ ms)
     count = b ∙ sym (length-append ns ms)
+
+    whole : owned (ns ++ ms) ≡ n.count
+    whole = owned_all (ns ++ ms) es both ∙ sym k
+
+    -- without nodes there are no entries
+    none : (ks : List Node) (b c : ℕ) → b ≡ length ks → owned ks ≡ c → owns b c ≡ 0
+    none ks (suc b) c e h = refl
+    none [] zero c e h = sym h
+    none (m ∷ ks) zero c e h = absurd (omega (arith, e))
+
+    own : owns n.below n.count ≡ 0
+    own = none (ns ++ ms) n.below n.count count whole
 
     le_of : (a b : ℕ) → a ≡ b → a ≤ b
     le_of a b e = omega arith
 
-    root : IsRoot n (ns ++ ms)
+    sum : (o a c : ℕ) → o ≡ 0 → a ≡ c → o + a ≡ c
+    sum o a c e h = omega arith
+
+    root : IsRoot n (ns ++ ms) es
     root = record {
       fits = le_of n.below (length (ns ++ ms)) count;
-      own = subst (Covers n.hull) (sym o) tt;
-      all = subst (Covers n.hull) (sym (ap (λ k. entries_of (take k (ns ++ ms))) count ∙ ap entries_of (take-length (ns ++ ms)) ∙ entries_of-append ns ms)) c;
+      inside = le_of n.count (length es) k;
+      covers = subst (Covers n.hull) (sym (ap (λ j. take j es) k ∙ take-length es)) c;
+      whole = ap (λ j. owns n.below n.count + owned (take j (ns ++ ms))) count ∙ ap (λ ks. owns n.below n.count + owned ks) (take-length (ns ++ ms)) ∙ sum (owns n.below n.count) (owned (ns ++ ms)) n.count own whole;
     }
 
 -- ---- halves
 
-pub halves : (old moved : List Entry) (k : ℕ) (xs ys : List Entry) → IsPermutation old moved → IsPermutation (take k moved) xs → IsPermutation (drop k moved) ys → IsPermutation old (xs ++ ys)
-halves old moved k xs ys p q r =
+pub halves : (old moved front back xs ys : List Entry) → IsPermutation old moved → moved ≡ front ++ back → IsPermutation front xs → IsPermutation back ys → IsPermutation old (xs ++ ys)
+halves old moved front back xs ys p e q r =
     IsPermutation-trans old moved (xs ++ ys) p
-    (subst (λ zs. IsPermutation zs (xs ++ ys)) (take-append-drop k moved)
-    (IsPermutation-trans (take k moved ++ drop k moved) (xs ++ drop k moved) (xs ++ ys) (IsPermutation-append_left (drop k moved) (take k moved) xs q) (IsPermutation-append_right xs (drop k moved) ys r)))
+    (subst (λ zs. IsPermutation zs (xs ++ ys)) (sym e)
+    (IsPermutation-trans (front ++ back) (xs ++ back) (xs ++ ys) (IsPermutation-append_left back front xs q) (IsPermutation-append_right xs back ys r)))
 
 -- ---- looked through
 
-pub tree_from : (ns : List Node) (i : ℕ) → IsTree ns → IsTree (drop i ns)
-tree_from ns zero t = t
-tree_from [] (suc i) t = tt
-tree_from (n ∷ ns) (suc i) t = tree_from ns i t.1
-
-length_from : (ns : List Node) (i : ℕ) → i ≤ length ns → length (drop i ns) + i ≡ length ns
-length_from ns zero h = omega arith
-length_from [] (suc i) h = absurd (omega (arith, h))
-length_from (n ∷ ns) (suc i) h = one_more (length (drop i ns)) i (length ns) (length_from ns i (omega (arith, h)))
+-- all from a place on
+pub whole_rest : {A : Type 0} (xs : List A) (n : ℕ) → take (length xs - n) (drop n xs) ≡ drop n xs
+whole_rest xs n = take_all (length xs - n) (drop n xs) (le_of (length (drop n xs)) (length xs - n) (length-drop n xs))
   where
-    one_more : (a i b : ℕ) → a + i ≡ b → a + suc i ≡ suc b
-    one_more a i b e = omega arith
+    le_of : (a b : ℕ) → a ≡ b → a ≤ b
+    le_of a b e = omega arith
 
-drop-none : (k : ℕ) → drop {A = Node} k [] ≡ []
-drop-none zero = refl
-drop-none (suc k) = refl
+-- behind so many nodes
+tree_behind : (ns : List Node) (k : ℕ) (es : List Entry) → IsTree ns es → IsTree (drop k ns) (drop (owned (take k ns)) es)
+tree_behind ns zero es t = t
+tree_behind [] (suc k) es t = t
+tree_behind (n ∷ ns) (suc k) es t =
+    subst (IsTree (drop k ns)) (drop-drop (owned (take k ns)) (owns n.below n.count) es) (tree_behind ns k (drop (owns n.below n.count) es) t.1)
 
-drop_drop : (ns : List Node) (i k : ℕ) → drop k (drop i ns) ≡ drop (i + k) ns
-drop_drop ns zero k = ap (λ j. drop j ns) (none k)
-  where
-    none : (k : ℕ) → k ≡ 0 + k
-    none k = omega arith
-drop_drop [] (suc i) k = drop-none k ∙ sym (drop-none (suc i + k))
-drop_drop (n ∷ ns) (suc i) k = drop_drop ns i k ∙ ap (λ j. drop j (n ∷ ns)) (regroup i k)
-  where
-    regroup : (i k : ℕ) → suc (i + k) ≡ suc i + k
-    regroup i k = omega arith
+-- behind a node and those below it
+pub tree_past : (n : Node) (ns : List Node) (es : List Entry) → IsTree (n ∷ ns) es → IsTree (drop n.below ns) (drop n.count es)
+tree_past n ns es t =
+    subst (λ j. IsTree (drop n.below ns) (drop j es)) t.0.whole
+    (subst (IsTree (drop n.below ns)) (drop-drop (owned (take n.below ns)) (owns n.below n.count) es) (tree_behind ns n.below (drop (owns n.below n.count) es) t.1))
 
--- the root at a place
-pub root_at : (ns : List Node) (i : ℕ) (n : Node) → i < length ns → get_or ns i n ≡ n → IsTree ns → IsRoot n (drop (i + 1) ns)
-root_at ns i n h e t =
-    let is : drop i ns ≡ n ∷ drop (i + 1) ns = drop-cons ns i n h ∙ ap (λ x. x ∷ drop (suc i) ns) e ∙ ap (λ k. n ∷ drop k ns) (sym (add-one i)) in
-    (subst IsTree is (tree_from ns i t)).0
+module _ (ls : List Limit) (n : Node) (ns : List Node) (es : List Entry) (t : IsTree (n ∷ ns) es) where
+  -- the limits can't hold in the hull
+  pub step_past : (next : List Node) (rest : List Entry) (old : List ℕ) → next ≡ drop n.below ns → rest ≡ drop n.count es → may_hold n.hull ls ≡ false → IsStep ls ns es next rest old old
+  step_past next rest old e f h = record {
+    tree = subst (λ zs. IsTree next zs) (sym f) (subst (λ ks. IsTree ks (drop n.count es)) (sym e) (tree_past n ns es t));
+    shorter = subst (λ ks. length ks ≤ length ns) (sym e) (fewer n.below);
+    found = ap (λ xs. old ++ xs) (ap (ids_in ls) f ∙ sym same);
+  }
+    where
+      less : (a b c : ℕ) → c ≡ b - a → c ≤ b
+      less a b c e = omega arith
 
-at_place : (ns : List Node) (i : ℕ) (n : Node) → i < length ns → get_or ns i n ≡ n → drop i ns ≡ n ∷ drop (i + 1) ns
-at_place ns i n h e = drop-cons ns i n h ∙ ap (λ x. x ∷ drop (suc i) ns) e ∙ ap (λ k. n ∷ drop k ns) (sym (add-one i))
+      fewer : (k : ℕ) → length (drop k ns) ≤ length ns
+      fewer k = less k (length ns) (length (drop k ns)) (length-drop k ns)
 
-pub step_in : (ls : List Limit) (ns : List Node) (i : ℕ) (n : Node) (old new : List ℕ) → i < length ns → get_or ns i n ≡ n → new ≡ old ++ ids_in ls n.entries.items → IsStep ls ns i (i + 1) old new
-step_in ls ns i n old new h e f = record {
-  later = after i;
-  inside = next i (length ns) h;
-  found = ap (λ xs. xs ++ ids_in ls (entries_of (drop (i + 1) ns))) f ∙ append_assoc old (ids_in ls n.entries.items) (ids_in ls (entries_of (drop (i + 1) ns)))
-      ∙ ap (λ xs. old ++ xs) (sym (ap (λ xs. ids_in ls (entries_of xs)) (at_place ns i n h e) ∙ ids_in-append ls n.entries.items (entries_of (drop (i + 1) ns))));
-}
-  where
-    after : (i : ℕ) → i < i + 1
-    after i = omega arith
+      same : ids_in ls es ≡ ids_in ls (drop n.count es)
+      same = sym (ap (ids_in ls) (take-append-drop n.count es)) ∙ ids_in-append ls (take n.count es) (drop n.count es)
+          ∙ ap (λ xs. xs ++ ids_in ls (drop n.count es)) (nothing_found ls n.hull (take n.count es) h t.0.covers)
 
-    next : (i k : ℕ) → i < k → i + 1 ≤ k
-    next i k h = omega arith
+  -- all its entries are its own
+  pub step_own : (next : List Node) (own rest : List Entry) (old new : List ℕ) → next ≡ ns → own ≡ take n.count es → rest ≡ drop n.count es → n.below ≡ 0 → new ≡ old ++ ids_in ls own → IsStep ls ns es next rest old new
+  step_own next own rest old new e f g h k = record {
+    tree = subst (λ zs. IsTree next zs) (sym g) (subst (λ ks. IsTree ks (drop n.count es)) (sym e) (subst (λ j. IsTree ns (drop j es)) (all n.below n.count h) t.1));
+    shorter = le_of (length next) (length ns) (ap (λ (ks : List Node). length ks) e);
+    found = ap₂ (λ (xs ys : List ℕ). xs ++ ys) k (ap (ids_in ls) g) ∙ append_assoc old (ids_in ls own) (ids_in ls (drop n.count es))
+        ∙ ap (λ xs. old ++ xs) (ap (λ zs. ids_in ls zs ++ ids_in ls (drop n.count es)) f ∙ sym (ids_in-append ls (take n.count es) (drop n.count es)) ∙ ap (ids_in ls) (take-append-drop n.count es));
+  }
+    where
+      le_of : (a b : ℕ) → a ≡ b → a ≤ b
+      le_of a b e = omega arith
 
--- how far a node reaches
-pub past_inside : (ns : List Node) (i : ℕ) (n : Node) → i < length ns → IsRoot n (drop (i + 1) ns) → i + (1 + n.below) ≤ length ns
-past_inside ns i n h r = sum n.below (length (drop (i + 1) ns)) i (length ns) r.fits (length_from ns (i + 1) (next i (length ns) h))
-  where
-    next : (i k : ℕ) → i < k → i + 1 ≤ k
-    next i k h = omega arith
-
-    sum : (b l i k : ℕ) → b ≤ l → l + (i + 1) ≡ k → i + (1 + b) ≤ k
-    sum b l i k h e = omega arith
-
-pub step_past : (ls : List Limit) (ns : List Node) (i k : ℕ) (n : Node) (old : List ℕ) → i < length ns → get_or ns i n ≡ n → IsTree ns → may_hold n.hull ls ≡ false → k ≡ i + (1 + n.below) → IsStep ls ns i k old old
-step_past ls ns i k n old h e t f g = record {
-  later = after i n.below k g;
-  inside = subst (λ j. j ≤ length ns) (sym g) (past_inside ns i n h root);
-  found = ap (λ xs. old ++ xs) (sym whole);
-}
-  where
-    root : IsRoot n (drop (i + 1) ns)
-    root = root_at ns i n h e t
-
-    after : (i b k : ℕ) → k ≡ i + (1 + b) → i < k
-    after i b k e = omega arith
-
-    rest : List Node
-    rest = drop (i + 1) ns
-
-    regroup : (i b : ℕ) → i + 1 + b ≡ i + (1 + b)
-    regroup i b = omega arith
-
-    behind : drop n.below rest ≡ drop k ns
-    behind = drop_drop ns (i + 1) n.below ∙ ap (λ j. drop j ns) (regroup i n.below ∙ sym g)
-
-    split : entries_of rest ≡ entries_of (take n.below rest) ++ entries_of (drop k ns)
-    split = sym (ap entries_of (take-append-drop n.below rest)) ∙ entries_of-append (take n.below rest) (drop n.below rest) ∙ ap (λ xs. entries_of (take n.below rest) ++ entries_of xs) behind
-
-    whole : ids_in ls (entries_of (drop i ns)) ≡ ids_in ls (entries_of (drop k ns))
-    whole = ap (λ xs. ids_in ls (entries_of xs)) (at_place ns i n h e) ∙ ids_in-append ls n.entries.items (entries_of rest)
-        ∙ ap₂ (λ (xs ys : List ℕ). xs ++ ys) (nothing_found ls n.hull n.entries.items f root.own) (ap (ids_in ls) split ∙ ids_in-append ls (entries_of (take n.below rest)) (entries_of (drop k ns)) ∙ ap (λ xs. xs ++ ids_in ls (entries_of (drop k ns))) (nothing_found ls n.hull (entries_of (take n.below rest)) f root.all))
-
--- ---- shorter
-
-pub front_shorter : (old moved part : List Entry) (n : ℕ) → 8 < length old → length moved ≡ length old → n ≡ length moved → part ≡ take (n / 2) moved → length part < length old
-front_shorter old moved part n m p e q = less n (length moved) (length old) (length part) m p e (ap (λ (es : List Entry). length es) q ∙ length-take (n / 2) moved)
-  where
-    less : (n a b c : ℕ) → 8 < b → a ≡ b → n ≡ a → c ≡ min (n / 2) a → c < b
-    less n a b c m p e q = omega arith
-
-pub back_shorter : (old moved part : List Entry) (n : ℕ) → 8 < length old → length moved ≡ length old → n ≡ length moved → part ≡ drop (n / 2) moved → length part < length old
-back_shorter old moved part n m p e q = less n (length moved) (length old) (length part) m p e (ap (λ (es : List Entry). length es) q ∙ length-drop (n / 2) moved)
-  where
-    less : (n a b c : ℕ) → 8 < b → a ≡ b → n ≡ a → c ≡ a - n / 2 → c < b
-    less n a b c m p e q = omega arith
+      all : (b c : ℕ) → b ≡ 0 → owns b c ≡ c
+      all zero c e = refl
+      all (suc b) c e = absurd (omega (arith, e))

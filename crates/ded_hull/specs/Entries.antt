@@ -1,7 +1,10 @@
 -- Entries: reaches under numbers, and in which of them limits may hold.
-use Rattle.std.specs.Prelude.{◌≡◌, ◌↔◌, ◌<◌, ℕ, ℤ, nat_eq, not, true, List, [], ◌∷◌, if◌then◌else◌}
+use Rattle.std.specs.Prelude.{◌≡◌, ◌↔◌, ◌<◌, ℕ, ℤ, true, List, [], ◌∷◌, if◌then◌else◌, is_some}
+use Rattle.std.specs.BTreeMap.{is_at}
 use Rattle.std.specs.List.{Contains, filter}
 use Rattle.std.specs.List.Sorted.{IsStrictlyIncreasing}
+use Rattle.std.specs.Map.{lookup}
+use Rattle.std.specs.Ordering.{nat_cmp}
 use Rattle.ded_model.proofs.Lists.{Every, Some}
 use Rattle.ded_hull.specs.declared.reach.Range.{Range}
 use Rattle.ded_hull.specs.declared.limit.Limit.{Limit}
@@ -14,9 +17,9 @@ abbrev pub ids_in : List Limit → List Entry → List ℕ
 ids_in ls [] = []
 ids_in ls (e ∷ es) = if may_hold e.reach ls then e.id ∷ ids_in ls es else ids_in ls es
 
--- the entries that don't have the number, in order
-abbrev pub without : ℕ → List Entry → List Entry
-without i es = filter (λ e. not (nat_eq e.id i)) es
+-- the entries whose numbers are keys, in order
+abbrev pub of_keys : {V : Type 0} → List (ℕ × V) → List Entry → List Entry
+of_keys vs es = filter (λ e. is_some (lookup (is_at (nat_cmp e.id)) vs)) es
 
 -- the entry has the number, and the limits may hold in its reach
 abbrev pub IsPassing : List Limit → ℕ → Entry → Type 0

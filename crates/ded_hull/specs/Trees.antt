@@ -1,38 +1,40 @@
--- Trees in lists: behind each node stand those below it, and it has a hull of all their entries.
-use Rattle.std.specs.Prelude.{◌≡◌, ◌≤◌, ◌<◌, ℕ, List, [], ◌∷◌, ◌++◌, take, drop, length}
+-- Trees in lists: behind each node stand those below it, and the entries under a node stand side by side.
+use Rattle.std.specs.Prelude.{◌≡◌, ◌≤◌, ◌+◌, ℕ, zero, suc, List, [], ◌∷◌, ◌++◌, take, drop, length}
 use Rattle.ded_model.proofs.Lists.{flat}
 use Rattle.ded_hull.specs.declared.limit.Limit.{Limit}
 use Rattle.ded_hull.specs.declared.entry.Entry.{Entry}
 use Rattle.ded_hull.specs.declared.tree.Node.{Node}
-use Rattle.ded_hull.specs.Entries.{ids_in, without, Covers}
+use Rattle.ded_hull.specs.Entries.{ids_in, Covers}
 
--- the entries of all nodes in order
-abbrev pub entries_of : List Node → List Entry
-entries_of ns = flat (λ n. n.entries.items) ns
+-- how many entries a node has for its own: all of its count where no nodes are below it, else none
+abbrev pub owns : ℕ → ℕ → ℕ
+owns zero count = count
+owns (suc below) count = 0
 
--- of a node with those behind it: its hull contains its own entries and those of the nodes below it
-pub record IsRoot (n : Node) (ns : List Node) : Type 0 where
+-- how many entries the nodes have for their own
+abbrev pub owned : List Node → ℕ
+owned [] = 0
+owned (n ∷ ns) = owns n.below n.count + owned ns
+
+-- of a node with the nodes behind it and the entries from its first on: its hull contains the entries of it and of the nodes below
+-- it, and these are as many as it says
+pub record IsRoot (n : Node) (ns : List Node) (es : List Entry) : Type 0 where
   pub fits : n.below ≤ length ns
-  pub own : Covers n.hull n.entries.items
-  pub all : Covers n.hull (entries_of (take n.below ns))
+  pub inside : n.count ≤ length es
+  pub covers : Covers n.hull (take n.count es)
+  pub whole : owns n.below n.count + owned (take n.below ns) ≡ n.count
 
--- each node is a root
-abbrev pub IsTree : List Node → Type 0
-IsTree [] = Unit {0}
-IsTree (n ∷ ns) = IsRoot n ns × IsTree ns
-
--- the second is the first without the entries that have the number
-pub record IsCleaned (i : ℕ) (old new : Node) : Type 0 where
-  pub hull : new.hull ≡ old.hull
-  pub below : new.below ≡ old.below
-  pub entries : new.entries.items ≡ without i old.entries.items
+-- each node is a root, and each entry is one node's own
+abbrev pub IsTree : List Node → List Entry → Type 0
+IsTree [] es = es ≡ []
+IsTree (n ∷ ns) es = IsRoot n ns es × IsTree ns (drop (owns n.below n.count) es)
 
 -- the entries of all trees in order
 abbrev pub all_of : List (List Entry) → List Entry
 all_of ts = flat (λ es. es) ts
 
--- from one place to a later one nothing else was found
-pub record IsStep (ls : List Limit) (ns : List Node) (from next : ℕ) (old new : List ℕ) : Type 0 where
-  pub later : from < next
-  pub inside : next ≤ length ns
-  pub found : new ++ ids_in ls (entries_of (drop next ns)) ≡ old ++ ids_in ls (entries_of (drop from ns))
+-- with what comes next in the tree, what was found is the same in the end
+pub record IsStep (ls : List Limit) (behind : List Node) (es : List Entry) (next : List Node) (rest : List Entry) (old new : List ℕ) : Type 0 where
+  pub tree : IsTree next rest
+  pub shorter : length next ≤ length behind
+  pub found : new ++ ids_in ls rest ≡ old ++ ids_in ls es

@@ -1,13 +1,16 @@
 //! Entries, the hulls of lists of them, and how such lists are split.
-ghost use Rattle.std.specs.Prelude.{nat_eq, ◌≡◌, ◌++◌, [], ◌∷◌, IfOk};
-ghost use Rattle.std.specs.List.{list_any};
+ghost use Rattle.std.specs.Prelude.{◌≡◌, ◌++◌, [], ◌∷◌, IfOk};
 ghost use Rattle.std.specs.List.Sorted.{IsPermutation};
-ghost use Rattle.ded_hull.specs.Entries.{ids_in, without, Covers};
+ghost use Rattle.ded_hull.specs.Entries.{ids_in, of_keys, Covers};
 
 use crate::limit::{Limit, may_hold};
 use crate::reach::{Range, Reach};
 use ded_model::memory::NoMemory;
 use std::alloc::Global;
+use std::collections::BTreeMap;
+
+/// How many times a list that is sorted once is halved.
+const LEVELS: u32 = 3;
 
 /// A reach under a number.
 #[derive(Drop)]
@@ -88,12 +91,15 @@ pub(crate) fn copy_all(from: &[Entry], to: &mut Vec<Entry>) -> Result<(), NoMemo
     Ok(())
 }
 
-/// Sorts the entries by their middles in the column in which these lie farthest apart.
-pub(crate) fn arrange(entries: &mut Vec<Entry>, hull: &Reach)
-    ensures { IsPermutation entries.old.items entries.new.items }
+/// On one level of three, sorts the entries by their middles in the column in which these lie farthest apart. So each sort is good for
+/// eight parts.
+pub(crate) fn arrange(entries: &mut [Entry], hull: &Reach, level: u32)
+    ensures { IsPermutation entries.old entries.new }
 {
-    let place = widest(entries, hull.ranges().len());
-    entries.sort_unstable_by_key(|entry| middle(entry.reach.at(place)));
+    if level % LEVELS == 0 {
+        let place = widest(entries, hull.ranges().len());
+        entries.sort_unstable_by_key(|entry| middle(entry.reach.at(place)));
+    }
 }
 
 /// The column in which the middles of the entries lie farthest apart.
@@ -132,18 +138,9 @@ fn middle(range: Range) -> i128 {
     }
 }
 
-/// Takes out the entries with the number.
-pub(crate) fn drop_id(entries: &mut Vec<Entry>, id: u32)
-    ensures { entries.new.items ≡ without id entries.old.items }
+/// Keeps the entries whose numbers are keys of the map.
+pub(crate) fn keep_present<V>(entries: &mut Vec<Entry>, present: &BTreeMap<u32, V>)
+    ensures { entries.new.items ≡ of_keys present.now.entries entries.old.items }
 {
-    if has_id(entries, id) {
-        entries.retain(|entry| entry.id != id);
-    }
-}
-
-/// Whether some entry has the number.
-fn has_id(entries: &[Entry], id: u32) -> bool
-    ensures { result ≡ list_any (λ e. nat_eq e.id id) entries.now }
-{
-    entries.iter().any(|entry| entry.id == id)
+    entries.retain(|entry| present.contains_key(&entry.id));
 }

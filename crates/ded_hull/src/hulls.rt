@@ -1,22 +1,23 @@
 //! The index: a few trees, and a list of what is new.
-ghost use Rattle.std.specs.Prelude.{◌≡◌, ◌≤◌, ◌-◌, ◌^◌, ◌++◌, ◌∷◌, [], min, length, drop, IfOk, OnErr};
+//!
+//! Entries are moved and never copied. The trees that become one give their entries to the list, which takes over the memory of the
+//! largest, and the new tree takes over the list. Where memory for a tree is wanting, its entries stay in the list, and none is lost.
+ghost use Rattle.std.specs.Prelude.{◌≡◌, ◌≤◌, ◌-◌, ◌^◌, ◌++◌, ◌∷◌, [], min, length, IfOk, OnOk, OnErr};
 ghost use Rattle.std.specs.List.Sorted.{IsPermutation};
-ghost use Rattle.ded_hull.specs.Entries.{ids_in, without, AreFound, IsComplete};
+ghost use Rattle.ded_hull.specs.Entries.{ids_in, of_keys, AreFound, IsComplete};
 ghost use Rattle.ded_hull.specs.Trees.{all_of};
 
-use crate::entry::{Entry, copy_all, drop_id, push_passing};
+use crate::entry::{Entry, copy_all, keep_present, push_passing};
 use crate::limit::Limit;
 use crate::reach::Reach;
 use crate::tree::Tree;
 use ded_model::memory::NoMemory;
 use std::alloc::Global;
+use std::collections::BTreeMap;
 use std::marker::Model;
 
 /// How many new entries stand beside the trees, as long as there is memory for trees.
 const FEW: usize = 64;
-
-/// How many nodes a tree of so many entries has, about.
-const FEW_NODES: usize = 16;
 
 /// Reaches under numbers. Contracts see the list of the entries.
 ///
@@ -72,12 +73,20 @@ impl Hulls {
         Ok(())
     }
 
-    /// Takes out the entries with the number. All others stay. It does not allocate.
-    pub fn remove(&mut self, id: u32)
-        ensures { self.new ≡ without id self.old }
+    /// Keeps the entries whose numbers are keys of the map, in another order.
+    ///
+    /// # Errors
+    /// Out of memory; the entries are the same then.
+    pub fn retain<V>(&mut self, present: &BTreeMap<u32, V>) -> Result<(), NoMemory>
+        ensures kept { OnOk result (IsPermutation (of_keys present.now.entries self.old) self.new) }
+        ensures unchanged { OnErr result (self.new ≡ self.old) }
     {
-        remove_from(&mut self.trees, id);
-        drop_id(&mut self.tail, id);
+        gather(&mut self.trees, 0, &mut self.tail)?;
+        keep_present(&mut self.tail, present);
+        self.tail.shrink_to_fit();
+        // without memory for a tree all stand in the list
+        let _ = plant(&mut self.trees, &mut self.tail);
+        Ok(())
     }
 
     /// The same entries, in another order.
@@ -87,12 +96,12 @@ impl Hulls {
     pub fn copy(&self, alloc: Global) -> Result<Hulls, NoMemory>
         ensures { IfOk result (λ h. IsPermutation self.now h) }
     {
+        let mut tail = Vec::with_capacity(alloc, self.count())?;
+        copy_trees(&self.trees, &mut tail)?;
+        copy_all(&self.tail, &mut tail)?;
         let mut trees = Vec::new(alloc);
-        trees.push(merged(alloc, &self.trees, &self.tail, 0)?)?;
-        Ok(Hulls {
-            trees,
-            tail: Vec::new(alloc),
-        })
+        plant(&mut trees, &mut tail)?;
+        Ok(Hulls { trees, tail })
     }
 
     /// The numbers of the entries in whose reaches the limits may hold, ascending.
@@ -118,7 +127,7 @@ fn count_in(trees: &[Tree]) -> usize
 {
     let mut count: usize = 0;
     for i in 0..trees.len() {
-        count = count.saturating_add(trees[i].count());
+        count = count.saturating_add(trees[i].len());
     }
     count
 }
@@ -136,81 +145,69 @@ fn find_in(trees: &[Tree], limits: &[Limit], found: &mut Vec<u32>) -> Result<(),
     Ok(())
 }
 
-/// Takes the entries with the number out of the trees.
-fn remove_from(trees: &mut Vec<Tree>, id: u32)
-    ensures { all_of trees.new.items ≡ without id (all_of trees.old.items) }
-{
-    for i in 0..trees.len() {
-        trees[i].remove(id);
-    }
-}
-
-/// Makes one tree of the list and of the last trees that aren't much larger. The entries stay.
+/// Adds copies of the entries of the trees.
 ///
 /// # Errors
-/// Out of memory; the entries stay then too.
-fn settle(trees: &mut Vec<Tree>, tail: &mut Vec<Entry>) -> Result<(), NoMemory>
-    ensures { IsPermutation (all_of trees.old.items ++ tail.old.items) (all_of trees.new.items ++ tail.new.items) }
+/// Out of memory.
+fn copy_trees(trees: &[Tree], to: &mut Vec<Entry>) -> Result<(), NoMemory>
+    ensures { IfOk result (λ _. to.new.items ≡ to.old.items ++ all_of trees.now) }
 {
-    let alloc = *tail.allocator();
-    let keep = kept(trees);
-    let tree = merged(alloc, trees, tail, keep)?;
-    trees.reserve(1)?;
-    trees.truncate(keep);
-    trees.push_reserved(tree);
-    tail.clear();
+    for i in 0..trees.len() {
+        trees[i].copy_into(to)?;
+    }
     Ok(())
 }
 
-/// How many of the first trees stay as they are: those before the last that aren't much larger than all behind them.
-fn kept(trees: &[Tree]) -> usize
+/// Makes one tree of the list and of the last trees that aren't much larger.
+///
+/// # Errors
+/// Out of memory; the entries stay then too, some of them in the list.
+fn settle(trees: &mut Vec<Tree>, tail: &mut Vec<Entry>) -> Result<(), NoMemory>
+    ensures { IsPermutation (all_of trees.old.items ++ tail.old.items) (all_of trees.new.items ++ tail.new.items) }
+{
+    let keep = kept(trees, tail.len());
+    gather(trees, keep, tail)?;
+    plant(trees, tail)
+}
+
+/// How many of the first trees stay as they are: those before the last that have at most about twice as many entries as stand behind
+/// them, where so many stand behind all trees.
+fn kept(trees: &[Tree], mut behind: usize) -> usize
     ensures { result ≤ length trees.now }
 {
     let mut keep = trees.len();
-    let mut size = FEW_NODES;
-    while 0 < keep && trees[keep - 1].size() / 2 <= size {
+    while 0 < keep && trees[keep - 1].len() / 2 <= behind {
         keep = keep - 1;
-        size = size.saturating_add(trees[keep].size());
+        behind = behind.saturating_add(trees[keep].len());
     }
     keep
 }
 
-/// The tree of the entries of the list and of the trees from a place on.
+/// Makes the last trees give their entries to the list, until so many are left.
 ///
 /// # Errors
-/// Out of memory.
-fn merged(alloc: Global, trees: &[Tree], tail: &[Entry], from: usize) -> Result<Tree, NoMemory>
-    requires { from ≤ length trees.now }
-    ensures { IfOk result (λ t. IsPermutation (all_of (drop from trees.now) ++ tail.now) t) }
+/// Out of memory; some of the trees have given their entries then.
+fn gather(trees: &mut Vec<Tree>, keep: usize, tail: &mut Vec<Entry>) -> Result<(), NoMemory>
+    ensures moved { all_of trees.new.items ++ tail.new.items ≡ all_of trees.old.items ++ tail.old.items }
+    ensures gathered { OnOk result (length trees.new.items ≤ keep) }
 {
-    let mut entries = Vec::with_capacity(
-        alloc,
-        count_from(trees, from).saturating_add(tail.len()),
-    )?;
-    copy_trees(trees, from, &mut entries)?;
-    copy_all(tail, &mut entries)?;
-    Tree::build(alloc, entries)
-}
-
-/// How many entries the trees from a place on have, as far as they can be counted.
-fn count_from(trees: &[Tree], from: usize) -> usize {
-    let mut count: usize = 0;
-    for i in from..trees.len() {
-        count = count.saturating_add(trees[i].count());
+    while keep < trees.len() {
+        let last = trees.len() - 1;
+        trees[last].give(tail)?;
+        trees.truncate(last);
     }
-    count
+    Ok(())
 }
 
-/// Adds copies of the entries of the trees from a place on.
+/// Makes a last tree of the list.
 ///
 /// # Errors
-/// Out of memory.
-fn copy_trees(trees: &[Tree], from: usize, to: &mut Vec<Entry>) -> Result<(), NoMemory>
-    requires { from ≤ length trees.now }
-    ensures { IfOk result (λ _. to.new.items ≡ to.old.items ++ all_of (drop from trees.now)) }
+/// Out of memory; the entries stay in the list then, in another order.
+fn plant(trees: &mut Vec<Tree>, tail: &mut Vec<Entry>) -> Result<(), NoMemory>
+    ensures { IsPermutation (all_of trees.old.items ++ tail.old.items) (all_of trees.new.items ++ tail.new.items) }
 {
-    for i in from..trees.len() {
-        trees[i].copy_into(to)?;
-    }
+    trees.reserve(1)?;
+    let tree = Tree::build(tail)?;
+    trees.push_reserved(tree);
     Ok(())
 }

@@ -5,6 +5,8 @@
 //! [`Hulls::find`] gives exactly the numbers of those in which limits may hold, in ascending order.
 //!
 //! What may hold in a reach may hold in each reach that contains it, so a tree whose hull doesn't pass is passed over and loses nothing.
+//! Entries stand in a few lists, each with a tree over it, and move to another when lists become one. None is taken out by itself:
+//! [`Hulls::retain`] leaves out, all at once, those whose numbers nothing has any more.
 //!
 //! A [`Window`] is what is asked of the values of columns: limits that they meet, and texts that stand in them. A [`Sieve`] lets a tuple
 //! pass unless a row of it can't hold in the box of the window, or a text of the window contradicts it: so it lets every tuple pass that

@@ -1,5 +1,5 @@
 //! Limits, and whether they may hold in a reach.
-ghost use Rattle.std.specs.Prelude.{◌≡◌, ◌*ℤ◌, false, true};
+ghost use Rattle.std.specs.Prelude.{◌≡◌, false, true};
 ghost use Rattle.ded_hull.specs.Limits.{plus, times, turned, least_end, least_of, at_most_zero, below_zero, may_be, may_meet, may_hold, IsSound};
 ghost use Rattle.ded_hull.specs.Tuples.{terms_of};
 

@@ -1,5 +1,5 @@
 //! Reaches, and their ends from exact bounds.
-ghost use Rattle.std.specs.Prelude.{◌≡◌, ℕ, ℤ, ◌<◌, ◌<ℤ◌, ◌≤ℤ◌, ◌*ℤ◌, pos, neg_ℤ, [], ◌++◌, ◌∷◌, length, IfOk, OnErr, IfSome};
+ghost use Rattle.std.specs.Prelude.{◌≡◌, ℕ, ℤ, ◌<◌, ◌<ℤ◌, ◌≤ℤ◌, ◌*ℤ◌, pos, neg_ℤ, [], ◌++◌, ◌∷◌, IfOk, OnErr, IfSome};
 ghost use Rattle.ded_model.specs.declared.bound.Bound.TheVariants.{Included};
 ghost use Rattle.ded_hull.specs.Codes.{fine};
 ghost use Rattle.ded_hull.specs.Reaches.{IsFloor, IsCeil, IsWithin, lower_of, higher_of, joined, range_at, hull, IsIn, Lies, both_low, both_high, everywhere, met, narrowed, all_values};

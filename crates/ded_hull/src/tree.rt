@@ -1,69 +1,77 @@
-//! Trees of hulls in lists. Behind each node stand those below it, so a look-up is one pass, in which a node where the limits
-//! cannot hold is passed over with all that is below it.
-ghost use Rattle.std.specs.Prelude.{◌≡◌, ◌<◌, ◌+◌, ◌-◌, ◌^◌, ◌++◌, min, length, IfOk};
+//! Trees of hulls over a list of entries.
+//!
+//! The nodes of a tree stand in a list, and behind each node those below it. A node with none below it owns a few entries. All entries
+//! stand in another list in the order of their nodes, so those under a node stand side by side. A look-up is one pass over both lists,
+//! in which a node where the limits cannot hold is passed over with all that is below it.
+//!
+//! A tree never changes. It is built over a list of entries, which are put in its order where they stand, and gives the list back for
+//! a larger tree.
+ghost use Rattle.std.specs.Prelude.{◌≡◌, ◌+◌, ◌++◌, ◌∷◌, [], length, IfOk, OnOk, OnErr};
 ghost use Rattle.std.specs.List.Sorted.{IsPermutation};
-ghost use Rattle.ded_hull.specs.Entries.{ids_in, without, Covers};
-ghost use Rattle.ded_hull.specs.Trees.{entries_of, IsTree, IsStep, IsCleaned};
+ghost use Rattle.ded_hull.specs.Entries.{ids_in};
+ghost use Rattle.ded_hull.specs.Trees.{IsTree, IsStep};
 
-use crate::entry::{Entry, arrange, copy_all, drop_id, hull_of, push_passing};
+use crate::entry::{Entry, arrange, copy_all, hull_of, push_passing};
 use crate::limit::{Limit, may_hold};
 use crate::reach::Reach;
 use ded_model::memory::NoMemory;
 use std::alloc::Global;
 use std::marker::Model;
+use std::mem;
 
 /// How many entries a node without others below it has at most.
 const LEAF: usize = 8;
 
-/// Entries, a hull of these and of the entries of the nodes below, and how many of these follow.
+/// A hull of the entries under a node, how many of the nodes behind it stand below it, and how many entries are under it.
 #[derive(Drop)]
 pub(crate) struct Node {
     pub hull: Reach,
     pub below: usize,
-    pub entries: Vec<Entry>,
+    pub count: usize,
 }
 
 /// A tree. Contracts see the list of its entries.
 #[derive(Drop)]
 pub(crate) struct Tree {
     nodes: Vec<Node>,
+    entries: Vec<Entry>,
 }
 
 impl Model for Tree {
     ghost use Rattle.std.specs.Prelude.{List};
     ghost use Rattle.ded_hull.specs.declared.entry.Entry.{Entry};
-    ghost use Rattle.ded_hull.specs.Trees.{entries_of, IsTree};
+    ghost use Rattle.ded_hull.specs.Trees.{IsTree};
 
     ghost Value = { List Entry };
 
-    ghost view = { λ t. entries_of t.nodes.items };
+    ghost view = { λ t. t.entries.items };
 
-    ghost invariant = { λ t. IsTree t.nodes.items };
+    ghost invariant = { λ t. IsTree t.nodes.items t.entries.items };
 }
 
 impl Tree {
-    /// The tree of the entries.
+    /// The tree of the entries, which are moved out of the list.
     ///
     /// # Errors
-    /// Out of memory.
-    pub(crate) fn build(alloc: Global, entries: Vec<Entry>) -> Result<Tree, NoMemory>
-        ensures { IfOk result (λ t. IsPermutation entries.items t) }
+    /// Out of memory; the entries stay in the list then, in another order.
+    pub(crate) fn build(entries: &mut Vec<Entry>) -> Result<Tree, NoMemory>
+        ensures built { IfOk result (λ t. IsPermutation entries.old.items t) }
+        ensures moved { OnOk result (entries.new.items ≡ []) }
+        ensures kept { OnErr result (IsPermutation entries.old.items entries.new.items) }
     {
+        let alloc = *entries.allocator();
+        let nodes = build(alloc, entries.as_mut_slice(), 0)?;
         Ok(Tree {
-            nodes: build(alloc, entries)?,
+            nodes,
+            entries: mem::replace(entries, Vec::new(alloc)),
         })
     }
 
-    /// How many nodes it has.
-    pub(crate) fn size(&self) -> usize {
-        self.nodes.len()
-    }
-
-    /// How many entries there are, as far as they can be counted.
-    pub(crate) fn count(&self) -> usize
-        ensures { result ≡ min (length self.now) (2 ^ 64 - 1) }
+    /// How many entries there are.
+    pub(crate) fn len(&self) -> usize
+        ensures { result ≡ length self.now }
     {
-        count_nodes(&self.nodes)
+        self.entries.len()
     }
 
     /// Adds the numbers of the entries in whose reaches the limits may hold.
@@ -73,7 +81,7 @@ impl Tree {
     pub(crate) fn find(&self, limits: &[Limit], found: &mut Vec<u32>) -> Result<(), NoMemory>
         ensures { IfOk result (λ _. found.new.items ≡ found.old.items ++ ids_in limits.now self.now) }
     {
-        visit_all(&self.nodes, limits, found)
+        visit_all(&self.nodes, &self.entries, limits, found)
     }
 
     /// Adds copies of the entries.
@@ -83,165 +91,126 @@ impl Tree {
     pub(crate) fn copy_into(&self, to: &mut Vec<Entry>) -> Result<(), NoMemory>
         ensures { IfOk result (λ _. to.new.items ≡ to.old.items ++ self.now) }
     {
-        copy_nodes(&self.nodes, to)
+        copy_all(&self.entries, to)
     }
 
-    /// Takes out the entries with the number.
-    pub(crate) fn remove(&mut self, id: u32)
-        ensures { self.new ≡ without id self.old }
+    /// Gives its entries to the list, before those that stand there, and has none left. The list takes over the memory of the tree's.
+    ///
+    /// # Errors
+    /// Out of memory; nothing has changed then.
+    pub(crate) fn give(&mut self, list: &mut Vec<Entry>) -> Result<(), NoMemory>
+        ensures given { OnOk result (list.new.items ≡ self.old ++ list.old.items) }
+        ensures left { OnOk result (self.new ≡ []) }
+        ensures unchanged { OnErr result (self.new ≡ self.old) }
+        ensures list { OnErr result (list.new.items ≡ list.old.items) }
     {
-        remove_from(&mut self.nodes, id);
+        self.entries.reserve_exact(list.len())?;
+        self.entries.append(list)?;
+        mem::swap(&mut self.entries, list);
+        self.nodes.clear();
+        Ok(())
     }
 }
 
-/// How many entries the nodes have, as far as they can be counted.
-fn count_nodes(nodes: &[Node]) -> usize
-    ensures { result ≡ min (length (entries_of nodes.now)) (2 ^ 64 - 1) }
+/// The nodes of a tree of the entries, which are put in its order: they are halved until few are left. The level counts how many times
+/// they have been halved already.
+///
+/// # Errors
+/// Out of memory; the entries are in another order then.
+pub(crate) fn build(alloc: Global, entries: &mut [Entry], level: u32) -> Result<Vec<Node>, NoMemory>
+    ensures tree { IfOk result (λ ns. IsTree ns.items entries.new) }
+    ensures entries { IsPermutation entries.old entries.new }
 {
-    let mut count: usize = 0;
-    for i in 0..nodes.len() {
-        count = count.saturating_add(nodes[i].entries.len());
+    let hull = hull_of(alloc, entries)?;
+    let count = entries.len();
+    if count <= LEAF {
+        return one(alloc, hull, count);
     }
-    count
+    arrange(entries, &hull, level);
+    let (front, back) = entries.split_at_mut(count / 2);
+    let first = build(alloc, front, level.wrapping_add(1))?;
+    let second = build(alloc, back, level.wrapping_add(1))?;
+    joined(hull, count, first, second)
 }
 
-/// Adds copies of the entries of the nodes.
+/// A node with none below it.
 ///
 /// # Errors
 /// Out of memory.
-fn copy_nodes(nodes: &[Node], to: &mut Vec<Entry>) -> Result<(), NoMemory>
-    ensures { IfOk result (λ _. to.new.items ≡ to.old.items ++ entries_of nodes.now) }
-{
-    for i in 0..nodes.len() {
-        copy_all(&nodes[i].entries, to)?;
-    }
-    Ok(())
-}
-
-/// Takes the entries with the number out of the nodes, whose hulls stay.
-fn remove_from(nodes: &mut Vec<Node>, id: u32)
-    requires { IsTree nodes.old.items }
-    ensures tree { IsTree nodes.new.items }
-    ensures entries { entries_of nodes.new.items ≡ without id (entries_of nodes.old.items) }
-{
-    for i in 0..nodes.len() {
-        clean(&mut nodes[i], id);
-    }
-}
-
-/// Takes the entries with the number out of the node's own.
-fn clean(node: &mut Node, id: u32)
-    ensures { IsCleaned id node.old node.new }
-{
-    drop_id(&mut node.entries, id);
-}
-
-/// The tree of the entries: they are halved until few are left.
-///
-/// # Errors
-/// Out of memory.
-pub(crate) fn build(alloc: Global, mut entries: Vec<Entry>) -> Result<Vec<Node>, NoMemory>
-    ensures tree { IfOk result (λ ns. IsTree ns.items) }
-    ensures entries { IfOk result (λ ns. IsPermutation entries.items (entries_of ns.items)) }
-{
-    let hull = hull_of(alloc, &entries)?;
-    if entries.len() <= LEAF {
-        return one(alloc, hull, entries);
-    }
-    arrange(&mut entries, &hull);
-    let rest = entries.split_off(entries.len() / 2)?;
-    entries.shrink_to_fit();
-    let first = build(alloc, entries)?;
-    let second = build(alloc, rest)?;
-    joined(alloc, hull, first, second)
-}
-
-/// The tree of one node.
-fn one(alloc: Global, hull: Reach, entries: Vec<Entry>) -> Result<Vec<Node>, NoMemory>
-    requires { Covers hull entries.items }
-    ensures tree { IfOk result (λ ns. IsTree ns.items) }
-    ensures entries { IfOk result (λ ns. entries_of ns.items ≡ entries.items) }
+fn one(alloc: Global, hull: Reach, count: usize) -> Result<Vec<Node>, NoMemory>
+    ensures { IfOk result (λ ns. ns.items ≡ record { hull = hull; below = 0; count = count } ∷ []) }
 {
     let mut nodes = Vec::with_capacity(alloc, 1)?;
     nodes.push(Node {
         hull,
         below: 0,
-        entries,
+        count,
     })?;
     Ok(nodes)
 }
 
-/// The tree of a node without entries of its own, and two trees below it.
+/// A node before those of two trees, which stand below it.
+///
+/// # Errors
+/// Out of memory.
 fn joined(
-    alloc: Global,
     hull: Reach,
-    mut first: Vec<Node>,
+    count: usize,
+    first: Vec<Node>,
     mut second: Vec<Node>,
 ) -> Result<Vec<Node>, NoMemory>
-    requires first { IsTree first.items }
-    requires second { IsTree second.items }
-    requires covers { Covers hull (entries_of first.items ++ entries_of second.items) }
-    ensures tree { IfOk result (λ ns. IsTree ns.items) }
-    ensures entries { IfOk result (λ ns. entries_of ns.items ≡ entries_of first.items ++ entries_of second.items) }
+    ensures { IfOk result (λ ns. ns.items ≡ record { hull = hull; below = length first.items + length second.items; count = count } ∷ (first.items ++ second.items)) }
 {
     let below = first.len() + second.len();
-    let mut nodes = Vec::with_capacity(alloc, below + 1)?;
-    nodes.push(Node {
-        hull,
-        below,
-        entries: Vec::new(alloc),
-    })?;
-    nodes.append(&mut first)?;
+    let mut nodes = first;
+    nodes.reserve_exact(second.len() + 1)?;
+    nodes.insert(0, Node { hull, below, count })?;
     nodes.append(&mut second)?;
     Ok(nodes)
 }
 
-/// Adds the numbers of the entries in whose reaches the limits may hold.
+/// Adds the numbers of the entries of a tree in whose reaches the limits may hold.
 ///
 /// # Errors
 /// Out of memory.
 pub(crate) fn visit_all(
     nodes: &[Node],
+    entries: &[Entry],
     limits: &[Limit],
     found: &mut Vec<u32>,
 ) -> Result<(), NoMemory>
-    requires { IsTree nodes.now }
-    ensures { IfOk result (λ _. found.new.items ≡ found.old.items ++ ids_in limits.now (entries_of nodes.now)) }
+    requires { IsTree nodes.now entries.now }
+    ensures { IfOk result (λ _. found.new.items ≡ found.old.items ++ ids_in limits.now entries.now) }
 {
-    let mut place = 0;
-    while place < nodes.len() {
-        place = visit(nodes, place, limits, found)?;
+    let mut next = nodes;
+    let mut rest = entries;
+    while let Some((node, behind)) = next.split_first() {
+        (next, rest) = visit(node, behind, rest, limits, found)?;
     }
     Ok(())
 }
 
-/// Adds the numbers of a node's own entries in whose reaches the limits may hold, and gives the place that comes next.
+/// Adds the numbers of a node's own entries in whose reaches the limits may hold, and gives the nodes that come next with the entries
+/// from their first on. Behind the node stand the others of the tree, and its entries come first.
 ///
 /// # Errors
 /// Out of memory.
-fn visit(
-    nodes: &[Node],
-    place: usize,
+fn visit<'a>(
+    node: &Node,
+    behind: &'a [Node],
+    entries: &'a [Entry],
     limits: &[Limit],
     found: &mut Vec<u32>,
-) -> Result<usize, NoMemory>
-    requires tree { IsTree nodes.now }
-    requires inside { place < length nodes.now }
-    ensures { IfOk result (λ next. IsStep limits.now nodes.now place next found.old.items found.new.items) }
+) -> Result<(&'a [Node], &'a [Entry]), NoMemory>
+    requires { IsTree (node.now ∷ behind.now) entries.now }
+    ensures { IfOk result (λ next. IsStep limits.now behind.now entries.now next.0.now next.1.now found.old.items found.new.items) }
 {
-    let node = &nodes[place];
-    if may_hold(&node.hull, limits) {
-        push_passing(&node.entries, limits, found)?;
-        Ok(place + 1)
-    } else {
-        Ok(passed(place, node))
+    if !may_hold(&node.hull, limits) {
+        return Ok((&behind[node.below..], &entries[node.count..]));
     }
-}
-
-/// The place behind a node and all below it.
-fn passed(place: usize, node: &Node) -> usize
-    requires { place + (1 + node.now.below) < 2 ^ 64 }
-    ensures { result ≡ place + (1 + node.now.below) }
-{
-    place + (1 + node.below)
+    if node.below > 0 {
+        return Ok((behind, entries));
+    }
+    push_passing(&entries[..node.count], limits, found)?;
+    Ok((behind, &entries[node.count..]))
 }

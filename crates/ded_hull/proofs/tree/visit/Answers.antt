@@ -1,23 +1,16 @@
-use Rattle.std.proofs.Common.{rules, ◌≡◌, ◌∙◌, ◌++◌, false, ap, sym}
+use Rattle.std.proofs.Common.{rules, ◌≡◌, false, take, refl}
 use Rattle.ded_hull.specs.Limits.{may_hold}
-use Rattle.ded_hull.specs.Entries.{ids_in}
-use Rattle.ded_hull.proofs.Rooted.{root_at, past_inside, step_in, step_past}
+use Rattle.ded_hull.proofs.Rooted.{whole_rest, step_past, step_own}
 use Rattle.ded_hull.proofs.tree.visit.Goals as goal
 
-pub passed-requires : goal.passed-requires
-passed-requires c =
-    let n = c.index-nodes-place.result in
-    let reaches = past_inside c.args.nodes.now c.args.place n c.requires.inside (root_at c.args.nodes.now c.args.place n c.requires.inside (sym c.index-nodes-place.is) c.requires.tree) in
-    search (rules, reaches)
-
-pub returns-in_ok-push_passing : goal.returns-in_ok-push_passing
-returns-in_ok-push_passing c =
-    let n = c.index-nodes-place.result in
-    let found : c.push_passing.new.found.items ≡ c.args.found.now.items ++ ids_in c.args.limits.now n.entries.items = c.in_ok-push_passing.ensures ∙ ap (λ es. c.args.found.now.items ++ ids_in c.args.limits.now es) c.deref.ensures.value in
-    step_in c.args.limits.now c.args.nodes.now c.args.place n c.args.found.now.items c.push_passing.new.found.items c.requires.inside (sym c.index-nodes-place.is) found
-
-pub returns-else-may_hold : goal.returns-else-may_hold
-returns-else-may_hold c =
-    let n = c.index-nodes-place.result in
+pub returns-then-not-may_hold : goal.returns-then-not-may_hold
+returns-then-not-may_hold c =
+    let n = c.args.node.now in
     let apart : may_hold n.hull c.args.limits.now ≡ false = search rules in
-    step_past c.args.limits.now c.args.nodes.now c.args.place c.passed.result n c.args.found.now.items c.requires.inside (sym c.index-nodes-place.is) c.requires.tree apart c.passed.ensures
+    step_past c.args.limits.now n c.args.behind.now c.args.entries.now c.requires _ _ c.args.found.now.items (whole_rest c.args.behind.now n.below) (whole_rest c.args.entries.now n.count) apart
+
+pub returns : goal.returns
+returns c =
+    let n = c.args.node.now in
+    let leaf : n.below ≡ 0 = search rules in
+    step_own c.args.limits.now n c.args.behind.now c.args.entries.now c.requires _ (take n.count c.args.entries.now) _ c.args.found.now.items c.push_passing.new.found.items refl refl (whole_rest c.args.entries.now n.count) leaf c.in_ok-push_passing.ensures

@@ -1,10 +1,11 @@
-use Rattle.std.proofs.Common.{◌≡◌, ◌-◌, ◌++◌, drop, length}
+use Rattle.std.proofs.Common.{◌≡◌, ◌++◌, length}
 use Rattle.ded_hull.specs.Entries.{ids_in}
-use Rattle.ded_hull.specs.Trees.{entries_of}
+use Rattle.ded_hull.specs.Trees.{IsTree}
 use Rattle.ded_hull.proofs.tree.visit_all.Given as goal
 
-abbrev pub invariant-loop-place : goal.invariant-loop-place
-invariant-loop-place l = l.found.items ++ ids_in l.limits (entries_of (drop l.place l.nodes)) ≡ l.initial.found.items ++ ids_in l.limits (entries_of l.nodes)
+abbrev pub invariant-loop-node : goal.invariant-loop-node
+invariant-loop-node l =
+    IsTree l.next l.rest × (l.found.items ++ ids_in l.limits l.rest ≡ l.initial.found.items ++ ids_in l.limits l.entries)
 
-abbrev pub decreases-loop-place : goal.decreases-loop-place
-decreases-loop-place l = length l.nodes - l.place
+abbrev pub decreases-loop-node : goal.decreases-loop-node
+decreases-loop-node l = length l.next

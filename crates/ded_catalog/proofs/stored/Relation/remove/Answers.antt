@@ -4,7 +4,7 @@ use Rattle.std.specs.List.{list_any}
 use Rattle.std.specs.Map.{remove_entry}
 use Rattle.std.specs.Ordering.{nat_cmp}
 use Rattle.ded_catalog.specs.Relations.{Relation}
-use Rattle.ded_catalog.proofs.Indexing.{index_taken_out}
+use Rattle.ded_catalog.proofs.Indexing.{index_pruned, index_taken_out}
 use Rattle.ded_catalog.proofs.Numbers.{above_none, removes}
 use Rattle.ded_catalog.proofs.stored.Relation.remove.Goals as goal
 
@@ -18,8 +18,9 @@ told-requires c = c.requires.present
 
 pub invariant_of-self : goal.invariant_of-self
 invariant_of-self c =
-    index_taken_out c.self.inside.heading c.self.inside.index c.remove-2.new.self c.args.number c.self.inside.tuples.entries c.remove.new.self.entries (ap (λ (r : Relation). list_any (λ t. t.0 == c.args.number) r.tuples.entries) c.self.view_is ∙ c.requires.present)
-    c.remove.ensures.entries c.remove.ensures.updates.1 c.self.invariant c.remove-2.ensures
+    index_pruned c.self.inside.heading c.remove-2.new.self c.prune.new.self c.remove.new.self.entries
+    (index_taken_out c.self.inside.heading c.self.inside.index c.remove-2.new.self c.args.number c.self.inside.tuples.entries c.remove.new.self.entries (ap (λ (r : Relation). list_any (λ t. t.0 == c.args.number) r.tuples.entries) c.self.view_is ∙ c.requires.present)
+    c.remove.ensures.entries c.remove.ensures.updates.1 c.self.invariant c.remove-2.ensures) c.prune.ensures
 
 pub returns-clause-ok : goal.returns-clause-ok
 returns-clause-ok c =

@@ -1,0 +1,18 @@
+use Rattle.std.proofs.Common.{◌≡◌, List, refl, subst, sym}
+use Rattle.std.specs.List.Sorted.{IsPermutation}
+use Rattle.ded_hull.specs.declared.entry.Entry.{Entry}
+use Rattle.ded_hull.specs.Entries.{of_keys}
+use Rattle.ded_catalog.specs.Relations.{IsIndex}
+use Rattle.ded_catalog.proofs.Indexed.{pruned}
+use Rattle.ded_catalog.proofs.Results.{either_way}
+use Rattle.ded_catalog.proofs.index.Index.prune.Goals as goal
+
+pub returns-then-count-saturating_add : goal.returns-then-count-saturating_add
+returns-then-count-saturating_add c =
+    let ts = c.args.tuples.now.entries in
+    let old = c.args.self.now.hulls in
+    let new = c.retain.new.self in
+    record {
+      reaches = λ h. either_way c.retain.result (IsPermutation (of_keys ts old) new) (new ≡ old) c.retain.ensures.kept c.retain.ensures.unchanged (λ p. pruned old new ts p h) (λ e. subst (λ (es : List Entry). IsIndex es ts) (sym e) h);
+      texts = refl;
+    }
