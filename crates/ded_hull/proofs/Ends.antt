@@ -1,11 +1,12 @@
 -- Ends of reaches: rounded outward, and those that contain both.
-use Rattle.std.proofs.Common.{◌≡◌, ℕ, Bool, true, false, cond, Option, Some, None, arith, refl, sym, ap, ◌∙◌, subst, SFits}
+use Rattle.std.proofs.Common.{◌≡◌, ℕ, Bool, true, false, cond, Option, Some, None, arith, refl, sym, ap, ◌∙◌, subst}
 use Rattle.std.specs.Prelude.{ℤ, pos, ◌*ℤ◌, ◌≤ℤ◌, ◌<ℤ◌, int_lt, neg_ℤ}
 use Rattle.std.specs.Option.{IfSome, SomeIff}
-use Rattle.std.specs.Int.{w128, int_div_euclid}
+use Rattle.std.specs.Int.{int_div_euclid}
 use Rattle.std.specs.Ordering.{int_eq}
 use Rattle.std.proofs.lemmas.Int.{ints}
 use borrow.Author.Differences.{up}
+use Rattle.ded_num.specs.Length.{IsShort}
 use Rattle.ded_num.proofs.Ring.{parts, diff_same, ring}
 use Rattle.ded_model.specs.declared.bound.Bound.{Bound}
 use Rattle.ded_model.specs.declared.bound.Bound.TheVariants.{Included}
@@ -51,10 +52,13 @@ ceil_is None u f p h e = λ n d out. tt
 ceil_is (Some k) u f p h e = ceil_at k u f p h e
 
 -- what the program computes
-pub whole_is : (u q n d : ℤ) (o : Option ℤ) → SomeIff o (SFits w128 (n *ℤ pos fine)) (n *ℤ pos fine) → o ≡ Some u → q ≡ int_div_euclid u d → pos 0 <ℤ d → (q *ℤ d) ≤ℤ (n *ℤ pos fine)
+pub whole_is : (u q n d : ℤ) (o : Option ℤ) → SomeIff o (IsShort (n *ℤ pos fine)) (n *ℤ pos fine) → o ≡ Some u → q ≡ int_div_euclid u d → pos 0 <ℤ d → (q *ℤ d) ≤ℤ (n *ℤ pos fine)
 whole_is u q n d o h e f p =
-    let s = subst (λ o. SomeIff o (SFits w128 (n *ℤ pos fine)) (n *ℤ pos fine)) e h in
+    let s = subst (λ o. SomeIff o (IsShort (n *ℤ pos fine)) (n *ℤ pos fine)) e h in
     subst (λ x. (x *ℤ d) ≤ℤ (n *ℤ pos fine)) (sym f) (subst (λ x. (int_div_euclid u d *ℤ d) ≤ℤ x) s.1 (quotient_at_most u d p))
+
+pub whole_short : (u n : ℤ) (o : Option ℤ) → SomeIff o (IsShort (n *ℤ pos fine)) (n *ℤ pos fine) → o ≡ Some u → IsShort (n *ℤ pos fine)
+whole_short u n o h e = (subst (λ o. SomeIff o (IsShort (n *ℤ pos fine)) (n *ℤ pos fine)) e h).0
 
 pub units_are : (o : Option ℤ) (u d r m : ℤ) → IfSome o (λ k. (k *ℤ d) ≤ℤ (r *ℤ pos fine)) → o ≡ Some u → r ≡ m → (u *ℤ d) ≤ℤ (m *ℤ pos fine)
 units_are o u d r m h e f = subst (λ x. (u *ℤ d) ≤ℤ (x *ℤ pos fine)) f (subst (λ o. IfSome o (λ k. (k *ℤ d) ≤ℤ (r *ℤ pos fine))) e h)

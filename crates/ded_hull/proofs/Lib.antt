@@ -1,3 +1,4 @@
+pub mod Around
 pub mod Columns
 pub mod Ends
 pub mod Found

@@ -100,11 +100,11 @@ times_down k x y h l =
 nat_ranks : (n k : ℕ) → n ≤ k ⊎ k < n
 nat_ranks n k = grind arith
 
-short_low : (n : ℕ) (z : ℤ) → unsigned_abs z < n → neg_ℤ (pos n) <ℤ z
+pub short_low : (n : ℕ) (z : ℤ) → unsigned_abs z < n → neg_ℤ (pos n) <ℤ z
 short_low n (pos k) h = omega (arith, ints)
 short_low n (negsuc k) h = omega (arith, ints)
 
-short_high : (n : ℕ) (z : ℤ) → unsigned_abs z < n → z <ℤ pos n
+pub short_high : (n : ℕ) (z : ℤ) → unsigned_abs z < n → z <ℤ pos n
 short_high n (pos k) h = omega (arith, ints)
 short_high n (negsuc k) h = omega (arith, ints)
 
@@ -151,7 +151,7 @@ short_turned : (b : Bool) (z : ℤ) → IsShort z → IsShort (turned b z)
 short_turned true z h = subst (λ k. k < 2 ^ 127) (sym (abs_turned z)) h
 short_turned false z h = h
 
-kept_short : (z : ℤ) → IsShort z → kept z ≡ Some z
+pub kept_short : (z : ℤ) → IsShort z → kept z ≡ Some z
 kept_short z h = kept_same z (short_low (2 ^ 127) z h) (short_high (2 ^ 127) z h)
 
 turned_times : (b : Bool) (x y : ℤ) → turned b x *ℤ y ≡ turned b (x *ℤ y)

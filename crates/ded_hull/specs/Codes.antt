@@ -1,5 +1,5 @@
 -- Codes of ends: a number of units is its own code up to 2 to the power of 62, codes beyond stand for whole numbers, and one for no end.
-use Rattle.std.specs.Prelude.{◌-◌, ◌^◌, ◌+ℤ◌, ◌-ℤ◌, ◌*ℤ◌, ℕ, ℤ, pos, Bool, true, false, int_lt, if◌then◌else◌, Option, Some, None}
+use Rattle.std.specs.Prelude.{◌-◌, ◌^◌, ◌+ℤ◌, ◌-ℤ◌, ◌*ℤ◌, ℕ, ℤ, pos, Bool, true, false, int_lt, int_le, if◌then◌else◌, Option, Some, None}
 use lib.IntN.{neg_ℤ}
 use Rattle.std.specs.Int.{int_div_euclid}
 use Rattle.std.specs.Ordering.{int_eq}
@@ -52,3 +52,9 @@ is_lower None None = false
 is_lower None (Some b) = true
 is_lower (Some a) None = false
 is_lower (Some a) (Some b) = int_lt a b
+
+-- the low end is at or below the high end, if there are both
+abbrev pub is_up_to : Option ℤ → Option ℤ → Bool
+is_up_to None h = true
+is_up_to (Some l) None = true
+is_up_to (Some l) (Some h) = int_le l h

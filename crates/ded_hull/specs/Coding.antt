@@ -1,12 +1,12 @@
 -- Codes of ends: they stand in the order of their units, and give them back.
 use Rattle.std.proofs.Common.{◌≡◌, ℕ, ◌<◌, ◌^◌, Bool, true, false, cond, Option, Some, None, arith, refl, sym, ap, ◌∙◌, subst, SFits}
-use Rattle.std.specs.Prelude.{ℤ, pos, ◌+ℤ◌, ◌-ℤ◌, ◌*ℤ◌, ◌≤ℤ◌, ◌<ℤ◌, int_lt, neg_ℤ}
+use Rattle.std.specs.Prelude.{ℤ, pos, ◌+ℤ◌, ◌-ℤ◌, ◌*ℤ◌, ◌≤ℤ◌, ◌<ℤ◌, int_lt, int_le, neg_ℤ}
 use Rattle.std.specs.Int.{int_div_euclid, w64}
 use Rattle.std.specs.Ordering.{int_eq}
 use Rattle.std.proofs.lemmas.Int.{ints}
 use Rattle.std.proofs.lemmas.Bool.Decides.{Decides-int_eq}
 use Rattle.ded_num.proofs.Ring.{parts, diff_same, ring}
-use Rattle.ded_hull.specs.Codes.{fine, edge, shift, lowest, units_of, code_of, end_of, code_at, turned, is_lower}
+use Rattle.ded_hull.specs.Codes.{fine, edge, shift, lowest, units_of, code_of, end_of, code_at, turned, is_lower, is_up_to}
 use Rattle.ded_hull.specs.Scaling.{lt_true, lt_false, of_lt_true, of_lt_false, le_self, le_unscale, lt_unscale, times_lt, quotient_next, quotient_up_to}
 
 -- ---- sums
@@ -249,6 +249,30 @@ lower_is a b la lb = by (int_eq a lowest) (int_eq b lowest) refl refl
     by true false h k = lt_true a b (as_lt a lowest b (same lowest a h) (other lowest b lb k))
     by false true h k = lt_false a b (as_le b lowest a (same lowest b k) la)
     by false false h k = sym (units_order a b)
+
+-- a low end is at or below a high end where its code is: that of no low end is at most each
+pub up_to_is : (a b : ℤ) (o p : Option ℤ) → lowest ≤ℤ a → lowest ≤ℤ b → int_eq b lowest ≡ false → end_of a ≡ o → end_of b ≡ p → int_le a b ≡ is_up_to o p
+up_to_is a b o p la lb some e f = by (int_eq a lowest) refl ∙ ap (λ h. is_up_to (end_of a) h) (ap (λ i. cond i None (Some (units_of b))) (sym some) ∙ f) ∙ ap (λ l. is_up_to l p) e
+  where
+    least : (l a b : ℤ) → int_eq a l ≡ true → l ≤ℤ b → int_le a b ≡ true
+    least l a b h k = grind (arith, ints)
+
+    turn_order : (a b c d : ℤ) → int_lt d c ≡ int_lt b a → int_le a b ≡ int_le c d
+    turn_order a b c d h = choose (int_lt b a) refl h
+      where
+        le : (a b : ℤ) → int_lt b a ≡ false → int_le a b ≡ true
+        le a b h = grind (arith, ints)
+
+        above : (a b : ℤ) → int_lt b a ≡ true → int_le a b ≡ false
+        above a b h = grind (arith, ints)
+
+        choose : (i : Bool) → int_lt b a ≡ i → int_lt d c ≡ i → int_le a b ≡ int_le c d
+        choose true h k = above a b h ∙ sym (above c d k)
+        choose false h k = le a b h ∙ sym (le c d k)
+
+    by : (i : Bool) → int_eq a lowest ≡ i → int_le a b ≡ is_up_to (cond i None (Some (units_of a))) (Some (units_of b))
+    by true h = least lowest a b h lb
+    by false h = turn_order a b (units_of a) (units_of b) (units_order b a)
 
 -- the negative of an end
 pub turned_none : (c : ℤ) (o : Option ℤ) → int_eq c lowest ≡ true → end_of c ≡ o → o ≡ turned o

@@ -1,3 +1,4 @@
+pub mod Boxes
 pub mod Codes
 pub mod Coding
 pub mod Entries

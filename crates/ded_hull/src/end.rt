@@ -3,7 +3,7 @@
 //! A number of units up to 2 to the power of 62 is its own code. Codes beyond stand for whole numbers, and the least one for no end. So
 //! ends stand in the order of their codes, those near 0 are fine, and those far away are whole numbers up to about 2 to the power of 62.
 ghost use Rattle.std.specs.Prelude.{◌≡◌, Option, Some, None};
-ghost use Rattle.ded_hull.specs.Codes.{units_of, code_of, turned, is_none, is_lower};
+ghost use Rattle.ded_hull.specs.Codes.{units_of, code_of, turned, is_none, is_lower, is_up_to};
 ghost use Rattle.ded_hull.specs.Reaches.{NotAbove, NotBelow};
 
 use std::marker::Model;
@@ -90,6 +90,14 @@ impl End {
         ensures { result ≡ is_lower self other }
     {
         self.code < other.code
+    }
+
+    /// Whether it is, as a low end, at or below a high end. Where one of them is none, it is.
+    pub(crate) fn is_up_to(self, high: End) -> bool
+        ensures { result ≡ is_up_to self high }
+    {
+        // no low end has the least code
+        high.code == i64::MIN || self.code <= high.code
     }
 
     /// The negative.

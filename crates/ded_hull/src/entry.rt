@@ -3,14 +3,14 @@ ghost use Rattle.std.specs.Prelude.{◌≡◌, ◌++◌, [], ◌∷◌, IfOk};
 ghost use Rattle.std.specs.List.Sorted.{IsPermutation};
 ghost use Rattle.ded_hull.specs.Entries.{ids_in, of_keys, Covers};
 
-use crate::limit::{Limit, may_hold};
+use crate::probe::Probe;
 use crate::reach::{Range, Reach};
 use ded_model::memory::NoMemory;
 use std::alloc::Global;
 use std::collections::BTreeMap;
 
 /// How many times a list that is sorted once is halved.
-const LEVELS: u32 = 3;
+const LEVELS: u32 = 2;
 
 /// A reach under a number.
 #[derive(Drop)]
@@ -54,22 +54,22 @@ fn cover(hull: &mut Reach, entries: &[Entry])
 /// Out of memory.
 pub(crate) fn push_passing(
     entries: &[Entry],
-    limits: &[Limit],
+    probe: &Probe,
     found: &mut Vec<u32>,
 ) -> Result<(), NoMemory>
-    ensures { IfOk result (λ _. found.new.items ≡ found.old.items ++ ids_in limits.now entries.now) }
+    ensures { IfOk result (λ _. found.new.items ≡ found.old.items ++ ids_in probe.now entries.now) }
 {
     for i in 0..entries.len() {
-        push_if_passing(&entries[i], limits, found)?;
+        push_if_passing(&entries[i], probe, found)?;
     }
     Ok(())
 }
 
 /// Adds the number of the entry where the limits may hold in its reach.
-fn push_if_passing(entry: &Entry, limits: &[Limit], found: &mut Vec<u32>) -> Result<(), NoMemory>
-    ensures { IfOk result (λ _. found.new.items ≡ found.old.items ++ ids_in limits.now (entry.now ∷ [])) }
+fn push_if_passing(entry: &Entry, probe: &Probe, found: &mut Vec<u32>) -> Result<(), NoMemory>
+    ensures { IfOk result (λ _. found.new.items ≡ found.old.items ++ ids_in probe.now (entry.now ∷ [])) }
 {
-    if may_hold(&entry.reach, limits) {
+    if probe.may_hold(&entry.reach) {
         found.push(entry.id)?;
     }
     Ok(())
@@ -91,8 +91,8 @@ pub(crate) fn copy_all(from: &[Entry], to: &mut Vec<Entry>) -> Result<(), NoMemo
     Ok(())
 }
 
-/// On one level of three, sorts the entries by their middles in the column in which these lie farthest apart. So each sort is good for
-/// eight parts.
+/// On every second level, sorts the entries by their middles in the column in which these lie farthest apart. So each sort is good for
+/// four parts.
 pub(crate) fn arrange(entries: &mut [Entry], hull: &Reach, level: u32)
     ensures { IsPermutation entries.old entries.new }
 {

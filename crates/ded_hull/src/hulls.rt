@@ -9,6 +9,7 @@ ghost use Rattle.ded_hull.specs.Trees.{all_of};
 
 use crate::entry::{Entry, copy_all, keep_present, push_passing};
 use crate::limit::Limit;
+use crate::probe::Probe;
 use crate::reach::Reach;
 use crate::tree::Tree;
 use ded_model::memory::NoMemory;
@@ -112,9 +113,10 @@ impl Hulls {
         ensures found { IfOk result (λ ids. AreFound limits.now self.now ids.items) }
         ensures complete { IfOk result (λ ids. IsComplete limits.now self.now ids.items) }
     {
+        let probe = Probe::new(alloc, limits)?;
         let mut found = Vec::new(alloc);
-        find_in(&self.trees, limits, &mut found)?;
-        push_passing(&self.tail, limits, &mut found)?;
+        find_in(&self.trees, &probe, &mut found)?;
+        push_passing(&self.tail, &probe, &mut found)?;
         found.sort_unstable();
         found.dedup();
         Ok(found)
@@ -136,11 +138,11 @@ fn count_in(trees: &[Tree]) -> usize
 ///
 /// # Errors
 /// Out of memory.
-fn find_in(trees: &[Tree], limits: &[Limit], found: &mut Vec<u32>) -> Result<(), NoMemory>
-    ensures { IfOk result (λ _. found.new.items ≡ found.old.items ++ ids_in limits.now (all_of trees.now)) }
+fn find_in(trees: &[Tree], probe: &Probe, found: &mut Vec<u32>) -> Result<(), NoMemory>
+    ensures { IfOk result (λ _. found.new.items ≡ found.old.items ++ ids_in probe.now (all_of trees.now)) }
 {
     for i in 0..trees.len() {
-        trees[i].find(limits, found)?;
+        trees[i].find(probe, found)?;
     }
     Ok(())
 }

@@ -18,6 +18,7 @@ mod entry;
 mod hulls;
 mod limit;
 mod number;
+mod probe;
 mod reach;
 mod sieve;
 mod term;

@@ -1,5 +1,6 @@
 //! Reaches, and their ends from exact bounds.
 ghost use Rattle.std.specs.Prelude.{◌≡◌, ℕ, ℤ, ◌<◌, ◌<ℤ◌, ◌≤ℤ◌, ◌*ℤ◌, pos, neg_ℤ, [], ◌++◌, ◌∷◌, IfOk, OnErr, IfSome};
+ghost use Rattle.ded_num.specs.Length.{IsShort};
 ghost use Rattle.ded_model.specs.declared.bound.Bound.TheVariants.{Included};
 ghost use Rattle.ded_hull.specs.Codes.{fine};
 ghost use Rattle.ded_hull.specs.Reaches.{IsFloor, IsCeil, IsWithin, lower_of, higher_of, joined, range_at, hull, IsIn, Lies, both_low, both_high, everywhere, met, narrowed, all_values};
@@ -8,6 +9,7 @@ use crate::end::{End, FINE};
 use crate::number::directed;
 use ded_model::bound::{Bound, Frac};
 use ded_model::memory::NoMemory;
+use ded_num::short_product;
 use smallvec::SmallVec;
 use std::alloc::Global;
 use std::marker::Model;
@@ -280,9 +282,10 @@ pub(crate) fn negative(units: i128) -> Option<i128>
 /// The greatest number of units that is at most the fraction, unless it is too long.
 pub(crate) fn whole(num: i128, den: i128) -> Option<i128>
     requires { pos 0 <ℤ den }
-    ensures { IfSome result (λ k. (k *ℤ den) ≤ℤ (num *ℤ pos fine)) }
+    ensures floor { IfSome result (λ k. (k *ℤ den) ≤ℤ (num *ℤ pos fine)) }
+    ensures short { IfSome result (λ _. IsShort (num *ℤ pos fine)) }
 {
-    match num.checked_mul(FINE) {
+    match short_product(num, FINE) {
         Some(units) => Some(units.div_euclid(den)),
         None => None,
     }

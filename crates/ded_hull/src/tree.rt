@@ -12,7 +12,7 @@ ghost use Rattle.ded_hull.specs.Entries.{ids_in};
 ghost use Rattle.ded_hull.specs.Trees.{IsTree, IsStep};
 
 use crate::entry::{Entry, arrange, copy_all, hull_of, push_passing};
-use crate::limit::{Limit, may_hold};
+use crate::probe::Probe;
 use crate::reach::Reach;
 use ded_model::memory::NoMemory;
 use std::alloc::Global;
@@ -78,10 +78,10 @@ impl Tree {
     ///
     /// # Errors
     /// Out of memory.
-    pub(crate) fn find(&self, limits: &[Limit], found: &mut Vec<u32>) -> Result<(), NoMemory>
-        ensures { IfOk result (λ _. found.new.items ≡ found.old.items ++ ids_in limits.now self.now) }
+    pub(crate) fn find(&self, probe: &Probe, found: &mut Vec<u32>) -> Result<(), NoMemory>
+        ensures { IfOk result (λ _. found.new.items ≡ found.old.items ++ ids_in probe.now self.now) }
     {
-        visit_all(&self.nodes, &self.entries, limits, found)
+        visit_all(&self.nodes, &self.entries, probe, found)
     }
 
     /// Adds copies of the entries.
@@ -176,16 +176,16 @@ fn joined(
 pub(crate) fn visit_all(
     nodes: &[Node],
     entries: &[Entry],
-    limits: &[Limit],
+    probe: &Probe,
     found: &mut Vec<u32>,
 ) -> Result<(), NoMemory>
     requires { IsTree nodes.now entries.now }
-    ensures { IfOk result (λ _. found.new.items ≡ found.old.items ++ ids_in limits.now entries.now) }
+    ensures { IfOk result (λ _. found.new.items ≡ found.old.items ++ ids_in probe.now entries.now) }
 {
     let mut next = nodes;
     let mut rest = entries;
     while let Some((node, behind)) = next.split_first() {
-        (next, rest) = visit(node, behind, rest, limits, found)?;
+        (next, rest) = visit(node, behind, rest, probe, found)?;
     }
     Ok(())
 }
@@ -199,18 +199,18 @@ fn visit<'a>(
     node: &Node,
     behind: &'a [Node],
     entries: &'a [Entry],
-    limits: &[Limit],
+    probe: &Probe,
     found: &mut Vec<u32>,
 ) -> Result<(&'a [Node], &'a [Entry]), NoMemory>
     requires { IsTree (node.now ∷ behind.now) entries.now }
-    ensures { IfOk result (λ next. IsStep limits.now behind.now entries.now next.0.now next.1.now found.old.items found.new.items) }
+    ensures { IfOk result (λ next. IsStep probe.now behind.now entries.now next.0.now next.1.now found.old.items found.new.items) }
 {
-    if !may_hold(&node.hull, limits) {
+    if !probe.may_hold(&node.hull) {
         return Ok((&behind[node.below..], &entries[node.count..]));
     }
     if node.below > 0 {
         return Ok((behind, entries));
     }
-    push_passing(&entries[..node.count], limits, found)?;
+    push_passing(&entries[..node.count], probe, found)?;
     Ok((behind, &entries[node.count..]))
 }

@@ -1,6 +1,7 @@
 //! Windows: what is asked of the values of columns.
 ghost use Rattle.std.specs.Prelude.{◌≡◌, ℕ, ℤ, true, [], IfOk};
-ghost use Rattle.ded_hull.specs.Limits.{is_met, are_met};
+ghost use Rattle.ded_hull.specs.Boxes.{StaysAround, IsAround};
+ghost use Rattle.ded_hull.specs.Limits.{is_met, are_met, may_meet, may_hold};
 ghost use Rattle.ded_hull.specs.Reaches.{Lies};
 ghost use Rattle.ded_hull.specs.Tuples.{IsReachOf};
 ghost use Rattle.ded_hull.specs.Windows.{is_within};
@@ -39,10 +40,22 @@ impl Window {
     pub fn reach(&self, alloc: Global) -> Result<Reach, NoMemory>
         ensures { IfOk result (λ r. IsReachOf r (is_within self.now)) }
     {
-        let mut reach = Reach::everywhere(alloc, width_of(&self.limits))?;
-        narrow_by(&mut reach, &self.limits);
-        Ok(reach)
+        box_of(alloc, &self.limits)
     }
+}
+
+/// A reach that contains all values at which the limits are met, and overlaps each reach in which they may hold. Limits of one term
+/// give its ends.
+///
+/// # Errors
+/// Out of memory.
+pub(crate) fn box_of(alloc: Global, limits: &[Limit]) -> Result<Reach, NoMemory>
+    ensures lies { IfOk result (λ r. (v : ℕ → ℤ) (den : ℕ) → are_met v den limits.now ≡ true → Lies r v den) }
+    ensures around { IfOk result (λ r. IsAround r limits.now) }
+{
+    let mut reach = Reach::everywhere(alloc, width_of(limits))?;
+    narrow_by(&mut reach, limits);
+    Ok(reach)
 }
 
 /// How many of the first columns the limits of one term speak of.
@@ -58,7 +71,8 @@ fn width_of(limits: &[Limit]) -> usize {
 
 /// Narrows the reach to the values at which each limit of one term is met.
 fn narrow_by(reach: &mut Reach, limits: &[Limit])
-    ensures { (v : ℕ → ℤ) (den : ℕ) → Lies reach.old v den → are_met v den limits.now ≡ true → Lies reach.new v den }
+    ensures lies { (v : ℕ → ℤ) (den : ℕ) → Lies reach.old v den → are_met v den limits.now ≡ true → Lies reach.new v den }
+    ensures around { StaysAround (λ rs. may_hold rs limits.now) reach.old reach.new }
 {
     for i in 0..limits.len() {
         narrow_by_limit(reach, &limits[i]);
@@ -67,7 +81,8 @@ fn narrow_by(reach: &mut Reach, limits: &[Limit])
 
 /// Narrows the reach to the values at which the limit is met, if it has one term.
 fn narrow_by_limit(reach: &mut Reach, limit: &Limit)
-    ensures { (v : ℕ → ℤ) (den : ℕ) → Lies reach.old v den → is_met v den limit.now ≡ true → Lies reach.new v den }
+    ensures lies { (v : ℕ → ℤ) (den : ℕ) → Lies reach.old v den → is_met v den limit.now ≡ true → Lies reach.new v den }
+    ensures around { StaysAround (λ rs. may_meet rs limit.now) reach.old reach.new }
 {
     if limit.terms.len() == 1 {
         let (place, a) = limit.terms[0];

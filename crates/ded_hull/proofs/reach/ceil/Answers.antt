@@ -16,4 +16,4 @@ returns-in-Some c =
     let u : SFits w128 c.in-Some.units = search rules in
     subst (λ (f : Fraction). IsCeil (Included f) c.negative.result) c.f.view_is
     (ceil_is c.negative.result c.in-Some.units (record { num = c.f.inside.num; den = c.f.inside.den }) c.f.invariant.positive
-    (units_are c.whole.result c.in-Some.units c.f.inside.den c.directed.result (neg_ℤ c.f.inside.num) (simp to_z-of_z at c.whole.ensures) c.in-Some.is (simp to_z-of_z at c.directed.ensures)) (simp to_z-of_z at c.negative.ensures))
+    (units_are c.whole.result c.in-Some.units c.f.inside.den c.directed.result (neg_ℤ c.f.inside.num) (simp to_z-of_z at c.whole.ensures.floor) c.in-Some.is (simp to_z-of_z at c.directed.ensures)) (simp to_z-of_z at c.negative.ensures))

@@ -11,4 +11,4 @@ pub returns : goal.returns
 returns c =
     let n : SFits w128 c.f.inside.num = fits_signed_from_abs w128 c.f.inside.num c.f.invariant.num in
     let d : SFits w128 c.f.inside.den = fits_signed_from_abs w128 c.f.inside.den c.f.invariant.den in
-    subst (λ (f : Fraction). IsFloor (Included f) c.whole.result) c.f.view_is (floor_is c.whole.result (record { num = c.f.inside.num; den = c.f.inside.den }) c.f.invariant.positive (simp to_z-of_z at c.whole.ensures))
+    subst (λ (f : Fraction). IsFloor (Included f) c.whole.result) c.f.view_is (floor_is c.whole.result (record { num = c.f.inside.num; den = c.f.inside.den }) c.f.invariant.positive (simp to_z-of_z at c.whole.ensures.floor))

@@ -6,11 +6,11 @@ use Rattle.ded_hull.proofs.tree.visit.Goals as goal
 pub returns-then-not-may_hold : goal.returns-then-not-may_hold
 returns-then-not-may_hold c =
     let n = c.args.node.now in
-    let apart : may_hold n.hull c.args.limits.now ≡ false = search rules in
-    step_past c.args.limits.now n c.args.behind.now c.args.entries.now c.requires _ _ c.args.found.now.items (whole_rest c.args.behind.now n.below) (whole_rest c.args.entries.now n.count) apart
+    let apart : may_hold n.hull c.args.probe.now ≡ false = search rules in
+    step_past c.args.probe.now n c.args.behind.now c.args.entries.now c.requires _ _ c.args.found.now.items (whole_rest c.args.behind.now n.below) (whole_rest c.args.entries.now n.count) apart
 
 pub returns : goal.returns
 returns c =
     let n = c.args.node.now in
     let leaf : n.below ≡ 0 = search rules in
-    step_own c.args.limits.now n c.args.behind.now c.args.entries.now c.requires _ (take n.count c.args.entries.now) _ c.args.found.now.items c.push_passing.new.found.items refl refl (whole_rest c.args.entries.now n.count) leaf c.in_ok-push_passing.ensures
+    step_own c.args.probe.now n c.args.behind.now c.args.entries.now c.requires _ (take n.count c.args.entries.now) _ c.args.found.now.items c.push_passing.new.found.items refl refl (whole_rest c.args.entries.now n.count) leaf c.in_ok-push_passing.ensures

@@ -5,7 +5,7 @@ use Rattle.ded_hull.proofs.tree.visit_all.Given as goal
 
 abbrev pub invariant-loop-node : goal.invariant-loop-node
 invariant-loop-node l =
-    IsTree l.next l.rest × (l.found.items ++ ids_in l.limits l.rest ≡ l.initial.found.items ++ ids_in l.limits l.entries)
+    IsTree l.next l.rest × (l.found.items ++ ids_in l.probe l.rest ≡ l.initial.found.items ++ ids_in l.probe l.entries)
 
 abbrev pub decreases-loop-node : goal.decreases-loop-node
 decreases-loop-node l = length l.next

@@ -20,7 +20,7 @@ returns-then-coefs-eq1 c =
     let are : AreCoefs cs = subst AreCoefs (sym c.list-coefs.ensures.value) c.list-coefs.ensures.coefs in
     let k : SFits w128 c.row.inside.constant = fits_signed_from_abs w128 c.row.inside.constant c.row.invariant in
     let a : SFits w128 t.1 = fits_signed_from_abs w128 t.1 (one_short cs t one are) in
-    let own = simp to_z-of_z at c.narrow_to_term.ensures in
+    let own = simp to_z-of_z at c.narrow_to_term.ensures.lies in
     λ p l h.
     let holds = subst (λ (r : LinearConstraint). row_holds r p ≡ true) (sym c.row.view_is) h in
     own (column_value p) p.den l (row_one (record { coefs = c.row.inside.coefs; constant = c.row.inside.constant; op = c.row.inside.op }) t p c.list-coefs.ensures.coefs (sym c.list-coefs.ensures.value ∙ one) holds)

@@ -4,9 +4,9 @@ use Rattle.ded_hull.specs.Entries.{ids_in, AreFound}
 use Rattle.ded_hull.specs.Trees.{all_of}
 use Rattle.ded_hull.proofs.Found.{answer, is_complete, ids_in-append}
 use Rattle.ded_hull.proofs.hulls.Hulls.find.Goals as goal
-use Rattle.ded_hull.proofs.hulls.Hulls.find.Goals.{After-dedup}
+use Rattle.ded_hull.proofs.hulls.Hulls.find.Goals.{Joined-probe-3}
 
-found : (c : After-dedup) → AreFound c.args.limits.now c.args.self.now c.dedup.new.self.items
+found : (c : Joined-probe-3) → AreFound c.args.limits.now c.args.self.now c.dedup.new.self.items
 found c =
     let ls = c.args.limits.now in
     let trees = c.self.inside.trees.items in
