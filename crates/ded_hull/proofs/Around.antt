@@ -1,18 +1,20 @@
 -- Boxes of limits of one term: they overlap each reach in which the limits may hold.
-use Rattle.std.proofs.Common.{◌≡◌, ℕ, zero, suc, ◌-◌, ◌^◌, ◌<◌, ◌≤◌, Bool, true, false, cond, ◌&&◌, Option, Some, None, List, [], ◌∷◌, length, drop, min, arith, refl, sym, ap, ◌∙◌, subst}
+use Rattle.std.proofs.Common.{◌≡◌, ℕ, zero, suc, ◌-◌, ◌^◌, ◌<◌, ◌≤◌, ◌==◌, Bool, true, false, cond, ◌&&◌, Option, Some, None, List, [], ◌∷◌, length, drop, min, arith, refl, sym, ap, ◌∙◌, subst}
 use Rattle.std.specs.Prelude.{ℤ, pos, ◌+ℤ◌, ◌*ℤ◌, ◌≤ℤ◌, ◌<ℤ◌, int_lt, int_le, neg_ℤ}
+use Rattle.std.specs.List.{list_all}
 use Rattle.std.specs.Option.{IfSome}
 use Rattle.std.proofs.lemmas.Int.{ints}
 use Rattle.ded_num.specs.Length.{IsShort}
 use Rattle.ded_num.proofs.Ring.{parts, diff_same, ring, ring_pos}
 use Rattle.ded_model.specs.declared.row.RowOp.{RowOp}
 use Rattle.ded_model.specs.declared.row.RowOp.TheVariants.{Zero, AtMost, Below}
+use Rattle.ded_model.proofs.Rows.{or_right}
 use Rattle.ded_hull.specs.declared.reach.Range.{Range}
 use Rattle.ded_hull.specs.declared.limit.Limit.{Limit}
 use Rattle.ded_hull.specs.Codes.{fine, is_up_to}
 use Rattle.ded_hull.specs.Reaches.{NotAbove, NotBelow, everywhere, range_at, both_low, both_high, met, narrowed, all_values}
-use Rattle.ded_hull.specs.Limits.{Term, kept, plus, times, at_most_zero, below_zero, may_be, may_hold}
-use Rattle.ded_hull.specs.Boxes.{overlap, overlaps, least_with, IsRangeAround, StaysAround, IsAround}
+use Rattle.ded_hull.specs.Limits.{Term, kept, plus, times, at_most_zero, below_zero, may_be, may_meet, may_hold}
+use Rattle.ded_hull.specs.Boxes.{overlap, overlaps, least_with, IsRangeAround, StaysAround, may_pass, IsAround}
 use Rattle.ded_hull.specs.Scaling.{lt_true, of_lt_true, of_lt_false, times_up, times_neg, le_unscale, lt_unscale, commute}
 use Rattle.ded_hull.proofs.Numbers.{kept_same, kept_high, kept_short, short_low, short_high}
 use Rattle.ded_hull.proofs.Sums.{and_both, and_first, and_second, le_trans}
@@ -218,6 +220,15 @@ all_values_around (suc n) (r ∷ rs) = and_both (overlap everywhere r) (overlaps
 
 pub is_around : (n : ℕ) (old new : List Range) (ls : List Limit) → old ≡ all_values n → StaysAround (λ rs. may_hold rs ls) old new → IsAround new ls
 is_around n old new ls e h = λ rs m. h rs (subst (λ (xs : List Range). overlaps xs rs ≡ true) (sym e) (all_values_around n rs)) m
+
+-- what may hold passes as far as the box and the limits of several terms tell
+pub passes : (b rs : List Range) (ls : List Limit) → IsAround b ls → may_hold rs ls ≡ true → (overlaps b rs && list_all (may_pass rs) ls) ≡ true
+passes b rs ls h m = and_both (overlaps b rs) (list_all (may_pass rs) ls) (h rs m) (each ls m)
+  where
+    each : (ls : List Limit) → may_hold rs ls ≡ true → list_all (may_pass rs) ls ≡ true
+    each [] m = refl
+    each (l ∷ ls) m =
+        and_both (may_pass rs l) (list_all (may_pass rs) ls) (or_right (length l.terms.items == 1) (may_meet rs l) (and_first (may_meet rs l) (may_hold rs ls) m)) (each ls (and_second (may_meet rs l) (may_hold rs ls) m))
 
 -- ---- what the program computes
 

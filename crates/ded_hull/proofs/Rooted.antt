@@ -1,16 +1,22 @@
 -- Trees in lists: built of halves, and looked through.
-use Rattle.std.proofs.Common.{◌≡◌, ℕ, zero, suc, ◌+◌, ◌-◌, ◌≤◌, false, List, [], ◌∷◌, ◌++◌, take, drop, length, arith, refl, sym, ap, ap₂, ◌∙◌, subst, append_assoc, length-append}
+use Rattle.std.proofs.Common.{◌≡◌, ℕ, zero, suc, ◌+◌, ◌-◌, ◌≤◌, false, true≢false, Option, Some, List, [], ◌∷◌, ◌++◌, take, drop, length, arith, refl, sym, ap, ap₂, ◌∙◌, subst, append_assoc, length-append}
 use Rattle.std.proofs.Math.Seq.{take-length}
 use Rattle.std.proofs.lemmas.List.{take-append-le, drop-append-le, take_all, take-append-drop, drop-drop, length-drop}
+use Rattle.std.specs.Prelude.{is_some}
+use Rattle.std.specs.List.{slice_get}
+use Rattle.std.specs.Option.{unwrap_or}
 use Rattle.std.specs.List.Sorted.{IsPermutation}
 use Rattle.std.proofs.lemmas.List.Sorted.{IsPermutation-trans, IsPermutation-append_left, IsPermutation-append_right}
+use Rattle.ded_model.proofs.Lists.{every-append}
+use Rattle.ded_hull.specs.declared.reach.Range.{Range}
 use Rattle.ded_hull.specs.declared.limit.Limit.{Limit}
 use Rattle.ded_hull.specs.declared.entry.Entry.{Entry}
 use Rattle.ded_hull.specs.declared.tree.Node.{Node}
+use Rattle.ded_hull.specs.Reaches.{IsWithin}
 use Rattle.ded_hull.specs.Limits.{may_hold}
 use Rattle.ded_hull.specs.Entries.{ids_in, Covers}
-use Rattle.ded_hull.specs.Trees.{owns, owned, IsRoot, IsTree, IsStep}
-use Rattle.ded_hull.proofs.Found.{ids_in-append, nothing_found}
+use Rattle.ded_hull.specs.Trees.{owns, owned, IsRoot, IsTree, IsOver, IsStep}
+use Rattle.ded_hull.proofs.Found.{ids_in-append, covers_wider, nothing_found}
 
 -- ---- what nodes own
 
@@ -150,3 +156,17 @@ module _ (ls : List Limit) (n : Node) (ns : List Node) (es : List Entry) (t : Is
       all : (b c : ℕ) → b ≡ 0 → owns b c ≡ c
       all zero c e = refl
       all (suc b) c e = absurd (omega (arith, e))
+
+-- ---- hulls over halves
+
+pub over_first : (ns : List Node) (n : Node) (xs : List Entry) → Some n ≡ slice_get ns 0 → IsOver ns xs → Covers n.hull xs
+over_first [] n xs e h = absurd (true≢false (ap is_some e))
+over_first (m ∷ ns) n xs e h = subst (λ (k : Node). Covers k.hull xs) (sym (ap (λ (o : Option Node). unwrap_or o n) e)) h
+
+pub over_both : (a b : List Range) (xs ys : List Entry) (h : List Range) → IsWithin a h → IsWithin b h → Covers a xs → Covers b ys → Covers h (xs ++ ys)
+over_both a b xs ys h k l c d = every-append (λ e. IsWithin e.reach h) xs ys (covers_wider a h xs k c) (covers_wider b h ys l d)
+
+-- the reach of no columns contains all reaches
+pub over_none : (xs : List Entry) → Covers [] xs
+over_none [] = tt
+over_none (x ∷ xs) = ((λ p. record { low = tt; high = tt }), over_none xs)

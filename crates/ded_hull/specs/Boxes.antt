@@ -1,11 +1,11 @@
 -- Boxes: reaches that overlap each reach in which limits may hold.
-use Rattle.std.specs.Prelude.{◌≡◌, ◌*ℤ◌, ◌&&◌, ℤ, pos, Bool, true, List, [], ◌∷◌, Option}
+use Rattle.std.specs.Prelude.{◌≡◌, ◌==◌, ◌*ℤ◌, ◌&&◌, ◌||◌, ℤ, pos, Bool, true, List, [], ◌∷◌, length, Option}
 use lib.IntN.{neg_ℤ}
 use Rattle.ded_model.specs.declared.row.RowOp.{RowOp}
 use Rattle.ded_hull.specs.declared.reach.Range.{Range}
 use Rattle.ded_hull.specs.declared.limit.Limit.{Limit}
 use Rattle.ded_hull.specs.Codes.{fine, is_up_to}
-use Rattle.ded_hull.specs.Limits.{kept, plus, times, least_end, may_stand, may_hold}
+use Rattle.ded_hull.specs.Limits.{kept, plus, times, least_end, may_stand, may_meet, may_hold}
 
 -- neither range ends before the other begins
 abbrev pub overlap : Range → Range → Bool
@@ -28,6 +28,10 @@ IsRangeAround r a c op = (s : Range) → may_stand op (least_with a c s) (least_
 -- of the reaches that pass the test, the second box overlaps each that the first one does
 abbrev pub StaysAround : (List Range → Bool) → List Range → List Range → Type 0
 StaysAround test old new = (rs : List Range) → overlaps old rs ≡ true → test rs ≡ true → overlaps new rs ≡ true
+
+-- the limit has one term, which the box tells of, or it may be met in the reach
+abbrev pub may_pass : List Range → Limit → Bool
+may_pass rs l = length l.terms.items == 1 || may_meet rs l
 
 -- the box overlaps each reach in which the limits may hold
 abbrev pub IsAround : List Range → List Limit → Type 0

@@ -29,6 +29,11 @@ abbrev pub IsTree : List Node → List Entry → Type 0
 IsTree [] es = es ≡ []
 IsTree (n ∷ ns) es = IsRoot n ns es × IsTree ns (drop (owns n.below n.count) es)
 
+-- the hull of the first node contains all entries
+abbrev pub IsOver : List Node → List Entry → Type 0
+IsOver [] es = Unit {0}
+IsOver (n ∷ ns) es = Covers n.hull es
+
 -- the entries of all trees in order
 abbrev pub all_of : List (List Entry) → List Entry
 all_of ts = flat (λ es. es) ts

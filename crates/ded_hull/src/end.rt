@@ -85,6 +85,11 @@ impl End {
         }
     }
 
+    /// A number that grows with the end, the least one for none.
+    pub(crate) fn code(self) -> i64 {
+        self.code
+    }
+
     /// Whether it is lower than the other, where no end is lower than all.
     pub(crate) fn is_lower(self, other: End) -> bool
         ensures { result ≡ is_lower self other }

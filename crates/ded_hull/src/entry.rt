@@ -93,20 +93,20 @@ pub(crate) fn copy_all(from: &[Entry], to: &mut Vec<Entry>) -> Result<(), NoMemo
 
 /// On every second level, sorts the entries by their middles in the column in which these lie farthest apart. So each sort is good for
 /// four parts.
-pub(crate) fn arrange(entries: &mut [Entry], hull: &Reach, level: u32)
+pub(crate) fn arrange(entries: &mut [Entry], level: u32)
     ensures { IsPermutation entries.old entries.new }
 {
     if level % LEVELS == 0 {
-        let place = widest(entries, hull.ranges().len());
+        let place = widest(entries);
         entries.sort_unstable_by_key(|entry| middle(entry.reach.at(place)));
     }
 }
 
-/// The column in which the middles of the entries lie farthest apart.
-fn widest(entries: &[Entry], width: usize) -> usize {
+/// The column, of those of the first entry, in which the middles of the entries lie farthest apart.
+fn widest(entries: &[Entry]) -> usize {
     let mut best = 0;
     let mut most = 0;
-    for place in 0..width {
+    for place in 0..width(entries) {
         let apart = spread(entries, place);
         if most < apart {
             most = apart;
@@ -116,10 +116,18 @@ fn widest(entries: &[Entry], width: usize) -> usize {
     best
 }
 
+/// How many columns the reach of the first entry has.
+fn width(entries: &[Entry]) -> usize {
+    match entries {
+        [first, ..] => first.reach.ranges().len(),
+        [] => 0,
+    }
+}
+
 /// How far the middles of the entries lie apart in a column.
-fn spread(entries: &[Entry], place: usize) -> i128 {
-    let mut least = i128::MAX;
-    let mut greatest = i128::MIN;
+fn spread(entries: &[Entry], place: usize) -> i64 {
+    let mut least = i64::MAX;
+    let mut greatest = i64::MIN;
     for entry in entries {
         let middle = middle(entry.reach.at(place));
         least = least.min(middle);
@@ -128,13 +136,13 @@ fn spread(entries: &[Entry], place: usize) -> i128 {
     greatest.saturating_sub(least)
 }
 
-/// The middle of a range, or its one end.
-fn middle(range: Range) -> i128 {
-    match (range.low.units(), range.high.units()) {
-        (Some(low), Some(high)) => low / 2 + high / 2,
-        (Some(low), None) => low,
-        (None, Some(high)) => high,
-        (None, None) => 0,
+/// The middle of a range, or its one end, by the codes of ends, which stand in their order.
+fn middle(range: Range) -> i64 {
+    match (range.low.is_none(), range.high.is_none()) {
+        (false, false) => range.low.code() / 2 + range.high.code() / 2,
+        (false, true) => range.low.code(),
+        (true, false) => range.high.code(),
+        (true, true) => 0,
     }
 }
 

@@ -1,5 +1,7 @@
 //! Limits, and whether they may hold in a reach.
 ghost use Rattle.std.specs.Prelude.{◌≡◌, false, true};
+ghost use Rattle.std.specs.List.{list_all};
+ghost use Rattle.ded_hull.specs.Boxes.{may_pass};
 ghost use Rattle.ded_hull.specs.Limits.{plus, times, turned, least_end, least_of, at_most_zero, below_zero, may_be, may_meet, may_hold, IsSound};
 ghost use Rattle.ded_hull.specs.Tuples.{terms_of};
 
@@ -24,6 +26,20 @@ pub fn may_hold(reach: &Reach, limits: &[Limit]) -> bool
     ensures sound { IsSound reach.now limits.now result }
 {
     each_may_meet(reach, limits)
+}
+
+/// Whether each of the limits that have not just one term may be met in the reach.
+pub(crate) fn others_may_hold(reach: &Reach, limits: &[Limit]) -> bool
+    ensures { result ≡ list_all (may_pass reach.now) limits.now }
+{
+    limits.iter().all(|limit| may_pass(reach, limit))
+}
+
+/// Whether the limit has one term, or may be met in the reach.
+fn may_pass(reach: &Reach, limit: &Limit) -> bool
+    ensures { result ≡ may_pass reach.now limit.now }
+{
+    limit.terms.len() == 1 || may_meet(reach, limit)
 }
 
 /// Whether each of the limits may be met in the reach.

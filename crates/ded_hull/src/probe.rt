@@ -2,11 +2,11 @@
 //!
 //! Most reaches that a look-up meets don't overlap the box of the limits of one term. They are told apart by codes of ends alone, and
 //! only for the others sums of products are made.
-ghost use Rattle.std.specs.Prelude.{◌≡◌, IfOk};
+ghost use Rattle.std.specs.Prelude.{◌≡◌, true, IfOk};
 ghost use Rattle.ded_hull.specs.Boxes.{overlap, overlaps};
 ghost use Rattle.ded_hull.specs.Limits.{may_hold};
 
-use crate::limit::{Limit, may_hold};
+use crate::limit::{Limit, may_hold, others_may_hold};
 use crate::reach::{Range, Reach};
 use crate::window::box_of;
 use ded_model::memory::NoMemory;
@@ -49,6 +49,13 @@ impl<'a> Probe<'a> {
         ensures { result ≡ may_hold reach.now self.now }
     {
         overlaps(self.around.ranges(), reach.ranges()) && may_hold(reach, self.limits)
+    }
+
+    /// Whether all limits may hold in the reach, as far as the box and the limits of several terms tell.
+    pub(crate) fn may_pass(&self, reach: &Reach) -> bool
+        ensures { may_hold reach.now self.now ≡ true → result ≡ true }
+    {
+        overlaps(self.around.ranges(), reach.ranges()) && others_may_hold(reach, self.limits)
     }
 }
 

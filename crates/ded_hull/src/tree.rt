@@ -6,10 +6,11 @@
 //!
 //! A tree never changes. It is built over a list of entries, which are put in its order where they stand, and gives the list back for
 //! a larger tree.
-ghost use Rattle.std.specs.Prelude.{◌≡◌, ◌+◌, ◌++◌, ◌∷◌, [], length, IfOk, OnOk, OnErr};
+ghost use Rattle.std.specs.Prelude.{◌≡◌, ◌+◌, ◌++◌, ◌∷◌, [], List, length, IfOk, OnOk, OnErr};
 ghost use Rattle.std.specs.List.Sorted.{IsPermutation};
-ghost use Rattle.ded_hull.specs.Entries.{ids_in};
-ghost use Rattle.ded_hull.specs.Trees.{IsTree, IsStep};
+ghost use Rattle.ded_hull.specs.declared.entry.Entry.{Entry};
+ghost use Rattle.ded_hull.specs.Entries.{ids_in, Covers};
+ghost use Rattle.ded_hull.specs.Trees.{IsTree, IsOver, IsStep};
 
 use crate::entry::{Entry, arrange, copy_all, hull_of, push_passing};
 use crate::probe::Probe;
@@ -119,18 +120,37 @@ impl Tree {
 /// Out of memory; the entries are in another order then.
 pub(crate) fn build(alloc: Global, entries: &mut [Entry], level: u32) -> Result<Vec<Node>, NoMemory>
     ensures tree { IfOk result (λ ns. IsTree ns.items entries.new) }
+    ensures over { IfOk result (λ ns. IsOver ns.items entries.new) }
     ensures entries { IsPermutation entries.old entries.new }
 {
-    let hull = hull_of(alloc, entries)?;
     let count = entries.len();
     if count <= LEAF {
+        let hull = hull_of(alloc, entries)?;
         return one(alloc, hull, count);
     }
-    arrange(entries, &hull, level);
+    arrange(entries, level);
     let (front, back) = entries.split_at_mut(count / 2);
     let first = build(alloc, front, level.wrapping_add(1))?;
     let second = build(alloc, back, level.wrapping_add(1))?;
+    let hull = hull_over(alloc, &first, &second)?;
     joined(hull, count, first, second)
+}
+
+/// A hull of what the hulls of the first nodes contain.
+///
+/// # Errors
+/// Out of memory.
+fn hull_over(alloc: Global, first: &[Node], second: &[Node]) -> Result<Reach, NoMemory>
+    ensures { IfOk result (λ h. (xs ys : List Entry) → IsOver first.now xs → IsOver second.now ys → Covers h (xs ++ ys)) }
+{
+    match (first.first(), second.first()) {
+        (Some(first), Some(second)) => {
+            let mut hull = first.hull.copy()?;
+            hull.widen(&second.hull);
+            Ok(hull)
+        }
+        _ => Ok(Reach::new(alloc)),
+    }
 }
 
 /// A node with none below it.
@@ -205,7 +225,7 @@ fn visit<'a>(
     requires { IsTree (node.now ∷ behind.now) entries.now }
     ensures { IfOk result (λ next. IsStep probe.now behind.now entries.now next.0.now next.1.now found.old.items found.new.items) }
 {
-    if !probe.may_hold(&node.hull) {
+    if !probe.may_pass(&node.hull) {
         return Ok((&behind[node.below..], &entries[node.count..]));
     }
     if node.below > 0 {

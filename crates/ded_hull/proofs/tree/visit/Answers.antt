@@ -1,12 +1,13 @@
 use Rattle.std.proofs.Common.{rules, ◌≡◌, false, take, refl}
 use Rattle.ded_hull.specs.Limits.{may_hold}
+use Rattle.ded_hull.proofs.Columns.{contrary}
 use Rattle.ded_hull.proofs.Rooted.{whole_rest, step_past, step_own}
 use Rattle.ded_hull.proofs.tree.visit.Goals as goal
 
-pub returns-then-not-may_hold : goal.returns-then-not-may_hold
-returns-then-not-may_hold c =
+pub returns-then-not-may_pass : goal.returns-then-not-may_pass
+returns-then-not-may_pass c =
     let n = c.args.node.now in
-    let apart : may_hold n.hull c.args.probe.now ≡ false = search rules in
+    let apart : may_hold n.hull c.args.probe.now ≡ false = contrary (may_hold n.hull c.args.probe.now) c.may_pass.result c.may_pass.ensures (search rules) in
     step_past c.args.probe.now n c.args.behind.now c.args.entries.now c.requires _ _ c.args.found.now.items (whole_rest c.args.behind.now n.below) (whole_rest c.args.entries.now n.count) apart
 
 pub returns : goal.returns
