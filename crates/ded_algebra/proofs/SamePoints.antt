@@ -4,7 +4,6 @@ use Rattle.std.specs.Prelude.{ℤ, pos, ◌*ℤ◌}
 use Rattle.std.proofs.lemmas.Int.{ints}
 use Rattle.std.proofs.Math.IntN.{*ℤ_comm}
 use Rattle.ded_model.specs.Point.{Key, Point, IsSameAt, number_at}
-use Rattle.ded_num.proofs.Ring.{parts, ring, diff_same}
 use Rattle.ded_row.proofs.Scaling.{cancel_factor}
 use Rattle.ded_model.proofs.Values.{swap_law}
 

@@ -1,6 +1,6 @@
 -- Rows are the same as themselves in the order of atoms.
-use Rattle.std.proofs.Common.{◌≡◌, ℕ, true, ◌&&◌, List, [], ◌∷◌, arith, refl}
-use Rattle.std.specs.Prelude.{ℤ, Bool}
+use Rattle.std.proofs.Common.{◌≡◌, ℕ, true, List, [], ◌∷◌, arith, refl}
+use Rattle.std.specs.Prelude.{ℤ}
 use Rattle.std.specs.declared.cmp.Ordering.TheVariants.{Equal}
 use Rattle.std.specs.Ordering.{nat_cmp, int_cmp, is_eq}
 use Rattle.std.specs.Cmp.Lexicographic.{slice_cmp}

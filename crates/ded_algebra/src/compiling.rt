@@ -1,5 +1,5 @@
 //! The plan of a goal.
-ghost use Rattle.std.specs.Prelude.{◌≡◌, IfOk, List, map};
+ghost use Rattle.std.specs.Prelude.{◌≡◌, IfOk, map};
 ghost use Rattle.ded_model.specs.declared.tuple.BothAtom.TheVariants.{Second};
 ghost use Rattle.ded_model.specs.Goal.{goal_form, goal_forms, linear};
 ghost use Rattle.ded_model.specs.Logic.{atom, negation, exists, AllAtomsOf};

@@ -10,7 +10,6 @@ use Rattle.std.proofs.lemmas.Option.{none-some}
 use Rattle.ded_model.specs.declared.command.Refusal.{Refusal}
 use Rattle.ded_model.specs.declared.command.Refusal.TheVariants.{Full, Spent}
 use Rattle.ded_model.specs.declared.name.Column.{Column}
-use Rattle.ded_model.specs.Catalogue.{Entry, Catalogue}
 use Rattle.ded_model.specs.Catalogue as entry
 use Rattle.ded_model.specs.Form.{Form, FormAtom, compare, member, form}
 use Rattle.ded_model.specs.Goal.{goal_form}

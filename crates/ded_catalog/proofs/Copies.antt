@@ -1,7 +1,6 @@
 -- A copy of the table stands for the same entries, and is kept where the table is.
 use Rattle.std.proofs.Common.{◌≡◌, ℕ, ◌≤◌, length, None, List, [], ◌∷◌, refl, sym, ap, ◌∙◌, subst}
 use Rattle.ded_model.specs.declared.name.Column.{Column}
-use Rattle.ded_model.specs.Catalogue.{Entry}
 use Rattle.ded_model.specs.Catalogue as entry
 use Rattle.ded_model.specs.Form.{Form}
 use Rattle.ded_model.specs.Known.{KnownNames, IsEntryOver, with_known, level_of}

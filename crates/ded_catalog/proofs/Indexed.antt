@@ -9,6 +9,7 @@ use Rattle.std.proofs.lemmas.Bool.Decides.{nat_tests}
 use Rattle.std.proofs.lemmas.List.Sorted.{Contains-permutation}
 use Rattle.ded_model.specs.Row.{Atom, tuple_holds}
 use Rattle.ded_model.proofs.Lists.{Every, Some, every-append}
+use Rattle.ded_model.proofs.Rows.{or_right}
 use Rattle.ded_hull.specs.declared.entry.Entry.{Entry}
 use Rattle.ded_hull.specs.declared.window.Window.{Window}
 use Rattle.ded_hull.specs.Entries.{of_keys, IsComplete}
@@ -74,16 +75,12 @@ some_left P vs (e ∷ es) f (inr h) = by (is_some (lookup (is_at (nat_cmp e.id))
 pub pruned : (es fs : List Entry) (ts : List (ℕ × List Atom)) → IsPermutation (of_keys ts es) fs → IsIndex es ts → IsIndex fs ts
 pruned es fs ts p h = moved (of_keys ts es) fs ts p (each [] ts refl h)
   where
-    or_true : (a b : Bool) → b ≡ true → (a || b) ≡ true
-    or_true true b e = refl
-    or_true false b e = e
-
     same : (k : ℕ) → (k == k) ≡ true
     same k = grind (arith, nat_tests)
 
     has : (front : List (ℕ × List Atom)) (t : ℕ × List Atom) (us : List (ℕ × List Atom)) → list_any (λ u. u.0 == t.0) (front ++ t ∷ us) ≡ true
     has [] t us = ap (λ b. b || list_any (λ u. u.0 == t.0) us) (same t.0)
-    has (u ∷ front) t us = or_true (u.0 == t.0) (list_any (λ u. u.0 == t.0) (front ++ t ∷ us)) (has front t us)
+    has (u ∷ front) t us = or_right (u.0 == t.0) (list_any (λ u. u.0 == t.0) (front ++ t ∷ us)) (has front t us)
 
     there : (front : List (ℕ × List Atom)) (t : ℕ × List Atom) (us : List (ℕ × List Atom)) → front ++ t ∷ us ≡ ts → (e : Entry) → IsEntryOf t e → is_some (lookup (is_at (nat_cmp e.id)) ts) ≡ true
     there front t us is e x = ap (λ k. is_some (lookup (is_at (nat_cmp k)) ts)) x.0 ∙ found_numbered t.0 ts ∙ subst (λ xs. list_any (λ u. u.0 == t.0) xs ≡ true) is (has front t us)

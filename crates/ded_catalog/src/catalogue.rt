@@ -50,7 +50,7 @@ impl Catalogue {
     ghost use Rattle.ded_model.specs.Catalogue.{relation, view};
     ghost use Rattle.ded_model.specs.Form.{form};
     ghost use Rattle.ded_model.specs.Goal.{goal_form};
-    ghost use Rattle.ded_model.specs.Known.{IsAccepted, IsNewName, IsTupleOver, IsWellFormed, level_of};
+    ghost use Rattle.ded_model.specs.Known.{IsAccepted, IsNewName, IsTupleOver, level_of};
     ghost use Rattle.ded_model.specs.Logic.{some_atom};
     ghost use Rattle.ded_model.specs.LongRows.{is_long_atom};
     ghost use Rattle.ded_model.specs.Plain.{IsPlain};

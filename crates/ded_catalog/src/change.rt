@@ -1,5 +1,5 @@
 //! What is changed of a catalogue.
-ghost use Rattle.std.specs.Prelude.{◌≡◌, ◌++◌, IfOk};
+ghost use Rattle.std.specs.Prelude.{◌≡◌, IfOk};
 ghost use Rattle.std.specs.Option.{option_map};
 ghost use Rattle.ded_model.specs.Catalogue.{tuples_of};
 ghost use Rattle.ded_packed.specs.Lent.{lent};

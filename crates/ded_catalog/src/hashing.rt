@@ -1,5 +1,5 @@
 //! How names are hashed.
-ghost use Rattle.std.specs.Prelude.{◌≡◌, ◌++◌, fold};
+ghost use Rattle.std.specs.Prelude.{◌++◌, fold};
 ghost use Rattle.std.specs.Hash as fed;
 ghost use Rattle.std.specs.Hash.DefaultHasher as sip;
 

@@ -1,5 +1,5 @@
 //! The names that a formula speaks of.
-ghost use Rattle.std.specs.Prelude.{◌≡◌, IfOk, OnOk};
+ghost use Rattle.std.specs.Prelude.{IfOk, OnOk};
 ghost use Rattle.std.specs.Str.{bytes_eq};
 ghost use Rattle.ded_model.specs.Form.{form, forms, speaks_of, atom_speaks_of};
 ghost use Rattle.ded_model.specs.Logic.{some_atom_of};

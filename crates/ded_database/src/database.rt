@@ -51,7 +51,6 @@ impl Model for Database {
 }
 
 impl Database {
-    ghost use Rattle.std.specs.Prelude.{List, ℕ};
     ghost use Rattle.ded_model.specs.declared.command.Refusal.TheVariants.{Memory};
     ghost use Rattle.ded_model.specs.declared.memory.Refused.TheVariants.{Wide};
     ghost use Rattle.ded_model.specs.Catalogue.{relation, view, IsTruth};

@@ -1,5 +1,5 @@
 //! The lists of the views that a change concerns, taken out.
-ghost use Rattle.std.specs.Prelude.{◌≡◌, true, false, [], OnOk, List, ℕ};
+ghost use Rattle.std.specs.Prelude.{◌≡◌, true, false, [], OnOk};
 ghost use Rattle.std.specs.List.{AllByRecursion};
 ghost use Rattle.ded_model.specs.Entries.{known};
 ghost use Rattle.ded_catalog.specs.State.{catalogue_of};

@@ -8,7 +8,7 @@ use Rattle.std.specs.List.{slice_get}
 use Rattle.std.specs.Option.{option_map}
 use Rattle.std.proofs.lemmas.Slice.Eq.{bytes_eq-Decides}
 use Rattle.ded_model.specs.declared.name.Column.{Column}
-use Rattle.ded_model.specs.Catalogue.{Entry, Catalogue, entry_name, entry_columns}
+use Rattle.ded_model.specs.Catalogue.{Entry, Catalogue, entry_name}
 use Rattle.ded_model.specs.Catalogue as entry
 use Rattle.ded_model.specs.Entries.{entry_of, relation_in, known}
 use Rattle.ded_model.specs.Form.{Form}

@@ -1,8 +1,5 @@
 //! Texts in memory that grow as they are written.
-ghost use Rattle.std.specs.Prelude.{◌≡◌, ◌++◌, [], IfOk, OnOk, IsOk};
-ghost use Rattle.std.specs.Io.KnownBytes.{WriteAppends};
-ghost use Rattle.ded_io.specs.Causes.{HasCause};
-ghost use Rattle.ded_io.specs.Devices.{TakesSome};
+ghost use Rattle.std.specs.Prelude.{◌≡◌, ◌++◌, [], OnOk, IsOk};
 ghost use Rattle.ded_model.specs.Quoting.{quoted};
 ghost use Rattle.ded_print.specs.Numbers.{fraction_text};
 ghost use Rattle.ded_print.specs.Tuples.{column_names, row_text, unlike_text, tuple_text};

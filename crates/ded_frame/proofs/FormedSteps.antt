@@ -9,7 +9,7 @@ use Rattle.ded_model.specs.declared.command.Language.TheVariants.{One}
 use Rattle.ded_model.specs.declared.command.Refusal.{Refusal}
 use Rattle.ded_model.specs.declared.command.Refusal.TheVariants.{Many, Twice, Unknown, Taken, Kind, Arity, Unbound, WrongSort, Used, NoTuple, Full, Level}
 use Rattle.ded_model.specs.declared.name.Column.{Column}
-use Rattle.ded_model.specs.Catalogue.{Entry, Catalogue, entry_name, entry_columns}
+use Rattle.ded_model.specs.Catalogue.{Entry, Catalogue, entry_name}
 use Rattle.ded_model.specs.Catalogue as entry
 use Rattle.ded_model.specs.Command.{CommandForm, relation, insert, delete, drop, view}
 use Rattle.ded_model.specs.Entries.{known, entry_of, entry_uses, stored_in, columns_in}

@@ -5,7 +5,7 @@ use Rattle.ded_model.specs.declared.name.Column.{Column}
 use Rattle.ded_model.specs.Catalogue.{Entry, relation, view, Catalogue, entry_name}
 use Rattle.ded_model.specs.Entries.{known, entry_of}
 use Rattle.ded_model.specs.Form.{Form, uses, speaks_of}
-use Rattle.ded_model.specs.Goal.{GoalAtom, linear, theme, GoalForm}
+use Rattle.ded_model.specs.Goal.{GoalAtom, linear, theme}
 use Rattle.ded_model.specs.Goal as goal
 use Rattle.ded_model.specs.Known.{KnownNames, AreEntriesOver, IsWellFormed, entry_known, with_known, level_with}
 use Rattle.ded_model.specs.Logic.{Logic, atom, always, never, negation, every_of, some_of, implies, minus, exists, forall, Logics, none, also, AllAtoms, AllAtomsOf}

@@ -1,5 +1,5 @@
 -- Tuples put behind a list: what holds of the list with one more of them.
-use Rattle.std.proofs.Common.{◌≡◌, ℕ, zero, suc, ◌+◌, ◌<◌, Bool, true, false, ◌||◌, ◌&&◌, List, [], ◌∷◌, ◌++◌, length, take, drop, get_or, arith, inl, inr, refl, sym, ap, ◌∙◌, subst, append_assoc, append-nil}
+use Rattle.std.proofs.Common.{◌≡◌, ℕ, zero, suc, ◌+◌, ◌<◌, true, false, ◌||◌, ◌&&◌, List, [], ◌∷◌, ◌++◌, length, take, drop, get_or, arith, inl, inr, refl, sym, ap, ◌∙◌, subst, append_assoc, append-nil}
 use Rattle.std.specs.List.{AllByRecursion}
 use Rattle.std.proofs.Math.Bool.{or-false}
 use Rattle.std.proofs.lemmas.List.{take-append-drop}
@@ -9,7 +9,7 @@ use Rattle.ded_model.specs.Normal.{IsNormalTuple}
 use Rattle.ded_model.specs.Point.{Point, IsPoint}
 use Rattle.ded_model.specs.Row.{Atom, tuple_holds, tuple_mentions, tuples_hold, tuples_mention}
 use Rattle.ded_model.proofs.Bools.{or_known, or_assoc}
-use Rattle.ded_model.proofs.Members.{In-left, In-split, or_split, subset_append, subset_refl}
+use Rattle.ded_model.proofs.Members.{In-left, or_split, subset_append, subset_refl}
 use Rattle.ded_model.proofs.Points.{and_right}
 use Rattle.ded_model.proofs.Rows.{or_left, or_right}
 use Rattle.ded_hull.proofs.Found.{taken_more}

@@ -6,15 +6,14 @@ use Rattle.std.proofs.Common.{◌≡◌, Bool, true, false, ◌||◌, ◌&&◌, 
 use Rattle.std.specs.Prelude.{◌↔◌, IsTrue}
 use Rattle.std.specs.List.{AllByRecursion}
 use Rattle.std.proofs.Math.Bool.{and-false}
-use Rattle.ded_model.specs.declared.slot.Slot.{Slot}
 use Rattle.ded_model.specs.Catalogue.{Catalogue, GivenHolds}
-use Rattle.ded_model.specs.Lines.{In, IsSubset, atoms_lines, tuples_lines}
+use Rattle.ded_model.specs.Lines.{In, atoms_lines, tuples_lines}
 use Rattle.ded_model.specs.Measure.{stored_measures, plan_lines}
 use Rattle.ded_model.specs.Normal.{IsNormalTuple}
-use Rattle.ded_model.specs.PlanForm.{PlanForm, plan_mentions}
-use Rattle.ded_model.specs.Point.{slot, Point, IsPoint}
+use Rattle.ded_model.specs.PlanForm.{PlanForm}
+use Rattle.ded_model.specs.Point.{Point, IsPoint}
 use Rattle.ded_model.specs.Row.{Atom, tuple_holds, tuple_mentions, tuples_hold, tuples_mention}
-use Rattle.ded_model.proofs.Members.{In-left, In-right, In-split, or_split, subset_append, subset_refl, subset_join, subset_trans}
+use Rattle.ded_model.proofs.Members.{In-left, In-right, In-split, or_split, subset_refl}
 use Rattle.ded_model.proofs.Points.{and_left, and_right}
 use Rattle.ded_model.proofs.Rows.{or_left, or_right}
 use Rattle.ded_model.proofs.Bools.{or_assoc}

@@ -2,25 +2,20 @@
 --
 -- By induction on the formula: an atom of a name keeps its name, and its places have the sorts of its operands. Where the formula is
 -- neither missorted nor of another arity, these are the sorts of the columns. A comparison's goal has no atom of a name.
-use Rattle.std.proofs.Common.{◌≡◌, ℕ, ◌+◌, ◌==◌, nat_lt, Bool, true, false, not, ◌||◌, inl, inr, cond, Option, Some, None, is_none, List, [], ◌∷◌, length, map, arith, refl, sym, ap, ◌∙◌, subst, true≢false, bytes_eq}
+use Rattle.std.proofs.Common.{◌≡◌, ℕ, ◌+◌, ◌==◌, Bool, true, false, not, ◌||◌, inl, inr, Option, Some, None, is_none, List, [], ◌∷◌, length, map, arith, refl, sym, ap, ◌∙◌, subst, true≢false, bytes_eq}
 use Rattle.std.proofs.lemmas.Bool.Decides.{nat_tests}
 use Rattle.std.proofs.lemmas.Slice.Eq.{bytes_eq-Decides}
 use Rattle.ded_model.specs.declared.slot.Slot.{Slot}
-use Rattle.ded_model.specs.declared.slot.Sort.{Sort}
-use Rattle.ded_model.specs.declared.slot.Sort.TheVariants.{Rat, Text}
 use Rattle.ded_model.specs.declared.name.Column.{Column}
 use Rattle.ded_model.specs.declared.formula.CompareOp.{CompareOp}
-use Rattle.ded_model.specs.declared.formula.CompareOp.TheVariants.{Less, LessEq, Equal, NotEqual, GreaterEq, Greater}
 use Rattle.ded_model.specs.declared.formula.Operand.{Operand}
 use Rattle.ded_model.specs.declared.formula.Operand.TheVariants.{Single, Sum, Quoted}
-use Rattle.ded_model.specs.declared.tuple.ThemeAtom.TheVariants.{EqSlot, NeSlot}
-use Rattle.ded_model.specs.Sum.{SlotSum}
-use Rattle.ded_model.specs.Point.{same_sort, same_slot}
+use Rattle.ded_model.specs.Point.{same_sort}
 use Rattle.ded_model.specs.Logic.{atom, always, never, negation, every_of, some_of, implies, minus, exists, forall, Logics, none, also, some_atom, some_atom_of, some_below, some_below_of, quantifiers}
 use Rattle.ded_model.specs.Form.{Form, FormAtom, compare, member, atom_uses, uses}
 use Rattle.ded_model.specs.Made.{base}
-use Rattle.ded_model.specs.Goal.{GoalForm, theme}
-use Rattle.ded_model.specs.Slotted.{SlotScope, slot_sum, sums_goal, TextSide, at, word, text_side, same_text_goal, other_text_goal, texts_goal, is_text_operand, compare_goal, place_of, atom_goal, goal_below, goals_below, goal_of, heading_scope}
+use Rattle.ded_model.specs.Goal.{GoalForm}
+use Rattle.ded_model.specs.Slotted.{SlotScope, at, compare_goal, place_of, atom_goal, goal_below, goals_below, goal_of, heading_scope}
 use Rattle.ded_model.specs.Known.{Known, KnownNames, is_unknown_atom, other_arity, is_arity_atom, operand_sort, arguments_differ, columns_with, is_missorted_atom, IsAccepted}
 use Rattle.ded_model.proofs.Points.{and_left, and_right, same_sort_is}
 use Rattle.ded_model.proofs.Rows.{or_left, or_right}

@@ -10,7 +10,7 @@ use Rattle.ded_model.specs.Catalogue.{PlanHolds}
 use Rattle.ded_model.specs.Lines.{Line, In, IsSubset}
 use Rattle.ded_model.specs.Measure.{plan_lines, plan_clashes}
 use Rattle.ded_model.proofs.Deciding.{plan_stable, plan_decided}
-use Rattle.ded_model.proofs.Members.{In-left, In-right, subset_refl, subset_none, subset_join}
+use Rattle.ded_model.proofs.Members.{In-left, In-right, subset_none, subset_join}
 use Rattle.ded_plan.proofs.Keeps.{any_mention, member_lines, any_clash, Keeps}
 use Rattle.ded_algebra.proofs.PlanShapes.{or_one}
 use Rattle.ded_algebra.proofs.PlanLines.{drop_none}

@@ -1,14 +1,12 @@
 -- The plans of the program are tidy: lists of plans are where each of their plans is. A tidy plan is well sorted, and its rows are
 -- over rational slots.
-use Rattle.std.proofs.Common.{ℤ, List, [], ◌∷◌, ◌++◌}
-use Rattle.ded_model.specs.declared.slot.Slot.{Slot}
+use Rattle.std.proofs.Common.{List, [], ◌∷◌, ◌++◌}
 use Rattle.ded_model.specs.declared.slot.Sort.{Sort}
 use Rattle.ded_model.specs.declared.plan.Plan.{Plan}
 use Rattle.ded_model.specs.declared.tuple.BothAtom.TheVariants.{First, Second}
-use Rattle.ded_model.specs.Coefs.{AreCoefs}
 use Rattle.ded_model.specs.Row.{Atom}
 use Rattle.ded_model.specs.Normal.{IsNormalTuple}
-use Rattle.ded_model.specs.Rational.{AreRationalCoefs, AreRationalAtoms, IsRationalPlanAtom, IsRationalPlan}
+use Rattle.ded_model.specs.Rational.{AreRationalAtoms, IsRationalPlanAtom, IsRationalPlan}
 use Rattle.ded_model.specs.Logic.{Logic, atom, always, never, negation, every_of, some_of, implies, minus, exists, forall, Logics, none, also, AllAtoms, AllAtomsOf, IsOfSort, IsSorted, AreSorted}
 use Rattle.ded_model.specs.PlanForm.{PlanAtom, scan, rows, PlanForm, plan_form, plan_forms}
 use Rattle.ded_model.specs.Point.{Key, slot, name, IsSlotOf}

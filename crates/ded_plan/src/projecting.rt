@@ -1,6 +1,6 @@
 //! Projections of plans.
 ghost use Rattle.std.specs.Prelude.{◌≡◌, IfOk};
-ghost use Rattle.ded_model.specs.Logic.{every_of, exists};
+ghost use Rattle.ded_model.specs.Logic.{exists};
 ghost use Rattle.ded_model.specs.PlanForm.{plan_form, plan_forms};
 ghost use Rattle.ded_model.specs.Point.{slot};
 ghost use Rattle.ded_plan.specs.Rewrite.{count_of, inside, projected_down, projected, each_projected, projected_join, projected_apart};

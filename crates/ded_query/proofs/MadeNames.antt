@@ -1,5 +1,5 @@
 -- Closures and interiors of what stands for a name, and their names.
-use Rattle.std.proofs.Common.{◌≡◌, ◌≢◌, ℕ, ◌<◌, ◌+◌, ◌*◌, arith, Bool, true, false, cond, not, ◌&&◌, ◌||◌, inl, inr, List, [], ◌∷◌, ◌++◌, length, map, Option, Some, None, is_some, refl, sym, ap, ◌∙◌, subst, true≢false}
+use Rattle.std.proofs.Common.{◌≡◌, ◌≢◌, ℕ, ◌<◌, ◌+◌, ◌*◌, arith, Bool, true, false, ◌&&◌, ◌||◌, inl, inr, List, [], ◌∷◌, ◌++◌, length, map, Option, Some, None, is_some, refl, sym, ap, ◌∙◌, subst, true≢false}
 use Rattle.std.specs.Prelude.{◌↔◌, ◌⊎◌, IsTrue, codes, if◌then◌else◌}
 use Rattle.std.specs.List.{list_all, AllByRecursion}
 use Rattle.std.specs.Option.{option_map}
@@ -10,7 +10,7 @@ use Rattle.ded_model.specs.Catalogue.{Entry, Catalogue, tuples_of, at_slots, sto
 use Rattle.ded_model.specs.Entries.{known, columns_in, entry_of, relation_in}
 use Rattle.ded_model.specs.Known.{Known, IsTupleOver, IsWellFormed}
 use Rattle.ded_model.specs.Lines.{In, IsSubset, tuples_lines, atoms_lines}
-use Rattle.ded_model.specs.Made.{Reading, itself, closure_of, interior_of, behind, between, before_last_of, reading_by, reading, base_by, base, is_made_by, is_made}
+use Rattle.ded_model.specs.Made.{Reading, itself, closure_of, interior_of, between, reading_by, reading, base_by, base, is_made_by, is_made}
 use Rattle.ded_model.specs.Measure.{Measure, measure_as, measures, stored_measures}
 use Rattle.ded_model.specs.Near.{IsCloseAt, IsInsideAt}
 use Rattle.ded_model.specs.Point.{Point, IsPoint}
@@ -34,9 +34,8 @@ use Rattle.ded_hull.specs.Windows.{column_value, is_text_met, is_within, IsMisse
 use Rattle.ded_query.specs.Gathering.{IsGivenOf}
 use Rattle.ded_query.specs.Made.{IsStanding, HoldsNear, IsMadeBy, IsTooWide}
 use Rattle.ded_query.proofs.Arguments.{slots_point}
-use Rattle.ded_query.proofs.GivenNames.{IsFoundOf, found_of}
+use Rattle.ded_query.proofs.GivenNames.{found_of}
 use Rattle.ded_topology.specs.Names.{HoldsAsTuples, StandsForName}
-use Rattle.ded_views.specs.Same.{AreByteArguments}
 use Rattle.ded_views.proofs.Placing.{unknown}
 use Rattle.ded_views.proofs.Views.{plain_there}
 

@@ -2,7 +2,7 @@
 ghost use Rattle.std.specs.Prelude.{◌≡◌, ◌≤◌, true, is_some, is_none, None, IfOk, IsErrOf, OnOk};
 ghost use Rattle.std.specs.List.{AllByRecursion, list_any};
 ghost use Rattle.ded_model.specs.declared.memory.Refused.TheVariants.{Wide};
-ghost use Rattle.ded_model.specs.Entries.{known, entry_of, relation_in, view_in};
+ghost use Rattle.ded_model.specs.Entries.{known, entry_of, view_in};
 ghost use Rattle.ded_model.specs.Goal.{GoalForm, goal_form};
 ghost use Rattle.ded_model.specs.Known.{level_with};
 ghost use Rattle.ded_model.specs.Made.{base};

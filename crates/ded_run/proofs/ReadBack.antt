@@ -2,7 +2,7 @@
 --
 -- The heading of an answer is that of an accepted command: its names are words, each once, and there are few of them. So what
 -- is printed over it is read in one way alone.
-use Rattle.std.proofs.Common.{◌≡◌, ◌≤◌, ◌^◌, ◌||◌, ℕ, Bool, true, false, List, [], ◌∷◌, length, refl, sym, ap, ◌∙◌, subst, arith}
+use Rattle.std.proofs.Common.{◌≡◌, ◌≤◌, ◌^◌, ◌||◌, ℕ, false, List, [], ◌∷◌, length, refl, sym, ap, ◌∙◌, subst, arith}
 use Rattle.std.specs.Prelude.{nat_lt}
 use Rattle.std.specs.List.{AllByRecursion}
 use Rattle.std.proofs.lemmas.Bool.{or_parts, false_from_ne_true}

@@ -22,7 +22,7 @@ use Rattle.ded_model.specs.PlanForm.{PlanAtom, scan, rows, PlanForm}
 use Rattle.ded_model.specs.Point.{Key, slot, name, same_sort}
 use Rattle.ded_model.specs.Width.{rational_columns}
 use Rattle.ded_print.specs.Boxes.{box_text, rational_names}
-use Rattle.ded_print.specs.Lines.{LineReply, reply_line, reply_text, line_text, script_text, refusal_text}
+use Rattle.ded_print.specs.Lines.{LineReply, reply_text, line_text, script_text, refusal_text}
 use Rattle.ded_print.specs.Lines as line
 use Rattle.ded_print.specs.Plans.{key_text}
 use Rattle.ded_print.specs.Quiet.{IsQuiet, AreQuiet, IsQuietPlan, AreQuietPlans}

@@ -1,5 +1,4 @@
 //! The text of a reply.
-ghost use Rattle.std.specs.Prelude.{◌≡◌};
 ghost use Rattle.ded_io.specs.Causes.{HasCause};
 ghost use Rattle.ded_io.specs.Devices.{AddsAll};
 ghost use Rattle.ded_session.specs.Answered.{reply_form};

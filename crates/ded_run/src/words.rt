@@ -1,8 +1,8 @@
 //! The words of the command line.
-ghost use Rattle.std.specs.Prelude.{◌≡◌, ◌≢◌, ◌≤◌, [], ℕ, List, Option, Some, None, Err, IfOk, MatchOption, codes, map, option_map};
+ghost use Rattle.std.specs.Prelude.{◌≡◌, ◌≢◌, [], ℕ, Option, Some, None, Err, IfOk, MatchOption, codes, map, option_map};
 ghost use Rattle.std.specs.String.{string_bytes};
 ghost use Rattle.clap.specs.Words.{app_of, fault_of, first_of, matches_of};
-ghost use Rattle.ded_run.specs.CommandLine.{dedale, has_dashes, option_rule};
+ghost use Rattle.ded_run.specs.CommandLine.{dedale, has_dashes};
 ghost use Rattle.ded_run.specs.declared.words.Options.{Options};
 ghost use Rattle.ded_run.specs.declared.words.WordFault.TheVariants.{Memory};
 ghost use Rattle.ded_run.specs.Words.{AcceptedWords, IsNumber, LimitValue, SizeValue};

@@ -1,5 +1,5 @@
 //! The commands that change the catalogue, each where the names refuse it for nothing.
-ghost use Rattle.std.specs.Prelude.{◌≡◌, ◌==◌, ◌≤◌, true, false, None, is_some, length, OnOk, OnErr};
+ghost use Rattle.std.specs.Prelude.{◌≡◌, ◌==◌, ◌≤◌, true, false, is_some, length, OnOk, OnErr};
 ghost use Rattle.std.specs.List.{list_any};
 ghost use Rattle.ded_model.specs.Command.{relation, insert, delete, drop, view, keep};
 ghost use Rattle.ded_model.specs.Form.{FormAtom, form};

@@ -1,5 +1,5 @@
 //! Shared sessions as what answers the pieces of an input, and the texts of their replies.
-ghost use Rattle.std.specs.Prelude.{◌≡◌, ◌++◌, ◌∷◌, []};
+ghost use Rattle.std.specs.Prelude.{◌++◌, ◌∷◌, []};
 ghost use Rattle.ded_io.specs.Causes.{HasCause};
 ghost use Rattle.ded_io.specs.Devices.{AddsAll};
 ghost use Rattle.ded_shared.specs.Going.{any_next};

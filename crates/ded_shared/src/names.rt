@@ -1,6 +1,5 @@
 //! Names in the order in which they were added.
-ghost use Rattle.std.specs.Prelude.{◌≡◌, ◌≤◌, ◌++◌, take, length, OnOk, OnErr};
-ghost use Rattle.ded_shared.specs.State.{is_among};
+ghost use Rattle.std.specs.Prelude.{◌≡◌, ◌++◌, take, length, OnOk, OnErr};
 
 use ded_model::memory::NoMemory;
 use ded_model::name::Name;

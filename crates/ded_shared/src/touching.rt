@@ -3,7 +3,7 @@ ghost use Rattle.std.specs.Prelude.{◌≡◌, ◌≤◌, ◌||◌, ◌++◌, �
 ghost use Rattle.std.specs.Str.{bytes_eq};
 ghost use Rattle.ded_model.specs.Command.{command_form};
 ghost use Rattle.ded_model.specs.Entries.{known, entry_of};
-ghost use Rattle.ded_model.specs.Form.{form, forms, atom_speaks_of};
+ghost use Rattle.ded_model.specs.Form.{forms, atom_speaks_of};
 ghost use Rattle.ded_model.specs.Known.{level_with};
 ghost use Rattle.ded_model.specs.Logic.{some_atom_of};
 ghost use Rattle.ded_catalog.specs.State.{catalogue_of};

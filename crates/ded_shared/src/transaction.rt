@@ -40,7 +40,7 @@ impl Transaction {
     ghost use Rattle.std.specs.Prelude.{◌≡◌, ◌≤◌, ℕ, List, take, length, OnOk, if◌then◌else◌};
     ghost use Rattle.ded_lex.specs.Pieces.{Whole};
     ghost use Rattle.ded_model.specs.declared.command.Language.TheVariants.{One};
-    ghost use Rattle.ded_model.specs.Command.{CommandForm, command_form};
+    ghost use Rattle.ded_model.specs.Command.{command_form};
     ghost use Rattle.ded_syntax.specs.Spelling.{IsRead};
     ghost use Rattle.ded_catalog.specs.State.{catalogue_of};
     ghost use Rattle.ded_frame.specs.Touching.{depends_on_names};

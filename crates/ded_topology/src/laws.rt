@@ -1,8 +1,8 @@
 //! Names that are made of others: which tuples stand for them, and where they clash.
-ghost use Rattle.std.specs.Prelude.{◌≡◌, ◌⊎◌, ◌↔◌, ◌<◌, ℕ, true, length, IsTrue, List};
+ghost use Rattle.std.specs.Prelude.{◌≡◌, ◌⊎◌, ◌↔◌, ℕ, true, IsTrue, List};
 ghost use Rattle.std.specs.List.{AllByRecursion};
 ghost use Rattle.ded_model.specs.declared.name.Column.{Column};
-ghost use Rattle.ded_model.specs.Catalogue.{Catalogue, at_slots, meaning};
+ghost use Rattle.ded_model.specs.Catalogue.{Catalogue, meaning};
 ghost use Rattle.ded_model.specs.Entries.{columns_in};
 ghost use Rattle.ded_model.specs.Known.{IsTupleOver, IsWellFormed};
 ghost use Rattle.ded_model.specs.Lines.{IsSubset, tuples_lines};
@@ -11,9 +11,7 @@ ghost use Rattle.ded_model.specs.Measure.{stored_measures, measures};
 ghost use Rattle.ded_model.specs.Near.{IsCloseAt, IsInsideAt};
 ghost use Rattle.ded_model.specs.Point.{Point, IsPoint};
 ghost use Rattle.ded_model.specs.Row.{Atom, tuples_hold};
-ghost use Rattle.ded_model.specs.Value.{Argument};
 ghost use Rattle.ded_model.specs.Width.{IsNarrowList};
-ghost use Rattle.ded_views.specs.Same.{AreByteArguments};
 ghost use Rattle.ded_genrel.specs.Lists.{SomeConj};
 ghost use Rattle.ded_complement.specs.Pieces.{all_atoms};
 ghost use Rattle.ded_topology.specs.Names.{StandsForName, HoldsAsTuples};

@@ -1,5 +1,5 @@
 //! Conjunctions with their strict rows made weak.
-ghost use Rattle.std.specs.Prelude.{◌≡◌, IfOk, map};
+ghost use Rattle.std.specs.Prelude.{◌≡◌, IfOk};
 ghost use Rattle.ded_topology.specs.Weakening.{weakened_op, weakened_row, weakened_atom, weakened};
 
 use ded_model::memory::NoMemory;

@@ -18,7 +18,7 @@ use Rattle.ded_model.specs.Width.{tuple_length}
 use Rattle.ded_print.specs.Tuples.{column_names, tuple_text}
 use Rattle.ded_dump.specs.Headings.{heading_text}
 use Rattle.ded_syntax.specs.declared.item.Keyword.TheVariants as words
-use Rattle.ded_syntax.specs.Symbols.{Symbol, Name, symbol, word_symbol}
+use Rattle.ded_syntax.specs.Symbols.{Symbol, Name, word_symbol}
 use Rattle.ded_syntax.specs.Symbols as symbols
 use Rattle.ded_syntax.specs.Literals.{Reader, exact, marked}
 use Rattle.ded_syntax.specs.Atoms.{Comparison}

@@ -20,7 +20,7 @@ use Rattle.ded_model.specs.Logic.{atom}
 use Rattle.ded_model.specs.Plain.{AreOnce}
 use Rattle.ded_model.specs.Quoting.{quoted as quoted_bytes}
 use Rattle.ded_print.specs.Numbers.{number_text, integer_text}
-use Rattle.ded_print.specs.Tuples.{Names, term_text, later_term_text, later_terms_text}
+use Rattle.ded_print.specs.Tuples.{Names, term_text, later_terms_text}
 use Rattle.ded_print.specs.Tuples as turning
 use Rattle.ded_print.proofs.Numerals.{number_one}
 use Rattle.ded_print.proofs.Signs.{plus}

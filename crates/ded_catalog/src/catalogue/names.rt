@@ -1,5 +1,4 @@
 //! What a command asks of the names.
-ghost use Rattle.std.specs.Prelude.{IfOk, ◌≡◌};
 
 use super::Catalogue;
 use crate::table::{known_of, relation_of, some_uses};

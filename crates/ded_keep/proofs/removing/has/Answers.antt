@@ -1,4 +1,4 @@
-use Rattle.std.proofs.Common.{◌≡◌, true, sym, ◌∙◌, subst}
+use Rattle.std.proofs.Common.{◌≡◌, true, sym, subst}
 use Rattle.ded_model.specs.Row.{tuple_holds}
 use Rattle.ded_keep.proofs.Covered.{hold-at}
 use Rattle.ded_keep.proofs.removing.has.Goals as goal

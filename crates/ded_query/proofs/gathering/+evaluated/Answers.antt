@@ -5,7 +5,7 @@ use Rattle.std.specs.Str.{bytes_eq}
 use Rattle.std.proofs.lemmas.List.{take_all}
 use Rattle.std.proofs.lemmas.Result.{IfOk-weaker, on_ok_weaker, err_from_is_err_and}
 use Rattle.ded_model.specs.declared.memory.Refused.TheVariants.{Wide}
-use Rattle.ded_model.specs.Entries.{known, entry_of, view_in}
+use Rattle.ded_model.specs.Entries.{known}
 use Rattle.ded_model.specs.Made.{base, is_made}
 use Rattle.ded_model.specs.Goal.{goal_form}
 use Rattle.ded_model.specs.Known.{level_with}
@@ -16,7 +16,7 @@ use Rattle.ded_catalog.specs.Snapshots.{snapshot_of}
 use Rattle.ded_complement.proofs.Cutting.{all-at}
 use Rattle.ded_eval.specs.Given.{has_name}
 use Rattle.ded_query.specs.Over.{over_relations}
-use Rattle.ded_query.proofs.Entries.{view_goal, view_posed, view_low, view_level, view_clash, no_view, relation_there}
+use Rattle.ded_query.proofs.Entries.{view_goal, view_posed, view_low, view_level, view_clash, relation_there}
 use Rattle.ded_query.proofs.Evaluable.{evaluable}
 use Rattle.ded_query.proofs.Evaluations.{evaluated_of, evaluated_part, clash_of_goal}
 use Rattle.ded_query.proofs.Gathered.{gathered_none, gathered_more, front_none, front_more, named_more, posed_scans, posed_known, posed_levels, posed_clash}
