@@ -47,7 +47,7 @@ above_by : (c : ℤ) (f e : ℕ) → pos 0 <ℤ pos f → neg_ℤ (pos f *ℤ po
 above_by c f e p h =
     turn (pos f *ℤ (neg_ℤ (pos e) +ℤ pos 1)) (neg_ℤ (pos f *ℤ pos e) +ℤ pos f) (pos f *ℤ c) (c *ℤ pos f) (law (pos f) (pos e)) (commute (pos f) c)
     (times_up (pos f) (neg_ℤ (pos e) +ℤ pos 1) c (weak f) (next (neg_ℤ (pos e)) c
-        (lt_unscale (pos f) (neg_ℤ (pos e)) c p (lt_turn (neg_ℤ (pos f *ℤ pos e)) (pos f *ℤ neg_ℤ (pos e)) (c *ℤ pos f) (pos f *ℤ c) (turned (pos f) (pos e)) (commute c (pos f)) h))))
+    (lt_unscale (pos f) (neg_ℤ (pos e)) c p (lt_turn (neg_ℤ (pos f *ℤ pos e)) (pos f *ℤ neg_ℤ (pos e)) (c *ℤ pos f) (pos f *ℤ c) (turned (pos f) (pos e)) (commute c (pos f)) h))))
   where
     law : (f e : ℤ) → f *ℤ (neg_ℤ e +ℤ pos 1) ≡ neg_ℤ (f *ℤ e) +ℤ f
     law f e = rw (parts f, parts e) (simp ring_pos (diff_same _ _ _ _ (omega arith)))

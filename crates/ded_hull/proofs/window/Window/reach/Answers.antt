@@ -10,6 +10,6 @@ use Rattle.ded_hull.proofs.window.Window.reach.Goals as goal
 pub returns : goal.returns
 returns c =
     IfOk-weaker c.box_of.result _ _ (λ r lies p is h.
-        lies (column_value p) p.den
-        (subst (λ (ls : List Limit). are_met (column_value p) p.den ls ≡ true) (sym c.deref.ensures.value) (and_first (are_met (column_value p) p.den c.args.self.now.limits.items) (list_all (is_text_met p) c.args.self.now.texts.items) h)))
+    lies (column_value p) p.den
+    (subst (λ (ls : List Limit). are_met (column_value p) p.den ls ≡ true) (sym c.deref.ensures.value) (and_first (are_met (column_value p) p.den c.args.self.now.limits.items) (list_all (is_text_met p) c.args.self.now.texts.items) h)))
     c.box_of.ensures.lies
