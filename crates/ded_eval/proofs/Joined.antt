@@ -33,7 +33,7 @@ module _ (c : Catalogue) where
   sat_rows (exists s k f) p y = refl
   sat_rows (forall s k f) p y = refl
 
-  every_rows : (fs : List PlanForm) (p : Point) → SatEvery (PlanAtomHolds (stored c)) (logics fs) p → all_rows_hold fs p ≡ true
+  pub every_rows : (fs : List PlanForm) (p : Point) → SatEvery (PlanAtomHolds (stored c)) (logics fs) p → all_rows_hold fs p ≡ true
   every_rows [] p y = refl
   every_rows (f ∷ fs) p y = and_from _ _ (sat_rows f p y.0) (every_rows fs p y.1)
 

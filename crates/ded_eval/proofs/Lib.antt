@@ -21,6 +21,7 @@ pub mod Parts
 pub mod Placed
 pub mod Projected
 pub mod Reducing
+pub mod Refuted
 pub mod RowsBeside
 pub mod RowsRead
 pub mod Scanned

@@ -4,6 +4,7 @@
 -- renamed list holds at a point where the list does at a point that has the same values at the slots before; the point of the
 -- columns is one.
 use Rattle.std.proofs.Common.{◌≡◌, ℕ, ◌*◌, ◌<◌, Bool, true, List, [], ◌∷◌, ⊎_elim, arith, sym, ap, ◌∙◌, subst, true≢false, map}
+use Rattle.std.specs.Prelude.{◌↔◌, IsTrue}
 use Rattle.std.specs.List.{AllByRecursion}
 use Rattle.ded_model.specs.declared.slot.Slot.{Slot}
 use Rattle.ded_model.specs.declared.name.Column.{Column}
@@ -12,7 +13,7 @@ use Rattle.ded_model.specs.Row.{Atom, row_mentions, tuple_mentions, tuples_hold,
 use Rattle.ded_model.specs.Coefs.{AreCoefs}
 use Rattle.ded_model.specs.Known.{IsTupleOver, heading_slots}
 use Rattle.ded_model.specs.Value.{slot_value, overs, arguments}
-use Rattle.ded_model.specs.Catalogue.{Catalogue}
+use Rattle.ded_model.specs.Catalogue.{Catalogue, GivenHolds}
 use Rattle.ded_model.specs.Measure.{stored_measures}
 use Rattle.ded_model.specs.Logic.{atom}
 use Rattle.ded_model.specs.PlanForm.{scan}
@@ -73,21 +74,29 @@ module _ {A : Type 0} (h : A → Point → Bool) (m : A → Slot → Bool) (l : 
     pub scan_sorts : KeepsSorts (column_pairs 0 ss) (conjs_mention m list)
     scan_sorts = record { sort = λ s e. read_sort 0 k.found.heading ss s (renamed (column_pairs 0 ss) s) k.found.sorts (read 0 k.found.heading ss s k.found.sorts (columns s e)) }
 
-    -- and then is the scan, inside of what the window asks for
-    pub scan_is : (inside : Point → Bool) → IsWindowOf ss inside w → ((a : A) (y : Line) → n a → In y (l a) → AreCoefs y.coefs) → ((a : A) (y : Line) (s : Slot) → In y (l a) → row_mentions y s ≡ true → m a s ≡ true)
-        → AreDistinctSlots ss → AreNormal n list → (out : List (List A)) → IsRenaming (column_pairs 0 ss) (conjs_hold h list) (conjs_hold h out) (conjs_mention m list) (conjs_mention m out) (conjs_lines l list) (conjs_lines l out)
-        → IsEvaluationWithin c (atom (scan x ss)) inside (conjs_hold h out) (conjs_mention m out) (conjs_lines l out)
-    scan_is inside asked line_coefs line_slots d n-list out r = record {
-      holds = λ q i within. (let e = there q i ∙ near_holds w (column_point q k.found.heading ss) (column_point_is q k.found.heading ss i) (columns_within q k.found.heading ss k.found.sorts inside w within asked) us k.all k.near in let means = k.found.means (q.den * overs (map (slot_value q) ss)) (arguments (map (slot_value q) ss)) in (λ t. means.1 (sym e ∙ t), λ t. e ∙ means.0 t));
-      slots = λ t e. (let s = r.slots t e in read_into 0 k.found.heading ss s.0 t (subst (IsRead 0 k.found.heading ss s.0) s.2 (read 0 k.found.heading ss s.0 k.found.sorts (columns s.0 s.1))));
-      lines = subst (λ ys. IsSubset ys (renamed_lines ss (stored_measures c x).lines)) (sym (r.lines ∙ mapped))
-          (subst (λ ys. IsSubset (renamed_lines ss (conjs_lines l list)) (renamed_lines ss ys)) (sym k.found.lines) (renamed-grows ss (conjs_lines l list) (tuples_lines k.all) (subset_trans (conjs_lines l list) (tuples_lines us) (tuples_lines k.all) is.lines (near_lines w us k.all k.near))));
-    }
-      where
-        there : (q : Point) → IsPoint q → conjs_hold h out q ≡ tuples_hold us (column_point q k.found.heading ss)
-        there q i =
-            let positive : 0 < (column_point q k.found.heading ss).den = subst (λ z. 0 < z) (sym (ap (λ z. q.den * z) (overs_one q ss) ∙ omega arith)) i.positive in
-            r.holds (column_point q k.found.heading ss) q positive (columns_point q k.found.heading ss (conjs_mention m list) k.found.sorts columns) ∙ is.holds (column_point q k.found.heading ss)
+    module _ (inside : Point → Bool) (asked : IsWindowOf ss inside w) (out : List (List A))
+        (r : IsRenaming (column_pairs 0 ss) (conjs_hold h list) (conjs_hold h out) (conjs_mention m list) (conjs_mention m out) (conjs_lines l list) (conjs_lines l out)) where
+      there : (q : Point) → IsPoint q → conjs_hold h out q ≡ tuples_hold us (column_point q k.found.heading ss)
+      there q i =
+          let positive : 0 < (column_point q k.found.heading ss).den = subst (λ z. 0 < z) (sym (ap (λ z. q.den * z) (overs_one q ss) ∙ omega arith)) i.positive in
+          r.holds (column_point q k.found.heading ss) q positive (columns_point q k.found.heading ss (conjs_mention m list) k.found.sorts columns) ∙ is.holds (column_point q k.found.heading ss)
 
-        mapped : mapped_lines (column_pairs 0 ss) (conjs_lines l list) ≡ renamed_lines ss (conjs_lines l list)
-        mapped = mapped_columns k.found.heading ss k.found.sorts d (conjs_lines l list) (λ y i. (lists_lines (λ z. AreCoefs z.coefs) line_coefs list n-list y i, λ s e. columns s (conjs_line_slots l m line_slots list y s i (mentioned y s e))))
+      -- and then holds where the scan does, inside of what the window asks for
+      pub scan_holds : (q : Point) → IsPoint q → inside q ≡ true → IsTrue (conjs_hold h out q) ↔ GivenHolds c (atom (scan x ss)) q
+      scan_holds q i within =
+          let e = there q i ∙ near_holds w (column_point q k.found.heading ss) (column_point_is q k.found.heading ss i) (columns_within q k.found.heading ss k.found.sorts inside w within asked) us k.all k.near in
+          let means = k.found.means (q.den * overs (map (slot_value q) ss)) (arguments (map (slot_value q) ss)) in
+          (λ t. means.1 (sym e ∙ t), λ t. e ∙ means.0 t)
+
+      -- so it is the scan there
+      pub scan_is : ((a : A) (y : Line) → n a → In y (l a) → AreCoefs y.coefs) → ((a : A) (y : Line) (s : Slot) → In y (l a) → row_mentions y s ≡ true → m a s ≡ true)
+          → AreDistinctSlots ss → AreNormal n list → IsEvaluationWithin c (atom (scan x ss)) inside (conjs_hold h out) (conjs_mention m out) (conjs_lines l out)
+      scan_is line_coefs line_slots d n-list = record {
+        holds = scan_holds;
+        slots = λ t e. (let s = r.slots t e in read_into 0 k.found.heading ss s.0 t (subst (IsRead 0 k.found.heading ss s.0) s.2 (read 0 k.found.heading ss s.0 k.found.sorts (columns s.0 s.1))));
+        lines = subst (λ ys. IsSubset ys (renamed_lines ss (stored_measures c x).lines)) (sym (r.lines ∙ mapped))
+            (subst (λ ys. IsSubset (renamed_lines ss (conjs_lines l list)) (renamed_lines ss ys)) (sym k.found.lines) (renamed-grows ss (conjs_lines l list) (tuples_lines k.all) (subset_trans (conjs_lines l list) (tuples_lines us) (tuples_lines k.all) is.lines (near_lines w us k.all k.near))));
+      }
+        where
+          mapped : mapped_lines (column_pairs 0 ss) (conjs_lines l list) ≡ renamed_lines ss (conjs_lines l list)
+          mapped = mapped_columns k.found.heading ss k.found.sorts d (conjs_lines l list) (λ y i. (lists_lines (λ z. AreCoefs z.coefs) line_coefs list n-list y i, λ s e. columns s (conjs_line_slots l m line_slots list y s i (mentioned y s e))))

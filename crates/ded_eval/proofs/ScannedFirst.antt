@@ -1,5 +1,8 @@
 -- The first tuples that are lent of a relation, renamed, hold only where a scan does.
-use Rattle.std.proofs.Common.{◌≡◌, ℕ, zero, suc, ◌*◌, ◌<◌, Bool, true, List, [], ◌∷◌, take, ⊎_elim, inl, inr, arith, sym, ap, ◌∙◌, subst, true≢false, map}
+use Rattle.std.proofs.Common.{◌≡◌, ℕ, zero, suc, ◌*◌, ◌<◌, ◌≤◌, Bool, true, List, [], ◌∷◌, take, length, ⊎_elim, inl, inr, arith, sym, ap, ◌∙◌, subst, true≢false, map}
+use lib.Dec.{leb}
+use Rattle.std.proofs.lemmas.Bool.Decides.{leb_tells}
+use Rattle.std.proofs.lemmas.List.{take_all}
 use Rattle.std.specs.List.{AllByRecursion}
 use Rattle.ded_model.specs.declared.slot.Slot.{Slot}
 use Rattle.ded_model.specs.Point.{Point, stands_in, AreDistinctSlots}
@@ -68,6 +71,10 @@ first_lent Reads c n ss w k bs a = record {
   over = first_all (λ t. IsTupleOver a.found.heading t × AllByRecursion Reads t) k bs (near_all w (λ t. IsTupleOver a.found.heading t × AllByRecursion Reads t) (lent bs) a.all a.near a.found.over);
   only = λ p x. near_only w p (lent bs) a.all a.near (first_only p k bs x);
 }
+
+-- where there are no more than k, these are all that are lent
+pub all_lent : (Reads : Atom → Type 0) (c : Catalogue) (n : List ℕ) (ss : List Slot) (w : Window) (k l : ℕ) (bs : List Lent) → l ≡ length bs → leb l k ≡ true → IsLent Reads c n ss w (lent bs) → IsLent Reads c n ss w (lent (take k bs))
+all_lent Reads c n ss w k l bs e t a = subst (λ (us : List Lent). IsLent Reads c n ss w (lent us)) (sym (take_all k bs (⊎_elim (λ h. subst (λ m. m ≤ k) e h.1) (λ h. absurd (true≢false (sym t ∙ h.0))) (leb_tells l k)))) a
 
 pub first_reads : (Reads : Atom → Type 0) (c : Catalogue) (n : List ℕ) (ss : List Slot) (us : List (List Atom)) → IsSomeOf Reads c n ss us → AllByRecursion (λ t. AllByRecursion Reads t) us
 first_reads Reads c n ss us k = all_weaker (λ t. IsTupleOver k.found.heading t × AllByRecursion Reads t) (λ t. AllByRecursion Reads t) us (λ t j. j.1) k.over

@@ -107,3 +107,9 @@ pub found_everywhere : (c : Catalogue) (f : PlanForm) (ts : List (List Atom)) �
 unfolding tuples_hold tuple_holds tuples_mention tuple_mentions
 found_everywhere c f ts e k = subst (λ (us : List (List Atom)). IsEvaluation c f (tuples_hold us) (tuples_mention us) (tuples_lines us)) (sym e)
     (record { holds = λ p i w. (λ x. k p i, λ x. refl); slots = λ s u. absurd (true≢false (sym u)); lines = subset_none _ })
+
+-- and what holds nowhere to no tuples
+pub found_nowhere : (c : Catalogue) (f : PlanForm) (ts : List (List Atom)) → ts ≡ [] → ((p : Point) → IsPoint p → GivenHolds c f p → ⊥) → IsEvaluation c f (tuples_hold ts) (tuples_mention ts) (tuples_lines ts)
+unfolding tuples_hold tuples_mention
+found_nowhere c f ts e k = subst (λ (us : List (List Atom)). IsEvaluation c f (tuples_hold us) (tuples_mention us) (tuples_lines us)) (sym e)
+    (record { holds = λ p i w. (λ x. absurd (true≢false (sym x)), λ g. absurd (k p i g)); slots = λ s u. absurd (true≢false (sym u)); lines = subset_none _ })

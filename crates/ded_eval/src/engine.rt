@@ -6,7 +6,7 @@ ghost use Rattle.ded_eval.specs.Reading.{IsWrittenAs};
 ghost use Rattle.ded_genrel.specs.Lists.{conjs_of};
 
 use crate::atoms::{eval, eval_within};
-use crate::finding::is_found;
+use crate::finding::found;
 use crate::meeting::met;
 use crate::theories::Atoms;
 use ded_algebra::{Evaluate, Relations};
@@ -14,6 +14,7 @@ use ded_genrel::GenRel;
 use ded_model::memory::{NoMemory, Refused};
 use ded_model::plan::Plan;
 use ded_model::tuple::{Tuple, Tuples};
+use ded_theory::Verdict;
 use ded_tuple::normal_tuple;
 use std::alloc::Global;
 
@@ -27,11 +28,14 @@ impl Evaluate for Engine {
         plan: &Plan,
         relations: &R,
     ) -> Result<Tuples, Refused> {
-        if is_found::<Atoms, R>(alloc, plan, relations)? {
-            return Ok(everywhere(alloc)?);
+        match found::<Atoms, R>(alloc, plan, relations)? {
+            Verdict::Inhabited => Ok(everywhere(alloc)?),
+            Verdict::Empty => Ok(nowhere(alloc)),
+            Verdict::Unknown => {
+                let list = eval(alloc, plan, relations)?;
+                Ok(tuples(alloc, list)?)
+            }
         }
-        let list = eval(alloc, plan, relations)?;
-        Ok(tuples(alloc, list)?)
     }
 
     fn evaluate_within<R: Relations>(
@@ -67,6 +71,15 @@ fn everywhere(alloc: Global) -> Result<Tuples, NoMemory>
         atoms: Vec::new(alloc),
     })?;
     Ok(Tuples { list })
+}
+
+/// No tuples, which hold nowhere.
+fn nowhere(alloc: Global) -> Tuples
+    ensures { result ≡ [] }
+{
+    Tuples {
+        list: Vec::new(alloc),
+    }
 }
 
 /// The normal tuples of the conjunctions of a list.

@@ -1,27 +1,29 @@
-//! What shows a closed plan to hold: a few conjunctions of each part, tried before the plan is evaluated.
+//! What shows a closed plan to hold, or not to: a few conjunctions of each part, tried before the plan is evaluated.
 ghost use Rattle.std.specs.Prelude.{◌≡◌, true, IfOk};
 ghost use Rattle.std.specs.List.{AllByRecursion};
 ghost use Rattle.ded_model.specs.Cell.{conj_holds};
-ghost use Rattle.ded_model.specs.Catalogue.{GivenHolds};
-ghost use Rattle.ded_model.specs.Logic.{every_of, some_of, AllAtomsOf};
-ghost use Rattle.ded_model.specs.PlanForm.{plan_form, plan_forms};
-ghost use Rattle.ded_model.specs.Point.{Point, IsPoint};
+ghost use Rattle.ded_model.specs.Entries.{entry_of};
+ghost use Rattle.ded_model.specs.Logic.{atom, every_of, some_of, AllAtomsOf};
+ghost use Rattle.ded_model.specs.PlanForm.{scan, plan_form, plan_forms};
+ghost use Rattle.ded_model.specs.Point.{Point};
 ghost use Rattle.ded_genrel.specs.Lists.{conjs_hold};
-ghost use Rattle.ded_algebra.specs.Evaluation.{IsScannable, IsEvaluable};
-ghost use Rattle.ded_eval.specs.Finding.{IsFoundIn, IsFoundWith, AreAlike, IsAttained};
+ghost use Rattle.ded_algebra.specs.Evaluation.{IsScannable, IsScannedFrom, IsEvaluable};
+ghost use Rattle.ded_eval.specs.Finding.{IsFoundIn, IsFoundWith, AreAlike, IsPlanVerdict, IsClosedVerdict};
 
-use crate::attaining::{are_rows_over, some_attained};
+use crate::attaining::{are_over, is_empty, is_inhabited, list_attained};
 use crate::beside::{alone, is_rows, rows_of_parts};
 use crate::evaluation::rows;
 use crate::reading::OfTuples;
 use crate::scanning::first_scanned;
+use crate::tried::{is_closed, joins, others_than_rows, projects};
 use crate::window::without_slot;
 use ded_algebra::Relations;
 use ded_genrel::{GenRel, both_conjs};
 use ded_model::memory::{NoMemory, Refused};
+use ded_model::name::Name;
 use ded_model::plan::Plan;
-use ded_model::slot::Slot;
-use ded_theory::Theory;
+use ded_model::slot::{Slot, Slots, stands_in};
+use ded_theory::{Theory, Verdict};
 use std::alloc::{AllocError, Global};
 
 /// How many conjunctions of a part are tried.
@@ -30,91 +32,115 @@ const FEW: usize = 4;
 /// How many plans are looked at in all.
 const LOOKS: u32 = 32;
 
-/// Whether the plan is found to hold everywhere. Only closed plans that project slots or join parts are tried, and of each part a few
-/// conjunctions alone, so that `false` says nothing.
+/// What is found of the plan: that it holds everywhere (`Inhabited`), or nowhere (`Empty`). Only closed plans that project slots or join
+/// parts are tried, and of each part a few conjunctions alone, so that `Unknown` says nothing.
 ///
 /// # Errors
 /// Out of memory.
-pub(crate) fn is_found<T: OfTuples, R: Relations>(
+pub(crate) fn found<T: OfTuples, R: Relations>(
     alloc: Global,
     plan: &Plan,
     relations: &R,
-) -> Result<bool, NoMemory>
+) -> Result<Verdict, NoMemory>
     requires { IsEvaluable T.reads (R.catalogue relations.now) (plan_form plan.now) }
-    ensures { IfOk result (λ b. b ≡ true → (p : Point) → IsPoint p → GivenHolds (R.catalogue relations.now) (plan_form plan.now) p) }
+    ensures { IfOk result (IsClosedVerdict (R.catalogue relations.now) (plan_form plan.now)) }
 {
     if !(projects(plan) || joins(plan)) || !is_closed(alloc, plan, &[])? {
-        return Ok(false);
+        return Ok(Verdict::Unknown);
     }
-    if projects(plan) && is_attained::<T, R>(alloc, plan, relations, &[], &[])? {
-        return Ok(true);
+    if !projects(plan) {
+        return found_by_few::<T, R>(alloc, plan, relations);
     }
+    match attained::<T, R>(alloc, plan, relations, &[], &[])? {
+        Verdict::Empty => Ok(Verdict::Empty),
+        Verdict::Inhabited => Ok(Verdict::Inhabited),
+        Verdict::Unknown => found_by_few::<T, R>(alloc, plan, relations),
+    }
+}
+
+/// The same by a few conjunctions of the plan, where it joins parts: whether one of them has no atoms.
+///
+/// # Errors
+/// Out of memory.
+fn found_by_few<T: OfTuples, R: Relations>(
+    alloc: Global,
+    plan: &Plan,
+    relations: &R,
+) -> Result<Verdict, NoMemory>
+    requires { IsEvaluable T.reads (R.catalogue relations.now) (plan_form plan.now) }
+    ensures { IfOk result (IsClosedVerdict (R.catalogue relations.now) (plan_form plan.now)) }
+{
     if !joins(plan) {
-        return Ok(false);
+        return Ok(Verdict::Unknown);
     }
     let everywhere = Vec::new(alloc);
     let mut looks = LOOKS;
     match few::<T, R>(alloc, plan, relations, &everywhere, &mut looks) {
-        Ok(list) => Ok(has_everything(&list)),
-        Err(Refused::Wide) => Ok(false),
+        Ok(list) if has_everything(&list) => Ok(Verdict::Inhabited),
+        Ok(_) | Err(Refused::Wide) => Ok(Verdict::Unknown),
         Err(Refused::Memory) => Err(AllocError),
     }
 }
 
-/// Whether the plan is found to hold wherever a point has the numbers, at the slots, of some point at which the atoms hold: one of a few
-/// conjunctions of rows, over these slots and those that the plan projects first, holds somewhere together with the atoms. So no slot
-/// has to be eliminated.
+/// What is found of the plan at points at which the atoms hold: `Empty` where it holds at none of them, and `Inhabited` where it holds
+/// wherever a point has the values, at the slots, of some point at which the atoms hold. For that one of a few conjunctions, over these
+/// slots and those that the plan projects first, has to hold somewhere together with the atoms. So no slot has to be eliminated.
 ///
 /// # Errors
 /// Out of memory.
-#[cycle(is_attained)]
-fn is_attained<T: OfTuples, R: Relations>(
+#[cycle(attained)]
+fn attained<T: OfTuples, R: Relations>(
     alloc: Global,
     plan: &Plan,
     relations: &R,
     atoms: &[T::Atom],
     slots: &[Slot],
-) -> Result<bool, NoMemory>
+) -> Result<Verdict, NoMemory>
     requires plan { IsEvaluable T.reads (R.catalogue relations.now) (plan_form plan.now) }
     requires atoms { AllByRecursion T.normal atoms.now }
     requires alike { AreAlike T.holds slots.now atoms.now }
-    ensures { IfOk result (λ b. b ≡ true → IsAttained T.holds atoms.now (R.catalogue relations.now) slots.now (plan_form plan.now)) }
+    ensures { IfOk result (IsPlanVerdict T.holds atoms.now (R.catalogue relations.now) slots.now (plan_form plan.now)) }
 {
     match plan {
         Plan::Project(slot, part) => {
             let mut inside = Vec::from_slice(alloc, slots)?;
             inside.push(*slot)?;
-            is_attained::<T, R>(alloc, part, relations, atoms, &inside)
+            match attained::<T, R>(alloc, part, relations, atoms, &inside)? {
+                Verdict::Empty if stands_in(slots, *slot) => Ok(Verdict::Unknown),
+                Verdict::Empty => Ok(Verdict::Empty),
+                Verdict::Inhabited => Ok(Verdict::Inhabited),
+                Verdict::Unknown => Ok(Verdict::Unknown),
+            }
         }
         Plan::Join(parts) if others_than_rows(parts) == 1 => {
-            join_is_attained::<T, R>(alloc, parts, relations, atoms, slots)
+            join_attained::<T, R>(alloc, parts, relations, atoms, slots)
         }
-        Plan::Scan(_, _)
-        | Plan::Rows(_)
-        | Plan::Join(_)
-        | Plan::Union(_)
-        | Plan::Minus(_, _)
-        | Plan::Not(_) => some_of_few::<T, R>(alloc, plan, relations, atoms, slots),
+        Plan::Scan(name, columns) => {
+            scan_attained::<T, R>(alloc, name, columns, relations, atoms, slots)
+        }
+        Plan::Rows(_) | Plan::Join(_) | Plan::Union(_) | Plan::Minus(_, _) | Plan::Not(_) => {
+            few_attained::<T, R>(alloc, plan, relations, atoms, slots)
+        }
     }
 }
 
 /// The same of the join of the parts, where all but one of them are rows over the slots.
-#[cycle(is_attained)]
-fn join_is_attained<T: OfTuples, R: Relations>(
+#[cycle(attained)]
+fn join_attained<T: OfTuples, R: Relations>(
     alloc: Global,
     parts: &Vec<Plan>,
     relations: &R,
     atoms: &[T::Atom],
     slots: &[Slot],
-) -> Result<bool, NoMemory>
+) -> Result<Verdict, NoMemory>
     requires parts { AllAtomsOf (IsScannable T.reads (R.catalogue relations.now)) (plan_forms parts.now.items) }
     requires atoms { AllByRecursion T.normal atoms.now }
     requires alike { AreAlike T.holds slots.now atoms.now }
-    ensures { IfOk result (λ b. b ≡ true → IsAttained T.holds atoms.now (R.catalogue relations.now) slots.now (every_of (plan_forms parts.now.items))) }
+    ensures { IfOk result (IsPlanVerdict T.holds atoms.now (R.catalogue relations.now) slots.now (every_of (plan_forms parts.now.items))) }
 {
     let own = rows_of_parts::<T>(alloc, parts)?;
-    if !are_rows_over::<T>(&own, slots) {
-        return Ok(false);
+    if !are_over::<T>(&own, slots) {
+        return Ok(Verdict::Unknown);
     }
     let inner = both_conjs::<T>(alloc, atoms, &own)?;
     let mut found = false;
@@ -122,34 +148,70 @@ fn join_is_attained<T: OfTuples, R: Relations>(
         if is_rows(part) {
             continue;
         }
-        if found || !is_attained::<T, R>(alloc, part, relations, &inner, slots)? {
-            return Ok(false);
+        let verdict = attained::<T, R>(alloc, part, relations, &inner, slots)?;
+        if is_empty(verdict) {
+            return Ok(Verdict::Empty);
+        }
+        if found || !is_inhabited(verdict) {
+            return Ok(Verdict::Unknown);
         }
         found = true;
     }
-    Ok(found)
+    Ok(if found {
+        Verdict::Inhabited
+    } else {
+        Verdict::Unknown
+    })
 }
 
-/// The same, of a few conjunctions of the plan.
+/// The same of a scan, by its first tuples.
 ///
 /// # Errors
 /// Out of memory.
-fn some_of_few<T: OfTuples, R: Relations>(
+fn scan_attained<T: OfTuples, R: Relations>(
+    alloc: Global,
+    name: &Name,
+    columns: &Slots,
+    relations: &R,
+    atoms: &[T::Atom],
+    slots: &[Slot],
+) -> Result<Verdict, NoMemory>
+    requires scan { IsScannedFrom T.reads (entry_of (R.catalogue relations.now).entries name.now) columns.now }
+    requires atoms { AllByRecursion T.normal atoms.now }
+    requires alike { AreAlike T.holds slots.now atoms.now }
+    ensures { IfOk result (IsPlanVerdict T.holds atoms.now (R.catalogue relations.now) slots.now (atom (scan name.now columns.now))) }
+{
+    let first = first_scanned::<T, R>(alloc, name, columns, relations, atoms, FEW)?;
+    match list_attained(alloc, &first.list, atoms, slots)? {
+        Verdict::Empty if first.is_whole => Ok(Verdict::Empty),
+        Verdict::Inhabited => Ok(Verdict::Inhabited),
+        Verdict::Empty | Verdict::Unknown => Ok(Verdict::Unknown),
+    }
+}
+
+/// The same by a few conjunctions of the plan, which are never all.
+///
+/// # Errors
+/// Out of memory.
+fn few_attained<T: OfTuples, R: Relations>(
     alloc: Global,
     plan: &Plan,
     relations: &R,
     atoms: &[T::Atom],
     slots: &[Slot],
-) -> Result<bool, NoMemory>
+) -> Result<Verdict, NoMemory>
     requires plan { IsEvaluable T.reads (R.catalogue relations.now) (plan_form plan.now) }
     requires atoms { AllByRecursion T.normal atoms.now }
     requires alike { AreAlike T.holds slots.now atoms.now }
-    ensures { IfOk result (λ b. b ≡ true → IsAttained T.holds atoms.now (R.catalogue relations.now) slots.now (plan_form plan.now)) }
+    ensures { IfOk result (IsPlanVerdict T.holds atoms.now (R.catalogue relations.now) slots.now (plan_form plan.now)) }
 {
     let mut looks = LOOKS;
     match few::<T, R>(alloc, plan, relations, atoms, &mut looks) {
-        Ok(list) => some_attained(alloc, &list, atoms, slots),
-        Err(Refused::Wide) => Ok(false),
+        Ok(list) => match list_attained(alloc, &list, atoms, slots)? {
+            Verdict::Inhabited => Ok(Verdict::Inhabited),
+            Verdict::Empty | Verdict::Unknown => Ok(Verdict::Unknown),
+        },
+        Err(Refused::Wide) => Ok(Verdict::Unknown),
         Err(Refused::Memory) => Err(AllocError),
     }
 }
@@ -175,7 +237,9 @@ fn few<T: OfTuples, R: Relations>(
         return Ok(GenRel::new(alloc));
     }
     match plan {
-        Plan::Scan(name, slots) => Ok(first_scanned(alloc, name, slots, relations, window, FEW)?),
+        Plan::Scan(name, slots) => Ok(
+            first_scanned(alloc, name, slots, relations, window, FEW)?.list,
+        ),
         Plan::Rows(tuple) => Ok(rows(alloc, tuple)?),
         Plan::Join(parts) => few_joined(alloc, parts, relations, window, looks),
         Plan::Union(parts) => few_united(alloc, parts, relations, window, looks),
@@ -298,79 +362,4 @@ fn has_everything<T: Theory>(list: &GenRel<T>) -> bool
         }
     }
     false
-}
-
-// ---- which plans are tried
-
-/// Whether the plan projects a slot.
-fn projects(plan: &Plan) -> bool {
-    match plan {
-        Plan::Project(_, _) => true,
-        Plan::Scan(_, _)
-        | Plan::Rows(_)
-        | Plan::Join(_)
-        | Plan::Union(_)
-        | Plan::Minus(_, _)
-        | Plan::Not(_) => false,
-    }
-}
-
-/// Whether the plan joins parts under its projections, or is a union of which a part does.
-#[cycle(joins)]
-fn joins(plan: &Plan) -> bool {
-    match plan {
-        Plan::Join(parts) => others_than_rows(parts) > 1,
-        Plan::Union(parts) => some_joins(parts),
-        Plan::Project(_, part) => joins(part),
-        Plan::Scan(_, _) | Plan::Rows(_) | Plan::Minus(_, _) | Plan::Not(_) => false,
-    }
-}
-
-/// Whether some part does.
-#[cycle(joins)]
-fn some_joins(parts: &Vec<Plan>) -> bool {
-    for part in parts {
-        if joins(part) {
-            return true;
-        }
-    }
-    false
-}
-
-/// How many of the parts aren't rows and text atoms alone.
-fn others_than_rows(parts: &Vec<Plan>) -> usize {
-    parts.iter().filter(|part| !is_rows(part)).count()
-}
-
-/// Whether each slot that the plan scans is projected in it, or one of the given ones.
-///
-/// # Errors
-/// Out of memory.
-#[cycle(is_closed)]
-fn is_closed(alloc: Global, plan: &Plan, bound: &[Slot]) -> Result<bool, NoMemory> {
-    match plan {
-        Plan::Scan(_, slots) => Ok(slots.list.iter().all(|slot| bound.contains(slot))),
-        Plan::Rows(_) => Ok(true),
-        Plan::Join(parts) | Plan::Union(parts) => are_closed(alloc, parts, bound),
-        Plan::Minus(from, taken) => {
-            Ok(is_closed(alloc, from, bound)? && is_closed(alloc, taken, bound)?)
-        }
-        Plan::Not(part) => is_closed(alloc, part, bound),
-        Plan::Project(slot, part) => {
-            let mut inside = Vec::from_slice(alloc, bound)?;
-            inside.push(*slot)?;
-            is_closed(alloc, part, &inside)
-        }
-    }
-}
-
-/// Whether each slot that one of the parts scans is so.
-#[cycle(is_closed)]
-fn are_closed(alloc: Global, parts: &Vec<Plan>, bound: &[Slot]) -> Result<bool, NoMemory> {
-    for part in parts {
-        if !is_closed(alloc, part, bound)? {
-            return Ok(false);
-        }
-    }
-    Ok(true)
 }

@@ -53,6 +53,7 @@ mod rows;
 mod scanning;
 mod slots;
 mod theories;
+mod tried;
 mod window;
 
 pub use atoms::{eval, eval_counted};

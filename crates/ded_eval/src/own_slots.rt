@@ -51,7 +51,7 @@ fn theme_has_own_slot(before: &[Atom], atom: &ThemeAtom, after: &[Atom]) -> bool
 }
 
 /// The first slot of a text atom.
-fn first_slot(atom: &ThemeAtom) -> Slot
+pub(crate) fn first_slot(atom: &ThemeAtom) -> Slot
     ensures { result ≡ first_slot atom.now }
 {
     match atom {
@@ -63,7 +63,7 @@ fn first_slot(atom: &ThemeAtom) -> Slot
 }
 
 /// The second slot of a text atom of two slots, and else its only one.
-fn last_slot(atom: &ThemeAtom) -> Slot
+pub(crate) fn last_slot(atom: &ThemeAtom) -> Slot
     ensures { result ≡ last_slot atom.now }
 {
     match atom {

@@ -1,5 +1,5 @@
 //! Scans: the tuples of a relation, its columns read into slots.
-ghost use Rattle.std.specs.Prelude.{◌≡◌, ◌+◌, IfOk};
+ghost use Rattle.std.specs.Prelude.{◌≡◌, ◌+◌, true, IfOk};
 ghost use Rattle.std.specs.List.{AllByRecursion};
 ghost use Rattle.ded_model.specs.declared.name.Column.{Column};
 ghost use Rattle.ded_model.specs.Catalogue.{Catalogue};
@@ -10,7 +10,7 @@ ghost use Rattle.ded_model.specs.Point.{AreDistinctSlots};
 ghost use Rattle.ded_genrel.specs.Lists.{conjs_hold, conjs_mention, conjs_lines};
 ghost use Rattle.ded_model.specs.Cell.{conj_holds};
 ghost use Rattle.ded_algebra.specs.Evaluation.{IsScannedFrom, IsEvaluationWithin};
-ghost use Rattle.ded_eval.specs.Finding.{IsFoundIn};
+ghost use Rattle.ded_eval.specs.Finding.{IsFoundIn, IsWholeIn};
 ghost use Rattle.ded_eval.specs.Scanning.{column_pairs};
 
 use crate::reading::{OfTuples, conjunctions};
@@ -20,6 +20,7 @@ use ded_genrel::GenRel;
 use ded_model::memory::NoMemory;
 use ded_model::name::Name;
 use ded_model::slot::{Slot, Slots};
+use ded_theory::Theory;
 use std::alloc::{AllocError, Global};
 
 /// The tuples of a name, its columns read into the slots: at least all that hold somewhere in the window.
@@ -47,6 +48,13 @@ pub(crate) fn scanned<T: OfTuples, R: Relations>(
     }
 }
 
+/// The first tuples of a name, and whether they are all that hold somewhere in the window.
+#[derive(Drop)]
+pub(crate) struct FirstTuples<T: Theory> {
+    pub(crate) list: GenRel<T>,
+    pub(crate) is_whole: bool,
+}
+
 /// The first tuples of a name that hold somewhere in the window, or are lent as such, up to `count` of them, with their columns read
 /// into the slots.
 ///
@@ -59,17 +67,20 @@ pub(crate) fn first_scanned<T: OfTuples, R: Relations>(
     relations: &R,
     window: &[T::Atom],
     count: usize,
-) -> Result<GenRel<T>, NoMemory>
+) -> Result<FirstTuples<T>, NoMemory>
     requires { IsScannedFrom T.reads (entry_of (R.catalogue relations.now).entries name.now) slots.now }
-    ensures { IfOk result (IsFoundIn T.holds (R.catalogue relations.now) (conj_holds T.holds window.now) (atom (scan name.now slots.now))) }
+    ensures found { IfOk result (λ s. IsFoundIn T.holds (R.catalogue relations.now) (conj_holds T.holds window.now) (atom (scan name.now slots.now)) s.list) }
+    ensures whole { IfOk result (λ s. s.is_whole ≡ true → IsWholeIn T.holds (R.catalogue relations.now) (conj_holds T.holds window.now) (atom (scan name.now slots.now)) s.list) }
 {
     relations.formed();
     let columns = columns_window::<T>(alloc, window, &slots.list)?;
     match relations.near(alloc, name, &columns)? {
         Some(mut tuples) => {
+            let is_whole = tuples.len() <= count;
             tuples.truncate(count);
             let pairs = column_pairs(alloc, &slots.list)?;
-            conjunctions::<T>(alloc, &tuples)?.rename(&pairs)
+            let list = conjunctions::<T>(alloc, &tuples)?.rename(&pairs)?;
+            Ok(FirstTuples { list, is_whole })
         }
         None => unreachable!(),
     }

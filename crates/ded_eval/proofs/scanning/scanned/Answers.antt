@@ -42,8 +42,9 @@ returns g c = IfOk-weaker c.rename-in-Some.result _ _ (λ r k.
     (ap (option_map (λ ts. lent ts.items)) c.in-Some.is ∙ ap (λ us. Some (lent us)) (sym c.deref-in-Some-2.ensures.value)) c.formed.ensures c.requires c.in_ok-tuples.ensures)
     c.in_ok-conjunctions-in-Some.field-0 c.in_ok-conjunctions-in-Some.ensures (conj_holds g.T.Theory.holds c.args.window.now)
     (subst (λ ss. IsWindowOf ss (conj_holds g.T.Theory.holds c.args.window.now) c.in_ok-columns.columns) (c.deref.ensures.value ∙ c.slots.view_is) c.in_ok-columns.ensures)
-    g.met.T.OfTuples.line_coefs g.met.T.Theory.line_slots (subst AreDistinctSlots c.slots.view_is c.slots.invariant)
-    (subst (AreNormal g.T.Theory.normal) c.rename.view_is c.rename.invariant) r
+    r
     (subst (λ ps. IsRenaming ps (conjs_hold g.T.Theory.holds c.in_ok-conjunctions-in-Some.field-0) (conjs_hold g.T.Theory.holds r) (conjs_mention g.T.Theory.mentions c.in_ok-conjunctions-in-Some.field-0) (conjs_mention g.T.Theory.mentions r)
     (conjs_lines g.T.Theory.lines c.in_ok-conjunctions-in-Some.field-0) (conjs_lines g.T.Theory.lines r))
-    (c.deref-in-Some-3.ensures.value ∙ c.in_ok-pairs-in-Some.ensures ∙ ap (column_pairs 0) (c.deref-in-Some.ensures.value ∙ c.slots.view_is)) k)) c.rename-in-Some.ensures
+    (c.deref-in-Some-3.ensures.value ∙ c.in_ok-pairs-in-Some.ensures ∙ ap (column_pairs 0) (c.deref-in-Some.ensures.value ∙ c.slots.view_is)) k)
+    g.met.T.OfTuples.line_coefs g.met.T.Theory.line_slots (subst AreDistinctSlots c.slots.view_is c.slots.invariant)
+    (subst (AreNormal g.T.Theory.normal) c.rename.view_is c.rename.invariant)) c.rename-in-Some.ensures

@@ -1,6 +1,6 @@
 use Rattle.std.proofs.Common.{drop}
 use Rattle.ded_eval.specs.Finding.{AreAlike}
-use Rattle.ded_eval.proofs.attaining.are_rows_over.Given as goal
+use Rattle.ded_eval.proofs.attaining.are_over.Given as goal
 
 -- all atoms hold alike where those that are left do
 abbrev pub invariant-loop-atom : goal.invariant-loop-atom
