@@ -5,7 +5,7 @@ ghost use Rattle.ded_model.specs.Catalogue.{Catalogue};
 ghost use Rattle.ded_model.specs.Cell.{conj_holds};
 ghost use Rattle.ded_model.specs.Logic.{AllAtoms, AllAtomsOf};
 ghost use Rattle.ded_model.specs.PlanForm.{PlanForm, plan_form, plan_forms};
-ghost use Rattle.ded_model.specs.Point.{Point, IsPoint};
+ghost use Rattle.ded_model.specs.Point.{Point};
 ghost use Rattle.ded_model.specs.Row.{Atom};
 ghost use Rattle.ded_genrel.specs.Lists.{conjs_hold};
 ghost use Rattle.ded_algebra.specs.Evaluation.{IsScannable};

@@ -1,9 +1,6 @@
 //! The evaluation as tuples.
-ghost use Rattle.std.specs.Prelude.{◌≡◌, ◌∷◌, [], true, IfOk, IsErrOf};
-ghost use Rattle.ded_model.specs.Row.{tuples_hold, tuples_mention};
-ghost use Rattle.ded_model.specs.Lines.{tuples_lines};
+ghost use Rattle.std.specs.Prelude.{◌≡◌, ◌∷◌, [], IfOk};
 ghost use Rattle.ded_eval.specs.Reading.{IsWrittenAs};
-ghost use Rattle.ded_genrel.specs.Lists.{conjs_of};
 
 use crate::atoms::{eval, eval_within};
 use crate::finding::found;

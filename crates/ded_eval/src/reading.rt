@@ -1,7 +1,7 @@
 //! Tuples read as conjunctions of a theory, and atoms of a theory lent as the rows and text atoms that they stand for.
 ghost use Rattle.std.specs.Prelude.{IfOk};
 ghost use Rattle.std.specs.List.{AllByRecursion};
-ghost use Rattle.ded_model.specs.Normal.{IsNormalAtom, IsNormalTuple};
+ghost use Rattle.ded_model.specs.Normal.{IsNormalAtom};
 ghost use Rattle.ded_packed.specs.Lent.{lent, tuple_of};
 ghost use Rattle.ded_eval.specs.Reading.{IsConjunctionOf, IsListOf};
 
@@ -23,7 +23,7 @@ pub enum AtomRef<'a> {
 
 /// A theory whose atoms stand for rows and text atoms.
 pub trait OfTuples: Theory<Atom: Eq + Hash> {
-    ghost use Rattle.std.specs.Prelude.{◌≡◌, true, List};
+    ghost use Rattle.std.specs.Prelude.{◌≡◌, true};
     ghost use Rattle.ded_model.specs.Coefs.{AreCoefs};
     ghost use Rattle.ded_model.specs.Lines.{Line, In};
     ghost use Rattle.ded_model.specs.Row.{Atom};

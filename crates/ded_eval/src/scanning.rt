@@ -1,12 +1,8 @@
 //! Scans: the tuples of a relation, its columns read into slots.
 ghost use Rattle.std.specs.Prelude.{◌≡◌, ◌+◌, true, IfOk};
-ghost use Rattle.std.specs.List.{AllByRecursion};
-ghost use Rattle.ded_model.specs.declared.name.Column.{Column};
-ghost use Rattle.ded_model.specs.Catalogue.{Catalogue};
 ghost use Rattle.ded_model.specs.Entries.{entry_of};
 ghost use Rattle.ded_model.specs.Logic.{atom};
 ghost use Rattle.ded_model.specs.PlanForm.{scan};
-ghost use Rattle.ded_model.specs.Point.{AreDistinctSlots};
 ghost use Rattle.ded_genrel.specs.Lists.{conjs_hold, conjs_mention, conjs_lines};
 ghost use Rattle.ded_model.specs.Cell.{conj_holds};
 ghost use Rattle.ded_algebra.specs.Evaluation.{IsScannedFrom, IsEvaluationWithin};

@@ -1,5 +1,5 @@
 //! Windows: conjunctions at whose points an evaluation has to be exact, and what they ask of the columns of a relation.
-ghost use Rattle.std.specs.Prelude.{◌≡◌, false, true, Bool, IfOk, IfSome, OnOk};
+ghost use Rattle.std.specs.Prelude.{◌≡◌, false, true, Bool, IfOk, IfSome};
 ghost use Rattle.std.specs.List.{AllByRecursion};
 ghost use Rattle.ded_model.specs.Point.{Point, text_at};
 ghost use Rattle.ded_model.specs.Point as point;
