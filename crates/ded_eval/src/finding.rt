@@ -29,6 +29,9 @@ use std::alloc::{AllocError, Global};
 /// How many conjunctions of a part are tried.
 const FEW: usize = 4;
 
+/// How many tuples near a window are tried where one relation is looked up.
+const NEAR: usize = 16;
+
 /// How many plans are looked at in all.
 const LOOKS: u32 = 32;
 
@@ -181,7 +184,7 @@ fn scan_attained<T: OfTuples, R: Relations>(
     requires alike { AreAlike T.holds slots.now atoms.now }
     ensures { IfOk result (IsPlanVerdict T.holds atoms.now (R.catalogue relations.now) slots.now (atom (scan name.now columns.now))) }
 {
-    let first = first_scanned::<T, R>(alloc, name, columns, relations, atoms, FEW)?;
+    let first = first_scanned::<T, R>(alloc, name, columns, relations, atoms, NEAR)?;
     match list_attained(alloc, &first.list, atoms, slots)? {
         Verdict::Empty if first.is_whole => Ok(Verdict::Empty),
         Verdict::Inhabited => Ok(Verdict::Inhabited),
