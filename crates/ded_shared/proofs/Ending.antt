@@ -3,9 +3,10 @@ use Rattle.std.proofs.Common.{◌≡◌, ◌-◌, ℕ, true, false, List, ◌++�
 use Rattle.std.proofs.Math.Seq.{take-length}
 use Rattle.std.proofs.lemmas.List.{map-set}
 use Rattle.ded_catalog.specs.State.{Table, catalogue_of}
-use Rattle.ded_session.specs.Replies.{done}
+use Rattle.ded_model.specs.declared.command.Refusal.TheVariants.{Memory}
+use Rattle.ded_session.specs.Replies.{done, refused}
 use Rattle.ded_shared.specs.Conflicts.{NoneInBoth, IsLeastInBoth}
-use Rattle.ded_shared.specs.Forms.{plain, begun, not_begun, conflict}
+use Rattle.ded_shared.specs.Forms.{SharedForm, plain, begun, not_begun, conflict}
 use Rattle.ded_shared.specs.Parts.{transaction_in, IsBegun, Parts, state_of, AreKept}
 use Rattle.ded_shared.specs.Rules.{Replays, Begins, Commits, Aborts}
 use Rattle.ded_shared.specs.State.{Transaction, State, transaction_of, begun_over, with_transaction}
@@ -78,6 +79,9 @@ module _ (s : Parts) (k : ℕ) where
   pub commit_none : get_or s.transactions (k - 1) None ≡ None → Commits k (transaction_of (state_of s) k) (state_of s) not_begun (state_of s)
   commit_none e = subst (λ (o : Option Transaction). Commits k o (state_of s) not_begun (state_of s)) (seen_here None e) refl
 
+  pub commit_want : (reply : SharedForm) (t : State) → reply ≡ plain (refused Memory) → t ≡ state_of s → Commits k (transaction_of (state_of s) k) (state_of s) reply t
+  commit_want reply t is same = subst (λ (r : SharedForm). Commits k (transaction_of (state_of s) k) (state_of s) r t) (sym is) same
+
   module _ (x : declared.Transaction) (is : get_or s.transactions (k - 1) None ≡ Some x) where
     pub commit_conflict : (n : List ℕ) → IsLeastInBoth x.touched.items (drop x.since s.log) n → (u : Parts) → u.table ≡ s.table → u.transactions ≡ slice_set s.transactions (k - 1) None → u.log ≡ s.log
         → Commits k (transaction_of (state_of s) k) (state_of s) (conflict n) (state_of u)
@@ -98,7 +102,7 @@ module _ (s : Parts) (k : ℕ) where
       transactions =
           ap (seen u.log) q ∙ map-set (option_map (transaction_in u.log)) s.transactions (k - 1) None
           ∙ ap (λ (l : List (List ℕ)). slice_set (seen l s.transactions) (k - 1) None) r
-          ∙ ap (λ (xs : List (Option Transaction)). slice_set xs (k - 1) None) (grown_seen s.log x.changed.items s.transactions kept.within);
+          ∙ ap (λ (xs : List (Option Transaction)). slice_set xs (k - 1) None) (grown_seen (catalogue_of s.table) s.log x.changed.items s.transactions kept.within);
     })
 
 -- what stands behind the begin, as a range

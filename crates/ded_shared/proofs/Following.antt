@@ -1,6 +1,5 @@
 -- What an open transaction has done, over each catalogue that agrees with the one at its begin on what it touched.
-use Rattle.std.proofs.Common.{◌≡◌, ℕ, Bool, true, false, not, ◌&&◌, ◌||◌, List, [], ◌∷◌, ◌++◌, if◌then◌else◌, refl, sym, ap, ◌∙◌, subst}
-use Rattle.std.proofs.lemmas.Bool.{and_parts, not-true}
+use Rattle.std.proofs.Common.{◌≡◌, ℕ, Bool, true, not, ◌&&◌, ◌||◌, List, [], ◌∷◌, ◌++◌, refl, sym, ap, ◌∙◌, subst}
 use Rattle.ded_lex.specs.Pieces.{Whole}
 use Rattle.ded_model.specs.declared.command.Language.TheVariants.{One}
 use Rattle.ded_model.specs.Catalogue.{Catalogue}
@@ -12,15 +11,15 @@ use Rattle.ded_frame.specs.Touching.{touches, changes, depends_on_names}
 use Rattle.ded_frame.proofs.Kept.{step_keeps}
 use Rattle.ded_frame.proofs.Replaced.{agree_itself}
 use Rattle.ded_frame.proofs.Replying.{reply_over}
-use Rattle.ded_session.specs.Replies.{ReplyForm, is_refusal}
+use Rattle.ded_session.specs.Replies.{ReplyForm}
 use Rattle.ded_session.specs.Steps.{Step}
 use Rattle.ded_shared.specs.Events.{Told}
-use Rattle.ded_shared.specs.Rules.{is_change, Remembers, WorksInside, IsCommitted, Replays}
+use Rattle.ded_shared.specs.Rules.{Remembers, WorksInside, IsCommitted, Replays}
 use Rattle.ded_shared.specs.Serial.{AreSteps}
 use Rattle.ded_shared.specs.State.{Transaction, State, is_among, begun_over, with_stale}
 use Rattle.ded_shared.specs.Tags.{SpellsCommand}
 use Rattle.ded_shared.proofs.Agreements.{first_of, second_of, neither, agree_then, agree_outside, agree_touched}
-use Rattle.ded_shared.proofs.Replaying.{told, steps_one, steps_join, replays_join, KeepsFormed, one_replay, no_change, same_changes}
+use Rattle.ded_shared.proofs.Replaying.{told, steps_one, steps_join, KeepsFormed, one_replay, replays_more, same_changes}
 
 -- Over the catalogue the statements get their replies; the accepted changes alone make the same catalogue, which agrees with
 -- the transaction's own, and has only what was changed otherwise than before.
@@ -59,14 +58,6 @@ grown_follows x ts c d names f a = record { start = f.start; formed = f.formed; 
 module _ (keeps : KeepsFormed) (x y : Transaction) (bytes : List ℕ) (reply : ReplyForm) (w : IsWellFormed x.own) (step : Step One x.own (Whole bytes) reply y.own)
     (command : CommandForm) (depth : ℕ) (spells : Spells One bytes command depth)
     (remembers : (z : CommandForm) (i : ℕ) → Spells One bytes z i → Remembers bytes reply z x y) where
-  -- the accepted changes, over the catalogue that those before made
-  replays_more : (d e f : Catalogue) → Replays x.accepted d e → Step One e (Whole bytes) reply f → Replays y.accepted d f
-  replays_more d e f p q = subst (λ xs. Replays xs d f) (sym (remembers command depth spells).accepted) (by (is_change command && not (is_refusal reply)) refl)
-    where
-      by : (b : Bool) → (is_change command && not (is_refusal reply)) ≡ b → Replays (if b then x.accepted ++ bytes ∷ [] else x.accepted) d f
-      by true h = replays_join x.accepted (bytes ∷ []) d e f p (reply, f, q, not-true _ (and_parts (is_change command) _ h).1, refl)
-      by false h = subst (λ g. Replays x.accepted d g) (sym (no_change e f bytes command depth reply spells h q)) p
-
   goes_more : (ts : List Told) (among : List ℕ → Bool) (d : Catalogue) → ((n : List ℕ) → is_among y.touched n ≡ true → among n ≡ true)
       → Goes x.own x.accepted x.changed ts among d → Goes y.own y.accepted y.changed (ts ++ told bytes reply ∷ []) among d
   goes_more ts among d within g =
@@ -76,7 +67,7 @@ module _ (keeps : KeepsFormed) (x y : Transaction) (bytes : List ℕ) (reply : R
       record {
         last = r.0;
         steps = steps_join ts (told bytes reply ∷ []) d g.last r.0 g.steps (steps_one g.last r.0 (told bytes reply) r.1);
-        replays = replays_more d g.last r.0 g.replays r.1;
+        replays = replays_more bytes command depth reply spells x.accepted y.accepted (remembers command depth spells).accepted d g.last r.0 g.replays r.1;
         formed = keeps g.last r.0 bytes reply g.formed r.1;
         agree = r.2;
         left = agree_then d g.last r.0 (λ n. not (is_among x.changed n)) (λ n. not (changes g.last command reply n)) (λ n. not (is_among y.changed n))

@@ -16,6 +16,7 @@ pub mod Remembering
 pub mod PieceByPiece
 pub mod Changing
 pub mod Noting
+pub mod Current
 pub mod Ending
 pub mod Outside
 pub mod Refusing

@@ -1,5 +1,5 @@
 -- What a command that is read changes, inside of a transaction and outside of one.
-use Rattle.std.proofs.Common.{◌≡◌, ◌≤◌, ◌-◌, ℕ, true, false, List, [], ◌++◌, Option, Some, None, option_map, get_or, slice_set, length, refl, sym, ap, ◌∙◌, subst, true≢false, Result, Ok, Err, OnOk}
+use Rattle.std.proofs.Common.{◌≡◌, ◌≤◌, ◌-◌, ℕ, true, false, List, [], ◌++◌, Option, Some, None, option_map, get_or, slice_set, length, refl, sym, ap, ◌∙◌, subst, true≢false, Result, Ok, Err, OnOk, OnErr}
 use Rattle.ded_lex.specs.Pieces.{Whole}
 use Rattle.ded_model.specs.declared.command.Language.TheVariants.{One}
 use Rattle.ded_model.specs.declared.command.Refusal.TheVariants.{Memory}
@@ -13,11 +13,11 @@ use Rattle.ded_session.specs.Replies.{ReplyForm, done, number, refused, is_refus
 use Rattle.ded_session.specs.Steps.{Does, Step, Accepts}
 use Rattle.ded_shared.specs.Gathering.{changed_by}
 use Rattle.ded_shared.specs.Going.{no_change, none_staler}
-use Rattle.ded_shared.specs.Parts.{transaction_in, Parts, state_of, Notes}
+use Rattle.ded_shared.specs.Parts.{transaction_in, Parts, state_of, AreKept, Notes}
 use Rattle.ded_shared.specs.Rules.{Remembers, WorksOutside, Works}
 use Rattle.ded_shared.specs.State.{Transaction, State, is_among, transaction_of, all_with_stale}
 use Rattle.ded_shared.specs.declared.transaction.Transaction as declared
-use Rattle.ded_shared.proofs.Changing.{Places, seen_at, put_state}
+use Rattle.ded_shared.proofs.Changing.{Places, seen_at, put_state, grown_kept}
 
 -- ---- accepted commands
 
@@ -117,3 +117,9 @@ pub noted : {T E : Type 0} (r : Result T E) (x : CommandForm) (s : Parts) (l nam
     → ((n : List ℕ) → is_among names n ≡ changed_by (catalogue_of s.table) x n) → OnOk r (Notes x s (record { table = s.table; transactions = s.transactions; log = l }))
 noted (Ok t) x s l names h are = record { table = refl; transactions = refl; names = names; log = h; changes = are }
 noted (Err e) x s l names h are = tt
+
+-- whether they were added or not
+pub added_kept : {T E : Type 0} (r : Result T E) (t : Table) (xs : Places) (log names l : List (List ℕ)) → OnOk r (l ≡ log ++ names) → OnErr r (l ≡ log)
+    → AreKept (record { table = t; transactions = xs; log = log }) → AreKept (record { table = t; transactions = xs; log = l })
+added_kept (Ok v) t xs log names l h e kept = subst (λ (m : List (List ℕ)). AreKept (record { table = t; transactions = xs; log = m })) (sym h) (grown_kept t t xs log names (λ none. refl) kept)
+added_kept (Err v) t xs log names l h e kept = subst (λ (m : List (List ℕ)). AreKept (record { table = t; transactions = xs; log = m })) (sym e) kept

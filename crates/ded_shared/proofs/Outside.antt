@@ -10,12 +10,35 @@ use Rattle.ded_session.specs.Steps.{Step}
 use Rattle.ded_shared.specs.Parts.{Parts, state_of, AreKept, Notes}
 use Rattle.ded_shared.specs.Rules.{WorksOutside}
 use Rattle.ded_shared.specs.State.{State}
-use Rattle.ded_shared.proofs.Changing.{Places, seen, grown_seen, grown_kept}
+use Rattle.ded_shared.proofs.Changing.{Places, seen, grown_seen, grown_kept, same_kept}
+use Rattle.ded_shared.proofs.Current.{unnamed_same}
 use Rattle.ded_shared.proofs.Noting.{refused_outside, accepted_outside}
+use Rattle.ded_shared.proofs.Replaying.{refused_same}
 
 pub front_of_both : (xs ys : List (List ℕ)) → take (length xs) (xs ++ ys) ≡ xs
 front_of_both [] ys = refl
 front_of_both (x ∷ xs) ys = ap (λ l. x ∷ l) (front_of_both xs ys)
+
+-- ---- what is kept
+
+noted_kept : (x : CommandForm) (s1 s2 : Parts) (t : Table) (notes : Notes x s1 s2) → (notes.names ≡ [] → catalogue_of t ≡ catalogue_of s1.table) → AreKept s1
+    → AreKept (record { table = t; transactions = s2.transactions; log = s2.log })
+noted_kept x s1 s2 t notes same kept =
+    subst (λ (xs : Places). AreKept (record { table = t; transactions = xs; log = s2.log })) (sym notes.transactions)
+    (subst (λ (l : List (List ℕ)). AreKept (record { table = t; transactions = s1.transactions; log = l })) (sym notes.log) (grown_kept s1.table t s1.transactions s1.log notes.names same kept))
+
+shortened_kept : (x : CommandForm) (s1 s2 : Parts) (t : Table) → Notes x s1 s2 → catalogue_of t ≡ catalogue_of s1.table → AreKept s1
+    → AreKept (record { table = t; transactions = s2.transactions; log = take (length s1.log) s2.log })
+shortened_kept x s1 s2 t notes same kept =
+    subst (λ (xs : Places). AreKept (record { table = t; transactions = xs; log = take (length s1.log) s2.log })) (sym notes.transactions)
+    (subst (λ (l : List (List ℕ)). AreKept (record { table = t; transactions = s1.transactions; log = l })) (sym (ap (take (length s1.log)) notes.log ∙ front_of_both s1.log notes.names))
+    (same_kept s1.table t s1.transactions s1.log same kept))
+
+kept_by : (t : Table) (xs ys : Places) (l m : List (List ℕ)) → ys ≡ xs → m ≡ l → AreKept (record { table = t; transactions = xs; log = l }) → AreKept (record { table = t; transactions = ys; log = m })
+kept_by t xs ys l m p q kept =
+    subst (λ (zs : Places). AreKept (record { table = t; transactions = zs; log = m })) (sym p) (subst (λ (k : List (List ℕ)). AreKept (record { table = t; transactions = xs; log = k })) (sym q) kept)
+
+-- ---- a command
 
 -- the names of the command are noted, and then the statement is answered
 module _ (s0 s1 s2 f : Parts) (bytes : List ℕ) (x : CommandForm) (read : IsRead One bytes x) (reply : ReplyForm) (before : state_of s1 ≡ state_of s0) (notes : Notes x s1 s2)
@@ -31,26 +54,16 @@ module _ (s0 s1 s2 f : Parts) (bytes : List ℕ) (x : CommandForm) (read : IsRea
 
   pub outside_accepted : AreKept s1 → is_refusal reply ≡ false → f.log ≡ s2.log → WorksOutside bytes (state_of s0) reply (state_of f)
   outside_accepted kept e log = from_start (accepted_outside bytes x read reply (state_of s1) (state_of f) notes.names e step_here notes.changes
-      (ap (seen f.log) places_here ∙ ap (λ (l : List (List ℕ)). seen l s1.transactions) (log ∙ notes.log) ∙ grown_seen s1.log notes.names s1.transactions kept.within))
+      (ap (seen f.log) places_here ∙ ap (λ (l : List (List ℕ)). seen l s1.transactions) (log ∙ notes.log) ∙ grown_seen (catalogue_of s1.table) s1.log notes.names s1.transactions kept.within))
 
   pub outside_refused : is_refusal reply ≡ true → f.log ≡ take (length s1.log) s2.log → WorksOutside bytes (state_of s0) reply (state_of f)
   outside_refused e log = from_start (refused_outside bytes x read reply (state_of s1) (state_of f) e step_here
       (ap (seen f.log) places_here ∙ ap (λ (l : List (List ℕ)). seen l s1.transactions) (log ∙ ap (take (length s1.log)) notes.log ∙ front_of_both s1.log notes.names)))
 
--- ---- what is kept
+  pub accepted_kept : AreKept s1 → f.log ≡ s2.log → AreKept f
+  accepted_kept kept log = kept_by f.table s2.transactions f.transactions s2.log f.log places log
+      (noted_kept x s1 s2 f.table notes (unnamed_same (catalogue_of s1.table) (catalogue_of f.table) bytes x read reply step_here notes.names notes.changes) kept)
 
-pub noted_kept : (x : CommandForm) (s1 s2 : Parts) (t : Table) → AreKept s1 → Notes x s1 s2 → AreKept (record { table = t; transactions = s2.transactions; log = s2.log })
-noted_kept x s1 s2 t kept notes =
-    subst (λ (xs : Places). AreKept (record { table = t; transactions = xs; log = s2.log })) (sym notes.transactions)
-    (subst (λ (l : List (List ℕ)). AreKept (record { table = t; transactions = s1.transactions; log = l })) (sym notes.log) (grown_kept s1.table t s1.transactions s1.log notes.names kept))
-
-pub shortened_kept : (x : CommandForm) (s1 s2 : Parts) (t : Table) → AreKept s1 → Notes x s1 s2 → AreKept (record { table = t; transactions = s2.transactions; log = take (length s1.log) s2.log })
-shortened_kept x s1 s2 t kept notes =
-    subst (λ (xs : Places). AreKept (record { table = t; transactions = xs; log = take (length s1.log) s2.log })) (sym notes.transactions)
-    (subst (λ (l : List (List ℕ)). AreKept (record { table = t; transactions = s1.transactions; log = l })) (sym (ap (take (length s1.log)) notes.log ∙ front_of_both s1.log notes.names))
-    (record { places = kept.places; within = kept.within }))
-
-pub kept_by : (s f : Parts) → f.transactions ≡ s.transactions → f.log ≡ s.log → AreKept s → AreKept f
-kept_by s f p q kept =
-    subst (λ (xs : Places). AreKept (record { table = f.table; transactions = xs; log = f.log })) (sym p)
-    (subst (λ (l : List (List ℕ)). AreKept (record { table = f.table; transactions = s.transactions; log = l })) (sym q) (record { places = kept.places; within = kept.within }))
+  pub refused_kept : AreKept s1 → is_refusal reply ≡ true → f.log ≡ take (length s1.log) s2.log → AreKept f
+  refused_kept kept e log = kept_by f.table s2.transactions f.transactions (take (length s1.log) s2.log) f.log places log
+      (shortened_kept x s1 s2 f.table notes (refused_same (catalogue_of s1.table) (catalogue_of f.table) bytes reply e step_here) kept)

@@ -1,5 +1,6 @@
 -- Steps one after another, and changes that are made again.
-use Rattle.std.proofs.Common.{◌≡◌, ℕ, Bool, true, false, not, ◌&&◌, ◌||◌, List, [], ◌∷◌, ◌++◌, refl, sym, ap, ◌∙◌, subst, true≢false, bytes_eq}
+use Rattle.std.proofs.Common.{◌≡◌, ℕ, Bool, true, false, not, ◌&&◌, ◌||◌, List, [], ◌∷◌, ◌++◌, if◌then◌else◌, refl, sym, ap, ◌∙◌, subst, true≢false, bytes_eq}
+use Rattle.std.proofs.lemmas.Bool.{and_parts, not-true}
 use Rattle.ded_lex.specs.Pieces.{Whole}
 use Rattle.ded_model.specs.declared.command.Language.TheVariants.{One}
 use Rattle.ded_model.specs.Catalogue.{Catalogue}
@@ -67,7 +68,7 @@ makes_same (delete n i) c d h k = absurd (true≢false h)
 makes_same (drop n) c d h k = absurd (true≢false h)
 makes_same (view n g f) c d h k = absurd (true≢false h)
 
-refused_same : (c d : Catalogue) (bytes : List ℕ) (reply : ReplyForm) → is_refusal reply ≡ true → Step One c (Whole bytes) reply d → d ≡ c
+pub refused_same : (c d : Catalogue) (bytes : List ℕ) (reply : ReplyForm) → is_refusal reply ≡ true → Step One c (Whole bytes) reply d → d ≡ c
 refused_same c d bytes (refused r) h p = p.1
 refused_same c d bytes done h p = absurd (true≢false (sym h))
 refused_same c d bytes (number k) h p = absurd (true≢false (sym h))
@@ -96,6 +97,15 @@ no_change c d bytes x depth reply spells h p = by (is_refusal reply) refl
         let a = step_makes c d bytes reply e p in
         let is = (one_command One bytes a.command x a.depth depth a.spells spells).0 in
         makes_same x c d (changeless (is_change x) (is_refusal reply) e h) (subst (λ y. Makes y c d) is a.so)
+
+-- the accepted changes, and behind them the statement where it is one
+pub replays_more : (bytes : List ℕ) (x : CommandForm) (depth : ℕ) (reply : ReplyForm) → Spells One bytes x depth → (old new : List (List ℕ))
+    → new ≡ (if is_change x && not (is_refusal reply) then old ++ bytes ∷ [] else old) → (c d e : Catalogue) → Replays old c d → Step One d (Whole bytes) reply e → Replays new c e
+replays_more bytes x depth reply spells old new is c d e p q = subst (λ xs. Replays xs c e) (sym is) (by (is_change x && not (is_refusal reply)) refl)
+  where
+    by : (b : Bool) → (is_change x && not (is_refusal reply)) ≡ b → Replays (if b then old ++ bytes ∷ [] else old) c e
+    by true h = replays_join old (bytes ∷ []) c d e p (reply, e, q, not-true _ (and_parts (is_change x) _ h).1, refl)
+    by false h = subst (λ y. Replays old c y) (sym (no_change d e bytes x depth reply spells h q)) p
 
 -- ---- changed names
 

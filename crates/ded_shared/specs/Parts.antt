@@ -6,7 +6,7 @@ use Rattle.ded_model.specs.Command.{CommandForm}
 use Rattle.ded_catalog.specs.State.{Table, catalogue_of}
 use Rattle.ded_frame.specs.Touching.{touches}
 use Rattle.ded_shared.specs.Gathering.{changed_by}
-use Rattle.ded_shared.specs.Rules.{is_change}
+use Rattle.ded_shared.specs.Rules.{is_change, Replays}
 use Rattle.ded_shared.specs.State.{Transaction, State, is_among}
 use Rattle.ded_shared.specs.declared.transaction.Transaction as declared
 
@@ -62,15 +62,18 @@ pub record Parts : Type 0 where
 abbrev pub state_of : Parts → State
 state_of s = record { shared = catalogue_of s.table; transactions = map (option_map (transaction_in s.log)) s.transactions }
 
--- it began when at most so many names were changed, and its statements are pieces
-pub record IsWithin (count : ℕ) (x : declared.Transaction) : Type 0 where
+-- It began when at most so many names were changed, and its statements are pieces. Where none were changed since, its accepted
+-- changes make its own catalogue of the shared one. Where it changed no name, there are none.
+pub record IsWithin (c : Catalogue) (count : ℕ) (x : declared.Transaction) : Type 0 where
   pub since : x.since ≤ count
   pub pieces : ArePieces x.accepted.items
+  pub replays : x.since ≡ count → Replays x.accepted.items c (catalogue_of x.own)
+  pub noted : x.changed.items ≡ [] → x.accepted.items ≡ []
 
 -- there is a place for each session
 pub record AreKept (s : Parts) : Type 0 where
   pub places : length s.transactions ≡ 64
-  pub within : AllByRecursion (λ o. IfSome o (IsWithin (length s.log))) s.transactions
+  pub within : AllByRecursion (λ o. IfSome o (IsWithin (catalogue_of s.table) (length s.log))) s.transactions
 
 -- the names that the command changes where it is accepted stand behind those that were changed before
 pub record Notes (x : CommandForm) (old new : Parts) : Type 0 where

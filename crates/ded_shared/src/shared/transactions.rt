@@ -9,9 +9,11 @@ use crate::transaction::Transaction;
 use crate::working::replayed;
 use ded_model::command::Refusal;
 use ded_session::Reply;
+use std::mem;
 
 impl Shared {
     ghost use Rattle.std.specs.Prelude.{◌≡◌, ◌≤◌, ◌-◌, None, IfSome, is_some, get_or, slice_set, length};
+    ghost use Rattle.ded_catalog.specs.State.{catalogue_of};
     ghost use Rattle.ded_shared.specs.Answered.{shared_form};
     ghost use Rattle.ded_shared.specs.Conflicts.{NoneInBoth};
     ghost use Rattle.ded_shared.specs.Parts.{state_of, IsWithin};
@@ -61,7 +63,7 @@ impl Shared {
     fn put(&mut self, session: u32, transaction: Option<Transaction>)
         requires low { 1 ≤ session }
         requires high { session ≤ 64 }
-        requires within { IfSome transaction (IsWithin (length self.old.log)) }
+        requires within { IfSome transaction (IsWithin (catalogue_of self.old.table) (length self.old.log)) }
         ensures table { self.new.table ≡ self.old.table }
         ensures transactions { self.new.transactions ≡ slice_set self.old.transactions (session - 1) transaction }
         ensures log { self.new.log ≡ self.old.log }
@@ -98,6 +100,9 @@ impl Shared {
         let Some(transaction) = &self.transactions[place_of(session)] else {
             return SharedReply::NotBegun;
         };
+        if transaction.since == self.log.len() {
+            return self.take_over(session);
+        }
         let Ok(catalogue) = replayed(self.alloc, &self.catalogue, &transaction.accepted) else {
             return refused(Refusal::Memory);
         };
@@ -106,6 +111,27 @@ impl Shared {
         }
         self.catalogue = catalogue;
         self.put(session, None);
+        SharedReply::Plain(Reply::Done)
+    }
+
+    /// Makes the accepted changes of the session's transaction where nothing was changed since its begin: the transaction's own
+    /// catalogue becomes the shared one.
+    fn take_over(&mut self, session: u32) -> SharedReply
+        requires low { 1 ≤ session }
+        requires high { session ≤ 64 }
+        requires free { IfSome (transaction_of (state_of self.old) session) (λ x. NoneInBoth x.touched x.stale) }
+        requires current { IfSome (get_or self.old.transactions (session - 1) None) (λ x. x.since ≡ length self.old.log) }
+        ensures { Commits session (transaction_of (state_of self.old) session) (state_of self.old) (shared_form result) (state_of self.new) }
+    {
+        let place = &mut self.transactions[place_of(session)];
+        let Some(transaction) = place else {
+            return SharedReply::NotBegun;
+        };
+        if add_all(&mut self.log, &transaction.changed).is_err() {
+            return refused(Refusal::Memory);
+        }
+        mem::swap(&mut self.catalogue, &mut transaction.own);
+        *place = None;
         SharedReply::Plain(Reply::Done)
     }
 }

@@ -2,8 +2,12 @@ use Rattle.std.proofs.Common.{ℕ, List, OnOk, ap, ◌∙◌, subst}
 use Rattle.ded_model.specs.Command.{command_form}
 use Rattle.ded_shared.specs.Parts.{Parts, Notes}
 use Rattle.ded_shared.specs.State.{is_among}
-use Rattle.ded_shared.proofs.Noting.{noted}
+use Rattle.ded_shared.proofs.Noting.{noted, added_kept}
 use Rattle.ded_shared.proofs.shared.Shared.note.Goals as goal
+
+pub invariant_of-self : goal.invariant_of-self
+invariant_of-self c =
+    added_kept c.add_all.result c.self.inside.catalogue c.self.inside.transactions.items c.self.inside.log.items c.deref.result.now c.add_all.new.names.items c.add_all.ensures.ok c.add_all.ensures.err c.self.invariant
 
 pub returns-clause-ok : goal.returns-clause-ok
 returns-clause-ok c =

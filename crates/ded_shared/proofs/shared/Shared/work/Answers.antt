@@ -1,12 +1,27 @@
-use Rattle.std.proofs.Common.{◌≡◌, ◌-◌, ℕ, Some, None, get_or, slice_set, refl, sym, ◌∙◌, subst}
+use Rattle.std.proofs.Common.{◌≡◌, ◌-◌, ℕ, List, Some, None, get_or, slice_set, length, refl, sym, ◌∙◌, subst}
+use Rattle.ded_model.specs.Catalogue.{Catalogue}
 use Rattle.ded_model.specs.Command.{command_form}
+use Rattle.ded_catalog.specs.State.{catalogue_of}
 use Rattle.ded_session.specs.Answered.{reply_form}
 use Rattle.ded_shared.specs.Parts.{Parts, state_of}
 use Rattle.ded_shared.specs.Rules.{Works, WorksOutside}
 use Rattle.ded_shared.specs.State.{State, transaction_of}
-use Rattle.ded_shared.proofs.Changing.{Places, read_at, put_back}
+use Rattle.ded_shared.proofs.Changing.{Places, within_at, kept_set, read_at, put_back}
+use Rattle.ded_shared.proofs.Current.{within_more}
 use Rattle.ded_shared.proofs.Noting.{works_inside, works_alone}
 use Rattle.ded_shared.proofs.shared.Shared.work.Goals as goal
+
+pub invariant_of-self : goal.invariant_of-self
+invariant_of-self c =
+    let xs : Places = c.self.inside.transactions.items in
+    let log : List (List ℕ) = c.self.inside.log.items in
+    let shared : Catalogue = catalogue_of c.self.inside.catalogue in
+    let at : get_or xs (c.args.tag.session - 1) None ≡ Some c.in-Some.transaction =
+    read_at xs c.args.tag.session c.place_of.result c.index_mut.result.now c.index_mut.ensures.value c.place_of.ensures c.requires.low c.requires.high c.self.invariant.places ∙ c.in-Some.is in
+    kept_set c.self.inside.catalogue xs log c.place_of.result (Some c.work.new.self) c.self.invariant
+    (within_more c.args.tag.rest.now (command_form c.args.command.now) c.requires.read (reply_form c.work.result) log c.in-Some.transaction c.work.new.self
+    c.work.ensures.step (c.work.ensures.remembers log) shared (length log) c.work.ensures.since c.work.ensures.pieces
+    (within_at shared (length log) xs (c.args.tag.session - 1) c.in-Some.transaction c.self.invariant.within at))
 
 pub returns-in-Some : goal.returns-in-Some
 returns-in-Some c =
