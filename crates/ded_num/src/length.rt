@@ -1,6 +1,6 @@
 //! How long a number is.
 
-ghost use Rattle.std.specs.Prelude.{◌≡◌, ◌^◌};
+ghost use Rattle.std.specs.Prelude.{◌≡◌};
 ghost use Rattle.ded_num.specs.Length.{length_of};
 
 /// The count of binary digits of the magnitude; 0 for 0, and 128 for `i128::MIN`.
