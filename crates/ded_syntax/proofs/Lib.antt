@@ -32,3 +32,4 @@ pub mod Seen
 pub mod Totals
 pub mod Unfit
 pub mod UsedWords
+pub mod Reserved

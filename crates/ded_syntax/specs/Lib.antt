@@ -14,6 +14,7 @@ pub mod Meaning
 pub mod MemberNames
 pub mod OperandReading
 pub mod Operands
+pub mod Reserved
 pub mod Spelling
 pub mod Symbols
 pub mod Views

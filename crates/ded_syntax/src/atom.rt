@@ -5,7 +5,7 @@ ghost use Rattle.ded_model.specs.Form.{form};
 ghost use Rattle.ded_syntax.specs.Items.{left};
 ghost use Rattle.ded_syntax.specs.Literals.{capped_reader};
 ghost use Rattle.ded_syntax.specs.Atoms.{name_of};
-ghost use Rattle.ded_syntax.specs.AtomReading.{relation_at, compare_at, comma_at, argument_at, operands_at, enclosed_at, named_at, call_at, called_at, atom_at, sort_at, column_at};
+ghost use Rattle.ded_syntax.specs.AtomReading.{relation_at, compare_at, comma_at, argument_at, operands_at, enclosed_at, named_at, called_at, atom_at, sort_at, column_at};
 ghost use Rattle.ded_syntax.specs.Views.{seen_name};
 
 use crate::item::{Item, Keyword, Rest, text};

@@ -1,5 +1,5 @@
 //! Commands up to the tree of their formula.
-ghost use Rattle.std.specs.Prelude.{◌≡◌, ◌≤◌, ◌<◌, ℕ, length, map, Some, None, IfSome, IfNone, IfOk, IfErr};
+ghost use Rattle.std.specs.Prelude.{◌≡◌, ◌≤◌, ◌<◌, length, map, Some, None, IfSome, IfNone, IfOk, IfErr};
 ghost use Rattle.ded_grammar.specs.declared.fault.ReadFault.TheVariants.{NotRead};
 ghost use Rattle.ded_model.specs.Command.{command_form};
 ghost use Rattle.ded_model.specs.Form.{form};

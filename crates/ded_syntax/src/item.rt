@@ -1,5 +1,5 @@
 //! What the reader sees of the tokens of bytes.
-ghost use Rattle.std.specs.Prelude.{◌≡◌, ◌≤◌, ◌<◌, ◌^◌, ℕ, List, map, length, IfOk};
+ghost use Rattle.std.specs.Prelude.{◌≡◌, ◌≤◌, ◌<◌, ◌^◌, ℕ, List, map, IfOk};
 ghost use Rattle.std.specs.List.{list_any};
 ghost use Rattle.ded_lex.specs.Tokens.{lexeme, token_text};
 ghost use Rattle.ded_syntax.specs.Literals.{capped};

@@ -8,7 +8,7 @@ ghost use Rattle.ded_model.specs.Form.{form, forms};
 ghost use Rattle.ded_model.specs.Logic.{some_atom, some_atom_of};
 ghost use Rattle.ded_num.specs.Gcd.{gcd_from, gcd_all};
 ghost use Rattle.ded_num.specs.Length.{IsWithin, IsShort};
-ghost use Rattle.ded_model.specs.LongRows.{denominator_of, coefficient, parts_over, constant_of, difference_over, differences_over, row_coefs_over, row_coefs, row_constant, is_nonzero, is_long_over, is_long_row, is_quoted, is_long_comparison};
+ghost use Rattle.ded_model.specs.LongRows.{coefficient, parts_over, constant_of, difference_over, differences_over, row_coefs_over, row_coefs, row_constant, is_nonzero, is_long_over, is_long_row, is_quoted, is_long_comparison};
 ghost use Rattle.ded_syntax.specs.Drafts.{some_in_draft};
 ghost use Rattle.ded_syntax.specs.Marks.{is_marked, is_unfit_atom, some_in};
 ghost use Rattle.ded_syntax.specs.DraftViews.{seen_draft};

@@ -1,8 +1,8 @@
 //! Operands, from the sides that are read, over the common denominator of their literals.
-ghost use Rattle.std.specs.Prelude.{◌≡◌, ◌≤◌, ◌<◌, ℕ, ◌^◌, ◌++◌, ◌/◌, ◌*◌, length, IfOk};
-ghost use Rattle.std.specs.List.{list_any, AllByRecursion};
+ghost use Rattle.std.specs.Prelude.{◌≡◌, ◌≤◌, ◌<◌, ℕ, ◌^◌, ◌++◌, ◌*◌, length, IfOk};
+ghost use Rattle.std.specs.List.{list_any};
 ghost use Rattle.ded_lex.specs.Tokens.{quoted_value};
-ghost use Rattle.ded_syntax.specs.Literals.{capped, capped_reader, lcm, capped_from, is_long_over, are_long_over, numerator_over, marked_numerator};
+ghost use Rattle.ded_syntax.specs.Literals.{capped, capped_reader, lcm, capped_from, is_long_over, are_long_over, marked_numerator};
 ghost use Rattle.ded_syntax.specs.Operands.{literals, literals_of, no_sums, added, total_from, operand_over, denominator_of, argument_of};
 ghost use Rattle.ded_syntax.specs.Views.{seen_literal, seen_part, seen_parts, seen_side, seen_totals, AreSmall, ArePositive, IsFit, IsBounded};
 

@@ -1,9 +1,8 @@
 //! Literals: numbers, quotients and decimals, in lowest terms.
-ghost use Rattle.std.specs.Prelude.{◌≡◌, ◌<◌, ◌/◌, ◌++◌, length, Some, None, IfSome, IfNone};
-ghost use Rattle.ded_syntax.specs.Items.{capped_of, left};
+ghost use Rattle.std.specs.Prelude.{◌≡◌, ◌<◌, ◌/◌, length, Some, None, IfSome, IfNone};
+ghost use Rattle.ded_syntax.specs.Items.{left};
 ghost use Rattle.ded_syntax.specs.Literals.{capped, lowest};
 ghost use Rattle.ded_syntax.specs.OperandReading.{quotient_at, scalar_at};
-ghost use Rattle.ded_syntax.specs.Symbols.{decimal_number, decimal_power};
 ghost use Rattle.ded_syntax.specs.Views.{seen_literal};
 
 use crate::decimal::decimal_of;

@@ -3,6 +3,7 @@ ghost use Rattle.std.specs.Prelude.{◌≡◌, ℕ, List};
 ghost use Rattle.ded_lex.specs.Tokens.{token_text};
 ghost use Rattle.ded_syntax.specs.Symbols.{formula_word, command_word, is_unused, unused_word, dedale_symbol, dump_symbol, language_word, word_symbol};
 ghost use Rattle.ded_syntax.specs.Items.{seen};
+ghost use Rattle.ded_syntax.specs.Reserved.{may_be_reserved};
 
 use crate::item::{Item, Keyword, text};
 use ded_lex::Token;
@@ -125,11 +126,24 @@ fn language_word(language: Language, other: Item, text: &[u8]) -> Item
     }
 }
 
-/// The item of a word: a reserved word, or a name.
+/// Whether the word may be a reserved one: these have 2 to 8 bytes and begin with a small letter.
+fn may_be_reserved(text: &[u8]) -> bool
+    ensures { result ≡ may_be_reserved text.now }
+{
+    match text.first() {
+        Some(byte) => *byte >= b'a' && *byte <= b'v' && text.len() >= 2 && text.len() <= 8,
+        None => false,
+    }
+}
+
+/// The item of a word: a reserved word, or a name. Most names are told by their first byte or their length.
 pub fn word_item(bytes: &[u8], token: Token, language: Language) -> Item
     ensures { seen bytes.now result ≡ word_symbol language (token_text bytes.now token) }
 {
     let text = text(bytes, token);
+    if !may_be_reserved(text) {
+        return Item::Name(token);
+    }
     let other = language_word(language, unused_word(Item::Name(token), text), text);
     formula_word(command_word(other, text), text)
 }
