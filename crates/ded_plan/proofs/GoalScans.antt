@@ -15,7 +15,7 @@ use Rattle.ded_model.specs.Logic.{atom, always, never, negation, every_of, some_
 use Rattle.ded_model.specs.Form.{Form, FormAtom, compare, member, atom_uses, uses}
 use Rattle.ded_model.specs.Made.{base}
 use Rattle.ded_model.specs.Goal.{GoalForm}
-use Rattle.ded_model.specs.Slotted.{SlotScope, at, compare_goal, place_of, atom_goal, goal_below, goals_below, goal_of, heading_scope}
+use Rattle.ded_model.specs.Slotted.{SlotScope, compare_goal, place_of, atom_goal, goal_below, goals_below, goal_of, heading_scope}
 use Rattle.ded_model.specs.Known.{Known, KnownNames, is_unknown_atom, other_arity, is_arity_atom, operand_sort, arguments_differ, columns_with, is_missorted_atom, IsAccepted}
 use Rattle.ded_model.proofs.Points.{and_left, and_right, same_sort_is}
 use Rattle.ded_model.proofs.Rows.{or_left, or_right}

@@ -1,3 +1,5 @@
+pub mod AddedScans
+pub mod AtomsWithin
 pub mod BothTests
 pub mod Composed
 pub mod ConjunctivePlans

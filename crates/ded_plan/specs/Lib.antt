@@ -3,3 +3,4 @@ pub mod Plans
 pub mod Rewrite
 pub mod Rewritten
 pub mod ScannedNames
+pub mod Scans

@@ -1,7 +1,7 @@
 -- What is promised of the plan that is put in the place of a plan.
 use Rattle.std.specs.Prelude.{◌≡◌, ◌↔◌, ◌<◌, ◌≤◌, ℕ, Bool, true, false, List}
 use Rattle.ded_model.specs.declared.slot.Slot.{Slot}
-use Rattle.ded_model.specs.Point.{Key, slot, Point, IsSlotOf, AreDistinctSlots}
+use Rattle.ded_model.specs.Point.{Key, Point, IsSlotOf, AreDistinctSlots}
 use Rattle.ded_model.specs.Normal.{IsNormalTuple}
 use Rattle.ded_model.specs.Logic.{atom, always, never, negation, every_of, some_of, implies, minus, exists, forall, Logics, none, also, AllAtoms, count_atoms, conjunctive}
 use Rattle.ded_model.specs.PlanForm.{PlanAtom, scan, rows, PlanForm, plan_mentions}
