@@ -35,7 +35,7 @@ use Rattle.ded_keep.specs.Behind.{IsPutBehind}
 use Rattle.ded_keep.proofs.AloneMeanings.{added_alone}
 use Rattle.ded_keep.proofs.Appended.{extended_behind, kept_after}
 use Rattle.ded_query.specs.Gathering.{IsViewOf}
-use Rattle.ded_query.proofs.GivenNames.{no_entry, lines_from, clash_from}
+use Rattle.ded_query.proofs.GivenNames.{no_entry, shaped, lines_from, clash_from}
 use Rattle.ded_database.specs.Changes.{IsInsert}
 use Rattle.ded_database.proofs.ListsStaying.{HasOthers}
 use Rattle.ded_database.proofs.Beside.{IsGivenBeside, same_goal, relation_after, entry_after, columns_before, same_beside}
@@ -95,7 +95,7 @@ module _ (c d : Catalogue) (n : List ℕ) (t : List Atom) (x : IsInsert c d n t)
     -- each name has lines among those that it has after the insert
     lines_alone : (o : List ℕ) → IsSubset (stored_measures (with_alone (given_catalogue rs) n h t) o).lines (measures d o).lines
     unfolding stored_measures
-    lines_alone o = lines_from d o rs _ y.of (by (bytes_eq o n) refl)
+    lines_alone o = lines_from d o rs _ (shaped d rs y.of) (by (bytes_eq o n) refl)
       where
         by : (b : Bool) → bytes_eq o n ≡ b → IsSubset (with_measure none_measured (relation n h 0 ((0, t) ∷ [])) o).lines (measures d o).lines
         by true i = subst (λ b. IsSubset (cond b (entry_measure none_measured (relation n h 0 ((0, t) ∷ []))) (none_measured o)).lines (measures d o).lines) (sym i)

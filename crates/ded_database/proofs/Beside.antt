@@ -38,6 +38,7 @@ use Rattle.ded_query.specs.Over.{over_relations}
 use Rattle.ded_model.proofs.Made.{plain_base}
 use Rattle.ded_query.proofs.Entries.{named_columns, relation_heading}
 use Rattle.ded_query.proofs.Evaluable.{all_with, any_atoms, scannable, scans_same}
+use Rattle.ded_query.proofs.GivenNames.{shaped}
 use Rattle.ded_query.proofs.Standing.{over_right, still_there, hidden_gone}
 use Rattle.ded_query.proofs.Names.{scanned_used, used_known}
 use Rattle.ded_database.specs.Held.{IsHeld}
@@ -187,7 +188,7 @@ module _ (c d : Catalogue) (n : List ℕ) (x : HasOthers c d n) where
                 ((subst (λ k. IsTupleOver k t) columns_are over, any_atoms t), tt),
               )
               by false i = subst (λ b. IsScannedFrom IsAnyAtom (cond b (Some (relation n h 0 ((0, t) ∷ []))) (entry_of (map given_entry rs) o)) ss) (sym i)
-                  (scannable d f rs y.of (scan o ss) q (λ m j. subst (λ k. has_name k rs ≡ true) (same_name m o j) (u o (bytes_eq-refl o) i)))
+                  (scannable d f rs (shaped d rs y.of) (scan o ss) q (λ m j. subst (λ k. has_name k rs ≡ true) (same_name m o j) (u o (bytes_eq-refl o) i)))
 
       -- what is given means the same before the change and after it
       pub same_beside : ((o : List ℕ) → uses o f ≡ true → bytes_eq o n ≡ false → reaches c (base o) n ≡ false) → AllAtoms (IsOtherScan (meaning c) (stored (given_catalogue rs)) (meaning d) n) plan

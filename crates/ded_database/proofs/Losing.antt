@@ -37,7 +37,7 @@ use Rattle.ded_keep.specs.Remaining.{IsRemaining}
 use Rattle.ded_query.specs.Gathering.{IsGivenOf, IsViewGoal, IsViewOf}
 use Rattle.ded_query.specs.Over.{over_relations}
 use Rattle.ded_query.proofs.Evaluable.{evaluable, scanned_same}
-use Rattle.ded_query.proofs.GivenNames.{given_lines}
+use Rattle.ded_query.proofs.GivenNames.{shaped, given_lines}
 use Rattle.ded_query.proofs.Standing.{over_right, still_there, stored_there}
 use Rattle.ded_database.specs.Changes.{IsDelete}
 use Rattle.ded_database.specs.Lasting.{HasLinesOf}
@@ -140,7 +140,7 @@ module _ (c d : Catalogue) (n : List ℕ) (t : List Atom) (x : IsDelete c d n t)
               (of_named (λ m. has_name m (over_relations d None gathered) ≡ true) names o given (all o ∙ u))
 
       pub evaluable_after : IsEvaluable IsAnyAtom (given_catalogue (over_relations d None rs)) plan
-      evaluable_after = evaluable d f (over_relations d None rs) of_after plan (scans c d n others v own hv f plan e p) there_after
+      evaluable_after = evaluable d f (over_relations d None rs) (shaped d (over_relations d None rs) of_after) plan (scans c d n others v own hv f plan e p) there_after
 
       pub read_after : (q : Point) → IsPoint q → GivenHolds (given_catalogue (over_relations d None rs)) plan q ↔ PlanHolds d plan q
       read_after q i = read_alike (given_catalogue (over_relations d None rs)) d plan q i (scanned_same d f (over_relations d None rs) of_after plan (scans c d n others v own hv f plan e p) there_after)
@@ -164,7 +164,7 @@ module _ (c d : Catalogue) (n : List ℕ) (t : List Atom) (x : IsDelete c d n t)
               slots = λ s i. elim (r.slots s i) [ inl j ↦ subst (λ y. goal_mentions y (slot s) ≡ true) goal (k.evaluated.slots s j) | inr j ↦ p.slots (slot s) j ];
               lines = λ l i. elim (In-split l (tuples_lines list) (plan_lines (stored_measures (given_catalogue (over_relations d None rs))) plan) (r.lines l i)) [
                 | inl j ↦ lasting (goal_of hv f) own_view l j
-                | inr j ↦ p.lines (measures d) l (plan_lines-grow (stored_measures (given_catalogue (over_relations d None rs))) (measures d) (given_lines d (over_relations d None rs) of_after) plan l j)
+                | inr j ↦ p.lines (measures d) l (plan_lines-grow (stored_measures (given_catalogue (over_relations d None rs))) (measures d) (given_lines d (over_relations d None rs) (shaped d (over_relations d None rs) of_after)) plan l j)
               ];
             };
             normal = r.normal k.normal;

@@ -1,12 +1,12 @@
 -- Relations and views as what is given of them.
-use Rattle.std.proofs.Common.{◌≡◌, ℕ, ◌-◌, ◌<◌, ◌≤◌, arith, true, List, [], ◌∷◌, Option, Some, None, is_some, is_none, refl, sym, ap, ◌∙◌, subst, true≢false}
+use Rattle.std.proofs.Common.{◌≡◌, ℕ, ◌-◌, ◌*◌, ◌<◌, ◌≤◌, arith, map, mul-pos, true, List, [], ◌∷◌, Option, Some, None, is_some, is_none, refl, sym, ap, ◌∙◌, subst, true≢false}
 use Rattle.std.specs.Prelude.{◌↔◌, IsTrue}
 use Rattle.std.specs.List.{AllByRecursion}
 use Rattle.std.specs.Option.{option_map}
 use Rattle.std.proofs.lemmas.Option.{same_Some, none-some}
 use Rattle.ded_model.specs.declared.slot.Slot.{Slot}
 use Rattle.ded_model.specs.declared.name.Column.{Column}
-use Rattle.ded_model.specs.Row.{Atom, tuples_hold, tuple_mentions, tuples_mention}
+use Rattle.ded_model.specs.Row.{Atom, tuple_holds, tuples_hold, tuple_mentions, tuples_mention}
 use Rattle.ded_model.specs.Catalogue.{Entry, relation, view, Catalogue, tuples_of, at_slots, at_names, meaning, Holds, GoalHolds}
 use Rattle.ded_model.specs.Entries.{known, entry_of, relation_in, view_in, columns_in}
 use Rattle.ded_model.specs.Form.{Form}
@@ -18,17 +18,22 @@ use Rattle.ded_model.specs.Measure.{Measure, measures, goal_lines, goal_clashes}
 use Rattle.ded_model.specs.Normal.{IsNormalTuple}
 use Rattle.ded_model.specs.Point.{slot, stands_in}
 use Rattle.ded_model.specs.Slotted.{goal_of}
-use Rattle.ded_model.specs.Value.{Argument}
+use Rattle.ded_model.specs.Value.{slot_value, Argument, overs, arguments}
 use Rattle.ded_model.proofs.Made.{plain_base}
 use Rattle.ded_model.proofs.Rows.{or_left, or_right}
 use Rattle.ded_sorts.proofs.Frees.{goal_free}
 use Rattle.ded_sorts.proofs.Headings.{goals_mean}
 use Rattle.ded_sorts.proofs.KnownEntries.{columns_there}
+use Rattle.ded_algebra.specs.Evaluation.{HaveSorts}
+use Rattle.ded_plan.specs.declared.scans.ScanWithin.{ScanWithin}
+use Rattle.ded_eval.specs.declared.given.GivenRelation.{GivenRelation}
 use Rattle.ded_views.specs.Same.{AreByteArguments}
+use Rattle.ded_views.proofs.PlansAlike.{arguments_bytes, slots_positive}
 use Rattle.ded_views.proofs.Placing.{unknown}
 use Rattle.ded_views.proofs.Views.{relation_means, view_means, plain_there, name_measure, name_known, tuples_over, view_accepted, lesser_level}
-use Rattle.ded_query.specs.Gathering.{IsGivenOf, IsGivenAs, IsPosed, IsEvaluated, IsViewGoal}
+use Rattle.ded_query.specs.Gathering.{IsGivenOf, IsGivenAs, IsPosed, IsEvaluated, IsViewGoal, IsViewOf}
 use Rattle.ded_query.specs.Questions.{IsQuestion}
+use Rattle.ded_query.specs.Windows.{column_values, IsAtColumns, IsReadable, IsNearView, IsEvaluatedWithin}
 use Rattle.ded_query.proofs.Arguments.{slots_point}
 
 -- ---- headings
@@ -48,18 +53,30 @@ each_over h [] k u = tt
 each_over h (t ∷ ts) k u =
     (record { normal = k.0; slots = λ s e. u s (or_left (tuple_mentions t s) (tuples_mention ts s) e) }, each_over h ts k.1 (λ s e. u s (or_right (tuple_mentions t s) (tuples_mention ts s) e)))
 
--- tuples that a goal of an accepted formula is evaluated to are over its heading
-pub evaluated_over : (c : Catalogue) (h : List Column) (g : GoalForm) (f : Form) (ts : List (List Atom)) → IsQuestion c h g f → IsEvaluated c g ts → AllByRecursion IsNormalTuple ts → AllByRecursion (IsTupleOver h) ts
-evaluated_over c h g f ts q e k = each_over h ts k (λ s u. goal_free h f q.accepted.bound (slot s) (subst (λ x. goal_mentions x (slot s) ≡ true) q.goal (e.slots s u)))
+-- tuples that mention only what the goal of an accepted formula does freely are over its heading
+pub goal_over : (c : Catalogue) (h : List Column) (g : GoalForm) (f : Form) (ts : List (List Atom)) → IsQuestion c h g f → ((s : Slot) → tuples_mention ts s ≡ true → goal_mentions g (slot s) ≡ true) → AllByRecursion IsNormalTuple ts
+    → AllByRecursion (IsTupleOver h) ts
+goal_over c h g f ts q slots k = each_over h ts k (λ s u. goal_free h f q.accepted.bound (slot s) (subst (λ x. goal_mentions x (slot s) ≡ true) q.goal (slots s u)))
 
--- they hold where the formula does
+-- so are those that it is evaluated to
+pub evaluated_over : (c : Catalogue) (h : List Column) (g : GoalForm) (f : Form) (ts : List (List Atom)) → IsQuestion c h g f → IsEvaluated c g ts → AllByRecursion IsNormalTuple ts → AllByRecursion (IsTupleOver h) ts
+evaluated_over c h g f ts q e k = goal_over c h g f ts q e.slots k
+
+-- the goal holds at the values of columns where the formula does
+pub goal_holds : (c : Catalogue) (h : List Column) (g : GoalForm) (f : Form) → IsQuestion c h g f → (d : ℕ) (xs : List Argument) → 0 < d
+    → GoalHolds c g (record { den = d; coords = at_slots 0 h xs }) ↔ Holds c f (record { den = d; coords = at_names h xs })
+goal_holds c h g f q d xs i =
+    let means = goals_mean (meaning c) (known_of c.entries) h f q.accepted.once q.accepted.bound q.accepted.sorted d xs i in
+    let goal : GoalHolds c g (record { den = d; coords = at_slots 0 h xs }) ↔ GoalHolds c (goal_of h f) (record { den = d; coords = at_slots 0 h xs }) = subst (λ x. GoalHolds c g (record { den = d; coords = at_slots 0 h xs }) ↔ GoalHolds c x (record { den = d; coords = at_slots 0 h xs })) q.goal (λ x. x, λ x. x) in
+    (λ x. means.1 (goal.0 x), λ x. goal.1 (means.0 x))
+
+-- and so do the tuples that it is evaluated to
 pub evaluated_holds : (c : Catalogue) (h : List Column) (g : GoalForm) (f : Form) (ts : List (List Atom)) → IsQuestion c h g f → IsEvaluated c g ts → (d : ℕ) (xs : List Argument) → 0 < d → AreByteArguments xs
     → IsTrue (tuples_hold ts (record { den = d; coords = at_slots 0 h xs })) ↔ Holds c f (record { den = d; coords = at_names h xs })
 evaluated_holds c h g f ts q e d xs i k =
     let here = e.holds (record { den = d; coords = at_slots 0 h xs }) (slots_point d h xs i k) in
-    let means = goals_mean (meaning c) (known_of c.entries) h f q.accepted.once q.accepted.bound q.accepted.sorted d xs i in
-    let goal : GoalHolds c g (record { den = d; coords = at_slots 0 h xs }) ↔ GoalHolds c (goal_of h f) (record { den = d; coords = at_slots 0 h xs }) = subst (λ x. GoalHolds c g (record { den = d; coords = at_slots 0 h xs }) ↔ GoalHolds c x (record { den = d; coords = at_slots 0 h xs })) q.goal (λ x. x, λ x. x) in
-    (λ x. means.1 (goal.0 (here.0 x)), λ x. here.1 (goal.1 (means.0 x)))
+    let goal = goal_holds c h g f q d xs i in
+    (λ x. goal.0 (here.0 x), λ x. here.1 (goal.1 x))
 
 -- ---- views
 
@@ -110,6 +127,33 @@ view_given c n g h ts w v e k i =
       lines = λ l x. subst (λ (m : Measure). In l m.lines) (sym (name_measure c w n (view v.own v.columns v.formula) v.entry)) (subst (λ y. In l (goal_lines (measures c) y)) v.goal (e.lines l x));
     })
 
+-- what its goal is evaluated to at the columns of a scan's tuple is right where that holds
+pub view_near : (c : Catalogue) (level : ℕ) (s : ScanWithin) (g : GoalForm) (h : List Column) (w : List Atom) (ts : List (List Atom)) → IsWellFormed c → IsViewGoal c s.name g → IsReadable c level s → IsAtColumns s.slots s.within w
+    → IsEvaluatedWithin c g (tuple_holds w) ts → AllByRecursion IsNormalTuple ts → Some h ≡ option_map (λ k. k.columns) (known c s.name) → IsNearView c s (record { name = s.name; heading = h; tuples = ts })
+unfolding measures
+view_near c level s g h w ts f v r a e k i =
+    let q : IsQuestion c v.columns g v.formula = record { goal = v.goal; accepted = view_accepted c f s.name v.own v.columns v.formula v.entry } in
+    let same : v.columns ≡ h = ap columns_with (sym (name_known c f s.name (view v.own v.columns v.formula) v.entry)) ∙ named_columns c s.name h i in
+    let columns : columns_in c (base s.name) ≡ v.columns = ap (columns_in c) (plain_base s.name (plain_there c f s.name (view v.own v.columns v.formula) v.entry)) ∙ named_columns c s.name h i ∙ sym same in
+    let sorts : HaveSorts v.columns s.slots = subst (λ x. HaveSorts x s.slots) columns r.sorts in
+    subst (λ x. IsNearView c s (record { name = s.name; heading = x; tuples = ts })) same
+    (record {
+      named = refl;
+      shaped = record {
+        columns = columns;
+        over = goal_over c v.columns g v.formula ts q e.slots k;
+        lines = λ l x. subst (λ (m : Measure). In l m.lines) (sym (name_measure c f s.name (view v.own v.columns v.formula) v.entry)) (subst (λ y. In l (goal_lines (measures c) y)) v.goal (e.lines l x));
+      };
+      reads = λ p j t.
+          let d : ℕ = p.den * overs (map (slot_value p) s.slots) in
+          let xs : List Argument = arguments (map (slot_value p) s.slots) in
+          let positive : 0 < d = mul-pos j.positive (slots_positive p s.slots) in
+          let here = e.holds (column_values p v.columns s.slots) (slots_point d v.columns xs positive (arguments_bytes p j s.slots)) (a v.columns sorts p j ∙ t) in
+          let goal = goal_holds c v.columns g v.formula q d xs positive in
+          let means = view_means c f s.name v.own v.columns v.formula v.entry d xs in
+          (λ x. here.1 (goal.1 (means.0 x)), λ x. means.1 (goal.0 (here.0 x)));
+    })
+
 -- a view clashes where its goal does
 pub view_clash : (c : Catalogue) (n : List ℕ) (g : GoalForm) → IsWellFormed c → IsViewGoal c n g → goal_clashes (measures c) g ≡ true → (measures c n).clash ≡ true
 unfolding measures
@@ -157,15 +201,32 @@ given_as c n m k ts h e f g = record {
   of = subst (λ x. IsGivenOf c (record { name = x; heading = k; tuples = ts })) (sym e) (subst (λ x. IsGivenOf c (record { name = n; heading = x; tuples = ts })) (sym f) g);
 }
 
+-- so a relation under a view's name, with its heading and such tuples, is right
+pub held_as : (c : Catalogue) (n : List ℕ) (ts : List (List Atom)) → IsWellFormed c → IsViewOf c n ts → (r : GivenRelation) → (r.name ≡ n) × (Some r.heading ≡ option_map (λ k. k.columns) (known c n)) × (r.tuples ≡ ts) → IsGivenAs c n r × (r.tuples ≡ ts)
+held_as c n ts w v r k =
+    let own = view_given c n v.goal r.heading r.tuples w v.view (subst (IsEvaluated c v.goal) (sym k.2) v.evaluated) (subst (AllByRecursion IsNormalTuple) (sym k.2) v.normal) k.1 in
+    (given_as c n r.name r.heading r.tuples r.heading k.0 refl own, k.2)
+
+-- and right near a scan
+pub near_as : (c : Catalogue) (most : ℕ) (s : ScanWithin) (g : GoalForm) (w : List Atom) (ts : List (List Atom)) → IsWellFormed c → IsViewGoal c s.name g → IsReadable c most s → IsAtColumns s.slots s.within w → IsEvaluatedWithin c g (tuple_holds w) ts → AllByRecursion IsNormalTuple ts
+    → (r : GivenRelation) → (r.name ≡ s.name) × (Some r.heading ≡ option_map (λ k. k.columns) (known c s.name)) × (r.tuples ≡ ts) → IsNearView c s r
+near_as c most s g w ts f v q a e n r k =
+    let own = view_near c most s g r.heading w r.tuples f v q a (subst (IsEvaluatedWithin c g (tuple_holds w)) (sym k.2) e) (subst (AllByRecursion IsNormalTuple) (sym k.2) n) k.1 in
+    subst (λ m. IsNearView c s (record { name = m; heading = r.heading; tuples = r.tuples })) (sym k.0) own
+
 none_mapped : (o : Option Known) → is_some o ≡ true → None ≡ option_map (λ k. k.columns) o → ⊥
 none_mapped None k e = true≢false (sym k)
 none_mapped (Some x) k e = none-some x.columns e
 
--- a view has a heading
-pub view_heading : (c : Catalogue) (n : List ℕ) (g : GoalForm) → IsWellFormed c → IsViewGoal c n g → None ≡ option_map (λ k. k.columns) (known c n) → ⊥
-view_heading c n g w v e = none_mapped (known c n) (ap is_some (name_known c w n (view v.own v.columns v.formula) v.entry)) e
+-- a view is known
+pub view_known : (c : Catalogue) (n : List ℕ) (g : GoalForm) → IsWellFormed c → IsViewGoal c n g → is_some (known c n) ≡ true
+view_known c n g w v = ap is_some (name_known c w n (view v.own v.columns v.formula) v.entry)
 
--- and so has a relation
+-- what is known has a heading
+pub known_heading : (c : Catalogue) (n : List ℕ) → is_some (known c n) ≡ true → None ≡ option_map (λ k. k.columns) (known c n) → ⊥
+known_heading c n k e = none_mapped (known c n) k e
+
+-- a relation has one
 pub relation_heading : (c : Catalogue) (n : List ℕ) → IsWellFormed c → is_some (relation_in (entry_of c.entries n)) ≡ true → None ≡ option_map (λ k. k.columns) (known c n) → ⊥
 relation_heading c n w r e = by (entry_of c.entries n) refl r
   where

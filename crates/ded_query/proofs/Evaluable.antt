@@ -19,6 +19,7 @@ use Rattle.ded_plan.specs.Plans.{IsScanOf}
 use Rattle.ded_eval.specs.declared.given.GivenRelation.{GivenRelation}
 use Rattle.ded_eval.specs.Given.{unnumbered, given_catalogue, has_name}
 use Rattle.ded_query.specs.Gathering.{IsGivenOf}
+use Rattle.ded_query.specs.Windows.{IsShapedOf}
 use Rattle.ded_views.specs.Same.{ScansSame}
 use Rattle.ded_query.proofs.GivenNames.{found_of, given_means}
 
@@ -50,11 +51,18 @@ read_over : (h : List Column) (ts : List (List Atom)) → AllByRecursion (IsTupl
 read_over h [] k = tt
 read_over h (t ∷ ts) k = ((k.0, any_atoms t), read_over h ts k.1)
 
-module _ (c : Catalogue) (f : Form) (rs : List GivenRelation) (g : AllByRecursion (IsGivenOf c) rs) where
+-- as many slots as columns
+pub sorts_long : (h : List Column) (ss : List Slot) → HaveSorts h ss → length ss ≡ length h
+sorts_long [] [] k = refl
+sorts_long [] (s ∷ ss) k = absurd k
+sorts_long (x ∷ h) [] k = absurd k
+sorts_long (x ∷ h) (s ∷ ss) k = ap suc (sorts_long h ss k.1)
+
+module _ (c : Catalogue) (f : Form) (rs : List GivenRelation) (g : AllByRecursion (IsShapedOf c) rs) where
   pub scannable : (a : PlanAtom) → IsScanOf c f a → ((n : List ℕ) → plan_atom_uses n a ≡ true → has_name n rs ≡ true) → IsScannable IsAnyAtom (given_catalogue rs) a
   scannable (rows t) q u = any_atoms t
   scannable (scan n ss) q u =
-      let found = found_of c rs n g (u n ((bytes_eq-Decides n n).1 refl)) in
+      let found = found_of (IsShapedOf c) rs n g (u n ((bytes_eq-Decides n n).1 refl)) in
       let columns : columns_in c (base n) ≡ found.relation.heading = ap (λ m. columns_in c (base m)) (sym found.named) ∙ found.of.columns in
       subst (λ e. IsScannedFrom IsAnyAtom e ss) (sym found.entry)
       (subst (λ h. HaveSorts h ss) columns q.1, read_over found.relation.heading found.relation.tuples found.of.over)
@@ -63,13 +71,8 @@ module _ (c : Catalogue) (f : Form) (rs : List GivenRelation) (g : AllByRecursio
   pub evaluable : (plan : PlanForm) → AllAtoms (IsScanOf c f) plan → ((n : List ℕ) → plan_uses n plan ≡ true → has_name n rs ≡ true) → IsEvaluable IsAnyAtom (given_catalogue rs) plan
   evaluable plan q u = all_with (IsScanOf c f) (IsScannable IsAnyAtom (given_catalogue rs)) (λ n. has_name n rs ≡ true) scannable plan q u
 
+module _ (c : Catalogue) (f : Form) (rs : List GivenRelation) (g : AllByRecursion (IsGivenOf c) rs) where
   -- each scan is of what is given, and means over it what it means over the catalogue
-  sorts_long : (h : List Column) (ss : List Slot) → HaveSorts h ss → length ss ≡ length h
-  sorts_long [] [] k = refl
-  sorts_long [] (s ∷ ss) k = absurd k
-  sorts_long (x ∷ h) [] k = absurd k
-  sorts_long (x ∷ h) (s ∷ ss) k = ap suc (sorts_long h ss k.1)
-
   pub scans_same : (a : PlanAtom) → IsScanOf c f a → ((n : List ℕ) → plan_atom_uses n a ≡ true → has_name n rs ≡ true) → ScansSame (stored (given_catalogue rs)) (meaning c) a
   scans_same (rows t) q u = tt
   scans_same (scan n ss) q u = λ d xs i b l. given_means c rs n g (u n ((bytes_eq-Decides n n).1 refl)) d xs i b (l ∙ sorts_long (columns_in c (base n)) ss q.1)

@@ -1,10 +1,12 @@
 pub mod Answered
 pub mod Arguments
+pub mod ColumnsRead
 pub mod Entries
 pub mod Evaluable
 pub mod Evaluations
 pub mod Gathered
 pub mod GivenNames
 pub mod Names
+pub mod NearViews
 pub mod Standing
 pub mod MadeNames

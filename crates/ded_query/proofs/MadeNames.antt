@@ -137,11 +137,11 @@ module _ (c : Catalogue) (rs : List GivenRelation) (n : List ℕ) (w : Window) (
   -- of what is found under the name
   pub stands_found : AllByRecursion (IsGivenOf c) rs → has_name n rs ≡ true → (us : List (List Atom)) → AreLent w (Some us) (given_tuples (given_catalogue rs) n) → IsStanding c n us
   stands_found g there us k =
-      let f = found_of c rs n g there in
+      let f = found_of (IsGivenOf c) rs n g there in
       stands_as f.relation f.of f.named us (subst (AreLent w (Some us)) (given_from rs n f.relation f.entry) k)
 
   pub never_none : AllByRecursion (IsGivenOf c) rs → has_name n rs ≡ true → AreLent w None (given_tuples (given_catalogue rs) n) → ⊥
-  never_none g there k = let f = found_of c rs n g there in subst (AreLent w None) (given_from rs n f.relation f.entry) k
+  never_none g there k = let f = found_of (IsGivenOf c) rs n g there in subst (AreLent w None) (given_from rs n f.relation f.entry) k
 
 -- ---- what is made of it
 

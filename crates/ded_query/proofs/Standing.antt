@@ -14,7 +14,7 @@ use Rattle.ded_model.proofs.Bools.{bytes_eq-refl}
 use Rattle.ded_model.proofs.Members.{or_split}
 use Rattle.ded_model.proofs.Rows.{or_left, or_right}
 use Rattle.ded_sorts.proofs.KnownEntries.{absent}
-use Rattle.ded_genrel.proofs.Items.{all-append}
+use Rattle.ded_genrel.proofs.Items.{all-append, all_weaker}
 use Rattle.ded_algebra.specs.Evaluation.{AreGiven, given_tuples}
 use Rattle.ded_eval.specs.declared.given.GivenRelation.{GivenRelation}
 use Rattle.ded_eval.specs.Given.{given_entry, given_catalogue, has_name, AreNamedApart}
@@ -245,9 +245,13 @@ all_among c w before (relation n h i ts ∷ es) e = (
 )
 all_among c w before (view n h f ∷ es) e = all_among c w (before ++ view n h f ∷ []) es (e ∙ sym (append_assoc before (view n h f ∷ []) es))
 
--- so all is, where what is given is
-pub over_right : (c : Catalogue) (h : Option (List ℕ)) (gs : List GivenRelation) → IsWellFormed c → AllByRecursion (IsGivenOf c) gs → AllByRecursion (IsGivenOf c) (over_relations c h gs)
+-- what follows of what is right, and holds of what is given, holds of all
+pub over_all : (c : Catalogue) (h : Option (List ℕ)) (gs : List GivenRelation) (P : GivenRelation → Type 0) → IsWellFormed c → ((r : GivenRelation) → IsGivenOf c r → P r) → AllByRecursion P gs → AllByRecursion P (over_relations c h gs)
 unfolding over_relations
-over_right c h gs w k =
-    all-append (IsGivenOf c) gs (not_named (λ m. has_name m gs || is_hidden h m) (relations_among c.entries)) k
-    (all_rest (IsGivenOf c) (λ m. has_name m gs || is_hidden h m) (relations_among c.entries) (all_among c w [] c.entries refl))
+over_all c h gs P w f k =
+    all-append P gs (not_named (λ m. has_name m gs || is_hidden h m) (relations_among c.entries)) k
+    (all_rest P (λ m. has_name m gs || is_hidden h m) (relations_among c.entries) (all_weaker (IsGivenOf c) P (relations_among c.entries) f (all_among c w [] c.entries refl)))
+
+-- so all is right, where what is given is
+pub over_right : (c : Catalogue) (h : Option (List ℕ)) (gs : List GivenRelation) → IsWellFormed c → AllByRecursion (IsGivenOf c) gs → AllByRecursion (IsGivenOf c) (over_relations c h gs)
+over_right c h gs w k = over_all c h gs (IsGivenOf c) w (λ r own. own) k

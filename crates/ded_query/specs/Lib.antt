@@ -1,4 +1,6 @@
+pub mod Columns
 pub mod Gathering
 pub mod Made
 pub mod Over
 pub mod Questions
+pub mod Windows

@@ -1,5 +1,6 @@
-//! What a plan scans, gathered: views as what their goals are evaluated to. Relations are read where they stand.
-ghost use Rattle.std.specs.Prelude.{◌≡◌, ◌≤◌, true, is_some, is_none, None, IfOk, IsErrOf, OnOk};
+//! What a plan scans, gathered: views as what their goals are evaluated to, as a whole or near one scan. Relations are read where they
+//! stand.
+ghost use Rattle.std.specs.Prelude.{◌≡◌, ◌≤◌, ◌||◌, true, is_some, is_none, Some, None, IfOk, IsErrOf, OnOk};
 ghost use Rattle.std.specs.List.{AllByRecursion, list_any};
 ghost use Rattle.ded_model.specs.declared.memory.Refused.TheVariants.{Wide};
 ghost use Rattle.ded_model.specs.Entries.{known, entry_of, view_in};
@@ -8,14 +9,19 @@ ghost use Rattle.ded_model.specs.Known.{level_with};
 ghost use Rattle.ded_model.specs.Made.{base};
 ghost use Rattle.ded_model.specs.Measure.{measures, goal_clashes};
 ghost use Rattle.ded_model.specs.PlanForm.{plan_form};
+ghost use Rattle.ded_model.specs.Row.{tuple_holds};
 ghost use Rattle.ded_catalog.specs.Snapshots.{snapshot_of};
 ghost use Rattle.ded_eval.specs.Given.{has_name};
 ghost use Rattle.ded_plan.specs.Planned.{IsPlanned};
-ghost use Rattle.ded_query.specs.Gathering.{IsGivenOf, IsGathered, IsFront, IsPosed, IsPosedPlan, IsEvaluated, IsViewGoal, IsViewOf, IsGivenAs};
+ghost use Rattle.ded_query.specs.Gathering.{IsGivenOf, IsGathered, IsFront, IsPosed, IsPosedPlan, IsEvaluated, IsViewGoal};
 ghost use Rattle.ded_query.specs.Over.{over_relations};
+ghost use Rattle.ded_query.specs.Windows.{IsEvaluatedWithin, IsGivenNear, IsNearView, IsReadable};
 
+use crate::columns::at_columns;
 use crate::made::made;
+use crate::near::{NEAR_VIEWS, add_all, near_goal, some_view};
 use crate::over::Over;
+use crate::views::{held_view, view_relation};
 use ded_algebra::Evaluate;
 use ded_catalog::Snapshot;
 use ded_eval::{Engine, Given, GivenRelation, reduced};
@@ -24,8 +30,8 @@ use ded_model::goal::Goal;
 use ded_model::memory::{NoMemory, Refused};
 use ded_model::name::Name;
 use ded_model::plan::Plan;
-use ded_model::tuple::Tuples;
-use ded_plan::{plan, scanned_names};
+use ded_model::tuple::{Tuple, Tuples};
+use ded_plan::{ScanWithin, plan, scanned_names, scans_within};
 use std::alloc::Global;
 
 /// Tuples that hold exactly where the goal of an accepted formula does over the catalogue, whose names have at most the level.
@@ -77,6 +83,9 @@ pub(crate) fn evaluated_by(
 {
     snapshot.formed();
     let names = scanned_names(alloc, plan)?;
+    if some_view(snapshot, &names) {
+        return evaluated_near(alloc, snapshot, plan, level, given);
+    }
     give_all(alloc, snapshot, &names, level, given)?;
     let relations = Over {
         snapshot,
@@ -84,6 +93,147 @@ pub(crate) fn evaluated_by(
         hidden: None,
     };
     Engine {}.evaluate(alloc, plan, &relations)
+}
+
+/// The same, where views that the plan scans once are evaluated near their scans alone.
+///
+/// # Errors
+/// As [`evaluated_by`].
+#[cycle(evaluated)]
+fn evaluated_near(
+    alloc: Global,
+    snapshot: &Snapshot<'_>,
+    plan: &Plan,
+    level: u32,
+    given: &mut Given,
+) -> Result<Tuples, Refused>
+    requires posed { IsPosedPlan (snapshot_of snapshot.now) (plan_form plan.now) level }
+    requires given { AllByRecursion (IsGivenOf (snapshot_of snapshot.now)) given.old }
+    ensures is { (g : GoalForm) → IsPosed (snapshot_of snapshot.now) g level → IsPlanned g (plan_form plan.now)
+        → IfOk result (λ ts. IsEvaluated (snapshot_of snapshot.now) g ts) }
+    ensures gathered { OnOk result (IsGathered (snapshot_of snapshot.now) given.old given.new) }
+    ensures front { IsFront given.old given.new }
+    ensures wide { IsErrOf result Wide → (g : GoalForm) → IsPosed (snapshot_of snapshot.now) g level → IsPlanned g (plan_form plan.now)
+        → goal_clashes (measures (snapshot_of snapshot.now)) g ≡ true }
+{
+    snapshot.formed();
+    let everywhere = Tuple {
+        atoms: Vec::new(alloc),
+    };
+    let scans = scans_within(alloc, plan, &everywhere)?;
+    let mut left = NEAR_VIEWS;
+    let near = gathered(alloc, snapshot, &scans, level, given, &mut left)?;
+    let count = given.count();
+    add_all(given, near)?;
+    let relations = Over {
+        snapshot,
+        given: &*given,
+        hidden: None,
+    };
+    let tuples = Engine {}.evaluate(alloc, plan, &relations);
+    given.keep_first(count);
+    tuples
+}
+
+/// Tuples that hold, of the points at which the tuple `within` does, exactly where the goals do of which the plan is one. They mention
+/// only slots that the goal mentions freely.
+///
+/// # Errors
+/// As [`evaluated_by`].
+#[cycle(evaluated)]
+fn evaluated_within(
+    alloc: Global,
+    snapshot: &Snapshot<'_>,
+    plan: &Plan,
+    within: &Tuple,
+    level: u32,
+    given: &mut Given,
+    left: &mut u32,
+) -> Result<Tuples, Refused>
+    requires posed { IsPosedPlan (snapshot_of snapshot.now) (plan_form plan.now) level }
+    requires given { AllByRecursion (IsGivenOf (snapshot_of snapshot.now)) given.old }
+    ensures is { (g : GoalForm) → IsPosed (snapshot_of snapshot.now) g level → IsPlanned g (plan_form plan.now)
+        → IfOk result (λ ts. IsEvaluatedWithin (snapshot_of snapshot.now) g (tuple_holds within.now) ts) }
+    ensures gathered { OnOk result (IsGathered (snapshot_of snapshot.now) given.old given.new) }
+    ensures front { IsFront given.old given.new }
+    ensures wide { IsErrOf result Wide → (g : GoalForm) → IsPosed (snapshot_of snapshot.now) g level → IsPlanned g (plan_form plan.now)
+        → goal_clashes (measures (snapshot_of snapshot.now)) g ≡ true }
+{
+    snapshot.formed();
+    let scans = scans_within(alloc, plan, within)?;
+    let near = gathered(alloc, snapshot, &scans, level, given, left)?;
+    let count = given.count();
+    add_all(given, near)?;
+    let relations = Over {
+        snapshot,
+        given: &*given,
+        hidden: None,
+    };
+    let tuples = Engine {}.evaluate_within(alloc, plan, &relations, within);
+    given.keep_first(count);
+    tuples
+}
+
+/// What the scans are of: views that one of them alone is of as relations that are right where its tuple holds, which are handed back,
+/// and other views as a whole, which are given.
+///
+/// # Errors
+/// `Wide` only where one of the scanned names clashes, otherwise out of memory. More may be given then.
+#[cycle(evaluated)]
+fn gathered(
+    alloc: Global,
+    snapshot: &Snapshot<'_>,
+    scans: &[ScanWithin],
+    level: u32,
+    given: &mut Given,
+    left: &mut u32,
+) -> Result<Vec<GivenRelation>, Refused>
+    requires scans { AllByRecursion (IsReadable (snapshot_of snapshot.now) level) scans.now }
+    requires given { AllByRecursion (IsGivenOf (snapshot_of snapshot.now)) given.old }
+    ensures gathered { OnOk result (IsGathered (snapshot_of snapshot.now) given.old given.new) }
+    ensures near { IfOk result (λ v. AllByRecursion (IsGivenNear (snapshot_of snapshot.now) scans.now) v.items) }
+    ensures all { IfOk result (λ v. AllByRecursion (λ s. (has_name s.name (over_relations (snapshot_of snapshot.now) None given.new) || has_name s.name v.items) ≡ true) scans.now) }
+    ensures front { IsFront given.old given.new }
+    ensures wide { IsErrOf result Wide → list_any (λ s. (measures (snapshot_of snapshot.now) s.name).clash) scans.now ≡ true }
+{
+    let mut near = Vec::new(alloc);
+    for scan in scans {
+        match near_goal(snapshot, scan, scans, given, left) {
+            Some(goal) => near.push(view_near(alloc, snapshot, scan, goal, level, given, left)?)?,
+            None => give(alloc, snapshot, &scan.name, level, given)?,
+        }
+    }
+    Ok(near)
+}
+
+/// The view of the scan, by its goal, as a relation that is right where the scan's tuple holds. It has at most the level.
+///
+/// # Errors
+/// `Wide` only where the view clashes, otherwise out of memory. More may be given then.
+#[cycle(evaluated)]
+fn view_near(
+    alloc: Global,
+    snapshot: &Snapshot<'_>,
+    scan: &ScanWithin,
+    goal: &Goal,
+    level: u32,
+    given: &mut Given,
+    left: &mut u32,
+) -> Result<GivenRelation, Refused>
+    requires view { IsViewGoal (snapshot_of snapshot.now) scan.now.name (goal_form goal.now) }
+    requires readable { IsReadable (snapshot_of snapshot.now) level scan.now }
+    requires given { AllByRecursion (IsGivenOf (snapshot_of snapshot.now)) given.old }
+    ensures is { IfOk result (IsNearView (snapshot_of snapshot.now) scan.now) }
+    ensures gathered { OnOk result (IsGathered (snapshot_of snapshot.now) given.old given.new) }
+    ensures front { IsFront given.old given.new }
+    ensures wide { IsErrOf result Wide → (measures (snapshot_of snapshot.now) scan.now.name).clash ≡ true }
+{
+    snapshot.formed();
+    laws::normal_goals();
+    let plan = plan(alloc, goal)?;
+    let within = at_columns(alloc, &scan.within, &scan.slots)?;
+    let tuples = evaluated_within(alloc, snapshot, &plan, &within, level - 1, given, left)?;
+    Ok(view_relation(snapshot, &scan.name, reduced(alloc, tuples)?)?)
 }
 
 /// Gives those of the names that are views. All are made of defined ones that have at most the level.
@@ -217,27 +367,4 @@ fn add(snapshot: &Snapshot<'_>, given: &mut Given, relation: GivenRelation) -> R
         return Ok(());
     }
     given.add(relation)
-}
-
-/// A view as a relation under its name, with tuples that its goal is evaluated to.
-///
-/// # Errors
-/// Out of memory.
-pub fn held_view(
-    snapshot: &Snapshot<'_>,
-    name: &Name,
-    tuples: Tuples,
-) -> Result<GivenRelation, NoMemory>
-    requires { IsViewOf (snapshot_of snapshot.now) name.now tuples }
-    ensures { IfOk result (λ r. IsGivenAs (snapshot_of snapshot.now) name.now r × (r.tuples ≡ tuples)) }
-{
-    snapshot.formed();
-    let Some(heading) = snapshot.heading(name) else {
-        unreachable!()
-    };
-    Ok(GivenRelation {
-        name: name.copy()?,
-        heading: heading.copy()?,
-        tuples,
-    })
 }

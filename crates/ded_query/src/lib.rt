@@ -1,24 +1,30 @@
 //! Questions over a catalogue, and their answers.
 //!
 //! [`is_true`] answers a closed question, [`answer`] one over a heading by normal tuples, and [`view_tuples`] a view. Each plans the
-//! goal of the formula ([`planned_view`] is handed the plan), gathers the views that the plan scans as their answers, each evaluated
-//! once, evaluates the plan over them and over the relations, which are read where they stand ([`Over`]), and reduces what comes out.
-//! Numbers get too long only where the formula isn't tight.
+//! goal of the formula ([`planned_view`] is handed the plan), gathers the views that the plan scans, evaluates the plan over them and
+//! over the relations, which are read where they stand ([`Over`]), and reduces what comes out. Numbers get too long only where the
+//! formula isn't tight.
+//!
+//! A view that several scans are of is gathered as its answer, once. One that a single scan is of is evaluated near that scan: within a
+//! tuple that holds wherever the plan asks for it. What comes of it is right there, and is taken away after the evaluation.
 //!
 //! The catalogue is read as a `Snapshot`: as it is, or as a change will make it. Answers of views that are held already are handed
 //! in as relations under the views' names ([`held_view`]). They are read in place of the views, without a copy, and are the same
 //! afterwards. [`give_names`] gathers views alone.
 //!
-//! It stands on `ded_goals` for the goals of formulas, on `ded_plan` for plans, on `ded_eval` for their evaluation and
-//! for reduced tuples, on `ded_catalog` for what names stand for, on `ded_hull` for windows of tuples, and on `ded_algebra` and
-//! `ded_views` for what plans and views mean.
+//! It stands on `ded_goals` for the goals of formulas, on `ded_plan` for plans and their scans, on `ded_eval` for their evaluation and
+//! for reduced tuples, on `ded_theory` and `ded_tuple` for tuples over other slots, on `ded_catalog` for what names stand for, on
+//! `ded_hull` for windows of tuples, and on `ded_algebra` and `ded_views` for what plans and views mean.
 #![tactic(auto)]
 
 mod answering;
+mod columns;
 mod gathering;
 mod made;
+mod near;
 mod over;
+mod views;
 
 pub use answering::{answer, give_names, is_true, planned_view, view_tuples};
-pub use gathering::held_view;
 pub use over::Over;
+pub use views::held_view;
