@@ -1,15 +1,15 @@
 -- Exact bounds, in the words of what is inside of them: all values lie inside, and each value that lies inside has some at it
 -- or outside of it. So they are read at both ends and of all kinds of bounds at once.
-use Rattle.std.proofs.Common.{◌≡◌, ℕ, ◌<◌, Bool, true, false, not, ◌||◌, arith, refl, sym, ap, ◌∙◌, subst, true≢false, ◌⊎◌, inl, inr, ⊎_elim}
+use Rattle.std.proofs.Common.{◌≡◌, ℕ, ◌<◌, Bool, true, false, not, ◌||◌, arith, sym, ap, ◌∙◌, ◌⊎◌, ⊎_elim}
 use Rattle.std.specs.Prelude.{ℤ, pos, ◌*ℤ◌, ◌-ℤ◌, ◌<ℤ◌, neg_ℤ}
 use Rattle.std.proofs.lemmas.Int.{ints, by_lt_z}
 use Rattle.ded_model.specs.declared.row.RowOp.TheVariants.{AtMost, Below}
 use Rattle.ded_model.specs.declared.bound.Bound.{Bound}
 use Rattle.ded_model.specs.declared.bound.Bound.TheVariants.{Infinite, Excluded, Included}
 use Rattle.ded_model.specs.declared.slot.Slot.{Slot}
-use Rattle.ded_model.specs.Bound.{Fraction, End, lower, upper, is_outside, value_at, IsLowest, IsUnbounded, IsIncluded, IsExcluded, SomeOutside, SomeAt}
+use Rattle.ded_model.specs.Bound.{Fraction, End, lower, upper, is_outside, value_at, IsLowest, IsIncluded, IsExcluded, SomeOutside}
 use Rattle.ded_model.specs.Interval.{IsExactBound}
-use Rattle.ded_model.specs.Point.{Point, IsPoint, slot, number_at}
+use Rattle.ded_model.specs.Point.{Point, IsPoint}
 use Rattle.ded_model.proofs.Core.{Meets, below_at_most}
 use Rattle.ded_model.proofs.Rows.{or_left, or_right}
 use Rattle.ded_model.proofs.Members.{or_split}

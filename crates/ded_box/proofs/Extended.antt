@@ -1,5 +1,5 @@
 -- The box of a test that passes where one of two does, and tests that pass alike.
-use Rattle.std.proofs.Common.{◌≡◌, ℕ, suc, ◌+◌, ◌<◌, Bool, true, false, ◌||◌, List, [], ◌∷◌, arith, refl, sym, ap, ◌∙◌, subst, true≢false}
+use Rattle.std.proofs.Common.{◌≡◌, ℕ, ◌+◌, ◌<◌, Bool, false, ◌||◌, List, [], ◌∷◌, arith, sym, ap, ◌∙◌}
 use Rattle.ded_model.specs.declared.name.Column.{Column}
 use Rattle.ded_model.specs.declared.slot.Slot.{Slot}
 use Rattle.ded_model.specs.declared.slot.Sort.{Sort}
@@ -12,7 +12,7 @@ use Rattle.ded_model.specs.Cell.{HoldsSomewhere}
 use Rattle.ded_model.specs.Interval.{IsExactBound}
 use Rattle.ded_model.specs.Point.{Point, IsPoint}
 use Rattle.ded_model.specs.Width.{rational_columns}
-use Rattle.ded_model.proofs.Rows.{or_left, or_right}
+use Rattle.ded_model.proofs.Rows.{or_left}
 use Rattle.ded_box.specs.Intervals.{HasPositive, wider}
 use Rattle.ded_box.specs.Boxes.{hulls}
 use Rattle.ded_box.specs.Extents.{BoundsAt, AreBounds, IsBox, covering}

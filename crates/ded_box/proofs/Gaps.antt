@@ -4,7 +4,7 @@
 -- (`gap_chain`), the middle of two fractions lies strictly between them, and one less than a fraction is one that is less.
 -- All of it is said of either end of an interval at once: at the upper end the order is turned.
 use Rattle.std.proofs.Common.{◌≡◌, not, arith, refl, sym, subst}
-use Rattle.std.specs.Prelude.{ℤ, pos, ◌+ℤ◌, ◌-ℤ◌, ◌*ℤ◌, ◌<ℤ◌, int_lt}
+use Rattle.std.specs.Prelude.{ℤ, pos, ◌+ℤ◌, ◌-ℤ◌, ◌*ℤ◌, int_lt}
 use Rattle.std.specs.Bool.{Decides}
 use lib.IntN.{neg_ℤ}
 use Rattle.std.proofs.lemmas.Int.{ints}

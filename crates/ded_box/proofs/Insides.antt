@@ -1,7 +1,7 @@
 -- What is inside of bounds: the narrower of two bounds lets through what both do, and two bounds that may meet are those
 -- between which some value stands.
 use Rattle.std.proofs.Common.{◌≡◌, Bool, true, false, not, cond, arith, refl, ap}
-use Rattle.std.specs.Prelude.{ℤ, pos}
+use Rattle.std.specs.Prelude.{pos}
 use Rattle.std.specs.Bool.{Decides}
 use Rattle.std.proofs.lemmas.Int.{ints}
 use Rattle.ded_model.specs.declared.row.RowOp.TheVariants.{AtMost, Below}

@@ -1,6 +1,6 @@
 -- Pairs of tuples that are apart or meet make relations that are apart or meet.
-use Rattle.std.proofs.Common.{◌≡◌, ℕ, Bool, true, false, Option, Some, None, List, [], ◌∷◌, ◌++◌, ◌⊎◌, inl, inr, refl, sym, ap, ◌∙◌, subst, true≢false}
-use Rattle.std.specs.Prelude.{◌&&◌, ◌||◌, MatchOption}
+use Rattle.std.proofs.Common.{◌≡◌, ℕ, Bool, true, false, Option, Some, None, List, [], ◌∷◌, ◌++◌, ◌⊎◌, inl, inr, refl, sym, ap, ◌∙◌, true≢false}
+use Rattle.std.specs.Prelude.{◌&&◌, MatchOption}
 use Rattle.std.specs.List.{AllByRecursion}
 use Rattle.ded_model.specs.declared.certificate.Entry.{Entry}
 use Rattle.ded_model.specs.Catalogue.{tuples_of}
@@ -12,7 +12,7 @@ use Rattle.ded_model.proofs.Points.{and_left, and_right}
 use Rattle.ded_model.proofs.Rows.{or_left, or_right}
 use Rattle.ded_theory.specs.Verdicts.{HoldsNowhere}
 use Rattle.ded_cert.specs.Checks.{Checks}
-use Rattle.ded_cert.specs.Pairs.{Numbered, both_hold, pairs_of, pairs_with, entry_for, AreApart, Meet, AreEntriesOf, IsFirstMeeting, IsVerified}
+use Rattle.ded_cert.specs.Pairs.{Numbered, both_hold, pairs_of, pairs_with, entry_for, AreApart, AreEntriesOf, IsFirstMeeting, IsVerified}
 use Rattle.ded_cert.proofs.Paired.{all_apart}
 use Rattle.ded_cert.proofs.Shown.{tuples_nowhere}
 

@@ -1,5 +1,5 @@
 //! Certificates that no tuple of one relation has a common point with one of another.
-ghost use Rattle.std.specs.Prelude.{◌≡◌, ◌++◌, List, MatchOption, OnOk, IfOk, IsErrOf};
+ghost use Rattle.std.specs.Prelude.{◌≡◌, ◌++◌, List, MatchOption, IfOk, IsErrOf};
 ghost use Rattle.ded_model.specs.declared.memory.Refused.TheVariants.{Wide};
 ghost use Rattle.ded_cert.specs.Pairs.{Numbered, pairs_of, pairs_with, AreEntriesOf, IsFirstMeeting, IsWide, SomePair};
 ghost use Rattle.ded_cert.specs.Told.{IsTold};

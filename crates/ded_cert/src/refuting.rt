@@ -3,7 +3,7 @@
 //! Rows with tags are eliminated slot after slot until they have none of the rows' own slots. What is left holds where the tags and
 //! the total are 0 and the slack is positive only where the rows themselves hold. So where these hold nowhere, a row that is left is
 //! false there, and the coefficients of its tags are the multipliers.
-ghost use Rattle.std.specs.Prelude.{◌≡◌, ◌+◌, ◌≤◌, ◌<◌, ◌^◌, ℕ, pos, ◌-ℤ◌, ◌≤ℤ◌, true, false, length, IfOk, IsErrOf, MatchOption};
+ghost use Rattle.std.specs.Prelude.{◌≡◌, ◌+◌, ◌≤◌, ◌<◌, ◌^◌, ℕ, pos, ◌-ℤ◌, ◌≤ℤ◌, true, false, IfOk, IsErrOf, MatchOption};
 ghost use Rattle.std.specs.List.{AllByRecursion};
 ghost use Rattle.ded_model.specs.declared.memory.Refused.TheVariants.{Wide};
 ghost use Rattle.ded_num.specs.Length.{IsShort};

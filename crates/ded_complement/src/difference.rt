@@ -1,5 +1,5 @@
 //! Complement and difference.
-ghost use Rattle.std.specs.Prelude.{◌≡◌, not, ◌&&◌, ◌||◌, List, ◌++◌, length, IfOk};
+ghost use Rattle.std.specs.Prelude.{not, ◌&&◌, ◌||◌, List, ◌++◌, length, IfOk};
 ghost use Rattle.std.specs.List.{AllByRecursion};
 ghost use Rattle.ded_model.specs.Cell.{conj_holds, HoldsSomewhere, HasCells};
 ghost use Rattle.ded_theory.specs.Conjunctions.{IsWide};

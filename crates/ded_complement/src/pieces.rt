@@ -1,14 +1,12 @@
 //! Pieces of a difference.
-ghost use Rattle.std.specs.Prelude.{◌≡◌, false, not, ◌&&◌, List, [], ◌∷◌, IfOk};
+ghost use Rattle.std.specs.Prelude.{◌≡◌, false, not, ◌&&◌, [], ◌∷◌, IfOk};
 ghost use Rattle.std.specs.List.{AllByRecursion};
-ghost use Rattle.ded_model.specs.Cell.{conj_holds, HoldsSomewhere};
-ghost use Rattle.ded_theory.specs.Conjunctions.{IsWide};
+ghost use Rattle.ded_model.specs.Cell.{conj_holds};
 ghost use Rattle.ded_theory.specs.Verdicts.{HoldsNowhere};
-ghost use Rattle.ded_genrel.specs.Lists.{conjs_hold};
-ghost use Rattle.ded_complement.specs.Pieces.{IsAmong, AreAmong, IsMadeOf, ArePieces, IsMore};
+ghost use Rattle.ded_complement.specs.Pieces.{IsAmong, AreAmong, IsMadeOf, IsMore};
 
 use crate::shortening::with_last;
-use ded_genrel::{GenRel, both_conjs, copy_conj};
+use ded_genrel::{GenRel, copy_conj};
 use ded_model::memory::NoMemory;
 use ded_model::tuple::Negated;
 use ded_theory::{Theory, Verdict};

@@ -13,7 +13,6 @@ use Rattle.ded_model.specs.declared.bound.Bound.TheVariants.{Infinite, Excluded,
 use Rattle.ded_model.specs.Point.{slot, Point, IsPoint, number_at}
 use Rattle.ded_model.specs.Cell.{conj_holds}
 use Rattle.ded_model.specs.Bound.{Fraction, End, lower, upper, is_outside, value_at}
-use Rattle.ded_model.specs.Interval.{IsExactBound}
 use Rattle.ded_model.specs.Lines.{Line}
 use Rattle.ded_model.proofs.Points.{and_left, and_right}
 use Rattle.ded_theory.specs.declared.answers.Span.{Span}

@@ -27,8 +27,8 @@ use Rattle.ded_model.specs.Slotted.{SlotScope, slot_of, slot_sum, difference_row
 use Rattle.ded_model.proofs.LineCoefs.{nonzero-nonzero}
 use Rattle.ded_model.proofs.Values.{denominator-positive}
 use Rattle.ded_row.specs.Multiples.{coefs_times, row_times}
-use Rattle.ded_row.proofs.Scaling.{IsFactor, normal_row-times, regroup}
-use Rattle.ded_row.proofs.MixedLines.{times-put, times-nonzero, nonzero_begins, times-put_all}
+use Rattle.ded_row.proofs.Scaling.{IsFactor, normal_row-times}
+use Rattle.ded_row.proofs.MixedLines.{times-nonzero, nonzero_begins, times-put_all}
 use Rattle.ded_goals.specs.Scope.{sum_over}
 use Rattle.ded_model.proofs.Definable.{neg_times}
 

@@ -2,7 +2,7 @@
 --
 -- Names in scope that differ have slots of other numbers. So where a sum has each name once, each of its slots has one
 -- coefficient, which is that of a name.
-use Rattle.std.proofs.Common.{◌≡◌, ◌≢◌, ℕ, zero, suc, ◌-◌, ◌<◌, ◌≤◌, length, get_or, drop, drop-cons, ap₂, ◌==◌, ◌&&◌, ◌||◌, Bool, true, false, cond, is_none, Some, unwrap_or, List, [], ◌∷◌, arith, refl, sym, ap, ◌∙◌, subst, true≢false, bytes_eq}
+use Rattle.std.proofs.Common.{◌≡◌, ◌≢◌, ℕ, zero, suc, ◌-◌, ◌<◌, ◌≤◌, length, get_or, drop, drop-cons, ap₂, ◌==◌, ◌&&◌, Bool, true, false, cond, is_none, Some, unwrap_or, List, [], ◌∷◌, arith, refl, sym, ap, ◌∙◌, subst, true≢false, bytes_eq}
 use Rattle.std.specs.Prelude.{ℤ, pos, ◌+ℤ◌}
 use Rattle.std.specs.List.{list_any}
 use Rattle.std.proofs.lemmas.Bool.Decides.{nat_tests}

@@ -1,13 +1,11 @@
 //! The goals of comparisons, and the arguments of atoms.
-ghost use Rattle.std.specs.Prelude.{◌≡◌, ◌<ℤ◌, pos, false, IfOk, map};
-ghost use Rattle.ded_num.specs.Length.{IsWithin};
+ghost use Rattle.std.specs.Prelude.{◌≡◌, false, IfOk, map};
 ghost use Rattle.ded_model.specs.Normal.{IsNormalRow, normal_row};
 ghost use Rattle.ded_model.specs.Form.{compare};
 ghost use Rattle.ded_model.specs.Goal.{goal_form};
 ghost use Rattle.ded_model.specs.Known.{is_unbound_atom};
 ghost use Rattle.ded_model.specs.Slotted.{compare_goal, comparison_row, sums_goal, is_text_operand, place_of};
 ghost use Rattle.ded_model.specs.Plain.{IsPlainAtom};
-ghost use Rattle.ded_model.specs.LongRows.{denominator_of};
 ghost use Rattle.ded_goals.specs.TextSums.{has_text_sum};
 ghost use Rattle.ded_goals.specs.Scope.{sorts_of, AreApart, IsSmall, IsPlaceable, ArePlaceable};
 ghost use Rattle.ded_goals.specs.Tuples.{is_missorted_comparison, IsNormalComparison};

@@ -5,7 +5,7 @@ use Rattle.ded_model.specs.Logic.{AllAtoms, AllAtomsOf, logics}
 use Rattle.ded_model.specs.declared.name.Column.{Column}
 use Rattle.ded_grammar.specs.declared.terminal.Quantifier.{Quantifier}
 use Rattle.ded_grammar.specs.declared.terminal.Quantifier.TheVariants.{Exists, Forall}
-use Rattle.ded_grammar.specs.Trees.{TerminalForm, nay, conjunct, disjunct, arrow, opening, closing, binder, leaf, Whole, only, follows, Either, either_last, either_more, Both, both_last, both_more, One, negated, bound, grouped, plain, Body, bound_again, around, spell, spell_either, spell_both, spell_one, spell_body, meaning, members_either, members_both, meaning_one, meaning_body, quantified, all_of, any_of}
+use Rattle.ded_grammar.specs.Trees.{TerminalForm, conjunct, disjunct, arrow, closing, leaf, Whole, only, follows, Either, either_last, either_more, Both, both_last, both_more, One, negated, bound, grouped, plain, Body, bound_again, around, spell, spell_either, spell_both, spell_one, spell_body, meaning, members_either, members_both, meaning_one, meaning_body, quantified, all_of, any_of}
 use Rattle.ded_grammar.specs.Spelling.{Spells}
 
 -- each atom of the terminal has the property

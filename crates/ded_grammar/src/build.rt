@@ -1,5 +1,5 @@
 //! The tree of a formula, where its nesting leaves room.
-ghost use Rattle.std.specs.Prelude.{◌≡◌, ◌<◌, ◌≤◌, length, IfOk, IfSome, IfNone, OnErr, Err, map, [], ◌∷◌};
+ghost use Rattle.std.specs.Prelude.{◌≡◌, ◌<◌, IfOk, IfSome, IfNone, OnErr, Err, map, [], ◌∷◌};
 ghost use Rattle.ded_grammar.specs.declared.fault.ReadFault.TheVariants as faults;
 ghost use Rattle.ded_model.specs.Form.{form};
 ghost use Rattle.ded_model.specs.Logic.{negation, implies};

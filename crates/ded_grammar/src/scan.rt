@@ -1,5 +1,5 @@
 //! Whether terminals spell a formula.
-ghost use Rattle.std.specs.Prelude.{◌≡◌, ◌<◌, ◌^◌, Option, Some, None, IfSome, IfNone, IsTrue, ◌↔◌};
+ghost use Rattle.std.specs.Prelude.{◌≡◌, ◌<◌, ◌^◌, Option, Some, None, IsTrue, ◌↔◌};
 ghost use Rattle.ded_grammar.specs.Trees.{Whole, spell};
 ghost use Rattle.ded_grammar.specs.Forms.{terminal_form, terminal_forms};
 ghost use Rattle.ded_grammar.specs.Scanning.{stepped, scan};

@@ -15,17 +15,11 @@ use Rattle.ded_hull.specs.Codes.{fine, is_up_to}
 use Rattle.ded_hull.specs.Reaches.{NotAbove, NotBelow, everywhere, range_at, both_low, both_high, met, narrowed, all_values}
 use Rattle.ded_hull.specs.Limits.{Term, kept, plus, times, at_most_zero, below_zero, may_be, may_meet, may_hold}
 use Rattle.ded_hull.specs.Boxes.{overlap, overlaps, least_with, IsRangeAround, StaysAround, may_pass, IsAround}
-use Rattle.ded_hull.specs.Scaling.{lt_true, of_lt_true, of_lt_false, times_up, times_neg, le_unscale, lt_unscale, commute}
+use Rattle.ded_hull.specs.Scaling.{lt_true, le_true, of_lt_true, of_le_true, of_lt_false, times_up, times_neg, le_unscale, lt_unscale, commute}
 use Rattle.ded_hull.proofs.Numbers.{kept_same, kept_high, kept_short, short_low, short_high}
 use Rattle.ded_hull.proofs.Sums.{and_both, and_first, and_second, le_trans}
 
 -- ---- what is kept tells the sign of a sum
-
-of_le : (a b : ℤ) → int_le a b ≡ true → a ≤ℤ b
-of_le a b h = grind (arith, ints)
-
-le_is : (a b : ℤ) → a ≤ℤ b → int_le a b ≡ true
-le_is a b h = grind (arith, ints)
 
 -- a number of which what is kept is at most 0
 of_kept : (z : ℤ) → at_most_zero (kept z) ≡ true → z ≤ℤ pos 0
@@ -39,7 +33,7 @@ of_kept z h = by (int_lt (neg_ℤ (pos (2 ^ 127))) z) (int_lt z (pos (2 ^ 127)))
 
     by : (i j : Bool) → int_lt (neg_ℤ (pos (2 ^ 127))) z ≡ i → int_lt z (pos (2 ^ 127)) ≡ j → z ≤ℤ pos 0
     by false j e f = negative (2 ^ 127) z (of_lt_false (neg_ℤ (pos (2 ^ 127))) z e)
-    by true true e f = of_le z (pos 0) (subst (λ o. at_most_zero o ≡ true) (kept_same z (of_lt_true (neg_ℤ (pos (2 ^ 127))) z e) (of_lt_true z (pos (2 ^ 127)) f)) h)
+    by true true e f = of_le_true z (pos 0) (subst (λ o. at_most_zero o ≡ true) (kept_same z (of_lt_true (neg_ℤ (pos (2 ^ 127))) z e) (of_lt_true z (pos (2 ^ 127)) f)) h)
     by true false e f = absurd (not_high (2 ^ 127) (omega arith) (subst (λ o. at_most_zero o ≡ true) (kept_high z (of_lt_false z (pos (2 ^ 127)) f)) h))
 
 -- a multiple of a number of units that is above the lowest is above it by as many units
@@ -126,7 +120,7 @@ high_around z p o a c e f pa g s r m =
     by None p o f g s m = refl
     by (Some e) None o f g s m = refl
     by (Some e) (Some h) None f g s m = absurd f
-    by (Some e) (Some h) (Some k) f g s m = le_is e h (le_trans e k h (high_end a (c *ℤ pos fine) k e pa g (sum_low c (a *ℤ e) s m)) f)
+    by (Some e) (Some h) (Some k) f g s m = le_true e h (le_trans e k h (high_end a (c *ℤ pos fine) k e pa g (sum_low c (a *ℤ e) s m)) f)
 
 pub low_around : (z p o : Option ℤ) (a c : ℤ) → z ≡ None → NotAbove p o → a <ℤ pos 0 → IfSome o (λ k. (k *ℤ neg_ℤ a) ≤ℤ (c *ℤ pos fine)) → IfSome o (λ k. IsShort (c *ℤ pos fine))
     → (r : Range) → at_most_zero (least_with a c r) ≡ true → overlap (record { low = p; high = z }) r ≡ true
@@ -142,7 +136,7 @@ low_around z p o a c e f pa g s r m =
     by h None o f g s m = refl
     by None (Some l) o f g s m = refl
     by (Some e) (Some l) None f g s m = absurd f
-    by (Some e) (Some l) (Some k) f g s m = le_is l e (le_trans l k e f (low_end a (c *ℤ pos fine) k e pa g (sum_low c (a *ℤ e) s m)))
+    by (Some e) (Some l) (Some k) f g s m = le_true l e (le_trans l k e f (low_end a (c *ℤ pos fine) k e pa g (sum_low c (a *ℤ e) s m)))
 
 pub everywhere_around : (r : Range) → overlap everywhere r ≡ true
 everywhere_around r = up_to_none r.low

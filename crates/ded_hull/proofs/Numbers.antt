@@ -8,7 +8,7 @@ use Rattle.std.proofs.lemmas.Int.{ints}
 use Rattle.std.proofs.Math.IntN.{*ℤ-zero}
 use Rattle.ded_hull.specs.Reaches.{NotAbove}
 use Rattle.ded_hull.specs.Limits.{kept, turned, is_same_sign, beyond}
-use Rattle.ded_hull.specs.Scaling.{lt_true, lt_false, of_lt_true, of_lt_false, le_self, times_up, times_neg}
+use Rattle.ded_hull.specs.Scaling.{lt_true, lt_false, of_lt_true, of_le_true, of_lt_false, le_self, times_up, times_neg}
 
 -- ---- what is kept
 
@@ -175,12 +175,9 @@ sign_up x y h = by (int_lt x (pos 0)) refl h
     weak : (x : ℤ) → x <ℤ pos 0 → x ≤ℤ pos 0
     weak x h = omega (arith, ints)
 
-    of_le : (x y : ℤ) → int_le x y ≡ true → x ≤ℤ y
-    of_le x y h = grind (arith, ints)
-
     by : (b : Bool) → int_lt x (pos 0) ≡ b → cond b (int_lt y (pos 0)) (int_le (pos 0) y) ≡ true → pos 0 ≤ℤ (x *ℤ y)
     by true e h = subst (λ z. z ≤ℤ (x *ℤ y)) (zero_times x) (times_down x y (pos 0) (weak x (of_lt_true x (pos 0) e)) (weak y (of_lt_true y (pos 0) h)))
-    by false e h = subst (λ z. z ≤ℤ (x *ℤ y)) (zero_times x) (times_up x (pos 0) y (of_lt_false x (pos 0) e) (of_le (pos 0) y h))
+    by false e h = subst (λ z. z ≤ℤ (x *ℤ y)) (zero_times x) (times_up x (pos 0) y (of_lt_false x (pos 0) e) (of_le_true (pos 0) y h))
 
 sign_down : (x y : ℤ) → is_same_sign x y ≡ false → (x *ℤ y) ≤ℤ pos 0
 sign_down x y h = by (int_lt x (pos 0)) refl h

@@ -1,6 +1,6 @@
 -- The least sum of a limit in a reach: at most the sum at all values of the reach, and no higher in a wider reach.
 use Rattle.std.proofs.Common.{◌≡◌, ℕ, ◌<◌, Bool, true, false, cond, List, [], ◌∷◌, Option, Some, None, arith, refl, sym, ap, subst, true≢false}
-use Rattle.std.specs.Prelude.{ℤ, pos, ◌+ℤ◌, ◌*ℤ◌, ◌≤ℤ◌, ◌<ℤ◌, int_lt, int_le, neg_ℤ, ◌&&◌}
+use Rattle.std.specs.Prelude.{ℤ, pos, ◌+ℤ◌, ◌*ℤ◌, ◌≤ℤ◌, ◌<ℤ◌, int_lt, neg_ℤ, ◌&&◌}
 use Rattle.std.specs.Ordering.{int_eq}
 use Rattle.std.proofs.lemmas.Int.{ints}
 use Rattle.ded_num.proofs.Ring.{parts, diff_same, ring, add-mul_ℤ, mul_assoc_ℤ}
@@ -14,7 +14,7 @@ use Rattle.ded_hull.specs.Codes.{fine}
 use Rattle.ded_hull.specs.Reaches.{IsAbove, IsBelow, IsIn, Lies, range_at, NotAbove, NotBelow, IsPart, IsWithin}
 use Rattle.ded_hull.specs.Limits.{Term, sum_of, is_met, are_met, kept, plus, times, least_end, least, turned, turn, least_of, at_most_zero, below_zero, may_stand, may_be, may_meet, may_hold}
 use Rattle.ded_hull.proofs.Numbers.{UpTo, kept_under, kept_mono, times_down}
-use Rattle.ded_hull.specs.Scaling.{times_up, times_neg, lt_true, of_lt_true, of_lt_false, le_self, not_negative, commute}
+use Rattle.ded_hull.specs.Scaling.{times_up, times_neg, lt_true, le_true, of_lt_true, of_le_true, of_lt_false, le_self, not_negative, commute}
 
 -- ---- sums at values
 
@@ -127,9 +127,6 @@ positive d h = omega (arith, ints)
 fine_positive : pos 0 <ℤ pos fine
 fine_positive = positive fine (omega arith)
 
-le_zero_true : (k : ℤ) → k ≤ℤ pos 0 → int_le k (pos 0) ≡ true
-le_zero_true k h = grind (arith, ints)
-
 pub lt_le : (a b c : ℤ) → a ≤ℤ b → b <ℤ c → a <ℤ c
 lt_le a b c h k = omega (arith, ints)
 
@@ -139,7 +136,7 @@ may_be_at_most d None z p u h = refl
 may_be_at_most d (Some k) z p u h =
     let low : Meets AtMost (z *ℤ pos fine) = subst (Meets AtMost) (commute (pos fine) z) (meets_scale AtMost (pos fine) z fine_positive h) in
     let own : Meets AtMost (pos d *ℤ k) = subst (Meets AtMost) (commute k (pos d)) (le_trans (k *ℤ pos d) (z *ℤ pos fine) (pos 0) u low) in
-    le_zero_true k (meets_unscale AtMost (pos d) k (positive d p) own)
+    le_true k (pos 0) (meets_unscale AtMost (pos d) k (positive d p) own)
 
 may_be_below : (d : ℕ) (o : Option ℤ) (z : ℤ) → 0 < d → Under d o (z *ℤ pos fine) → z <ℤ pos 0 → below_zero o ≡ true
 may_be_below d None z p u h = refl
@@ -147,9 +144,6 @@ may_be_below d (Some k) z p u h =
     let low : Meets Below (z *ℤ pos fine) = subst (Meets Below) (commute (pos fine) z) (meets_scale Below (pos fine) z fine_positive h) in
     let own : Meets Below (pos d *ℤ k) = subst (Meets Below) (commute k (pos d)) (lt_le (k *ℤ pos d) (z *ℤ pos fine) (pos 0) u low) in
     lt_true k (pos 0) (meets_unscale Below (pos d) k (positive d p) own)
-
-of_le_true : (a b : ℤ) → int_le a b ≡ true → a ≤ℤ b
-of_le_true a b h = grind (arith, ints)
 
 zero_from : (z : ℤ) → int_eq z (pos 0) ≡ true → z ≡ pos 0
 zero_from z e = grind (arith, ints)
@@ -164,9 +158,6 @@ may_be_sound rs v d ts c op p h m = by op (sum_of ts v +ℤ c *ℤ pos d) m (lea
     zero_is : (z : ℤ) → int_eq z (pos 0) ≡ true → z ≡ pos 0
     zero_is z e = zero_from z e
 
-    le_is : (z : ℤ) → int_le z (pos 0) ≡ true → z ≤ℤ pos 0
-    le_is z e = of_le_true z (pos 0) e
-
     zero_low : (z : ℤ) → z ≡ pos 0 → z ≤ℤ pos 0
     zero_low z e = omega (arith, ints)
 
@@ -175,7 +166,7 @@ may_be_sound rs v d ts c op p h m = by op (sum_of ts v +ℤ c *ℤ pos d) m (lea
 
     by : (op : RowOp) (z : ℤ) → sign_meets op z ≡ true → (o n : Option ℤ) → Under d o (z *ℤ pos fine) → Under d n (neg_ℤ z *ℤ pos fine) → may_stand op o n ≡ true
     by Zero z m o n u v = and_both (at_most_zero o) (at_most_zero n) (may_be_at_most d o z p u (zero_low z (zero_is z m))) (may_be_at_most d n (neg_ℤ z) p v (zero_turned z (zero_is z m)))
-    by AtMost z m o n u v = may_be_at_most d o z p u (le_is z m)
+    by AtMost z m o n u v = may_be_at_most d o z p u (of_le_true z (pos 0) m)
     by Below z m o n u v = may_be_below d o z p u (of_lt_true z (pos 0) m)
 
 pub and_first : (a b : Bool) → (a && b) ≡ true → a ≡ true
@@ -232,7 +223,7 @@ not_above_self (Some k) = le_self k
 lower_at_most : (o n : Option ℤ) → NotAbove n o → at_most_zero o ≡ true → at_most_zero n ≡ true
 lower_at_most o None h e = refl
 lower_at_most None (Some k) h e = absurd h
-lower_at_most (Some j) (Some k) h e = le_zero_true k (le_trans k j (pos 0) h (of_le_true j (pos 0) e))
+lower_at_most (Some j) (Some k) h e = le_true k (pos 0) (le_trans k j (pos 0) h (of_le_true j (pos 0) e))
 
 lower_below : (o n : Option ℤ) → NotAbove n o → below_zero o ≡ true → below_zero n ≡ true
 lower_below o None h e = refl

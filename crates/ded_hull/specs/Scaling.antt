@@ -1,6 +1,6 @@
 -- Orders of whole numbers: times a factor, and whole quotients.
 use Rattle.std.proofs.Common.{◌≡◌, ℕ, ◌+◌, ◌*◌, ◌<◌, ◌≤◌, Bool, true, false, arith, refl, subst}
-use Rattle.std.specs.Prelude.{ℤ, pos, negsuc, ◌+ℤ◌, ◌-ℤ◌, ◌*ℤ◌, ◌≤ℤ◌, ◌<ℤ◌, int_lt, neg_ℤ, unsigned_abs}
+use Rattle.std.specs.Prelude.{ℤ, pos, negsuc, ◌+ℤ◌, ◌-ℤ◌, ◌*ℤ◌, ◌≤ℤ◌, ◌<ℤ◌, int_lt, int_le, neg_ℤ, unsigned_abs}
 use Rattle.std.specs.Int.{int_div_euclid, int_rem_euclid}
 use Rattle.std.proofs.lemmas.Int.{ints}
 use Rattle.std.proofs.lemmas.Nat.{mod_below}
@@ -16,11 +16,17 @@ use Rattle.ded_model.proofs.Core.{Meets, meets_unscale}
 pub lt_true : (a b : ℤ) → a <ℤ b → int_lt a b ≡ true
 lt_true a b h = grind (arith, ints)
 
+pub le_true : (a b : ℤ) → a ≤ℤ b → int_le a b ≡ true
+le_true a b h = grind (arith, ints)
+
 pub lt_false : (a b : ℤ) → b ≤ℤ a → int_lt a b ≡ false
 lt_false a b h = grind (arith, ints)
 
 pub of_lt_true : (a b : ℤ) → int_lt a b ≡ true → a <ℤ b
 of_lt_true a b h = grind (arith, ints)
+
+pub of_le_true : (a b : ℤ) → int_le a b ≡ true → a ≤ℤ b
+of_le_true a b h = grind (arith, ints)
 
 pub of_lt_false : (a b : ℤ) → int_lt a b ≡ false → b ≤ℤ a
 of_lt_false a b h = grind (arith, ints)

@@ -2,7 +2,7 @@
 --
 -- A range in which all intervals end before the window begins holds no near entry, and neither do entries that begin after it
 -- ends. What stands before an entry that begins before the window ends does so too.
-use Rattle.std.proofs.Common.{◌≡◌, ℕ, zero, suc, ◌+◌, ◌<◌, ◌≤◌, ◌-◌, ◌/◌, Bool, true, false, cond, List, [], ◌∷◌, ◌++◌, length, take, drop, get_or, inl, inr, arith, refl, sym, ap, ◌∙◌, subst, true≢false, add-one}
+use Rattle.std.proofs.Common.{◌≡◌, ℕ, zero, suc, ◌+◌, ◌<◌, ◌≤◌, ◌-◌, ◌/◌, true, false, cond, List, [], ◌∷◌, ◌++◌, length, take, drop, get_or, inl, inr, arith, refl, sym, ap, ◌∙◌, subst, true≢false, add-one}
 use Rattle.std.specs.List.{AllByRecursion}
 use Rattle.std.proofs.lemmas.List.{take_all, length-drop}
 use Rattle.ded_model.specs.declared.bound.Bound.{Bound}

@@ -6,7 +6,7 @@ ghost use Rattle.ded_model.specs.Bound.{upper};
 ghost use Rattle.ded_box.specs.Intervals.{has_value, wider};
 ghost use Rattle.ded_box.specs.Boxes.{AreIntervals};
 ghost use Rattle.ded_index.specs.Entries.{first_of, high, ids_in};
-ghost use Rattle.ded_index.specs.Trees.{entries_of, InOrder, IsGreatest, AreEnds, AreFull, AreSound, IsTree};
+ghost use Rattle.ded_index.specs.Trees.{entries_of, IsGreatest, AreEnds, AreFull, AreSound, IsTree};
 ghost use Rattle.ded_index.specs.Costs.{IsCost};
 
 use crate::entry::{Entry, first_interval, is_full, order};

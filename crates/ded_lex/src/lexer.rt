@@ -1,5 +1,5 @@
 //! The tokens of bytes.
-ghost use Rattle.std.specs.Prelude.{◌≡◌, ◌<◌, ◌≤◌, ◌+◌, ◌++◌, ℕ, List, length, IfOk, IfErr, All};
+ghost use Rattle.std.specs.Prelude.{◌≡◌, ◌<◌, ◌≤◌, ◌+◌, ◌++◌, List, length, IfOk, IfErr, All};
 ghost use Rattle.ded_lex.specs.declared.token.Token.{Token};
 ghost use Rattle.ded_lex.specs.Fronts.{front_tokens};
 ghost use Rattle.ded_lex.specs.Tokens.{AreTokens};

@@ -1,5 +1,5 @@
 //! Tokens and where they stand.
-ghost use Rattle.std.specs.Prelude.{◌≡◌, ◌≤◌, List, length};
+ghost use Rattle.std.specs.Prelude.{◌≡◌, List};
 ghost use Rattle.ded_lex.specs.declared.token.LexFault.TheVariants.{Memory};
 
 use std::alloc::{AllocError, AllocFailed};

@@ -1,5 +1,5 @@
 //! The exact bounds of a slot over all points that satisfy some rows, with any way of combining two of them.
-ghost use Rattle.std.specs.Prelude.{◌≡◌, IfOk};
+ghost use Rattle.std.specs.Prelude.{IfOk};
 ghost use Rattle.std.specs.List.{AllByRecursion};
 ghost use Rattle.ded_model.specs.Row.{row_holds, row_mentions};
 ghost use Rattle.ded_model.specs.Lines.{row_lines};

@@ -3,7 +3,7 @@ ghost use Rattle.std.specs.Prelude.{◌≡◌, ◌≢◌, pos, true};
 ghost use Rattle.std.specs.List.{AllByRecursion, list_all, list_any};
 ghost use Rattle.ded_num.specs.Length.{IsShort};
 ghost use Rattle.ded_model.specs.declared.bound.Bound.TheVariants.{Infinite};
-ghost use Rattle.ded_model.specs.Row.{row_holds, row_mentions, sign_meets};
+ghost use Rattle.ded_model.specs.Row.{row_holds, row_mentions};
 ghost use Rattle.ded_model.specs.Bound.{lower, upper};
 ghost use Rattle.ded_model.specs.Lines.{row_lines};
 ghost use Rattle.ded_theory.specs.Verdicts.{IsSpan, IsVerdict, IsAround};

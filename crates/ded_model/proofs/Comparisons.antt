@@ -1,5 +1,5 @@
 -- What the goal of a comparison can be: a truth, a text atom, a row, or the negation of a row.
-use Rattle.std.proofs.Common.{ℕ, nat_lt, Bool, true, false, ◌||◌, cond, bytes_eq}
+use Rattle.std.proofs.Common.{nat_lt, Bool, true, false, ◌||◌, cond, bytes_eq}
 use Rattle.ded_model.specs.declared.formula.CompareOp.{CompareOp}
 use Rattle.ded_model.specs.declared.formula.CompareOp.TheVariants.{Less, LessEq, Equal, NotEqual, GreaterEq, Greater}
 use Rattle.ded_model.specs.declared.formula.Operand.{Operand}

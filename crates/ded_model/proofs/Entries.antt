@@ -4,7 +4,6 @@
 -- the fold of those before it, which is what the shorter catalogue gives.
 use Rattle.std.proofs.Common.{◌≡◌, ℕ, Bool, true, false, List, [], ◌∷◌, ◌++◌, refl, sym, ap, ◌∙◌, subst, bytes_eq, Some, true≢false}
 use Rattle.std.specs.Prelude.{◌↔◌, MatchBool}
-use Rattle.std.proofs.lemmas.Slice.Eq.{bytes_eq-Decides}
 use Rattle.ded_model.specs.Value.{Argument, Meaning}
 use Rattle.ded_model.specs.Made.{Reading, itself, closure_of, interior_of, reading, base, base_by, is_made, is_made_by}
 use Rattle.ded_model.specs.Catalogue.{Entry, Catalogue, entry_name, read_as, entry_meaning, with_entry, meaning_from, stored, meaning}

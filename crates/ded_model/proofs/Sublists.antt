@@ -1,5 +1,5 @@
 -- Parts of a list in the same order: what is true of them where it is of the whole list.
-use Rattle.std.proofs.Common.{◌≡◌, List, [], ◌∷◌, ◌++◌, map, inl, inr, refl, sym, ap, subst}
+use Rattle.std.proofs.Common.{List, [], ◌∷◌, ◌++◌, map, inl, inr, refl, sym, ap, subst}
 use Rattle.std.specs.List.{AllByRecursion}
 use Rattle.ded_model.specs.Sublists.{IsSublistWithout}
 

@@ -1,5 +1,5 @@
 //! Goals: formulas with each variable replaced by its slot.
-ghost use Rattle.std.specs.Prelude.{◌≡◌, IfOk, map};
+ghost use Rattle.std.specs.Prelude.{◌≡◌, IfOk};
 ghost use Rattle.ded_model.specs.Goal.{goal_form, goal_forms};
 
 use crate::memory::NoMemory;

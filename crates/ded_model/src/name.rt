@@ -6,7 +6,7 @@ ghost use Rattle.std.specs.Cmp.Lexicographic.{nat_list_eq_equiv};
 ghost use Rattle.std.specs.Cmp.Rules.{hashing};
 ghost use Rattle.std.specs.Hash as fed;
 ghost use Rattle.std.proofs.Common.{rules};
-ghost use Rattle.ded_model.specs.Made.{between, base, base_by, reading};
+ghost use Rattle.ded_model.specs.Made.{between, base};
 
 use crate::memory::NoMemory;
 use crate::slot::Sort;

@@ -1,6 +1,6 @@
 //! Text atoms, generalized tuples and lists of them.
 ghost use Rattle.std.specs.Prelude.{◌≡◌, IfOk};
-ghost use Rattle.ded_model.specs.Row.{row_mentions, theme_mentions, atom_mentions, tuple_mentions};
+ghost use Rattle.ded_model.specs.Row.{theme_mentions, atom_mentions, tuple_mentions};
 
 use crate::memory::NoMemory;
 use crate::name::Name;

@@ -1,5 +1,5 @@
 //! Order rows as the atoms of a theory.
-ghost use Rattle.std.specs.Prelude.{◌≡◌, refl};
+ghost use Rattle.std.specs.Prelude.{refl};
 ghost use Rattle.ded_model.specs.Row.{row_holds, row_mentions};
 ghost use Rattle.ded_model.specs.Cell.{row_cell};
 ghost use Rattle.ded_model.specs.Lines.{row_lines};

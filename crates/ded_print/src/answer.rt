@@ -1,11 +1,11 @@
 //! Lists of tuples.
-ghost use Rattle.std.specs.Prelude.{◌≡◌, ◌++◌, codes, length, map};
+ghost use Rattle.std.specs.Prelude.{◌≡◌, codes, length, map};
 ghost use Rattle.ded_io.specs.Causes.{HasCause};
 ghost use Rattle.ded_io.specs.Devices.{AddsAll};
 ghost use Rattle.ded_print.specs.Gathering.{output, Puts};
 ghost use Rattle.ded_print.specs.Lines.{counted_text, line_text, lines_text};
 ghost use Rattle.ded_print.specs.Numbers.{number_text};
-ghost use Rattle.ded_print.specs.Tuples.{column_names, tuple_text, answer_text};
+ghost use Rattle.ded_print.specs.Tuples.{tuple_text, answer_text};
 
 use crate::gathered::Gathered;
 use crate::naming::{ColumnNames, SlotNames};

@@ -1,5 +1,4 @@
 //! How deep a line stands.
-ghost use Rattle.std.specs.Prelude.{◌≡◌};
 ghost use Rattle.ded_print.specs.Gathering.{output, Puts};
 ghost use Rattle.ded_print.specs.Depths.{levels};
 ghost use Rattle.ded_print.specs.Plans.{indent};

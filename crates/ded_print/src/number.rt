@@ -1,5 +1,4 @@
 //! Numbers in decimal.
-ghost use Rattle.std.specs.Prelude.{◌≡◌};
 ghost use Rattle.ded_print.specs.Gathering.{output, Puts};
 ghost use Rattle.ded_print.specs.Numbers.{number_text, integer_text};
 

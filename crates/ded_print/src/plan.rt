@@ -1,12 +1,12 @@
 //! Plans.
-ghost use Rattle.std.specs.Prelude.{◌≡◌, ◌++◌, ℕ, length};
+ghost use Rattle.std.specs.Prelude.{◌≡◌, length};
 ghost use Rattle.ded_io.specs.Causes.{HasCause};
 ghost use Rattle.ded_io.specs.Devices.{AddsAll};
 ghost use Rattle.ded_model.specs.PlanForm.{plan_form, plan_forms, scan};
 ghost use Rattle.ded_print.specs.Counts.{raised_by};
 ghost use Rattle.ded_print.specs.Depths.{levels};
 ghost use Rattle.ded_print.specs.Gathering.{output, Puts};
-ghost use Rattle.ded_print.specs.Lines.{line_text, lines_text};
+ghost use Rattle.ded_print.specs.Lines.{lines_text};
 ghost use Rattle.ded_print.specs.Numbers.{count_text};
 ghost use Rattle.ded_print.specs.Nodes.{node_text, nodes, nodes_of};
 ghost use Rattle.ded_print.specs.Plans.{later_slots_text, node_lines, part_lines, plan_atom_text, plan_text, slots_text, sort_text};

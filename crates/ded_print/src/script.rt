@@ -1,5 +1,5 @@
 //! Scripts.
-ghost use Rattle.std.specs.Prelude.{◌≡◌, codes, length};
+ghost use Rattle.std.specs.Prelude.{codes, length};
 ghost use Rattle.ded_io.specs.Causes.{HasCause};
 ghost use Rattle.ded_io.specs.Devices.{AddsAll};
 ghost use Rattle.ded_print.specs.Gathering.{output, Puts};

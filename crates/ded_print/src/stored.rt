@@ -1,5 +1,5 @@
 //! Lists of numbered tuples.
-ghost use Rattle.std.specs.Prelude.{◌≡◌, ◌++◌, codes, length, map};
+ghost use Rattle.std.specs.Prelude.{codes, length, map};
 ghost use Rattle.ded_io.specs.Causes.{HasCause};
 ghost use Rattle.ded_io.specs.Devices.{AddsAll};
 ghost use Rattle.ded_print.specs.Gathering.{output, Puts};

@@ -1,5 +1,4 @@
 //! Text atoms.
-ghost use Rattle.std.specs.Prelude.{◌≡◌};
 ghost use Rattle.ded_print.specs.Gathering.{output, Puts};
 ghost use Rattle.ded_model.specs.Quoting.{doubled, doubled_byte, quoted};
 ghost use Rattle.ded_print.specs.Tuples.{theme_text};

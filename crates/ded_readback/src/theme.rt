@@ -4,7 +4,7 @@ ghost use Rattle.ded_model.specs.declared.slot.Sort.TheVariants.{Text};
 ghost use Rattle.ded_model.specs.Point.{AllBytes};
 ghost use Rattle.ded_model.specs.Normal.{IsNormalTheme};
 ghost use Rattle.ded_readback.specs.declared.fault.AnswerFault.TheVariants.{NoAnswer};
-ghost use Rattle.ded_readback.specs.Reading.{unquoted, equality_at, text_atom, text_at, slots_atom, slots_at, side_by, theme_at};
+ghost use Rattle.ded_readback.specs.Reading.{unquoted, equality_at, text_atom, text_at, slots_atom, slots_at, theme_at};
 
 use crate::bytes::behind;
 use crate::fault::AnswerFault;

@@ -1,5 +1,5 @@
 -- Lists without one of their elements, and what conjunctions mention that are parts of others.
-use Rattle.std.proofs.Common.{◌≡◌, ℕ, zero, suc, ◌+◌, ◌-◌, ◌<◌, ◌≤◌, add-one, length-drop, length, take, drop, get_or, arith, List, [], ◌∷◌, ◌++◌, inl, inr, Bool, true, refl, sym, ap, ◌∙◌, subst}
+use Rattle.std.proofs.Common.{◌≡◌, ℕ, zero, suc, ◌+◌, ◌-◌, ◌<◌, ◌≤◌, add-one, length-drop, length, take, drop, get_or, arith, List, [], ◌∷◌, ◌++◌, inl, inr, Bool, true, refl, ap, ◌∙◌, subst}
 use Rattle.ded_model.specs.declared.slot.Slot.{Slot}
 use Rattle.ded_model.specs.Lines.{Line, In, IsSubset}
 use Rattle.ded_model.proofs.Rows.{or_left, or_right}

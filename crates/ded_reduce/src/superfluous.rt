@@ -1,5 +1,5 @@
 //! Atoms that others imply.
-ghost use Rattle.std.specs.Prelude.{◌≡◌, ℕ, ◌<◌, true, false, not, ◌&&◌, List, [], ◌∷◌, ◌++◌, length, IfOk};
+ghost use Rattle.std.specs.Prelude.{◌≡◌, ◌<◌, true, false, not, ◌&&◌, [], ◌∷◌, ◌++◌, length, IfOk};
 ghost use Rattle.std.specs.List.{AllByRecursion};
 ghost use Rattle.ded_model.specs.Cell.{conj_holds, HoldsSomewhere};
 ghost use Rattle.ded_theory.specs.Verdicts.{HoldsNowhere};

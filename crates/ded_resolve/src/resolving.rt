@@ -1,5 +1,5 @@
 //! Commands by slots.
-ghost use Rattle.std.specs.Prelude.{◌≡◌, ◌≢◌, ◌≤◌, false, map, List, [], length, IfOk, IfErr};
+ghost use Rattle.std.specs.Prelude.{◌≡◌, ◌≢◌, ◌≤◌, false, map, [], length, IfOk, IfErr};
 ghost use Rattle.ded_model.specs.Catalogue.{Catalogue};
 ghost use Rattle.ded_model.specs.Command.{command_form, insert, view, ask, query, explain};
 ghost use Rattle.ded_model.specs.Form.{form, forms};
@@ -9,7 +9,7 @@ ghost use Rattle.ded_model.specs.Plain.{IsPlainCommand};
 ghost use Rattle.ded_model.specs.Slotted.{goal_of, tuple_of};
 ghost use Rattle.ded_model.specs.Width.{tuple_length};
 ghost use Rattle.ded_model.specs.Goal.{goal_form};
-ghost use Rattle.ded_sorts.specs.Checks.{known_form, HasNoCause, IsLeastCause};
+ghost use Rattle.ded_sorts.specs.Checks.{HasNoCause, IsLeastCause};
 ghost use Rattle.ded_resolve.specs.Resolved.{IsResolved};
 ghost use Rattle.ded_model.specs.Entries.{columns_in};
 ghost use Rattle.ded_resolve.specs.Ready.{IsReady, AreReady};

@@ -5,7 +5,6 @@ use Rattle.std.proofs.Common.{◌≡◌, nat_lt, Bool, true, false, cond, List, 
 use Rattle.std.specs.Prelude.{ℤ, pos, ◌+ℤ◌, ◌*ℤ◌}
 use lib.IntN.{+ℤ_idr}
 use Rattle.std.specs.Ordering.{int_eq}
-use Rattle.std.proofs.lemmas.Int.{ints}
 use Rattle.std.proofs.lemmas.Bool.Decides.{Decides-int_eq}
 use Rattle.ded_num.proofs.Ring.{parts, ring, diff-pos, diff_same}
 use Rattle.ded_model.specs.declared.slot.Slot.{Slot}

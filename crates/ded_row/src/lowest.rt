@@ -1,8 +1,7 @@
 //! Rows in lowest numbers.
-ghost use Rattle.std.specs.Prelude.{◌≡◌, ℤ, pos, map, [], ◌∷◌};
+ghost use Rattle.std.specs.Prelude.{◌≡◌, pos, map, [], ◌∷◌};
 ghost use Rattle.ded_num.specs.Length.{IsShort};
 ghost use Rattle.ded_num.specs.Gcd.{gcd_all};
-ghost use Rattle.ded_model.specs.Row.{sign_meets};
 ghost use Rattle.ded_model.specs.Coefs.{AreCoefs};
 ghost use Rattle.ded_model.specs.Normal.{IsNormalRow, normal_row, constant_row, divisor_of};
 

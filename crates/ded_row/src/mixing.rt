@@ -1,5 +1,5 @@
 //! Combinations of two rows in which a slot falls out.
-ghost use Rattle.std.specs.Prelude.{◌≡◌, ◌<◌, ◌++◌, ◌∷◌, [], ◌⊎◌, ◌+ℤ◌, ◌*ℤ◌, ◌||◌, neg_ℤ, true, false, IfOk, OnOk, OnErr, IsErrOf};
+ghost use Rattle.std.specs.Prelude.{◌≡◌, ◌<◌, ◌++◌, ◌∷◌, [], ◌⊎◌, ◌+ℤ◌, ◌*ℤ◌, ◌||◌, neg_ℤ, true, false, IfOk, OnOk, IsErrOf};
 ghost use Rattle.ded_num.specs.Length.{IsShort};
 ghost use Rattle.ded_model.specs.declared.slot.Slot.{Slot};
 ghost use Rattle.ded_model.specs.declared.slot.Sort.TheVariants.{Rat};
@@ -7,7 +7,7 @@ ghost use Rattle.ded_model.specs.Point.{Point};
 ghost use Rattle.ded_model.specs.Coefs.{AllBelow, AreCoefs, coef_at, nonzero};
 ghost use Rattle.ded_model.specs.Row.{row_holds, row_mentions};
 ghost use Rattle.ded_model.specs.Normal.{IsNormalRow};
-ghost use Rattle.ded_model.specs.Lines.{Line, In, row_lines, combination, lines_clash};
+ghost use Rattle.ded_model.specs.Lines.{row_lines, combination, lines_clash};
 ghost use Rattle.ded_row.specs.Mixing.{BoundsAbove, BoundsBelow, factor, join_op, mixed_coefs, mixed_row, mix_of, sum_is_long, coefs_are_long};
 
 use crate::lowest::normal;

@@ -1,6 +1,5 @@
 //! The order of rows.
 ghost use Rattle.std.specs.Prelude.{◌≡◌};
-ghost use Rattle.std.specs.Ordering.{ordering_then};
 ghost use Rattle.ded_model.specs.Coefs.{AreCoefs};
 ghost use Rattle.ded_model.specs.Normal.{row_order, coefs_order, op_place};
 

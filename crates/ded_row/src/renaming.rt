@@ -1,7 +1,6 @@
 //! Rows over other slots.
 ghost use Rattle.std.specs.Prelude.{◌≡◌, ◌<◌, IfOk, true, []};
 ghost use Rattle.ded_model.specs.declared.slot.Slot.{Slot};
-ghost use Rattle.ded_model.specs.declared.slot.Sort.TheVariants.{Rat};
 ghost use Rattle.ded_model.specs.Point.{Point};
 ghost use Rattle.ded_model.specs.Coefs.{AreCoefs};
 ghost use Rattle.ded_model.specs.Row.{row_holds, row_mentions};

@@ -19,7 +19,7 @@ use crate::questions::{steps, truth, tuples};
 use crate::reply::Reply;
 use crate::shown::{dump, show};
 use ded_database::Database;
-use ded_model::command::{Command, Refusal};
+use ded_model::command::Command;
 use ded_resolve::{Checked, resolve};
 use std::alloc::Global;
 

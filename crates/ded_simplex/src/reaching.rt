@@ -1,5 +1,5 @@
 //! Between which values a slot stands where rows hold, as far as the search finds what shows it.
-ghost use Rattle.std.specs.Prelude.{◌≡◌, true, IfOk};
+ghost use Rattle.std.specs.Prelude.{IfOk};
 ghost use Rattle.std.specs.List.{AllByRecursion};
 ghost use Rattle.ded_model.specs.Coefs.{AreCoefs};
 ghost use Rattle.ded_simplex.specs.Columns.{lent};

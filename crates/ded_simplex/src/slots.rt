@@ -2,7 +2,7 @@
 ghost use Rattle.std.specs.Prelude.{◌≡◌, [], IfOk, OnOk};
 ghost use Rattle.ded_model.specs.Point.{AreDistinctSlots};
 ghost use Rattle.ded_simplex.specs.Columns.{lent, HasAllSlots};
-ghost use Rattle.ded_simplex.specs.Gathered.{with_slot, with_slots, with_all_slots, AreOf};
+ghost use Rattle.ded_simplex.specs.Gathered.{with_slot, with_slots, AreOf};
 
 use ded_model::memory::NoMemory;
 use ded_model::row::Row;

@@ -2,29 +2,25 @@
 --
 -- A quantifier has a slot of its own sort. A comparison has a row only where neither side is a text, and a sum that is not
 -- refused has no text variable, so all slots that rows and sums are made of are rational.
-use Rattle.std.proofs.Common.{◌≡◌, ℕ, ◌+◌, nat_lt, Bool, true, false, ◌||◌, cond, List, [], ◌∷◌, map, refl, sym, ap, ◌∙◌, true≢false, bytes_eq}
+use Rattle.std.proofs.Common.{◌≡◌, ℕ, ◌+◌, Bool, true, false, ◌||◌, List, [], ◌∷◌, map, refl, sym, ap, ◌∙◌, true≢false}
 use Rattle.std.specs.Prelude.{ℤ}
 use Rattle.std.specs.List.{list_any}
 use Rattle.ded_model.specs.declared.slot.Slot.{Slot}
 use Rattle.ded_model.specs.declared.slot.Sort.{Sort}
 use Rattle.ded_model.specs.declared.slot.Sort.TheVariants.{Rat, Text}
 use Rattle.ded_model.specs.declared.name.Column.{Column}
-use Rattle.ded_model.specs.declared.formula.CompareOp.{CompareOp}
-use Rattle.ded_model.specs.declared.formula.CompareOp.TheVariants.{Less, LessEq, Equal, NotEqual, GreaterEq, Greater}
 use Rattle.ded_model.specs.declared.formula.Operand.{Operand}
 use Rattle.ded_model.specs.declared.formula.Operand.TheVariants.{Single, Sum, Quoted}
 use Rattle.ded_model.specs.declared.goal.Place.{Place}
 use Rattle.ded_model.specs.declared.goal.Place.TheVariants.{At, Value}
 use Rattle.ded_model.specs.declared.goal.Place.TheVariants as place
-use Rattle.ded_model.specs.declared.tuple.ThemeAtom.TheVariants.{EqSlot, NeSlot}
-use Rattle.ded_model.specs.Sum.{SlotSum}
-use Rattle.ded_model.specs.Point.{same_sort, same_slot}
+use Rattle.ded_model.specs.Point.{same_sort}
 use Rattle.ded_model.specs.Logic.{atom, always, never, negation, every_of, some_of, implies, minus, exists, forall, Logics, none, also, AllAtoms, AllAtomsOf, IsSorted, AreSorted, Scope, some_below, some_below_of, quantifiers}
 use Rattle.ded_model.specs.Form.{Form, FormAtom, compare, member}
 use Rattle.ded_model.specs.Goal.{GoalForm, GoalAtom, linear, theme}
 use Rattle.ded_model.specs.Goal as goal
 use Rattle.ded_model.specs.Rational.{AreRationalCoefs, AreRationalPlaces, IsRationalGoalAtom, IsRationalGoal}
-use Rattle.ded_model.specs.Slotted.{SlotScope, slot_of, add_parts, slot_sum, sums_goal, TextSide, at, word, text_side, same_text_goal, other_text_goal, texts_goal, is_text_operand, place_of, atom_goal, goal_below, goals_below, goal_of, heading_scope}
+use Rattle.ded_model.specs.Slotted.{SlotScope, slot_of, add_parts, slot_sum, TextSide, at, word, text_side, is_text_operand, place_of, atom_goal, goal_below, goals_below, goal_of, heading_scope}
 use Rattle.ded_model.specs.Known.{KnownNames, sort_in, sorts_differ, operand_sort, is_text_sum, is_missorted_atom, has_missorted}
 use Rattle.ded_model.proofs.Comparisons.{comparison_has}
 use Rattle.ded_sorts.proofs.Scopes.{sorts_of, sort_in-slot}

@@ -2,7 +2,7 @@
 --
 -- The sum of the row of `l - r` is the difference of the two values, each over the denominators of both (`difference_at`), and
 -- its sign says how they compare (`sums_mean`).
-use Rattle.std.proofs.Common.{◌≡◌, ◌<◌, Bool, true, false, not, ◌&&◌, [], arith, refl, sym, ap, ◌∙◌, true≢false}
+use Rattle.std.proofs.Common.{◌≡◌, ◌<◌, Bool, true, false, not, [], arith, refl, sym, ap, ◌∙◌, true≢false}
 use Rattle.std.specs.Prelude.{ℤ, pos, ◌+ℤ◌, ◌-ℤ◌, ◌*ℤ◌, ◌↔◌, IsTrue}
 use lib.IntN.{neg_ℤ}
 use Rattle.std.specs.Ordering.{int_eq}

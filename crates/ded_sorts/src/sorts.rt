@@ -1,5 +1,5 @@
 //! Variables that nothing binds, and texts and numbers where the other has to stand.
-ghost use Rattle.std.specs.Prelude.{◌≡◌, IfOk};
+ghost use Rattle.std.specs.Prelude.{◌≡◌};
 ghost use Rattle.std.specs.List.{list_any};
 ghost use Rattle.ded_model.specs.declared.slot.Sort.TheVariants.{Text};
 ghost use Rattle.ded_model.specs.Known as model;

@@ -1,15 +1,15 @@
 -- Extensions at a slot: what text sources have there, and an extension by a text that is longer than any other.
-use Rattle.std.proofs.Common.{◌≡◌, ℕ, ◌*◌, Bool, true, false, cond, List, [], ◌∷◌, ◌++◌, arith, refl, sym, ap, ◌∙◌, subst, true≢false}
-use Rattle.std.specs.Prelude.{pos, if◌then◌else◌}
+use Rattle.std.proofs.Common.{◌≡◌, ℕ, ◌*◌, true, false, List, [], ◌∷◌, ◌++◌, arith, refl, sym, ap, ◌∙◌, subst, true≢false}
+use Rattle.std.specs.Prelude.{pos}
 use Rattle.ded_model.specs.declared.slot.Slot.{Slot}
 use Rattle.ded_model.specs.declared.slot.Sort.{Sort}
 use Rattle.ded_model.specs.declared.slot.Sort.TheVariants.{Rat, Text}
-use Rattle.ded_model.specs.Point.{Key, slot, Value, number, text, Point, IsPoint, AllBytes, IsValue, AreValues, IsExtension, IsTextExtension, same_key, same_slot, absent, last_from, as_text, text_at, all_times}
+use Rattle.ded_model.specs.Point.{slot, number, text, Point, IsPoint, AllBytes, IsExtension, IsTextExtension, same_slot, absent, last_from, text_at, all_times}
 use Rattle.ded_model.proofs.Points.{same_slot_is, same_slot_refl, text_at-extended}
 use Rattle.ded_model.proofs.Unused.{extension_same}
 use Rattle.ded_model.proofs.Texts.{zeros, zeros-bytes, text_extended, text_extended_is}
 use Rattle.ded_theme.specs.Sources.{Source, at, quoted, is_at, text_of, texts, IsNormalSource}
-use Rattle.ded_model.proofs.PointTexts.{either, last-value, text-bytes}
+use Rattle.ded_model.proofs.PointTexts.{last-value, text-bytes}
 
 -- ---- sources at a slot
 

@@ -4,7 +4,6 @@
 -- both over the product of the denominators. At a rational slot it is the same point as the one, at a text slot as the other.
 use Rattle.std.proofs.Common.{◌≡◌, ℕ, ◌*◌, Bool, true, false, cond, List, [], ◌∷◌, ◌++◌, arith, refl, sym, ap, ◌∙◌, true≢false, mul-pos}
 use Rattle.std.specs.Prelude.{pos, ◌*ℤ◌}
-use Rattle.std.proofs.Math.IntN.{zero-*ℤ}
 use Rattle.ded_model.specs.declared.slot.Slot.{Slot}
 use Rattle.ded_model.specs.declared.slot.Sort.{Sort}
 use Rattle.ded_model.specs.declared.slot.Sort.TheVariants.{Rat, Text}

@@ -8,7 +8,7 @@ ghost use Rattle.ded_model.specs.Row.{tuple_holds, tuple_mentions};
 ghost use Rattle.ded_model.specs.Lines.{atoms_lines, IsSubset};
 ghost use Rattle.ded_model.specs.Normal.{IsNormalTuple, is_true_row, ordered_atoms};
 ghost use Rattle.ded_tuple.specs.Places.{placed};
-ghost use Rattle.ded_tuple.specs.TrueRows.{IsNormalOrTrue, is_true_atom, without_true};
+ghost use Rattle.ded_tuple.specs.TrueRows.{IsNormalOrTrue, without_true};
 
 use crate::placing::put;
 use ded_model::memory::NoMemory;

@@ -1,5 +1,5 @@
 -- A goal and a plan clash where a name that they use does.
-use Rattle.std.proofs.Common.{◌≡◌, ℕ, Bool, true, ◌||◌, inl, inr, List, sym, ap, ◌∙◌, bytes_eq}
+use Rattle.std.proofs.Common.{◌≡◌, ℕ, Bool, true, List, sym, ap, ◌∙◌, bytes_eq}
 use Rattle.std.proofs.lemmas.Slice.Eq.{bytes_eq-Decides}
 use Rattle.ded_model.specs.Lines.{Line, clash_past, lines, clashes, any_clashes}
 use Rattle.ded_model.specs.Logic.{Logic, atom, always, never, negation, every_of, some_of, implies, minus, exists, forall, Logics, none, also, some_atom, some_atom_of}
@@ -7,8 +7,7 @@ use Rattle.ded_model.specs.Goal.{GoalAtom, linear, theme, member, GoalForm}
 use Rattle.ded_model.specs.PlanForm.{PlanAtom, scan, rows, PlanForm}
 use Rattle.ded_model.specs.Measure.{Measures, goal_atom_lines, goal_atom_clash, goal_clashes, plan_atom_lines, plan_atom_clash, plan_clashes}
 use Rattle.ded_model.specs.Uses.{goal_atom_uses, goal_uses, plan_atom_uses, plan_uses}
-use Rattle.ded_model.proofs.Rows.{or_left, or_right}
-use Rattle.ded_model.proofs.Members.{or_split}
+use Rattle.ded_model.proofs.Rows.{or_left}
 use Rattle.ded_model.proofs.Monotone.{or-grows}
 
 -- a formula clashes where one of its atoms does

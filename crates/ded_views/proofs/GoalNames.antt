@@ -1,13 +1,9 @@
 -- The goal of a formula uses the names of the formula, so what is measured of it depends on these alone.
-use Rattle.std.proofs.Common.{◌≡◌, ℕ, ◌+◌, nat_lt, Bool, true, false, ◌||◌, cond, List, ◌∷◌, is_some, refl, sym, ap, ap₂, ◌∙◌, bytes_eq, true≢false}
+use Rattle.std.proofs.Common.{◌≡◌, ℕ, ◌+◌, true, false, ◌||◌, List, ◌∷◌, is_some, refl, sym, ap, ap₂, ◌∙◌, bytes_eq, true≢false}
 use Rattle.std.proofs.lemmas.Slice.Eq.{bytes_eq-Decides}
 use Rattle.ded_model.specs.declared.name.Column.{Column}
 use Rattle.ded_model.specs.declared.formula.CompareOp.{CompareOp}
-use Rattle.ded_model.specs.declared.formula.CompareOp.TheVariants.{Less, LessEq, Equal, NotEqual, GreaterEq, Greater}
 use Rattle.ded_model.specs.declared.formula.Operand.{Operand}
-use Rattle.ded_model.specs.declared.tuple.ThemeAtom.TheVariants.{EqSlot, NeSlot}
-use Rattle.ded_model.specs.Sum.{SlotSum}
-use Rattle.ded_model.specs.Point.{same_slot}
 use Rattle.ded_model.specs.Logic.{atom, always, never, negation, every_of, some_of, implies, minus, exists, forall, Logics, none, also, some_atom_of, quantifiers}
 use Rattle.ded_model.specs.Form.{Form, FormAtom, compare, member, atom_uses, uses, atom_speaks_of, speaks_of}
 use Rattle.ded_model.specs.Made.{reading, base}
@@ -17,7 +13,7 @@ use Rattle.ded_model.specs.Goal.{GoalForm, GoalAtom, linear, theme}
 use Rattle.ded_model.specs.Goal as goal
 use Rattle.ded_model.specs.Known.{KnownNames, uses_unknown}
 use Rattle.ded_model.specs.Measure.{Measure, Measures, goal_atom_b, goal_atom_rank, goal_atom_lines, goal_atom_clash, goal_b, goal_rank, goal_lines, goal_clashes, read_measure}
-use Rattle.ded_model.specs.Slotted.{SlotScope, slot_sum, sums_goal, TextSide, at, word, text_side, same_text_goal, other_text_goal, texts_goal, is_text_operand, compare_goal, goal_below, goals_below, goal_of}
+use Rattle.ded_model.specs.Slotted.{SlotScope, compare_goal, goal_below, goals_below, goal_of}
 use Rattle.ded_model.specs.Uses.{goal_atom_uses, goal_uses}
 use Rattle.ded_model.proofs.Alike.{all_atoms}
 use Rattle.ded_model.proofs.Comparisons.{comparison_has}

@@ -1,7 +1,7 @@
 -- A plan holds alike where the names that it scans mean the same of byte strings.
 --
 -- At a point, what a scan reads from the slots are byte strings, over a denominator above 0.
-use Rattle.std.proofs.Common.{◌≡◌, ℕ, suc, ◌<◌, true, List, [], ◌∷◌, map, length, arith, refl, ap, ◌∙◌, mul-pos}
+use Rattle.std.proofs.Common.{◌≡◌, ℕ, suc, ◌<◌, true, List, [], ◌∷◌, map, length, refl, ap, ◌∙◌, mul-pos}
 use Rattle.std.specs.Prelude.{◌↔◌, ℤ}
 use Rattle.std.proofs.lemmas.List.{length-map}
 use Rattle.std.proofs.lemmas.Slice.Eq.{bytes_eq-Decides}

@@ -8,7 +8,7 @@ ghost use Rattle.ded_model.specs.Entries.{known, entry_of, entry_uses, columns_i
 ghost use Rattle.ded_model.specs.Form.{Form, uses, speaks_of};
 ghost use Rattle.ded_model.specs.Goal.{GoalForm};
 ghost use Rattle.ded_model.specs.Grown.{HaveMoreLines};
-ghost use Rattle.ded_model.specs.Known.{IsAccepted, IsTupleOver, IsWellFormed, entry_known, level_of, level_with};
+ghost use Rattle.ded_model.specs.Known.{IsAccepted, IsTupleOver, IsWellFormed, entry_known, level_with};
 ghost use Rattle.ded_model.specs.Logic.{some_atom, AllAtoms};
 ghost use Rattle.ded_model.specs.Made.{base, is_made};
 ghost use Rattle.ded_model.specs.Measure.{Measures, stored_measures, measures, entry_measure, goal_clashes, plan_clashes};

@@ -7,7 +7,7 @@ use Rattle.std.specs.Prelude.{ℤ, pos, ◌*ℤ◌, int_div, unsigned_abs}
 use Rattle.std.specs.List.{AllByRecursion, IsDistinct}
 use Rattle.std.specs.Cmp.{IsEquivalence}
 use Rattle.std.proofs.Math.Pow.{pow-add}
-use Rattle.std.proofs.lemmas.Int.{ints, unsigned_abs-mul}
+use Rattle.std.proofs.lemmas.Int.{unsigned_abs-mul}
 use Rattle.std.proofs.lemmas.Map.Made.{length-le_from_is_member}
 use Rattle.ded_num.specs.Length.{IsWithin, length_of}
 use Rattle.ded_num.proofs.Lengths.{length_of-le, length_of_zero}
@@ -15,7 +15,6 @@ use Rattle.ded_model.specs.declared.name.Column.{Column}
 use Rattle.ded_model.specs.declared.row.RowOp.{RowOp}
 use Rattle.ded_model.specs.declared.row.RowOp.TheVariants.{Zero}
 use Rattle.ded_model.specs.declared.slot.Slot.{Slot}
-use Rattle.ded_model.specs.declared.slot.Sort.{Sort}
 use Rattle.ded_model.specs.declared.slot.Sort.TheVariants.{Rat}
 use Rattle.ded_model.specs.declared.tuple.BothAtom.TheVariants.{First, Second}
 use Rattle.ded_model.specs.Catalogue.{Catalogue}
@@ -23,11 +22,11 @@ use Rattle.ded_model.specs.Coefs.{AllAbove, AreCoefs, coef_at}
 use Rattle.ded_model.specs.Constraint.{LinearConstraint}
 use Rattle.ded_model.specs.Entries.{known}
 use Rattle.ded_model.specs.Form.{Form}
-use Rattle.ded_model.specs.Known.{IsAccepted, IsWellFormed, IsTupleOver, heading_slots}
+use Rattle.ded_model.specs.Known.{IsAccepted, IsWellFormed, IsTupleOver}
 use Rattle.ded_model.specs.Lines.{Line, IsSubset, AreWithin, line_with, row_lines, atoms_lines, tuples_lines}
 use Rattle.ded_model.specs.Measure.{goal_b, goal_rank, goal_lines, measures}
 use Rattle.ded_model.specs.Normal.{IsNormalTuple, coefs_over, divisor_of, normal_row, DivideWhole}
-use Rattle.ded_model.specs.Point.{AreDistinctSlots, same_slot, same_sort, stands_in}
+use Rattle.ded_model.specs.Point.{AreDistinctSlots, same_slot, stands_in}
 use Rattle.ded_model.specs.Row.{Atom, row_mentions, atom_mentions, tuple_mentions}
 use Rattle.ded_model.specs.Slotted.{goal_of}
 use Rattle.ded_model.specs.Width.{IsNarrowWith, IsNarrowList, greatest_length, row_length, tuple_length, with_slots, rational_slots, rational_slots_after, rational_columns}

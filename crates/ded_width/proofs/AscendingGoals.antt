@@ -1,9 +1,8 @@
 -- The rows and sums of the goal of a formula ascend, where no text variable stands in a sum.
-use Rattle.std.proofs.Common.{◌≡◌, ℕ, ◌+◌, ◌||◌, Bool, true, false, cond, nat_lt, List, [], ◌∷◌, map, refl, sym, ap, ◌∙◌, bytes_eq}
+use Rattle.std.proofs.Common.{◌≡◌, ℕ, ◌+◌, ◌||◌, Bool, true, false, cond, List, [], ◌∷◌, map, refl, sym, ap, ◌∙◌}
 use Rattle.std.specs.Prelude.{ℤ, pos}
 use lib.IntN.{neg_ℤ}
 use Rattle.std.specs.List.{list_any}
-use Rattle.ded_model.specs.declared.slot.Slot.{Slot}
 use Rattle.ded_model.specs.declared.slot.Sort.TheVariants.{Text}
 use Rattle.ded_model.specs.declared.name.Column.{Column}
 use Rattle.ded_model.specs.declared.row.RowOp.{RowOp}
@@ -12,13 +11,12 @@ use Rattle.ded_model.specs.declared.formula.CompareOp.{CompareOp}
 use Rattle.ded_model.specs.declared.formula.CompareOp.TheVariants.{Less, LessEq, Equal, NotEqual, GreaterEq, Greater}
 use Rattle.ded_model.specs.declared.formula.Operand.{Operand}
 use Rattle.ded_model.specs.declared.formula.Operand.TheVariants.{Single, Sum, Quoted}
-use Rattle.ded_model.specs.Point.{same_slot, same_sort}
+use Rattle.ded_model.specs.Point.{same_sort}
 use Rattle.ded_model.specs.Sum.{SlotSum, denominator}
 use Rattle.ded_model.specs.Coefs.{mixed, nonzero}
 use Rattle.ded_model.specs.Logic.{atom, always, never, negation, every_of, some_of, implies, minus, exists, forall, Logics, none, also, AllAtomsOf, some_below, some_below_of, quantifiers}
 use Rattle.ded_model.specs.Form.{Form, FormAtom, compare, member}
-use Rattle.ded_model.specs.Goal.{GoalForm}
-use Rattle.ded_model.specs.Slotted.{SlotScope, slot_of, heading_scope, add_parts, slot_sum, difference_row, comparison_row, sums_goal, TextSide, at, word, text_side, same_slots_goal, other_slots_goal, same_text_goal, other_text_goal, texts_goal, is_text_operand, compare_goal, place_of, goal_below, goals_below, goal_of}
+use Rattle.ded_model.specs.Slotted.{SlotScope, slot_of, heading_scope, add_parts, slot_sum, difference_row, comparison_row, sums_goal, TextSide, text_side, texts_goal, is_text_operand, compare_goal, place_of, goal_below, goals_below, goal_of}
 use Rattle.ded_model.specs.Known.{KnownNames, has_missorted, sort_in, is_text_sum}
 use Rattle.ded_goals.specs.TextSums.{has_text_sum}
 use Rattle.ded_goals.specs.Scope.{sorts_of}

@@ -1,5 +1,5 @@
 //! Values that `==` tells to be equal are the same.
-ghost use Rattle.std.specs.Prelude.{◌≡◌, true, ℤ, List};
+ghost use Rattle.std.specs.Prelude.{◌≡◌, true, List};
 ghost use Rattle.ded_model.specs.declared.row.RowOp.{RowOp};
 ghost use Rattle.ded_model.specs.declared.slot.Slot.{Slot};
 ghost use Rattle.ded_model.specs.declared.tuple.ThemeAtom.{ThemeAtom};
