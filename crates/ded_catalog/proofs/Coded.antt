@@ -32,6 +32,7 @@ use Rattle.ded_hull.specs.Tuples.{is_text_column}
 use Rattle.ded_hull.specs.Windows.{column_text, is_text_met}
 use Rattle.ded_hull.proofs.Sums.{and_first, and_second}
 use Rattle.ded_hull.proofs.Found.{Has, has_from}
+use Rattle.ded_catalog.specs.declared.hashing.NameHashing.{NameHashing}
 use Rattle.ded_catalog.specs.Texts.{is_text, is_text_at, theme_text, atom_text, first_of, text_in, code, key, IsThere, Grows, Keeps, IsGone, HasAll, AreWith}
 use Rattle.ded_catalog.proofs.Numbers.{key_test}
 
@@ -62,9 +63,9 @@ number_back c k h = omega (arith, h)
 
 -- ---- loops over columns
 
-module _ (ks : ℕ × ℕ) (cs : List Column) (t : ℕ × List Atom) where
+module _ (hs : NameHashing) (cs : List Column) (t : ℕ × List Atom) where
   abbrev own : ℕ → ℕ
-  own j = key (code ks j (text_in j t.1)) t.0
+  own j = key (code hs j (text_in j t.1)) t.0
 
   -- after the first i columns
   pub record PutUp (old s : BTreeSet ℕ) (i : ℕ) : Type 0 where
@@ -87,7 +88,7 @@ module _ (ks : ℕ × ℕ) (cs : List Column) (t : ℕ × List Atom) where
       by j is (inl lt) = g (own j) (p.there j lt is)
       by j is (inr e) = subst (λ k. contains nat_cmp r (own k) ≡ true) (sym e) (new (sym (text_at_is cs i c h) ∙ subst (λ k. is_text_at cs k ≡ true) e is))
 
-  pub put_all : (old s : BTreeSet ℕ) (i : ℕ) → length cs ≤ i → t.0 < 2 ^ 32 → PutUp old s i → IsThere ks cs s t
+  pub put_all : (old s : BTreeSet ℕ) (i : ℕ) → length cs ≤ i → t.0 < 2 ^ 32 → PutUp old s i → IsThere hs cs s t
   put_all old s i h fits p = record { fits = fits; keys = λ j is. p.there j (omega (arith, h, inside cs j is)) is }
 
   pub record TakenUp (old s : BTreeSet ℕ) (i : ℕ) : Type 0 where
@@ -114,7 +115,7 @@ module _ (ks : ℕ × ℕ) (cs : List Column) (t : ℕ × List Atom) where
       by j is (inl lt) = still (contains nat_cmp r (own j)) (contains nat_cmp s (own j)) (g (own j)) (p.gone j lt is)
       by j is (inr e) = subst (λ k. contains nat_cmp r (own k) ≡ false) (sym e) (new (sym (text_at_is cs i c h) ∙ subst (λ k. is_text_at cs k ≡ true) e is))
 
-  pub take_all : (old s : BTreeSet ℕ) (i : ℕ) → length cs ≤ i → TakenUp old s i → IsGone ks cs s t
+  pub take_all : (old s : BTreeSet ℕ) (i : ℕ) → length cs ≤ i → TakenUp old s i → IsGone hs cs s t
   take_all old s i h p = λ j is. p.gone j (omega (arith, h, inside cs j is)) is
 
 -- ---- runs of keys
@@ -247,9 +248,9 @@ there i (a ∷ rest) p t h e = by (atom_text i a) refl e (λ f. there i rest p t
 -- ---- what is found
 
 -- behind the code of the text, and behind that of none, stand all tuples that may have it
-pub found_one : (ks : ℕ × ℕ) (cs : List Column) (s : BTreeSet ℕ) (u : ℕ × List ℕ) (none one both sorted ids : List ℕ) → is_text_at cs u.0 ≡ true → HasAll s (code ks u.0 (Some u.1)) none one → HasAll s (code ks u.0 None) one both
-    → IsPermutation both sorted → IsSorted nat_cmp sorted → ids ≡ dedup eqb sorted → AreWith ks cs s (u ∷ []) ids
-found_one ks cs s u none one both sorted ids text fixed open_ p up is = record {
+pub found_one : (hs : NameHashing) (cs : List Column) (s : BTreeSet ℕ) (u : ℕ × List ℕ) (none one both sorted ids : List ℕ) → is_text_at cs u.0 ≡ true → HasAll s (code hs u.0 (Some u.1)) none one → HasAll s (code hs u.0 None) one both
+    → IsPermutation both sorted → IsSorted nat_cmp sorted → ids ≡ dedup eqb sorted → AreWith hs cs s (u ∷ []) ids
+found_one hs cs s u none one both sorted ids text fixed open_ p up is = record {
   ascending = subst IsStrictlyIncreasing (sym is) (IsStrictlyIncreasing-dedup sorted up);
   complete = λ t p there_ holds met. kept t.0 (by t p there_ holds (and_first (is_text_met p u) true met) (text_in u.0 t.1) refl);
 }
@@ -257,8 +258,8 @@ found_one ks cs s u none one both sorted ids text fixed open_ p up is = record {
     kept : (k : ℕ) → Contains both k → Contains ids k
     kept k c = subst (λ xs. Contains xs k) (sym is) (Contains-dedup_nat sorted k (Contains-permutation both sorted k p c))
 
-    by : (t : ℕ × List Atom) (p : Point) → IsThere ks cs s t → tuple_holds t.1 p ≡ true → is_text_met p u ≡ true → (o : Option (List ℕ)) → text_in u.0 t.1 ≡ o → Contains both t.0
-    by t p h holds met None e = open_.all t.0 h.fits (subst (λ o. contains nat_cmp s (key (code ks u.0 o) t.0) ≡ true) e (h.keys u.0 text))
+    by : (t : ℕ × List Atom) (p : Point) → IsThere hs cs s t → tuple_holds t.1 p ≡ true → is_text_met p u ≡ true → (o : Option (List ℕ)) → text_in u.0 t.1 ≡ o → Contains both t.0
+    by t p h holds met None e = open_.all t.0 h.fits (subst (λ o. contains nat_cmp s (key (code hs u.0 o) t.0) ≡ true) e (h.keys u.0 text))
     by t p h holds met (Some v) e =
         let same : v ≡ u.1 = sym (there u.0 t.1 p v holds e) ∙ bytes_same (column_text p u.0) u.1 met in
-        open_.stay t.0 (fixed.all t.0 h.fits (subst (λ o. contains nat_cmp s (key (code ks u.0 o) t.0) ≡ true) (e ∙ ap Some same) (h.keys u.0 text)))
+        open_.stay t.0 (fixed.all t.0 h.fits (subst (λ o. contains nat_cmp s (key (code hs u.0 o) t.0) ≡ true) (e ∙ ap Some same) (h.keys u.0 text)))

@@ -39,27 +39,27 @@ pub record Indexes (t : ℕ × List Atom) (old new : List Entry) : Type 0 where
 -- the index has the reach of each tuple, and the keys of its texts
 pub record IsIndexOf (cs : List Column) (x : Index) (ts : List (ℕ × List Atom)) : Type 0 where
   pub reaches : IsIndex x.hulls ts
-  pub texts : Every (IsThere x.texts.keys cs x.texts.set) ts
+  pub texts : Every (IsThere x.texts.hashing cs x.texts.set) ts
 
 -- ---- what is done with an index
 
--- the same reaches in some order, and the same keys
+-- the same reaches in some order, and the same keys by the same hashing
 pub record IsCopied (old new : Index) : Type 0 where
   pub reaches : IsPermutation old.hulls new.hulls
-  pub keys : new.texts.keys ≡ old.texts.keys
+  pub hashing : new.texts.hashing ≡ old.texts.hashing
   pub set : new.texts.set.keys ≡ old.texts.set.keys
 
 -- the tuple is in the index, beside what was there
 pub record IsIndexed (cs : List Column) (t : ℕ × List Atom) (old new : Index) : Type 0 where
   pub reaches : Indexes t old.hulls new.hulls
-  pub keys : new.texts.keys ≡ old.texts.keys
-  pub there : IsThere old.texts.keys cs new.texts.set t
+  pub hashing : new.texts.hashing ≡ old.texts.hashing
+  pub there : IsThere old.texts.hashing cs new.texts.set t
   pub keeps : Keeps t.0 old.texts.set new.texts.set
 
 -- the reaches are as they were, and all keys but those of the number
 pub record IsUndone (k : ℕ) (old new : Index) : Type 0 where
   pub reaches : new.hulls ≡ old.hulls
-  pub keys : new.texts.keys ≡ old.texts.keys
+  pub hashing : new.texts.hashing ≡ old.texts.hashing
   pub keeps : Keeps k old.texts.set new.texts.set
 
 -- the texts are as they were, and the reaches of the tuples are in it yet
@@ -70,4 +70,4 @@ pub record IsPruned (ts : List (ℕ × List Atom)) (old new : Index) : Type 0 wh
 -- the numbers ascend, and a tuple of the index whose number isn't among them holds nowhere in the window
 pub record Finds (w : Window) (cs : List Column) (x : Index) (ids : List ℕ) : Type 0 where
   pub ascending : IsStrictlyIncreasing ids
-  pub missed : (t : ℕ × List Atom) → Some (IsEntryOf t) x.hulls → IsThere x.texts.keys cs x.texts.set t → (Contains ids t.0 → ⊥) → IsMissed w t.1
+  pub missed : (t : ℕ × List Atom) → Some (IsEntryOf t) x.hulls → IsThere x.texts.hashing cs x.texts.set t → (Contains ids t.0 → ⊥) → IsMissed w t.1

@@ -1,5 +1,5 @@
 -- The texts that tuples fix in their columns, and an index of the tuples by these.
-use Rattle.std.specs.Prelude.{◌≡◌, ◌+◌, ◌*◌, ◌^◌, ◌<◌, ℕ, zero, suc, Bool, true, false, nat_eq, Option, Some, None, List, [], ◌∷◌, ◌++◌, if◌then◌else◌}
+use Rattle.std.specs.Prelude.{◌≡◌, ◌+◌, ◌*◌, ◌^◌, ◌<◌, ℕ, zero, suc, Bool, true, false, nat_eq, Option, Some, None, List, [], ◌∷◌, ◌++◌, length, if◌then◌else◌}
 use Rattle.std.specs.List.{Contains, list_all, fold}
 use Rattle.std.specs.List.Sorted.{IsStrictlyIncreasing}
 use Rattle.std.specs.Ordering.{nat_cmp}
@@ -14,6 +14,7 @@ use Rattle.ded_model.specs.declared.tuple.ThemeAtom.TheVariants.{EqText, NeText,
 use Rattle.ded_model.specs.declared.tuple.BothAtom.TheVariants.{First, Second}
 use Rattle.ded_model.specs.Point.{Point}
 use Rattle.ded_model.specs.Row.{Atom, tuple_holds}
+use Rattle.ded_catalog.specs.declared.hashing.NameHashing.{NameHashing}
 use Rattle.ded_hull.specs.Tuples.{is_text_column}
 use Rattle.ded_hull.specs.Windows.{is_text_met}
 
@@ -57,20 +58,20 @@ text_in i (a ∷ more) = first_of (atom_text i a) (text_in i more)
 -- what a hasher is fed for a text, or for none
 abbrev pub fed_text : Option (List ℕ) → List (List ℕ)
 fed_text None = []
-fed_text (Some t) = fed.slice fed.u8 t
+fed_text (Some t) = fed.usize (length t) ++ (t ∷ [])
 
 -- a number of 64 digits for a column and a text in it, or none. Nothing rests on it but that it is a function
-unfoldable pub code : ℕ × ℕ → ℕ → Option (List ℕ) → ℕ
-code ks i o = sip.finish (fold sip.write (fold sip.write (fold sip.write sip.initial (fed.u64 ks.0 ++ fed.u64 ks.1)) (fed.usize i)) (fed_text o))
+unfoldable pub code : NameHashing → ℕ → Option (List ℕ) → ℕ
+code hs i o = sip.finish (fold sip.write (fold sip.write hs.state (fed.usize i)) (fed_text o))
 
 -- a number of a tuple behind a code
 abbrev pub key : ℕ → ℕ → ℕ
 key c k = c * 2 ^ 32 + k
 
 -- the set has the tuple's number behind the code of its text in each column of texts
-pub record IsThere (ks : ℕ × ℕ) (cs : List Column) (s : BTreeSet ℕ) (t : ℕ × List Atom) : Type 0 where
+pub record IsThere (hs : NameHashing) (cs : List Column) (s : BTreeSet ℕ) (t : ℕ × List Atom) : Type 0 where
   pub fits : t.0 < 2 ^ 32
-  pub keys : (i : ℕ) → is_text_at cs i ≡ true → contains nat_cmp s (key (code ks i (text_in i t.1)) t.0) ≡ true
+  pub keys : (i : ℕ) → is_text_at cs i ≡ true → contains nat_cmp s (key (code hs i (text_in i t.1)) t.0) ≡ true
 
 -- nothing is lost of the set
 abbrev pub Grows : BTreeSet ℕ → BTreeSet ℕ → Type 0
@@ -81,8 +82,8 @@ abbrev pub Keeps : ℕ → BTreeSet ℕ → BTreeSet ℕ → Type 0
 Keeps n s r = (c k : ℕ) → k < 2 ^ 32 → nat_eq k n ≡ false → contains nat_cmp s (key c k) ≡ true → contains nat_cmp r (key c k) ≡ true
 
 -- and the one is behind no code of the tuple
-abbrev pub IsGone : ℕ × ℕ → List Column → BTreeSet ℕ → ℕ × List Atom → Type 0
-IsGone ks cs s t = (i : ℕ) → is_text_at cs i ≡ true → contains nat_cmp s (key (code ks i (text_in i t.1)) t.0) ≡ false
+abbrev pub IsGone : NameHashing → List Column → BTreeSet ℕ → ℕ × List Atom → Type 0
+IsGone hs cs s t = (i : ℕ) → is_text_at cs i ≡ true → contains nat_cmp s (key (code hs i (text_in i t.1)) t.0) ≡ false
 
 -- ---- what is found
 
@@ -92,6 +93,6 @@ pub record HasAll (s : BTreeSet ℕ) (c : ℕ) (old new : List ℕ) : Type 0 whe
   pub all : (k : ℕ) → k < 2 ^ 32 → contains nat_cmp s (key c k) ≡ true → Contains new k
 
 -- the numbers ascend, and are those of all tuples in the index that hold somewhere where the texts stand in their columns
-pub record AreWith (ks : ℕ × ℕ) (cs : List Column) (s : BTreeSet ℕ) (us : List (ℕ × List ℕ)) (ids : List ℕ) : Type 0 where
+pub record AreWith (hs : NameHashing) (cs : List Column) (s : BTreeSet ℕ) (us : List (ℕ × List ℕ)) (ids : List ℕ) : Type 0 where
   pub ascending : IsStrictlyIncreasing ids
-  pub complete : (t : ℕ × List Atom) (p : Point) → IsThere ks cs s t → tuple_holds t.1 p ≡ true → list_all (is_text_met p) us ≡ true → Contains ids t.0
+  pub complete : (t : ℕ × List Atom) (p : Point) → IsThere hs cs s t → tuple_holds t.1 p ≡ true → list_all (is_text_met p) us ≡ true → Contains ids t.0

@@ -118,7 +118,7 @@ impl Catalogue {
             heading,
             inserts,
             tuples,
-            index: Index::new(alloc, self.names.hashing().keys),
+            index: Index::new(alloc, self.names.hashing()),
         };
         let stored = Stored::Relation(SharedRelation::new(alloc, relation)?);
         add(&mut self.names, name, stored)

@@ -11,10 +11,10 @@ use std::hash::{BuildHasher, Hash, Hasher};
 
 /// The code of a column and of a text in it, or of the column alone.
 #[tactic(auto, unfolding(crate::specs::Texts::code))]
-pub(crate) fn text_code(keys: (u64, u64), place: usize, text: Option<&Name>) -> u64
-    ensures { result ≡ code keys place (option_map (λ t. t.now) text.entry) }
+pub(crate) fn text_code(hashing: NameHashing, place: usize, text: Option<&Name>) -> u64
+    ensures { result ≡ code hashing place (option_map (λ t. t.now) text.entry) }
 {
-    let mut state = NameHashing { keys }.build_hasher();
+    let mut state = hashing.build_hasher();
     state.write_usize(place);
     match text {
         Some(text) => {

@@ -3,6 +3,7 @@ ghost use Rattle.std.specs.Prelude.{◌≡◌, [], IfOk, IfSome, OnOk, OnErr};
 ghost use Rattle.ded_catalog.specs.Relations.{IsCopied, IsIndexed, IsUndone, IsPruned, Finds};
 
 use crate::ends::reach_of;
+use crate::hashing::NameHashing;
 use crate::texts::Texts;
 use ded_hull::{Hulls, Window};
 use ded_model::memory::NoMemory;
@@ -24,14 +25,14 @@ pub(crate) struct Index {
 }
 
 impl Index {
-    /// An index of no tuples, which hashes texts with the keys.
-    pub(crate) fn new(alloc: Global, keys: (u64, u64)) -> Index
+    /// An index of no tuples, whose texts are hashed so.
+    pub(crate) fn new(alloc: Global, hashing: NameHashing) -> Index
         ensures hulls { result.hulls ≡ [] }
         ensures texts { result.texts.set.keys ≡ [] }
     {
         Index {
             hulls: Hulls::new(alloc),
-            texts: Texts::new(alloc, keys),
+            texts: Texts::new(alloc, hashing),
         }
     }
 

@@ -56,7 +56,7 @@ impl Table {
         ensures { result.entries ≡ [] }
     {
         Table {
-            entries: Entries::new(alloc, NameHashing { keys }),
+            entries: Entries::new(alloc, NameHashing::new(keys)),
         }
     }
 
@@ -136,18 +136,13 @@ pub(crate) fn relation_of<'a>(table: &'a Table, name: &Name) -> Option<&'a Relat
 }
 
 /// What is known of the name, none where it isn't defined.
-///
-/// # Errors
-/// Out of memory.
-pub(crate) fn known_of(table: &Table, name: &Name) -> Result<Option<Known>, NoMemory>
-    ensures { IfOk result (λ k. known_form k ≡ known_with (lookup (bytes_eq name.now) table.now.entries) None) }
+pub(crate) fn known_of<'a>(table: &'a Table, name: &Name) -> Option<Known<'a>>
+    ensures { known_form result ≡ known_with (lookup (bytes_eq name.now) table.now.entries) None }
 {
     match table.get(name) {
-        Some(Stored::Relation(relation)) => Ok(Some(Known::Relation(
-            relation.get().heading.copy()?,
-        ))),
-        Some(Stored::View(view)) => Ok(Some(Known::View(view.heading.copy()?, view.level))),
-        None => Ok(None),
+        Some(Stored::Relation(relation)) => Some(Known::Relation(&relation.get().heading)),
+        Some(Stored::View(view)) => Some(Known::View(&view.heading, view.level)),
+        None => None,
     }
 }
 

@@ -10,26 +10,27 @@ ghost use Rattle.std.specs.Ordering.{nat_cmp};
 ghost use Rattle.ded_catalog.specs.Texts.{is_text, text_in, code, key, IsThere, Keeps, IsGone, Grows, HasAll, AreWith};
 
 use crate::fixed::{is_text, is_text_at, text_code, text_in};
+use crate::hashing::NameHashing;
 use ded_model::memory::NoMemory;
 use ded_model::name::{Column, Heading, Name};
 use ded_model::tuple::{Atom, Tuple};
 use std::alloc::Global;
 use std::collections::BTreeSet;
 
-/// The keys of tuples, and two numbers with which texts are hashed.
+/// The keys of tuples, and how texts are hashed.
 #[derive(Drop)]
 pub(crate) struct Texts {
-    keys: (u64, u64),
+    hashing: NameHashing,
     set: BTreeSet<u128>,
 }
 
 impl Texts {
     /// No tuples.
-    pub(crate) fn new(alloc: Global, keys: (u64, u64)) -> Texts
+    pub(crate) fn new(alloc: Global, hashing: NameHashing) -> Texts
         ensures { result.set.keys ≡ [] }
     {
         Texts {
-            keys,
+            hashing,
             set: BTreeSet::new(alloc),
         }
     }
@@ -39,11 +40,11 @@ impl Texts {
     /// # Errors
     /// Out of memory.
     pub(crate) fn copy(&self) -> Result<Texts, NoMemory>
-        ensures keys { IfOk result (λ t. t.keys ≡ self.now.keys) }
+        ensures hashing { IfOk result (λ t. t.hashing ≡ self.now.hashing) }
         ensures set { IfOk result (λ t. t.set.keys ≡ self.now.set.keys) }
     {
         Ok(Texts {
-            keys: self.keys,
+            hashing: self.hashing,
             set: self.set.clone()?,
         })
     }
@@ -58,13 +59,13 @@ impl Texts {
         number: u32,
         tuple: &Tuple,
     ) -> Result<(), NoMemory>
-        ensures keys { self.new.keys ≡ self.old.keys }
+        ensures hashing { self.new.hashing ≡ self.old.hashing }
         ensures grows { Grows self.old.set self.new.set }
-        ensures there { IfOk result (λ _. IsThere self.old.keys heading.now self.new.set (number, tuple.now)) }
+        ensures there { IfOk result (λ _. IsThere self.old.hashing heading.now self.new.set (number, tuple.now)) }
     {
         put_all(
             &mut self.set,
-            self.keys,
+            self.hashing,
             &heading.columns,
             number,
             &tuple.atoms,
@@ -73,13 +74,13 @@ impl Texts {
 
     /// Takes out the keys of a tuple over the columns. It does not allocate.
     pub(crate) fn remove(&mut self, heading: &Heading, number: u32, tuple: &Tuple)
-        ensures keys { self.new.keys ≡ self.old.keys }
+        ensures hashing { self.new.hashing ≡ self.old.hashing }
         ensures keeps { Keeps number self.old.set self.new.set }
-        ensures gone { IsGone self.old.keys heading.now self.new.set (number, tuple.now) }
+        ensures gone { IsGone self.old.hashing heading.now self.new.set (number, tuple.now) }
     {
         take_all(
             &mut self.set,
-            self.keys,
+            self.hashing,
             &heading.columns,
             number,
             &tuple.atoms,
@@ -98,7 +99,7 @@ impl Texts {
         asked: &[(usize, Name)],
         most: usize,
     ) -> Result<Option<Vec<u32>>, NoMemory>
-        ensures { IfOk result (λ found. IfSome found (λ ids. AreWith self.now.keys heading.now self.now.set asked.now ids.items)) }
+        ensures { IfOk result (λ found. IfSome found (λ ids. AreWith self.now.hashing heading.now self.now.set asked.now ids.items)) }
     {
         for i in 0..asked.len() {
             if let Some(found) = self.find_one(alloc, heading, &asked[i], most)? {
@@ -117,19 +118,19 @@ impl Texts {
         asked: &(usize, Name),
         most: usize,
     ) -> Result<Option<Vec<u32>>, NoMemory>
-        ensures { IfOk result (λ found. IfSome found (λ ids. AreWith self.now.keys heading.now self.now.set (asked.now ∷ []) ids.items)) }
+        ensures { IfOk result (λ found. IfSome found (λ ids. AreWith self.now.hashing heading.now self.now.set (asked.now ∷ []) ids.items)) }
     {
         let mut found = Vec::new(alloc);
         if is_text_at(&heading.columns, asked.0)
             && push_behind(
                 &self.set,
-                text_code(self.keys, asked.0, Some(&asked.1)),
+                text_code(self.hashing, asked.0, Some(&asked.1)),
                 most,
                 &mut found,
             )?
             && push_behind(
                 &self.set,
-                text_code(self.keys, asked.0, None),
+                text_code(self.hashing, asked.0, None),
                 most,
                 &mut found,
             )?
@@ -149,16 +150,16 @@ impl Texts {
 /// Out of memory.
 fn put_all(
     set: &mut BTreeSet<u128>,
-    keys: (u64, u64),
+    hashing: NameHashing,
     columns: &[Column],
     number: u32,
     atoms: &[Atom],
 ) -> Result<(), NoMemory>
     ensures grows { Grows set.old set.new }
-    ensures there { IfOk result (λ _. IsThere keys columns.now set.new (number, atoms.now)) }
+    ensures there { IfOk result (λ _. IsThere hashing columns.now set.new (number, atoms.now)) }
 {
     for i in 0..columns.len() {
-        put_at(set, keys, &columns[i], i, number, atoms)?;
+        put_at(set, hashing, &columns[i], i, number, atoms)?;
     }
     Ok(())
 }
@@ -169,17 +170,17 @@ fn put_all(
 /// Out of memory.
 fn put_at(
     set: &mut BTreeSet<u128>,
-    keys: (u64, u64),
+    hashing: NameHashing,
     column: &Column,
     place: usize,
     number: u32,
     atoms: &[Atom],
 ) -> Result<(), NoMemory>
     ensures grows { Grows set.old set.new }
-    ensures there { IfOk result (λ _. is_text column.now.sort ≡ true → contains nat_cmp set.new (key (code keys place (text_in place atoms.now)) number) ≡ true) }
+    ensures there { IfOk result (λ _. is_text column.now.sort ≡ true → contains nat_cmp set.new (key (code hashing place (text_in place atoms.now)) number) ≡ true) }
 {
     if is_text(column.sort) {
-        set.insert(key(text_code(keys, place, text_in(atoms, place)), number))?;
+        set.insert(key(text_code(hashing, place, text_in(atoms, place)), number))?;
     }
     Ok(())
 }
@@ -187,23 +188,23 @@ fn put_at(
 /// Takes out the keys of a tuple over the columns.
 fn take_all(
     set: &mut BTreeSet<u128>,
-    keys: (u64, u64),
+    hashing: NameHashing,
     columns: &[Column],
     number: u32,
     atoms: &[Atom],
 )
     ensures keeps { Keeps number set.old set.new }
-    ensures gone { IsGone keys columns.now set.new (number, atoms.now) }
+    ensures gone { IsGone hashing columns.now set.new (number, atoms.now) }
 {
     for i in 0..columns.len() {
-        take_at(set, keys, &columns[i], i, number, atoms);
+        take_at(set, hashing, &columns[i], i, number, atoms);
     }
 }
 
 /// Takes out the key of a tuple in a column, if it is one of texts.
 fn take_at(
     set: &mut BTreeSet<u128>,
-    keys: (u64, u64),
+    hashing: NameHashing,
     column: &Column,
     place: usize,
     number: u32,
@@ -211,10 +212,10 @@ fn take_at(
 )
     ensures fewer { Grows set.new set.old }
     ensures keeps { Keeps number set.old set.new }
-    ensures gone { is_text column.now.sort ≡ true → contains nat_cmp set.new (key (code keys place (text_in place atoms.now)) number) ≡ false }
+    ensures gone { is_text column.now.sort ≡ true → contains nat_cmp set.new (key (code hashing place (text_in place atoms.now)) number) ≡ false }
 {
     if is_text(column.sort) {
-        set.remove(&key(text_code(keys, place, text_in(atoms, place)), number));
+        set.remove(&key(text_code(hashing, place, text_in(atoms, place)), number));
     }
 }
 

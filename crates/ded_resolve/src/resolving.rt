@@ -94,8 +94,8 @@ fn heading_of<N: Names>(alloc: Global, name: &Name, names: &N) -> Result<Heading
     ensures value { IfOk result (λ h. h ≡ columns_in (N.catalogue names.now) name.now) }
     ensures few { IfOk result (λ h. length h ≤ 16) }
 {
-    match names.known(name)? {
-        Some(Known::Relation(heading) | Known::View(heading, _)) => Ok(heading),
+    match names.known(name) {
+        Some(Known::Relation(heading) | Known::View(heading, _)) => heading.copy(),
         None => Ok(Heading {
             columns: Vec::new(alloc),
         }),

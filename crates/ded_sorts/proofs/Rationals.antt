@@ -2,7 +2,7 @@
 --
 -- A quantifier has a slot of its own sort. A comparison has a row only where neither side is a text, and a sum that is not
 -- refused has no text variable, so all slots that rows and sums are made of are rational.
-use Rattle.std.proofs.Common.{◌≡◌, ℕ, ◌+◌, Bool, true, false, ◌||◌, List, [], ◌∷◌, map, refl, sym, ap, ◌∙◌, true≢false}
+use Rattle.std.proofs.Common.{◌≡◌, ℕ, ◌+◌, Bool, false, ◌||◌, List, [], ◌∷◌, map, refl, sym, ap, ◌∙◌, true≢false}
 use Rattle.std.specs.Prelude.{ℤ}
 use Rattle.std.specs.List.{list_any}
 use Rattle.ded_model.specs.declared.slot.Slot.{Slot}

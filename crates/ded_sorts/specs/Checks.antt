@@ -18,8 +18,8 @@ use Rattle.ded_sorts.specs.Causes.{has_cause}
 -- what an answer of the program says of a name; a relation has level 0
 abbrev pub known_form : Option Known → Option model.Known
 known_form None = None
-known_form (Some (Relation h)) = Some (record { is_view = false; columns = h; level = 0 })
-known_form (Some (View h n)) = Some (record { is_view = true; columns = h; level = n })
+known_form (Some (Relation h)) = Some (record { is_view = false; columns = h.now; level = 0 })
+known_form (Some (View h n)) = Some (record { is_view = true; columns = h.now; level = n })
 
 -- ---- refusals
 

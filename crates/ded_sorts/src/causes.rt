@@ -191,7 +191,7 @@ pub(crate) fn is_too_high<N: Names>(command: &Command, names: &N) -> Result<bool
 fn is_undefined<N: Names>(name: &Name, names: &N) -> Result<bool, NoMemory>
     ensures { IfOk result (λ b. b ≡ is_none (known (N.catalogue names.now) name.now)) }
 {
-    Ok(names.known(name)?.is_none())
+    Ok(names.known(name).is_none())
 }
 
 /// Whether no relation or view has one of the names.
@@ -209,8 +209,8 @@ fn is_one_view<N: Names>(first: &Name, second: &Name, names: &N) -> Result<bool,
 }
 
 /// The columns of what is known of a name, none where it isn't defined.
-fn columns_of(entry: &Option<Known>) -> &[Column]
-    ensures { result.now ≡ columns_with (known_form entry.now) }
+fn columns_of(entry: Option<Known<'_>>) -> &[Column]
+    ensures { result.now ≡ columns_with (known_form entry.entry) }
 {
     match entry {
         None => &[],
@@ -222,32 +222,32 @@ fn columns_of(entry: &Option<Known>) -> &[Column]
 fn do_lengths_differ<N: Names>(first: &Name, second: &Name, names: &N) -> Result<bool, NoMemory>
     ensures { IfOk result (λ b. b ≡ cause.lengths_differ (columns_in (N.catalogue names.now) first.now) (columns_in (N.catalogue names.now) second.now)) }
 {
-    let first = names.known(first)?;
-    let second = names.known(second)?;
-    Ok(columns_of(&first).len() != columns_of(&second).len())
+    let first = names.known(first);
+    let second = names.known(second);
+    Ok(columns_of(first).len() != columns_of(second).len())
 }
 
 /// Whether the headings of the names have different sorts at one place.
 fn do_headings_differ<N: Names>(first: &Name, second: &Name, names: &N) -> Result<bool, NoMemory>
     ensures { IfOk result (λ b. b ≡ cause.headings_differ (columns_in (N.catalogue names.now) first.now) (columns_in (N.catalogue names.now) second.now)) }
 {
-    let first = names.known(first)?;
-    let second = names.known(second)?;
-    Ok(do_columns_differ(columns_of(&first), columns_of(&second)))
+    let first = names.known(first);
+    let second = names.known(second);
+    Ok(do_columns_differ(columns_of(first), columns_of(second)))
 }
 
 /// Whether a relation or a view has the name.
 fn is_defined<N: Names>(name: &Name, names: &N) -> Result<bool, NoMemory>
     ensures { IfOk result (λ b. b ≡ is_some (known (N.catalogue names.now) name.now)) }
 {
-    Ok(names.known(name)?.is_some())
+    Ok(names.known(name).is_some())
 }
 
 /// Whether the name is that of a view.
 fn is_view<N: Names>(name: &Name, names: &N) -> Result<bool, NoMemory>
     ensures { IfOk result (λ b. b ≡ cause.is_view_with (known (N.catalogue names.now) name.now)) }
 {
-    match names.known(name)? {
+    match names.known(name) {
         None => Ok(false),
         Some(entry) => Ok(entry.is_view()),
     }
@@ -257,7 +257,7 @@ fn is_view<N: Names>(name: &Name, names: &N) -> Result<bool, NoMemory>
 fn is_relation<N: Names>(name: &Name, names: &N) -> Result<bool, NoMemory>
     ensures { IfOk result (λ b. b ≡ cause.is_relation_with (known (N.catalogue names.now) name.now)) }
 {
-    match names.known(name)? {
+    match names.known(name) {
         None => Ok(false),
         Some(entry) => Ok(!entry.is_view()),
     }
@@ -324,7 +324,7 @@ fn some_in_insert<T: AtomTest, N: Names>(
 ) -> Result<bool, NoMemory>
     ensures { IfOk result (λ b. b ≡ some_below_of (T.passes test.now) (scope_of (columns_in (N.catalogue names.now) name.now)) (forms formulas.now.items)) }
 {
-    match names.known(name)? {
+    match names.known(name) {
         None => some_atom_of(test, &Scope::Heading(&[]), formulas),
         Some(entry) => some_atom_of(test, &Scope::Heading(entry.columns()), formulas),
     }

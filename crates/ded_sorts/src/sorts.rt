@@ -10,7 +10,7 @@ ghost use Rattle.ded_model.specs.Entries.{known};
 ghost use Rattle.ded_sorts.specs.Scopes.{scope_form};
 
 use crate::atoms::AtomTest;
-use crate::names::Names;
+use crate::names::{Names, known_base};
 use crate::scope::Scope;
 use ded_model::formula::{CompareOp, Operand, Operands};
 use ded_model::memory::NoMemory;
@@ -78,7 +78,7 @@ impl<N: Names> AtomTest for Missorted<'_, N> {
         operands: &Operands,
     ) -> Result<bool, NoMemory> {
         let has_text_sum = have_text_sum(scope, &operands.list);
-        match self.names.known(&name.base_name()?)? {
+        match known_base(self.names, name)? {
             None => Ok(has_text_sum),
             Some(entry) => {
                 Ok(has_text_sum || do_arguments_differ(scope, entry.columns(), &operands.list))

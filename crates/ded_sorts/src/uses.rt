@@ -7,7 +7,7 @@ ghost use Rattle.ded_model.specs.Entries.{known};
 ghost use Rattle.ded_model.specs.Made.{base};
 
 use crate::atoms::AtomTest;
-use crate::names::Names;
+use crate::names::{Names, known_base};
 use crate::scope::Scope;
 use ded_model::formula::{CompareOp, Formula, Operand, Operands};
 use ded_model::memory::NoMemory;
@@ -33,7 +33,7 @@ impl<N: Names> AtomTest for Undefined<'_, N> {
     }
 
     fn on_member(&self, _: &Scope<'_>, name: &Name, _: &Operands) -> Result<bool, NoMemory> {
-        Ok(self.names.known(&name.base_name()?)?.is_none())
+        Ok(known_base(self.names, name)?.is_none())
     }
 }
 
@@ -57,7 +57,7 @@ impl<N: Names> AtomTest for OtherArity<'_, N> {
     }
 
     fn on_member(&self, _: &Scope<'_>, name: &Name, operands: &Operands) -> Result<bool, NoMemory> {
-        match self.names.known(&name.base_name()?)? {
+        match known_base(self.names, name)? {
             None => Ok(false),
             Some(entry) => Ok(operands.list.len() != entry.columns().len()),
         }
@@ -68,7 +68,7 @@ impl<N: Names> AtomTest for OtherArity<'_, N> {
 fn level_of_name<N: Names>(name: &Name, names: &N) -> Result<u32, NoMemory>
     ensures { IfOk result (λ n. n ≡ level_with (known (N.catalogue names.now) (base name.now))) }
 {
-    match names.known(&name.base_name()?)? {
+    match known_base(names, name)? {
         None => Ok(0),
         Some(entry) => Ok(entry.level()),
     }

@@ -40,7 +40,7 @@ fn relation_name(alloc: Global) -> Result<Name, NoMemory>
 /// Inserts the tuple that holds everywhere, where the name is a relation.
 fn insert(alloc: Global, catalogue: &mut Catalogue, name: &Name) -> Result<u32, Refusal> {
     match catalogue.known(name) {
-        Ok(Some(Known::Relation(_))) => catalogue.insert(name, whole_space(alloc)),
+        Some(Known::Relation(_)) => catalogue.insert(name, whole_space(alloc)),
         _ => Err(Refusal::Unknown),
     }
 }
@@ -52,7 +52,7 @@ type Answers = (Result<u32, Refusal>, Result<u32, Refusal>);
 fn answers(alloc: Global, limit: u32, given: u32) -> Result<Answers, NoMemory> {
     let mut catalogue = Catalogue::new(alloc, limit.clamp(1, 100))?;
     let name = relation_name(alloc)?;
-    if catalogue.known(&name)?.is_none() {
+    if catalogue.known(&name).is_none() {
         catalogue.define_at(name.copy()?, no_columns(alloc), given)?;
     }
     let first = insert(alloc, &mut catalogue, &name);

@@ -2,7 +2,6 @@
 
 use super::Catalogue;
 use crate::table::{known_of, relation_of, some_uses};
-use ded_model::memory::NoMemory;
 use ded_model::name::Name;
 use ded_sorts::{Known, Names};
 
@@ -11,7 +10,7 @@ impl Names for Catalogue {
 
     ghost catalogue = { catalogue_of };
 
-    fn known(&self, name: &Name) -> Result<Option<Known>, NoMemory> {
+    fn known(&self, name: &Name) -> Option<Known<'_>> {
         known_of(&self.names, name)
     }
 
