@@ -16,7 +16,7 @@ use Rattle.ded_eval.specs.Joining.{IsJoinedWith}
 use Rattle.ded_genrel.specs.Lists.{conjs_hold, conjs_mention, conjs_lines}
 use Rattle.ded_eval.specs.Inside.{IsMeetInside}
 use Rattle.ded_eval.specs.Within.{is_rows, rows_hold, all_rows_hold, AreRowsOf, IsBegun}
-use Rattle.ded_eval.proofs.Evaluated.{IsListFor, every-push, every-left}
+use Rattle.ded_eval.proofs.Evaluated.{IsListFor, every-push}
 
 module _ (c : Catalogue) where
   -- where a plan holds, its rows do
@@ -145,14 +145,15 @@ module _ {A : Type 0} (h : A → Point → Bool) (m : A → Slot → Bool) (l : 
         (λ x i. ⊎_elim (λ y. j.lines x y) (λ y. z x y) (In-split x (conjs_lines l xs) (plan_lines (stored_measures c) f) i));
   }
 
-  pub joined_all : (xs : List (List A)) → IsJoined all xs → IsListFor h m l inside c (every_of (logics all)) xs
-  joined_all xs j = record { holds = λ p i w. (λ x. ((j.holds p i w).0 x).1, λ y. (j.holds p i w).1 (every_rows c all p y, y)); slots = j.slots; lines = j.lines }
+  -- the list of first parts where all parts hold that these do, and of parts of which all hold where these do
+  pub joined_all : (fs : List PlanForm) (xs : List (List A)) → ((p : Point) → SatEvery (PlanAtomHolds (stored c)) (logics all) p ↔ SatEvery (PlanAtomHolds (stored c)) (logics fs) p) → IsJoined fs xs → IsListFor h m l inside c (every_of (logics all)) xs
+  joined_all fs xs k j = record { holds = λ p i w. (λ x. (k p).1 ((j.holds p i w).0 x).1, λ y. (j.holds p i w).1 (every_rows c all p y, (k p).0 y)); slots = j.slots; lines = j.lines }
 
   -- where the first parts leave nothing, all of them do
-  pub joined_ends : (fs gs : List PlanForm) (xs : List (List A)) → length xs ≡ 0 → all ≡ fs ++ gs → IsJoined fs xs → IsListFor h m l inside c (every_of (logics all)) xs
-  joined_ends fs gs (x ∷ xs) e is j = absurd (omega (arith, e))
-  joined_ends fs gs [] e is j = record {
-    holds = λ p i w. (λ x. absurd (true≢false (sym x)), λ y. (j.holds p i w).1 (every_rows c all p y, every-left (PlanAtomHolds (stored c)) fs gs p (subst (λ ks. SatEvery (PlanAtomHolds (stored c)) (logics ks) p) is y)));
+  pub joined_ends : (fs : List PlanForm) (xs : List (List A)) → length xs ≡ 0 → ((p : Point) → SatEvery (PlanAtomHolds (stored c)) (logics all) p → SatEvery (PlanAtomHolds (stored c)) (logics fs) p) → IsJoined fs xs → IsListFor h m l inside c (every_of (logics all)) xs
+  joined_ends fs (x ∷ xs) e k j = absurd (omega (arith, e))
+  joined_ends fs [] e k j = record {
+    holds = λ p i w. (λ x. absurd (true≢false (sym x)), λ y. (j.holds p i w).1 (every_rows c all p y, k p y));
     slots = j.slots;
     lines = j.lines;
   }

@@ -8,6 +8,7 @@ pub mod Distinct
 pub mod Evaluated
 pub mod Extending
 pub mod Found
+pub mod InTurn
 pub mod Inside
 pub mod Joined
 pub mod Names

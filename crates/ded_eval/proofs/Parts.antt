@@ -1,6 +1,6 @@
 -- The parts of a join or a union, one after another.
 use Rattle.std.proofs.Common.{◌≡◌, ℕ, zero, suc, ◌+◌, ◌<◌, ◌≤◌, Bool, true, List, [], ◌∷◌, ◌++◌, length, get_or, take, drop, map, arith, add-one, sym, ap, ◌∙◌, subst}
-use Rattle.std.proofs.lemmas.List.{map-append, take-append-drop}
+use Rattle.std.proofs.lemmas.List.{map-append}
 use Rattle.ded_model.specs.declared.plan.Plan.{Plan}
 use Rattle.ded_model.specs.Logic.{logics, any_mentions, AllAtoms, AllAtomsOf}
 use Rattle.ded_model.specs.Lines.{Line, In, IsSubset, all_lines, clashes, any_clashes}
@@ -44,10 +44,6 @@ part_rows (r ∷ ps) (suc i) p q l e a = part_rows ps i p q (omega (arith, l)) e
 -- what is done ends with the part
 pub parts_to : (ps : List Plan) (i : ℕ) (p : Plan) → i < length ps → p ≡ get_or ps i p → map plan_form (take (i + 1) ps) ≡ map plan_form (take i ps) ++ plan_form p ∷ []
 parts_to ps i p l e = ap (map plan_form) (done_to ps i p l e) ∙ map-append plan_form (take i ps) (p ∷ [])
-
--- what is done, and what is left
-pub parts_split : (ps : List Plan) (i : ℕ) → map plan_form ps ≡ map plan_form (take i ps) ++ map plan_form (drop i ps)
-parts_split ps i = ap (map plan_form) (sym (take-append-drop i ps)) ∙ map-append plan_form (take i ps) (drop i ps)
 
 -- what is said of the atoms of all parts that are left
 pub rest_atoms : (P : PlanAtom → Type 0) (ps : List Plan) (i : ℕ) → i < length ps → AllAtomsOf P (plan_forms (drop i ps)) → AllAtomsOf P (plan_forms (drop (i + 1) ps))

@@ -1,5 +1,5 @@
 -- Joins of one part after another.
-use Rattle.std.specs.Prelude.{◌≡◌, ◌↔◌, ◌||◌, Bool, true, IsTrue, Option, Some, None, List, [], ◌∷◌, ◌++◌}
+use Rattle.std.specs.Prelude.{◌≡◌, ◌↔◌, ◌⊎◌, ◌<◌, ◌||◌, ℕ, nat_eq, Bool, true, IsTrue, Option, Some, None, List, [], ◌∷◌, ◌++◌, if◌then◌else◌}
 use Rattle.ded_model.specs.declared.slot.Slot.{Slot}
 use Rattle.ded_model.specs.Catalogue.{Catalogue, GivenHolds}
 use Rattle.ded_model.specs.Lines.{Line, IsSubset}
@@ -19,3 +19,13 @@ pub record IsJoinedWith {A : Type 0} (h : A → Point → Bool) (m : A → Slot 
   pub holds : (p : Point) → IsPoint p → inside p ≡ true → conjs_hold h xs p ≡ true → IsTrue (conjs_hold h out p) ↔ GivenHolds c f p
   pub slots : (s : Slot) → conjs_mention m out s ≡ true → (conjs_mention m xs s || plan_mentions f (slot s)) ≡ true
   pub lines : IsSubset (conjs_lines l out) (conjs_lines l xs ++ plan_lines (stored_measures c) f)
+
+-- ---- the order of the parts
+
+-- the place of the part that is joined as the i-th, where the part of a place comes first: that and the first one change places
+abbrev pub place_of : ℕ → ℕ → ℕ
+place_of front i = if nat_eq i 0 then front else (if nat_eq i front then 0 else i)
+
+-- the place is one of n, or the first
+abbrev pub IsPlace : ℕ → ℕ → Type 0
+IsPlace n front = (front ≡ 0) ⊎ (front < n)

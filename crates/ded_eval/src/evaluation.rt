@@ -16,6 +16,7 @@ ghost use Rattle.ded_eval.specs.Joining.{begun, IsJoinedWith};
 
 use crate::across::{join_inside, rows_across};
 use crate::beside::{alone, begun_with, is_rows, leaves_nothing, narrowed, rows_of_parts};
+use crate::fronts::{front_part, place_of};
 use crate::lookups::is_lookup;
 use crate::reading::{OfTuples, conjunction};
 use crate::repeated::distinct;
@@ -128,9 +129,9 @@ fn complemented<T: OfTuples, R: Relations>(
     Ok(complement(alloc, &list)?)
 }
 
-/// The join of the parts, which ends at the first one that leaves nothing. Its rows and text atoms come first. Each other part is
-/// evaluated within the window and them, and where the parts so far leave one conjunction, within that. Pairs that hold nowhere in
-/// the window by its rows that lie across the two sides are left out.
+/// The join of the parts, which ends at the first one that leaves nothing. Its rows and text atoms come first, and of two scans the one
+/// with far fewer tuples. Each other part is evaluated within the window and them, and where the parts so far leave one conjunction,
+/// within that. Pairs that hold nowhere in the window by its rows that lie across the two sides are left out.
 #[cycle(evaluate)]
 fn joined<T: OfTuples, R: Relations>(
     alloc: Global,
@@ -149,7 +150,9 @@ fn joined<T: OfTuples, R: Relations>(
     let within = both_conjs::<T>(alloc, window, &rows)?;
     let mut slots = slots_of_rows(alloc, parts)?;
     let mut list = begun_with(alloc, rows)?;
-    for part in parts {
+    let front = front_part::<T, R>(alloc, parts, relations, &within)?;
+    for i in 0..parts.len() {
+        let part = &parts[place_of(front, i, parts.len())];
         if is_rows(part) {
             continue;
         }

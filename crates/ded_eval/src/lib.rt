@@ -3,7 +3,8 @@
 //! The evaluation goes from the leaves of a plan to its root with the operations on lists of conjunctions: scans rename stored
 //! tuples, joins go through an index over boxes, differences and complements are cut piece by piece, and projections eliminate.
 //! What a question fixes goes down to the scans as a window ([`evaluate_within`]): tuples that hold nowhere in it needn't be read,
-//! and a part of a join that finds few tuples is looked up for each conjunction of the parts before it. Pairs of a join that hold
+//! and a part of a join that finds few tuples is looked up for each conjunction of the parts before it. A join of two scans begins with
+//! the one that has far fewer tuples. Pairs of a join that hold
 //! nowhere together with the window's rows across its two sides are left out.
 //! Conjunctions that no point satisfies are dropped at once, and of equal ones that a union or a projection makes only the first
 //! is kept. It is written over any theory whose atoms stand for rows and text atoms ([`OfTuples`]). The list that it gives holds
@@ -40,6 +41,7 @@ mod engine;
 mod evaluation;
 mod extents;
 mod finding;
+mod fronts;
 mod given;
 pub mod laws;
 mod lookups;
@@ -65,4 +67,5 @@ pub use given::{Given, GivenRelation};
 pub use reading::{AtomRef, OfTuples};
 pub use reduction::{reduce_answer, reduced};
 pub use rows::OfRows;
+pub use scanning::column_pairs;
 pub use theories::Atoms;

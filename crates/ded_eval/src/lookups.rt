@@ -65,6 +65,23 @@ fn only_scan_in(parts: &Vec<Plan>) -> Option<(&Name, &Slots)> {
     found
 }
 
+/// How many tuples may hold where the conjunction does, of the relation that is the plan's only scan; none where it has no such scan.
+///
+/// # Errors
+/// Out of memory.
+pub(crate) fn near_count<T: OfTuples, R: Relations>(
+    alloc: Global,
+    plan: &Plan,
+    relations: &R,
+    conj: &[T::Atom],
+) -> Result<Option<usize>, NoMemory> {
+    let Some((name, slots)) = scan_in(plan) else {
+        return Ok(None);
+    };
+    let window = columns_window::<T>(alloc, conj, &slots.list)?;
+    Ok(Some(count(relations.near(alloc, name, &window)?)))
+}
+
 /// Whether few tuples of the name may hold where the conjunction does.
 ///
 /// # Errors

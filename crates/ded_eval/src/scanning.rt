@@ -86,7 +86,7 @@ pub(crate) fn first_scanned<T: OfTuples, R: Relations>(
 ///
 /// # Errors
 /// Out of memory, also where a column would have no number.
-fn column_pairs(alloc: Global, slots: &[Slot]) -> Result<Vec<(Slot, Slot)>, NoMemory>
+pub fn column_pairs(alloc: Global, slots: &[Slot]) -> Result<Vec<(Slot, Slot)>, NoMemory>
     ensures { IfOk result (λ v. v.items ≡ column_pairs 0 slots.now) }
 {
     let mut pairs = Vec::with_capacity(alloc, slots.len())?;

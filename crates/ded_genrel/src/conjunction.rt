@@ -53,7 +53,7 @@ fn push_atoms<T: Theory>(conj: &mut Vec<T::Atom>, atoms: &[T::Atom]) -> Result<(
 ///
 /// # Errors
 /// Out of memory.
-pub(crate) fn renamed_conj<T: Theory>(
+pub fn renamed_conj<T: Theory>(
     alloc: Global,
     atoms: &[T::Atom],
     map: &[(Slot, Slot)],

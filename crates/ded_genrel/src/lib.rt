@@ -19,5 +19,5 @@ mod conjunction;
 mod list;
 
 pub use boxes::box_round;
-pub use conjunction::{both_conjs, copy_conj};
+pub use conjunction::{both_conjs, copy_conj, renamed_conj};
 pub use list::GenRel;

@@ -1,8 +1,9 @@
-use Rattle.std.proofs.Common.{rules, arith, ◌≡◌, true, ◌++◌, ◌∷◌, [], ◌∙◌, sym, ap, subst, take, drop, map}
+use Rattle.std.proofs.Common.{rules, arith, ◌≡◌, true, ◌++◌, ◌∷◌, [], ◌∙◌, sym, ap, subst, take, drop, map, length, get_or, ◌<◌, ◌≤◌}
 use Rattle.std.proofs.lemmas.List.{take_all}
 use Rattle.ded_model.specs.declared.plan.Plan.TheFolds.{fold-roll-Plan, fold_out-Plan}
 use Rattle.ded_model.specs.declared.plan.Plan.TheViews.{the_lemmas}
-use Rattle.ded_model.specs.Logic.{atom, negation, every_of, some_of, minus, exists, none, logics, AllAtomsOf}
+use Rattle.ded_model.specs.Catalogue.{stored}
+use Rattle.ded_model.specs.Logic.{atom, negation, every_of, some_of, minus, exists, none, logics, AllAtomsOf, SatEvery}
 use Rattle.ded_model.specs.Cell.{conj_holds}
 use Rattle.ded_model.specs.Point.{slot, Point, IsPoint, IsExtension}
 use Rattle.ded_theory.proofs.Conjunctions.{conj_holds-append, conj_holds-extended}
@@ -11,20 +12,23 @@ use Rattle.ded_eval.specs.Within.{all_rows_hold}
 use Rattle.ded_model.specs.Coefs.{AreCoefs}
 use Rattle.ded_model.specs.Lines.{any_clashes}
 use Rattle.ded_model.specs.Measure.{stored_measures, plan_atom_lines, plan_atom_clash, plan_clashes}
-use Rattle.ded_model.specs.PlanForm.{rows, plan_form, plan_forms}
+use Rattle.ded_model.specs.PlanForm.{rows, plan_form, plan_forms, PlanAtomHolds}
 use Rattle.ded_model.proofs.Rows.{or_right}
-use Rattle.ded_algebra.specs.Evaluation.{IsScannable}
+use Rattle.ded_algebra.specs.Evaluation.{IsEvaluable, IsScannable}
 use Rattle.ded_genrel.specs.Lists.{AreNormal, conjs_hold, conjs_lines}
 use Rattle.std.specs.List.{AllByRecursion}
 use Rattle.ded_genrel.specs.Lists.{conjs_of}
-use Rattle.ded_genrel.proofs.Items.{normal-at, conjs_to, conjs_done}
+use Rattle.ded_genrel.proofs.Items.{normal-at, conjs_to, conjs_done, all-append}
 use Rattle.ded_eval.specs.Joining.{begun, IsJoinedWith}
 use Rattle.ded_eval.proofs.Distinct.{distinct_for}
 use Rattle.ded_eval.proofs.Evaluated.{IsListFor, everywhere_for, no_conjunction, united_none, united_more, minus_for, minus_none, complement_for, implied_for}
+use Rattle.ded_eval.proofs.InTurn.{in_turn, in_turn-length, place_inside, at_turn, first_hold, all_hold}
 use Rattle.ded_eval.proofs.Joined.{IsJoined, joined_begun, joined_rows, joined_more, joined_ends, joined_all, met_with, first_with, probed_none, probed_more}
-use Rattle.ded_eval.proofs.Parts.{part_clashes, part_mentions, part_lines, part_rows, parts_to, parts_split, rest_atoms, two_items}
+use Rattle.ded_eval.proofs.Parts.{part_atoms, part_clashes, part_mentions, part_lines, part_rows, parts_to, rest_atoms, two_items}
 use Rattle.ded_eval.proofs.Projected.{AreInOrder, projection_for, projection_clash}
 use Rattle.ded_eval.proofs.Scanned.{lists_lines}
+use Rattle.ded_model.proofs.plan.Plan.TheLaws.{the_size}
+use denote.Param.Weighed.{most, at_most}
 use Rattle.ded_eval.proofs.evaluation.+evaluate.Goals as goal
 
 pub evaluate_within-returns-then-is_empty-clause-is : goal.evaluate_within-returns-then-is_empty-clause-is
@@ -77,75 +81,99 @@ evaluate_within-returns-in_err-list-in-Project-clause-wide g t c w =
     (projection_clash g.T.Theory.holds g.T.Theory.mentions g.T.Theory.lines (conj_holds g.T.Theory.holds c.args.window.now) (conj_holds g.T.Theory.holds c.deref-in-Project-2.result.now) (g.R.Relations.catalogue c.args.relations.now) (plan_form c.deref-in-Project.result.now) c.in-Project.slot xs order c.in_ok-evaluate_within-in-Project.ensures.is
     (c.in_err-list-in-Project.ensures.wide (search rules)))
 
-pub joined-loop-part-init : goal.joined-loop-part-init
-joined-loop-part-init g t c = (
-  subst (λ ps. IsJoined g.T.Theory.holds g.T.Theory.mentions g.T.Theory.lines (conj_holds g.T.Theory.holds c.args.window.now) (g.R.Relations.catalogue c.args.relations.now) (map plan_form ps) [] (begun c.in_ok-list.list)) (sym c.deref-part-items.ensures.value)
-      (joined_begun g.T.Theory.holds g.T.Theory.mentions g.T.Theory.lines (conj_holds g.T.Theory.holds c.args.window.now) (g.R.Relations.catalogue c.args.relations.now) (map plan_form c.args.parts.now.items) c.in_ok-rows.rows.items (begun c.in_ok-list.list)
-      c.in_ok-rows.ensures.rows c.in_ok-list.ensures),
+pub joined-loop-i-init : goal.joined-loop-i-init
+joined-loop-i-init g t c = (
+  joined_begun g.T.Theory.holds g.T.Theory.mentions g.T.Theory.lines (conj_holds g.T.Theory.holds c.args.window.now) (g.R.Relations.catalogue c.args.relations.now) (map plan_form c.args.parts.now.items) c.in_ok-rows.rows.items (begun c.in_ok-list.list)
+      c.in_ok-rows.ensures.rows c.in_ok-list.ensures,
   c.in_ok-slots.ensures,
-  subst (λ ps. AllAtomsOf (IsScannable g.T.OfTuples.reads (g.R.Relations.catalogue c.args.relations.now)) (plan_forms ps)) (sym c.deref-part-items.ensures.value) c.requires.parts,
 )
 
 pub joined-rows_of_parts-requires : goal.joined-rows_of_parts-requires
 joined-rows_of_parts-requires g t c = (g.R.Relations.catalogue c.args.relations.now, c.requires.parts)
 
-pub joined-loop-part-preserved-then-is_rows : goal.joined-loop-part-preserved-then-is_rows
-joined-loop-part-preserved-then-is_rows g t c =
+pub joined-loop-i-preserved-then-is_rows : goal.joined-loop-i-preserved-then-is_rows
+joined-loop-i-preserved-then-is_rows g t c =
     let cat = g.R.Relations.catalogue c.args.relations.now in
-    let items = c.deref-part-items.result.now in
-    let i = c.loop-part.part-index in (
-      subst (λ fs. IsJoined g.T.Theory.holds g.T.Theory.mentions g.T.Theory.lines (conj_holds g.T.Theory.holds c.args.window.now) cat (map plan_form items) fs (begun c.loop-part.list)) (sym (parts_to items i c.part-item.result c.loop-part-test.true c.part-item.is))
-          (joined_rows g.T.Theory.holds g.T.Theory.mentions g.T.Theory.lines (conj_holds g.T.Theory.holds c.args.window.now) cat (map plan_form items) (map plan_form (take i items)) (plan_form c.part-item.result) (begun c.loop-part.list)
-          (sym c.is_rows.ensures ∙ c.if-is_rows.true) (λ p k. part_rows items i c.part-item.result p c.loop-part-test.true c.part-item.is k) c.loop-part.invariant.0),
-      c.loop-part.invariant.1,
-      rest_atoms (IsScannable g.T.OfTuples.reads cat) items i c.loop-part-test.true c.loop-part.invariant.2,
+    let items = c.args.parts.now.items in
+    let turned = in_turn c.in_ok-front.front items in
+    let i = c.loop-i.i in
+    let below : i < length items = omega (arith, c.args.parts.now.ok.0, c.len-i-end.ensures, c.loop-i-test.true) in
+    let p = c.index-part.result.now in
+    let inside : c.place_of.result < length items = subst (λ k. k < length items) (sym c.place_of.ensures.value) (place_inside (length items) c.in_ok-front.front i c.in_ok-front.ensures below) in
+    let at : p ≡ get_or turned i p = at_turn c.in_ok-front.front i items p c.in_ok-front.ensures below (subst (λ k. p ≡ get_or items k p) c.place_of.ensures.value c.index-part.ensures) in
+    let there : i < length turned = subst (λ k. i < k) (sym (in_turn-length c.in_ok-front.front items)) below in (
+      subst (λ fs. IsJoined g.T.Theory.holds g.T.Theory.mentions g.T.Theory.lines (conj_holds g.T.Theory.holds c.args.window.now) cat (map plan_form items) fs (begun c.loop-i.list)) (sym (parts_to turned i p there at))
+          (joined_rows g.T.Theory.holds g.T.Theory.mentions g.T.Theory.lines (conj_holds g.T.Theory.holds c.args.window.now) cat (map plan_form items) (map plan_form (take i turned)) (plan_form p) (begun c.loop-i.list)
+          (sym c.is_rows.ensures ∙ c.if-is_rows.true) (λ q k. part_rows items c.place_of.result p q inside c.index-part.ensures k) c.loop-i.invariant.0),
+      c.loop-i.invariant.1,
     )
 
-pub joined-loop-part-preserved : goal.joined-loop-part-preserved
-joined-loop-part-preserved g t c =
+pub joined-loop-i-preserved : goal.joined-loop-i-preserved
+joined-loop-i-preserved g t c =
     let cat = g.R.Relations.catalogue c.args.relations.now in
-    let items = c.deref-part-items.result.now in
-    let i = c.loop-part.part-index in
+    let items = c.args.parts.now.items in
+    let turned = in_turn c.in_ok-front.front items in
+    let i = c.loop-i.i in
+    let below : i < length items = omega (arith, c.args.parts.now.ok.0, c.len-i-end.ensures, c.loop-i-test.true) in
+    let p = c.index-part.result.now in
+    let inside : c.place_of.result < length items = subst (λ k. k < length items) (sym c.place_of.ensures.value) (place_inside (length items) c.in_ok-front.front i c.in_ok-front.ensures below) in
+    let at : p ≡ get_or turned i p = at_turn c.in_ok-front.front i items p c.in_ok-front.ensures below (subst (λ k. p ≡ get_or items k p) c.place_of.ensures.value c.index-part.ensures) in
+    let there : i < length turned = subst (λ k. i < k) (sym (in_turn-length c.in_ok-front.front items)) below in
     let holds = g.T.Theory.holds in
-    let rows : (p : Point) → all_rows_hold (map plan_form items) p ≡ true → conj_holds holds c.in_ok-rows.rows.items p ≡ true
-    = λ p r. c.in_ok-rows.ensures.rows.holds p ∙ ap (λ ps. all_rows_hold (map plan_form ps) p) (sym c.deref-part-items.ensures.value) ∙ r in
-    let within : (p : Point) → conj_holds holds c.args.window.now p ≡ true → all_rows_hold (map plan_form items) p ≡ true → conj_holds holds c.deref-in-loop-part-6.result.now p ≡ true
-    = λ p w r. ap (λ xs. conj_holds holds xs p) (c.deref-in-loop-part-6.ensures.value ∙ c.in_ok-within.ensures ∙ ap (λ xs. c.args.window.now ++ xs) c.deref.ensures.value)
-    ∙ conj_holds-append holds c.args.window.now c.in_ok-rows.rows.items p ∙ and_from _ _ w (rows p r) in (
-      subst (λ fs. IsJoined g.T.Theory.holds g.T.Theory.mentions g.T.Theory.lines (conj_holds g.T.Theory.holds c.args.window.now) cat (map plan_form items) fs c.in_ok-joined_with.field-0) (sym (parts_to items i c.part-item.result c.loop-part-test.true c.part-item.is))
-          (joined_more g.T.Theory.holds g.T.Theory.mentions g.T.Theory.lines (conj_holds g.T.Theory.holds c.args.window.now) cat (map plan_form items) (map plan_form (take i items)) (plan_form c.part-item.result) (begun c.loop-part.list) c.in_ok-joined_with.field-0
-          (conj_holds holds c.deref-in-loop-part-6.result.now) within
-          (λ s u. part_mentions items i c.part-item.result (slot s) c.loop-part-test.true c.part-item.is u) (part_lines (stored_measures cat) items i c.part-item.result c.loop-part-test.true c.part-item.is)
-          c.loop-part.invariant.0 c.in_ok-joined_with.ensures.is),
+    let rows : (q : Point) → all_rows_hold (map plan_form items) q ≡ true → conj_holds holds c.in_ok-rows.rows.items q ≡ true
+    = λ q r. c.in_ok-rows.ensures.rows.holds q ∙ r in
+    let within : (q : Point) → conj_holds holds c.args.window.now q ≡ true → all_rows_hold (map plan_form items) q ≡ true → conj_holds holds c.deref-in-loop-i-6.result.now q ≡ true
+    = λ q w r. ap (λ xs. conj_holds holds xs q) (c.deref-in-loop-i-6.ensures.value ∙ c.in_ok-within.ensures ∙ ap (λ xs. c.args.window.now ++ xs) c.deref.ensures.value)
+    ∙ conj_holds-append holds c.args.window.now c.in_ok-rows.rows.items q ∙ and_from _ _ w (rows q r) in (
+      subst (λ fs. IsJoined g.T.Theory.holds g.T.Theory.mentions g.T.Theory.lines (conj_holds g.T.Theory.holds c.args.window.now) cat (map plan_form items) fs c.in_ok-joined_with.field-0) (sym (parts_to turned i p there at))
+          (joined_more g.T.Theory.holds g.T.Theory.mentions g.T.Theory.lines (conj_holds g.T.Theory.holds c.args.window.now) cat (map plan_form items) (map plan_form (take i turned)) (plan_form p) (begun c.loop-i.list) c.in_ok-joined_with.field-0
+          (conj_holds holds c.deref-in-loop-i-6.result.now) within
+          (λ s u. part_mentions items c.place_of.result p (slot s) inside c.index-part.ensures u) (part_lines (stored_measures cat) items c.place_of.result p inside c.index-part.ensures)
+          c.loop-i.invariant.0 c.in_ok-joined_with.ensures.is),
       c.in_ok-add_all.ensures,
-      rest_atoms (IsScannable g.T.OfTuples.reads cat) items i c.loop-part-test.true c.loop-part.invariant.2,
     )
 
 pub joined-returns-in_err-joined_with-clause-wide : goal.joined-returns-in_err-joined_with-clause-wide
 joined-returns-in_err-joined_with-clause-wide g t c w =
     let M = stored_measures (g.R.Relations.catalogue c.args.relations.now) in
-    let clashes : plan_clashes M (plan_form c.part-item.result) ≡ true = c.in_err-joined_with.ensures.wide (search rules) in
-    ap (λ ps. any_clashes (plan_atom_lines M) (plan_atom_clash M) (plan_forms ps)) (sym c.deref-part-items.ensures.value)
-    ∙ part_clashes (plan_atom_lines M) (plan_atom_clash M) c.deref-part-items.result.now c.loop-part.part-index c.part-item.result c.loop-part-test.true c.part-item.is clashes
+    let items = c.args.parts.now.items in
+    let inside : c.place_of.result < length items = subst (λ k. k < length items) (sym c.place_of.ensures.value) (place_inside (length items) c.in_ok-front.front c.loop-i.i c.in_ok-front.ensures (omega (arith, c.args.parts.now.ok.0, c.len-i-end.ensures, c.loop-i-test.true))) in
+    let clashes : plan_clashes M (plan_form c.index-part.result.now) ≡ true = c.in_err-joined_with.ensures.wide (search rules) in
+    part_clashes (plan_atom_lines M) (plan_atom_clash M) items c.place_of.result c.index-part.result.now inside c.index-part.ensures clashes
 
 pub joined-returns-then-leaves_nothing-clause-is : goal.joined-returns-then-leaves_nothing-clause-is
 joined-returns-then-leaves_nothing-clause-is g t c =
     let cat = g.R.Relations.catalogue c.args.relations.now in
-    let items = c.deref-part-items.result.now in
-    let i = c.loop-part.part-index in
-    subst (IsListFor g.T.Theory.holds g.T.Theory.mentions g.T.Theory.lines (conj_holds g.T.Theory.holds c.args.window.now) cat (every_of (plan_forms c.args.parts.now.items))) (sym c.in_ok-whole.ensures)
-    (subst (λ ps. IsListFor g.T.Theory.holds g.T.Theory.mentions g.T.Theory.lines (conj_holds g.T.Theory.holds c.args.window.now) cat (every_of (plan_forms ps)) (begun c.loop-part.list)) c.deref-part-items.ensures.value
-    (joined_ends g.T.Theory.holds g.T.Theory.mentions g.T.Theory.lines (conj_holds g.T.Theory.holds c.args.window.now) cat (map plan_form items) (map plan_form (take i items)) (map plan_form (drop i items)) (begun c.loop-part.list)
-    (c.leaves_nothing.ensures c.if-leaves_nothing.true) (parts_split items i) c.loop-part.invariant.0))
+    let items = c.args.parts.now.items in
+    let i = c.loop-i.i in
+    subst (IsListFor g.T.Theory.holds g.T.Theory.mentions g.T.Theory.lines (conj_holds g.T.Theory.holds c.args.window.now) cat (every_of (plan_forms items))) (sym c.in_ok-whole.ensures)
+    (joined_ends g.T.Theory.holds g.T.Theory.mentions g.T.Theory.lines (conj_holds g.T.Theory.holds c.args.window.now) cat (map plan_form items) (map plan_form (take i (in_turn c.in_ok-front.front items))) (begun c.loop-i.list)
+    (c.leaves_nothing.ensures c.if-leaves_nothing.true) (λ p y. first_hold (PlanAtomHolds (stored cat)) p c.in_ok-front.front i items c.in_ok-front.ensures y) c.loop-i.invariant.0)
 
 pub joined-returns-clause-is : goal.joined-returns-clause-is
 joined-returns-clause-is g t c =
     let cat = g.R.Relations.catalogue c.args.relations.now in
-    let items = c.deref-part-items.result.now in
-    subst (IsListFor g.T.Theory.holds g.T.Theory.mentions g.T.Theory.lines (conj_holds g.T.Theory.holds c.args.window.now) cat (every_of (plan_forms c.args.parts.now.items))) (sym c.in_ok-whole-2.ensures)
-    (subst (λ ps. IsListFor g.T.Theory.holds g.T.Theory.mentions g.T.Theory.lines (conj_holds g.T.Theory.holds c.args.window.now) cat (every_of (plan_forms ps)) (begun c.loop-part.list)) c.deref-part-items.ensures.value
-    (joined_all g.T.Theory.holds g.T.Theory.mentions g.T.Theory.lines (conj_holds g.T.Theory.holds c.args.window.now) cat (map plan_form items) (begun c.loop-part.list)
-    (subst (λ ps. IsJoined g.T.Theory.holds g.T.Theory.mentions g.T.Theory.lines (conj_holds g.T.Theory.holds c.args.window.now) cat (map plan_form items) (map plan_form ps) (begun c.loop-part.list)) (take_all c.loop-part.part-index items c.loop-part-test.false) c.loop-part.invariant.0)))
+    let items = c.args.parts.now.items in
+    let turned = in_turn c.in_ok-front.front items in
+    let n = c.in_ok-front.front in
+    let over : length turned ≤ c.loop-i.i = omega (arith, c.args.parts.now.ok.0, in_turn-length n items, c.len-i-end.ensures, c.loop-i-test.false) in
+    subst (IsListFor g.T.Theory.holds g.T.Theory.mentions g.T.Theory.lines (conj_holds g.T.Theory.holds c.args.window.now) cat (every_of (plan_forms items))) (sym c.in_ok-whole-2.ensures)
+    (joined_all g.T.Theory.holds g.T.Theory.mentions g.T.Theory.lines (conj_holds g.T.Theory.holds c.args.window.now) cat (map plan_form items) (map plan_form turned) (begun c.loop-i.list)
+    (λ p. (λ y. subst (λ ps. SatEvery (PlanAtomHolds (stored cat)) (logics (map plan_form ps)) p) (take_all c.loop-i.i turned over) (first_hold (PlanAtomHolds (stored cat)) p n c.loop-i.i items c.in_ok-front.ensures y), λ y. all_hold (PlanAtomHolds (stored cat)) p n items c.in_ok-front.ensures y))
+    (subst (λ ps. IsJoined g.T.Theory.holds g.T.Theory.mentions g.T.Theory.lines (conj_holds g.T.Theory.holds c.args.window.now) cat (map plan_form items) (map plan_form ps) (begun c.loop-i.list)) (take_all c.loop-i.i turned over) c.loop-i.invariant.0))
+
+pub joined-joined_with-requires : goal.joined-joined_with-requires
+joined-joined_with-requires g t c κs within =
+    let items = c.args.parts.now.items in
+    let part = c.index-part.result.now in
+    let below : c.place_of.result < length items = omega (arith, c.args.parts.now.ok.0, c.len.ensures, c.place_of.ensures.inside) in
+    let scannable : IsEvaluable g.T.OfTuples.reads (g.R.Relations.catalogue c.args.relations.now) (plan_form part)
+    = part_atoms (IsScannable g.T.OfTuples.reads (g.R.Relations.catalogue c.args.relations.now)) items c.place_of.result part below c.index-part.ensures c.requires.parts in
+    let less : the_size part ≤ most the_size items = subst (λ q. the_size q ≤ most the_size items) (sym c.index-part.ensures) (at_most the_size items c.place_of.result part below) in
+    let normal : AllByRecursion g.T.Theory.normal c.deref-in-loop-i-6.result.now
+    = subst (AllByRecursion g.T.Theory.normal) (sym (c.deref-in-loop-i-6.ensures.value ∙ c.in_ok-within.ensures ∙ ap (λ xs. c.args.window.now ++ xs) c.deref.ensures.value))
+    (all-append g.T.Theory.normal c.args.window.now c.in_ok-rows.rows.items c.requires.window c.in_ok-rows.ensures.normal) in
+    (omega (arith, c.decreases, less), (search rules, (search rules, (search rules, (scannable, (normal, (search rules, (search rules, search rules))))))))
 
 pub met_with-returns-in-Some-clause-is : goal.met_with-returns-in-Some-clause-is
 met_with-returns-in-Some-clause-is g t c =

@@ -7,13 +7,14 @@ use Rattle.ded_genrel.specs.Lists.{conjs_of}
 use Rattle.ded_eval.specs.Joining.{begun, IsJoinedWith}
 use Rattle.ded_model.specs.Cell.{conj_holds}
 use Rattle.ded_eval.proofs.Evaluated.{IsListFor}
+use Rattle.ded_eval.proofs.InTurn.{in_turn}
 use Rattle.ded_eval.proofs.Joined.{IsJoined}
 use Rattle.ded_eval.proofs.evaluation.+evaluate.Given as goal
 
-abbrev pub invariant-joined-loop-part : goal.invariant-joined-loop-part
-invariant-joined-loop-part g l =
-    IsJoined g.T.Theory.holds g.T.Theory.mentions g.T.Theory.lines (conj_holds g.T.Theory.holds l.window) (g.R.Relations.catalogue l.relations) (map plan_form l.part-items) (map plan_form (take l.part-index l.part-items)) (begun l.list)
-    × AreRational l.slots.items × AllAtomsOf (IsScannable g.T.OfTuples.reads (g.R.Relations.catalogue l.relations)) (plan_forms (drop l.part-index l.part-items))
+abbrev pub invariant-joined-loop-i : goal.invariant-joined-loop-i
+invariant-joined-loop-i g l =
+    IsJoined g.T.Theory.holds g.T.Theory.mentions g.T.Theory.lines (conj_holds g.T.Theory.holds l.window) (g.R.Relations.catalogue l.relations) (map plan_form l.parts.items) (map plan_form (take l.i (in_turn l.front l.parts.items))) (begun l.list)
+    × AreRational l.slots.items
 
 abbrev pub invariant-united-loop-part : goal.invariant-united-loop-part
 invariant-united-loop-part g l =

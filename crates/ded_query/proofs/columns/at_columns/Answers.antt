@@ -14,16 +14,16 @@ use Rattle.ded_query.proofs.columns.at_columns.Goals as goal
 abbrev mentions : List Atom → Slot → Bool
 mentions t s = conj_mentions (by_kind row_mentions theme_mentions) t s
 
-pub renamed-requires-clause-one : goal.renamed-requires-clause-one
-renamed-requires-clause-one c =
+pub renamed_conj-requires-clause-one : goal.renamed_conj-requires-clause-one
+renamed_conj-requires-clause-one c =
     let ss : List Slot = c.args.slots.now in
     let map = c.deref-3.ensures.value ∙ c.in_ok-columns.ensures ∙ ap (slot_columns 0) (c.deref.ensures.value ∙ c.slots.view_is) in
     let atoms = c.deref-2.ensures.value ∙ c.tuple.view_is in
     let own : (u : Slot) → mentions c.deref-2.result.now u ≡ true → stands_in ss u ≡ true = λ u e. c.requires u (sym (c.tuples_are_conjunctions.ensures.slots c.args.tuple.now u) ∙ ap (λ (t : List Atom). mentions t u) (sym atoms) ∙ e) in
     subst (λ m. IsOneToOne m (mentions c.deref-2.result.now)) (sym map) (columns_apart ss (mentions c.deref-2.result.now) own)
 
-pub renamed-requires-clause-sorts : goal.renamed-requires-clause-sorts
-renamed-requires-clause-sorts c =
+pub renamed_conj-requires-clause-sorts : goal.renamed_conj-requires-clause-sorts
+renamed_conj-requires-clause-sorts c =
     let ss : List Slot = c.args.slots.now in
     let map = c.deref-3.ensures.value ∙ c.in_ok-columns.ensures ∙ ap (slot_columns 0) (c.deref.ensures.value ∙ c.slots.view_is) in
     let atoms = c.deref-2.ensures.value ∙ c.tuple.view_is in
