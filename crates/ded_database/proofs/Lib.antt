@@ -4,14 +4,19 @@ pub mod Closing
 mod Listing
 pub mod ListsStaying
 mod Losing
+mod LosingLines
+mod LostReading
+mod LostViews
 mod Marking
 pub mod MarksOfViews
 mod NamesOfMarks
 mod Others
+mod OwnSlots
 pub mod ReachedNames
 mod Ready
 mod Removal
 pub mod Renewal
+mod RowLines
 mod Rowless
 mod Staying
 mod Told

@@ -10,9 +10,9 @@ use Rattle.ded_model.specs.Entries.{known, entry_of, relation_in}
 use Rattle.ded_model.specs.Form.{Form, uses}
 use Rattle.ded_model.specs.Goal.{goal_mentions}
 use Rattle.ded_model.specs.Known.{IsTupleOver}
-use Rattle.ded_model.specs.Lines.{tuples_lines}
+use Rattle.ded_model.specs.Lines.{Line, tuples_lines}
 use Rattle.ded_model.specs.Made.{base}
-use Rattle.ded_model.specs.Measure.{stored_measures, measures, plan_lines}
+use Rattle.ded_model.specs.Measure.{stored_measures, measures, goal_lines, plan_lines}
 use Rattle.ded_model.specs.PlanForm.{PlanAtom, PlanForm, scan, rows}
 use Rattle.ded_model.specs.Point.{slot, Point, IsPoint}
 use Rattle.ded_model.specs.Slotted.{goal_of}
@@ -20,7 +20,7 @@ use Rattle.ded_model.specs.Uses.{plan_uses}
 use Rattle.ded_model.specs.Value.{Argument}
 use Rattle.ded_model.proofs.Bools.{or_assoc}
 use Rattle.ded_model.proofs.Growth.{plan_lines-grow}
-use Rattle.ded_model.proofs.Members.{In-split, or_split}
+use Rattle.ded_model.proofs.Members.{In-left, In-split, or_split}
 use Rattle.ded_model.proofs.Rows.{or_left, or_right}
 use Rattle.ded_algebra.specs.Evaluation.{IsEvaluable, IsAnyAtom}
 use Rattle.ded_plan.specs.Planned.{IsPlanned}
@@ -40,7 +40,7 @@ use Rattle.ded_query.proofs.Evaluable.{evaluable, scanned_same}
 use Rattle.ded_query.proofs.GivenNames.{shaped, given_lines}
 use Rattle.ded_query.proofs.Standing.{over_right, still_there, stored_there}
 use Rattle.ded_database.specs.Changes.{IsDelete}
-use Rattle.ded_database.specs.Lasting.{HasLinesOf}
+use Rattle.ded_database.specs.Lasting.{HasLinesBut, IsViewBut}
 use Rattle.ded_database.proofs.ListsStaying.{HasOthers}
 use Rattle.ded_database.proofs.Under.{all_left_over, same_name}
 use Rattle.ded_database.proofs.Beside.{IsGivenBeside, other_has, same_goal, relation_before, relation_after, entry_after, scans, columns_are, same_beside}
@@ -145,10 +145,11 @@ module _ (c d : Catalogue) (n : List ℕ) (t : List Atom) (x : IsDelete c d n t)
       pub read_after : (q : Point) → IsPoint q → GivenHolds (given_catalogue (over_relations d None rs)) plan q ↔ PlanHolds d plan q
       read_after q i = read_alike (given_catalogue (over_relations d None rs)) d plan q i (scanned_same d f (over_relations d None rs) of_after plan (scans c d n others v own hv f plan e p) there_after)
 
-      -- the list that is left is the list after
-      pub view_left : (alone : Catalogue) (list ts : List (List Atom)) → IsViewOf c v list → HasLinesOf d v list → IsRemaining alone (given_catalogue (over_relations d None rs)) plan list ts
-          → (((q : Point) → IsPoint q → IsTrue (tuples_hold list q) ↔ PlanHolds c plan q) → (q : Point) → IsPoint q → IsTrue (tuples_hold ts q) ↔ PlanHolds d plan q) → IsViewOf d v ts
-      view_left alone list ts k lasting r law =
+      -- the list that is left is the list after, but for its lines
+      pub view_left : (alone : Catalogue) (list ts : List (List Atom)) → IsViewOf c v list → IsRemaining alone (given_catalogue (over_relations d None rs)) plan list ts
+          → (((q : Point) → IsPoint q → IsTrue (tuples_hold list q) ↔ PlanHolds c plan q) → (q : Point) → IsPoint q → IsTrue (tuples_hold ts q) ↔ PlanHolds d plan q)
+          → (more : List Line) → HasLinesBut c d v more list → IsViewBut d v more ts
+      view_left alone list ts k r law more lasting =
           let goal : k.goal ≡ goal_of hv f = k.view.goal ∙ same_goal c v k.view.own own k.view.columns hv k.view.formula f k.view.entry e in
           let there = entry_after c d n others v own hv f plan e p in
           let own_view : IsViewGoal d v (goal_of hv f) = record { own = own; columns = hv; formula = f; entry = there; goal = refl } in
@@ -159,13 +160,12 @@ module _ (c d : Catalogue) (n : List ℕ) (t : List Atom) (x : IsDelete c d n t)
           record {
             goal = goal_of hv f;
             view = own_view;
-            evaluated = record {
-              holds = λ q i. (let plans = law before q i in let after = p.holds d q i in (λ s. after.1 (plans.0 s), λ s. plans.1 (after.0 s)));
-              slots = λ s i. elim (r.slots s i) [ inl j ↦ subst (λ y. goal_mentions y (slot s) ≡ true) goal (k.evaluated.slots s j) | inr j ↦ p.slots (slot s) j ];
-              lines = λ l i. elim (In-split l (tuples_lines list) (plan_lines (stored_measures (given_catalogue (over_relations d None rs))) plan) (r.lines l i)) [
-                | inl j ↦ lasting (goal_of hv f) own_view l j
-                | inr j ↦ p.lines (measures d) l (plan_lines-grow (stored_measures (given_catalogue (over_relations d None rs))) (measures d) (given_lines d (over_relations d None rs) (shaped d (over_relations d None rs) of_after)) plan l j)
-              ];
-            };
+            holds = λ q i. (let plans = law before q i in let after = p.holds d q i in (λ s. after.1 (plans.0 s), λ s. plans.1 (after.0 s)));
+            slots = λ s i. elim (r.slots s i) [ inl j ↦ subst (λ y. goal_mentions y (slot s) ≡ true) goal (k.evaluated.slots s j) | inr j ↦ p.slots (slot s) j ];
+            lines = λ l i. elim (In-split l (tuples_lines list) (plan_lines (stored_measures (given_catalogue (over_relations d None rs))) plan) (r.lines l i)) [
+              | inl j ↦ lasting (goal_of hv f) (record { own = own; columns = hv; formula = f; entry = e; goal = refl }) l j
+              | inr j ↦ In-left l (goal_lines (measures d) (goal_of hv f)) more
+                  (p.lines (measures d) l (plan_lines-grow (stored_measures (given_catalogue (over_relations d None rs))) (measures d) (given_lines d (over_relations d None rs) (shaped d (over_relations d None rs) of_after)) plan l j))
+            ];
             normal = r.normal k.normal;
           }

@@ -3,6 +3,7 @@ pub mod Closed
 pub mod Held
 pub mod Keeping
 pub mod Lasting
+pub mod Lost
 pub mod Marks
 pub mod Renewed
 pub mod State

@@ -1,31 +1,36 @@
 //! The list of a view from which a tuple that goes only takes.
-ghost use Rattle.std.specs.Prelude.{◌≡◌, true, false, [], IfOk, IsErrOf};
+ghost use Rattle.std.specs.Prelude.{◌≡◌, true, false, [], IfOk, IfSome, IsErrOf, List};
 ghost use Rattle.std.specs.List.{AllByRecursion};
 ghost use Rattle.ded_model.specs.declared.memory.Refused.TheVariants.{Wide};
-ghost use Rattle.ded_model.specs.Lines.{IsSubset, atoms_lines, tuples_lines};
+ghost use Rattle.ded_model.specs.Lines.{Line, IsSubset, atoms_lines, tuples_lines};
 ghost use Rattle.ded_model.specs.Measure.{measures};
 ghost use Rattle.ded_database.specs.Marks.{mark_adds, IsMark};
 ghost use Rattle.ded_query.specs.Gathering.{IsFront, IsViewOf};
 ghost use Rattle.ded_database.specs.Changes.{before, after, inserted_tuple, IsChange, IsDelete};
 ghost use Rattle.ded_database.specs.Held.{IsHeld};
-ghost use Rattle.ded_database.specs.Lasting.{HasLinesOf};
+ghost use Rattle.ded_database.specs.Lasting.{HasLinesBut, IsViewBut};
+ghost use Rattle.ded_database.specs.Lost.{LosesOnly, HaveNoneLost};
 
 use crate::change::Change;
 use crate::laws;
+use crate::lines::have_any;
+use crate::lost::lost_lines;
 use crate::mark::Mark;
 use crate::renewing::anew;
+use crate::unshared::unshared;
 use ded_algebra::Relations;
 use ded_eval::{Engine, Given};
 use ded_keep::remove_tuple;
-use ded_model::memory::Refused;
+use ded_model::memory::{NoMemory, Refused};
+use ded_model::row::Row;
 use ded_model::tuple::{BothAtom, Tuple, Tuples};
 use ded_plan::scanned_names;
 use ded_query::{Over, give_names};
 use std::alloc::Global;
 
-/// The list of a view after a tuple is deleted that only took part once. Where the tuples of the list have no rows, what the deleted
-/// tuple alone gave is taken off; else, and where that is too wide, the list is made anew: a row may have numbers that only the
-/// deleted tuple had. What is held is right over the catalogue as it will be, and stays as it is.
+/// The list of a view after a tuple is deleted that only took part once: without what the deleted tuple alone gave. A row of a tuple may
+/// have numbers that only the deleted tuple had. Where it has, or where that can't be told, and where a plan is too wide, the list is made
+/// anew. What is held is right over the catalogue as it will be, and stays as it is.
 ///
 /// # Errors
 /// `Wide` only where the view clashes over the catalogue as it will be, otherwise out of memory. The list is lost then.
@@ -47,13 +52,90 @@ pub(crate) fn list_without(
     ensures held { held.new ≡ held.old }
     ensures wide { IsErrOf result Wide → (measures (after change.now) mark.now.name).clash ≡ true }
 {
-    if has_rows(&list.list) {
+    let Some(lost) = losable(alloc, change, gone, mark, &list.list)? else {
         return anew(alloc, change, mark, held);
-    }
+    };
     match shortened(alloc, change, gone, mark, list, held) {
-        Ok(tuples) => Ok(tuples),
+        Ok(tuples) => settled(alloc, change, gone, mark, &lost, tuples, held),
         Err(Refused::Wide) => anew(alloc, change, mark, held),
         Err(Refused::Memory) => Err(Refused::Memory),
+    }
+}
+
+/// Lines, but for which the lines of the list are lines of the view after the delete. None where they can't be told.
+///
+/// # Errors
+/// Out of memory.
+fn losable(
+    alloc: Global,
+    change: &Change<'_, '_>,
+    gone: &Tuple,
+    mark: &Mark,
+    list: &[Tuple],
+) -> Result<Option<Vec<Row>>, NoMemory>
+    requires delete { IsDelete (before change.now) (after change.now) change.now.name.now gone.now }
+    requires mark { IsMark (before change.now) mark.now }
+    requires adds { mark_adds mark.now change.now.name.now ≡ true }
+    requires list { IsViewOf (before change.now) mark.now.name list.now }
+    ensures { IfOk result (λ o. IfSome o (λ v. HasLinesBut (before change.now) (after change.now) mark.now.name v.items list.now)) }
+{
+    if !has_rows(list) {
+        return Ok(Some(Vec::new(alloc)));
+    }
+    lost_lines(alloc, change, gone, &gone.atoms, mark)
+}
+
+/// The shortened list, where none of its rows has a line that the view loses, or else the list made anew. What is held stays as it is.
+///
+/// # Errors
+/// `Wide` only where the view clashes over the catalogue as it will be, otherwise out of memory. The list is lost then.
+fn settled(
+    alloc: Global,
+    change: &Change<'_, '_>,
+    gone: &Tuple,
+    mark: &Mark,
+    lost: &[Row],
+    tuples: Tuples,
+    held: &mut Given,
+) -> Result<Tuples, Refused>
+    requires change { IsChange (before change.now) (after change.now) change.now.name.now (inserted_tuple change.now) }
+    requires delete { IsDelete (before change.now) (after change.now) change.now.name.now gone.now }
+    requires mark { IsMark (before change.now) mark.now }
+    requires adds { mark_adds mark.now change.now.name.now ≡ true }
+    requires but { IsViewBut (after change.now) mark.now.name lost.now tuples }
+    requires loses { (more : List Line) → LosesOnly (before change.now) (after change.now) mark.now.name more → IsViewBut (after change.now) mark.now.name more tuples }
+    requires held { AllByRecursion (IsHeld (after change.now)) held.old }
+    ensures is { IfOk result (IsViewOf (after change.now) mark.now.name) }
+    ensures held { held.new ≡ held.old }
+    ensures wide { IsErrOf result Wide → (measures (after change.now) mark.now.name).clash ≡ true }
+{
+    if !have_any(&tuples.list, lost)? || have_none_lost(alloc, change, gone, mark, &tuples.list)? {
+        return Ok(tuples);
+    }
+    anew(alloc, change, mark, held)
+}
+
+/// Whether the tuples are found to have none of the lines that the view loses: lines of the deleted tuple that others of the relation
+/// have too aren't lost.
+///
+/// # Errors
+/// Out of memory.
+fn have_none_lost(
+    alloc: Global,
+    change: &Change<'_, '_>,
+    gone: &Tuple,
+    mark: &Mark,
+    tuples: &[Tuple],
+) -> Result<bool, NoMemory>
+    requires delete { IsDelete (before change.now) (after change.now) change.now.name.now gone.now }
+    requires mark { IsMark (before change.now) mark.now }
+    requires adds { mark_adds mark.now change.now.name.now ≡ true }
+    ensures { IfOk result (λ b. b ≡ true → HaveNoneLost (before change.now) (after change.now) mark.now.name tuples.now) }
+{
+    let atoms = unshared(alloc, change, gone)?;
+    match lost_lines(alloc, change, gone, &atoms, mark)? {
+        Some(lost) => Ok(!have_any(tuples, &lost)?),
+        None => Ok(false),
     }
 }
 
@@ -83,7 +165,8 @@ fn has_row(tuple: &Tuple) -> bool
 }
 
 /// The list of a view after a tuple is deleted that only took part once: the list before, without what the plan gave for the tuple
-/// alone. What is held is right over the catalogue as it will be, and stays as it is. The lines of the list stay lines of the view.
+/// alone. Its rows have lines of the view or of the list before. What is held is right over the catalogue as it will be, and stays as it
+/// is.
 ///
 /// # Errors
 /// `Wide` where a plan is too wide, otherwise out of memory. The list is lost then.
@@ -99,9 +182,8 @@ fn shortened(
     requires mark { IsMark (before change.now) mark.now }
     requires adds { mark_adds mark.now change.now.name.now ≡ true }
     requires list { IsViewOf (before change.now) mark.now.name list }
-    requires lines { HasLinesOf (after change.now) mark.now.name list }
     requires held { AllByRecursion (IsHeld (after change.now)) held.old }
-    ensures is { IfOk result (IsViewOf (after change.now) mark.now.name) }
+    ensures is { IfOk result (λ ts. (more : List Line) → HasLinesBut (before change.now) (after change.now) mark.now.name more list → IsViewBut (after change.now) mark.now.name more ts) }
     ensures held { held.new ≡ held.old }
 {
     let count = held.count();
@@ -124,9 +206,8 @@ fn shortened_over(
     requires mark { IsMark (before change.now) mark.now }
     requires adds { mark_adds mark.now change.now.name.now ≡ true }
     requires list { IsViewOf (before change.now) mark.now.name list }
-    requires lines { HasLinesOf (after change.now) mark.now.name list }
     requires held { AllByRecursion (IsHeld (after change.now)) held.old }
-    ensures is { IfOk result (IsViewOf (after change.now) mark.now.name) }
+    ensures is { IfOk result (λ ts. (more : List Line) → HasLinesBut (before change.now) (after change.now) mark.now.name more list → IsViewBut (after change.now) mark.now.name more ts) }
     ensures front { IsFront held.old held.new }
 {
     laws::nothing_beside();

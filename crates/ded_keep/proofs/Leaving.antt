@@ -2,7 +2,7 @@
 --
 -- A kept tuple that meets no lost one lies within what the plan gives after, as before is after or what is lost. Of another one only
 -- the points count at which the plan holds after.
-use Rattle.std.proofs.Common.{◌≡◌, Bool, true, false, ◌||◌, ◌&&◌, ◌⊎◌, List, [], ◌∷◌, ◌++◌, inl, inr, refl, sym, ap, ap₂, ◌∙◌, subst, true≢false, append-nil}
+use Rattle.std.proofs.Common.{◌≡◌, Bool, true, false, ◌||◌, ◌&&◌, ◌⊎◌, List, [], ◌∷◌, ◌++◌, inl, inr, refl, sym, ap, ap₂, ◌∙◌, subst, true≢false, append_assoc, append-nil}
 use Rattle.std.specs.Prelude.{◌↔◌, IsTrue}
 use Rattle.std.specs.List.{AllByRecursion}
 use Rattle.std.proofs.Math.Bool.{and-false}
@@ -19,7 +19,7 @@ use Rattle.ded_model.proofs.Rows.{or_left, or_right}
 use Rattle.ded_model.proofs.Bools.{or_assoc}
 use Rattle.ded_algebra.specs.Evaluation.{IsEvaluation, IsEvaluationWithin, IsOfBoth}
 use Rattle.ded_keep.specs.Behind.{IsPutBehind}
-use Rattle.ded_keep.specs.Remaining.{IsApart, AreApart, IsParted, AreOfBoth, IsWithin, AreLeft, IsRemaining}
+use Rattle.ded_keep.specs.Remaining.{IsApart, AreApart, IsParted, AreOfBoth, IsWithin, AreJoined, AddsWithin, AreLeft, IsRemaining}
 use Rattle.ded_keep.proofs.Appended.{tuples_hold-append, tuples_mention-append, tuples_lines-append}
 use Rattle.ded_keep.proofs.Covered.{hold-push, mention-push, lines-push, none_hold, none_mention, all-more, all-front, all-last, all-both}
 
@@ -187,6 +187,57 @@ module _ (e : Catalogue) (f : PlanForm) (t : List Atom) (found : List (List Atom
     normal = λ n. (n, tt);
   })
 
+-- ---- joined lists
+
+all-parts : (P : List Atom → Type 0) (ts us : List (List Atom)) → AllByRecursion P (ts ++ us) → AllByRecursion P ts × AllByRecursion P us
+all-parts P [] us h = (tt, h)
+all-parts P (t ∷ ts) us h = let rest = all-parts P ts us h.1 in ((h.0, rest.0), rest.1)
+
+-- what is put behind a list
+pub joined_behind : (ts us new : List (List Atom)) → IsPutBehind ts us new → AreJoined ts us new
+joined_behind ts us new b = record {
+  holds = b.holds;
+  slots = λ s h. elim (or_split _ _ (sym (ap (λ xs. tuples_mention xs s) b.is ∙ tuples_mention-append ts b.rest s) ∙ h)) [
+    | inl x ↦ or_left _ _ x
+    | inr x ↦ or_right (tuples_mention ts s) _ (b.slots s x)
+  ];
+  lines = λ l i. elim (In-split l (tuples_lines ts) (tuples_lines b.rest) (subst (In l) (ap tuples_lines b.is ∙ tuples_lines-append ts b.rest) i)) [
+    | inl x ↦ In-left l _ _ x
+    | inr x ↦ In-right l (tuples_lines ts) _ (b.lines l x)
+  ];
+  normal = λ n m. subst (AllByRecursion IsNormalTuple) (sym b.is) (all-both IsNormalTuple ts b.rest n (b.normal m));
+}
+
+-- before other tuples
+pub joined_before : (ts us new rest : List (List Atom)) → AreJoined ts us new → AreJoined (ts ++ rest) us (new ++ rest)
+joined_before ts us new rest k = record {
+  holds = λ p i.
+      tuples_hold-append new rest p ∙ ap (λ b. b || tuples_hold rest p) (k.holds p i) ∙ or_swap (tuples_hold ts p) (tuples_hold us p) (tuples_hold rest p)
+      ∙ ap (λ b. b || tuples_hold us p) (sym (tuples_hold-append ts rest p));
+  slots = λ s h. ap (λ b. b || tuples_mention us s) (tuples_mention-append ts rest s) ∙ or_swap (tuples_mention ts s) (tuples_mention rest s) (tuples_mention us s)
+      ∙ elim (or_split _ _ (sym (tuples_mention-append new rest s) ∙ h)) [
+        | inl x ↦ or_left _ _ (k.slots s x)
+        | inr x ↦ or_right (tuples_mention ts s || tuples_mention us s) _ x
+      ];
+  lines = λ l i. elim (In-split l (tuples_lines new) (tuples_lines rest) (subst (In l) (tuples_lines-append new rest) i)) [
+    | inl x ↦ elim (In-split l (tuples_lines ts) (tuples_lines us) (k.lines l x)) [
+      | inl y ↦ In-left l _ _ (subst (In l) (sym (tuples_lines-append ts rest)) (In-left l _ _ y))
+      | inr y ↦ In-right l (tuples_lines (ts ++ rest)) _ y
+    ]
+    | inr x ↦ In-left l _ _ (subst (In l) (sym (tuples_lines-append ts rest)) (In-right l (tuples_lines ts) _ x))
+  ];
+  normal = λ n m. let both = all-parts IsNormalTuple ts rest n in all-both IsNormalTuple new rest (k.normal both.0 m) both.1;
+}
+
+-- behind all
+pub joined_all : (ts us : List (List Atom)) → AreJoined ts us (ts ++ us)
+joined_all ts us = record {
+  holds = λ p i. tuples_hold-append ts us p;
+  slots = λ s h. sym (tuples_mention-append ts us s) ∙ h;
+  lines = λ l i. subst (In l) (tuples_lines-append ts us) i;
+  normal = λ n m. all-both IsNormalTuple ts us n m;
+}
+
 -- ---- what is left
 
 module _ (e : Catalogue) (f : PlanForm) (lost : List (List Atom)) where
@@ -202,7 +253,7 @@ module _ (e : Catalogue) (f : PlanForm) (lost : List (List Atom)) where
   })
 
   -- one more of the others
-  pub left_more : (done now new pieces : List (List Atom)) (t : List Atom) → IsWithin e f t pieces → IsPutBehind now pieces new → AreLeft e f lost done now → AreLeft e f lost (done ++ t ∷ []) new
+  pub left_more : (done now new pieces : List (List Atom)) (t : List Atom) → IsWithin e f t pieces → AreJoined now pieces new → AreLeft e f lost done now → AreLeft e f lost (done ++ t ∷ []) new
   left_more done now new pieces t w b k = record {
     within = λ p i h. hold-push done t p ∙ elim (or_split _ _ (sym (b.holds p i) ∙ h)) [
       | inl x ↦ or_left _ _ (k.within p i x)
@@ -216,23 +267,41 @@ module _ (e : Catalogue) (f : PlanForm) (lost : List (List Atom)) where
       | inl x ↦ or_left _ _ (k.all p i x a)
       | inr x ↦ or_right (tuples_hold now p) _ ((w.holds p i).1 (x, a))
     ];
-    slots = λ s h. elim (or_split _ _ (sym (ap (λ ts. tuples_mention ts s) b.is ∙ tuples_mention-append now b.rest s) ∙ h)) [
+    slots = λ s h. elim (or_split (tuples_mention now s) (tuples_mention pieces s) (b.slots s h)) [
       | inl x ↦ elim (k.slots s x) [ inl y ↦ inl (mention-push done t s ∙ or_left _ _ y) | inr y ↦ inr y ]
-      | inr x ↦ elim (w.slots s (b.slots s x)) [ inl y ↦ inl (mention-push done t s ∙ or_right (tuples_mention done s) _ y) | inr y ↦ inr y ]
+      | inr x ↦ elim (w.slots s x) [ inl y ↦ inl (mention-push done t s ∙ or_right (tuples_mention done s) _ y) | inr y ↦ inr y ]
     ];
-    lines = λ l i. elim (In-split l (tuples_lines now) (tuples_lines b.rest) (subst (In l) (ap tuples_lines b.is ∙ tuples_lines-append now b.rest) i)) [
+    lines = λ l i. elim (In-split l (tuples_lines now) (tuples_lines pieces) (b.lines l i)) [
       | inl x ↦ elim (In-split l (tuples_lines done) (plan_lines (stored_measures e) f) (k.lines l x)) [
         | inl y ↦ In-left l _ _ (subst (In l) (sym (lines-push done t)) (In-left l _ _ y))
         | inr y ↦ In-right l (tuples_lines (done ++ t ∷ [])) _ y
       ]
-      | inr x ↦ elim (In-split l (atoms_lines t) (plan_lines (stored_measures e) f) (w.lines l (b.lines l x))) [
+      | inr x ↦ elim (In-split l (atoms_lines t) (plan_lines (stored_measures e) f) (w.lines l x)) [
         | inl y ↦ In-left l _ _ (subst (In l) (sym (lines-push done t)) (In-right l (tuples_lines done) _ y))
         | inr y ↦ In-right l (tuples_lines (done ++ t ∷ [])) _ y
       ]
     ];
-    normal = λ n. subst (AllByRecursion IsNormalTuple) (sym b.is)
-        (all-both IsNormalTuple now b.rest (k.normal (all-front IsNormalTuple done t n)) (b.normal (w.normal (all-last IsNormalTuple done t n))));
+    normal = λ n. b.normal (k.normal (all-front IsNormalTuple done t n)) (w.normal (all-last IsNormalTuple done t n));
   }
+
+  -- the pieces put behind the list
+  pub left_put : (done list cut new : List (List Atom)) → IsPutBehind list cut new → AreLeft e f lost done (list ++ cut) → AreLeft e f lost done new
+  left_put done list cut new b k =
+      let same : (p : Point) → IsPoint p → tuples_hold new p ≡ tuples_hold (list ++ cut) p = λ p i. b.holds p i ∙ sym (tuples_hold-append list cut p) in
+      record {
+        within = λ p i h. k.within p i (sym (same p i) ∙ h);
+        right = λ p i h. k.right p i (sym (same p i) ∙ h);
+        all = λ p i h a. same p i ∙ k.all p i h a;
+        slots = λ s h. k.slots s (tuples_mention-append list cut s ∙ elim (or_split _ _ (sym (ap (λ ts. tuples_mention ts s) b.is ∙ tuples_mention-append list b.rest s) ∙ h)) [
+          | inl x ↦ or_left _ _ x
+          | inr x ↦ or_right (tuples_mention list s) _ (b.slots s x)
+        ]);
+        lines = λ l i. k.lines l (subst (In l) (sym (tuples_lines-append list cut)) (elim (In-split l (tuples_lines list) (tuples_lines b.rest) (subst (In l) (ap tuples_lines b.is ∙ tuples_lines-append list b.rest) i)) [
+          | inl x ↦ In-left l _ _ x
+          | inr x ↦ In-right l (tuples_lines list) _ (b.lines l x)
+        ]));
+        normal = λ n. let both = all-parts IsNormalTuple list cut (k.normal n) in subst (AllByRecursion IsNormalTuple) (sym b.is) (all-both IsNormalTuple list b.rest both.0 (b.normal both.1));
+      }
 
   -- of all
   pub left_all : (kept apart near ts : List (List Atom)) → IsParted lost kept apart near → AreLeft e f lost (apart ++ near) ts → AreLeft e f lost kept ts
@@ -269,3 +338,12 @@ right_after c e f kept ts k p i before after law is was = (
   ],
   λ a. k.all p i (was.1 (law.1 (inl a))) (is.1 a),
 )
+
+-- ---- one more, as it is or in pieces
+
+pub adds_whole : (e : Catalogue) (f : PlanForm) (t : List Atom) (list cut new pieces : List (List Atom)) → IsWithin e f t pieces → IsPutBehind list pieces new → AddsWithin e f t list cut new cut
+adds_whole e f t list cut new pieces w b = λ lost done k. left_more e f lost done (list ++ cut) (new ++ cut) pieces t w (joined_before list pieces new cut (joined_behind list pieces new b)) k
+
+pub adds_pieces : (e : Catalogue) (f : PlanForm) (t : List Atom) (list cut new pieces : List (List Atom)) → IsWithin e f t pieces → new ≡ cut ++ pieces → AddsWithin e f t list cut list new
+adds_pieces e f t list cut new pieces w is = λ lost done k.
+    left_more e f lost done (list ++ cut) (list ++ new) pieces t w (subst (AreJoined (list ++ cut) pieces) (append_assoc list cut pieces ∙ ap (λ us. list ++ us) (sym is)) (joined_all (list ++ cut) pieces)) k

@@ -5,3 +5,4 @@ pub mod AloneMeanings
 pub mod Appended
 pub mod Covered
 pub mod Leaving
+pub mod Unmet

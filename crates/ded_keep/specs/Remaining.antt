@@ -53,6 +53,18 @@ pub record AreLeft (e : Catalogue) (f : PlanForm) (lost kept ts : List (List Ato
   pub lines : IsSubset (tuples_lines ts) (tuples_lines kept ++ plan_lines (stored_measures e) f)
   pub normal : AllByRecursion IsNormalTuple kept → AllByRecursion IsNormalTuple ts
 
+-- the tuples of both lists: they hold where one of these does, mention only what these mention, have lines among theirs, and are normal
+-- where all of them are
+pub record AreJoined (ts us new : List (List Atom)) : Type 0 where
+  pub holds : (p : Point) → IsPoint p → tuples_hold new p ≡ (tuples_hold ts p || tuples_hold us p)
+  pub slots : (s : Slot) → tuples_mention new s ≡ true → (tuples_mention ts s || tuples_mention us s) ≡ true
+  pub lines : IsSubset (tuples_lines new) (tuples_lines ts ++ tuples_lines us)
+  pub normal : AllByRecursion IsNormalTuple ts → AllByRecursion IsNormalTuple us → AllByRecursion IsNormalTuple new
+
+-- the list and the pieces are left of kept tuples, and then, with more, of one tuple besides
+abbrev pub AddsWithin : Catalogue → PlanForm → List Atom → List (List Atom) → List (List Atom) → List (List Atom) → List (List Atom) → Type 0
+AddsWithin e f t list cut list' cut' = (lost done : List (List Atom)) → AreLeft e f lost done (list ++ cut) → AreLeft e f lost (done ++ t ∷ []) (list' ++ cut')
+
 -- the same where what is lost is what the plan gives over other relations: the tuples hold only where the kept ones do, and only where
 -- the plan does over what is given after or doesn't over those others; where the kept ones and the plan after hold, they do. They
 -- mention only slots that one of these mentions, have lines among those of both, and are normal where the kept ones are

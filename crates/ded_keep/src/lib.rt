@@ -19,6 +19,7 @@ mod behind;
 mod keeping;
 pub mod laws;
 mod removing;
+mod unlike;
 
 pub use additive::is_additive;
 pub use behind::put_behind;

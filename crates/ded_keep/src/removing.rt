@@ -10,10 +10,11 @@ ghost use Rattle.ded_model.specs.Row.{tuple_holds, tuples_hold};
 ghost use Rattle.ded_algebra.specs.Evaluation.{IsAnyAtom, IsEvaluable};
 ghost use Rattle.ded_keep.specs.Additive.{is_additive};
 ghost use Rattle.ded_keep.specs.Adding.{with_alone, IsAddition};
-ghost use Rattle.ded_keep.specs.Remaining.{IsApart, AreApart, IsParted, AreOfBoth, AddsPiece, IsWithin, AreLeft, IsRemaining};
+ghost use Rattle.ded_keep.specs.Remaining.{IsApart, AreApart, IsParted, AreOfBoth, AddsPiece, IsWithin, AddsWithin, AreLeft, IsRemaining};
 
 use crate::alone::tuples_alone;
 use crate::behind::put_behind;
+use crate::unlike::fix_other_texts;
 use ded_algebra::{Evaluate, Relations};
 use ded_model::laws::sameness::equal_tuples;
 use ded_model::memory::{NoMemory, Refused};
@@ -105,6 +106,9 @@ fn is_apart<E: Evaluate>(
     ensures { IfOk result (λ b. b ≡ true → IsApart tuple.now lost.now) }
 {
     for other in lost {
+        if fix_other_texts(&tuple.atoms, &other.atoms) {
+            continue;
+        }
         if let Some(_) = engine.meet(alloc, tuple, other)? {
             return Ok(false);
         }
@@ -112,7 +116,8 @@ fn is_apart<E: Evaluate>(
     Ok(true)
 }
 
-/// What is left of the kept tuples: those apart as they are, and of the others what the plan gives within them.
+/// What is left of the kept tuples: those apart as they are, and of the others what the plan gives within them. Those that are left as they
+/// are stand before the pieces, of which many are covered by one of them.
 ///
 /// # Errors
 /// `Wide` only where the plan clashes over the given relations, otherwise out of memory.
@@ -130,11 +135,44 @@ fn left_of<E: Evaluate, A: Relations>(
     ensures wide { IsErrOf result Wide → plan_clashes (stored_measures (A.catalogue after.now)) (plan_form plan.now) ≡ true }
 {
     let mut list = parted.apart.list;
+    let mut cut = Vec::new(alloc);
     for tuple in parted.near.list {
-        let pieces = plan_within(alloc, engine, plan, tuple, after)?;
-        put_behind(alloc, engine, &mut list, pieces)?;
+        add_within(alloc, engine, plan, tuple, after, &mut list, &mut cut)?;
     }
+    put_behind(alloc, engine, &mut list, Tuples { list: cut })?;
     Ok(Tuples { list })
+}
+
+/// Adds what the plan gives within the tuple: to the list, where that is the tuple itself, and else to the pieces.
+///
+/// # Errors
+/// `Wide` only where the plan clashes over the given relations, otherwise out of memory.
+fn add_within<E: Evaluate, A: Relations>(
+    alloc: Global,
+    engine: &E,
+    plan: &Plan,
+    tuple: Tuple,
+    after: &A,
+    list: &mut Vec<Tuple>,
+    cut: &mut Vec<Tuple>,
+) -> Result<(), Refused>
+    requires { IsEvaluable IsAnyAtom (A.catalogue after.now) (plan_form plan.now) }
+    ensures is { OnOk result (AddsWithin (A.catalogue after.now) (plan_form plan.now) tuple list.old.items cut.old.items list.new.items cut.new.items) }
+    ensures wide { IsErrOf result Wide → plan_clashes (stored_measures (A.catalogue after.now)) (plan_form plan.now) ≡ true }
+{
+    let within = plan_within(alloc, engine, plan, tuple, after)?;
+    if within.is_whole {
+        return Ok(put_behind(alloc, engine, list, within.tuples)?);
+    }
+    let mut pieces = within.tuples.list;
+    Ok(cut.append(&mut pieces)?)
+}
+
+/// What the plan gives within a tuple, and whether that is the tuple itself.
+#[derive(Drop)]
+struct Within {
+    tuples: Tuples,
+    is_whole: bool,
 }
 
 /// What the plan gives within the tuple: the tuple itself, where the plan holds wherever it does, and else its pieces.
@@ -147,17 +185,23 @@ fn plan_within<E: Evaluate, A: Relations>(
     plan: &Plan,
     tuple: Tuple,
     after: &A,
-) -> Result<Tuples, Refused>
+) -> Result<Within, Refused>
     requires { IsEvaluable IsAnyAtom (A.catalogue after.now) (plan_form plan.now) }
-    ensures is { IfOk result (IsWithin (A.catalogue after.now) (plan_form plan.now) tuple) }
+    ensures is { IfOk result (λ w. IsWithin (A.catalogue after.now) (plan_form plan.now) tuple w.tuples) }
     ensures wide { IsErrOf result Wide → plan_clashes (stored_measures (A.catalogue after.now)) (plan_form plan.now) ≡ true }
 {
     let found = engine.evaluate_within(alloc, plan, after, &tuple)?;
     let pieces = pieces_of(alloc, engine, &tuple, &found.list)?;
     if has(&pieces.list, &tuple) {
-        return Ok(single(alloc, tuple)?);
+        return Ok(Within {
+            tuples: single(alloc, tuple)?,
+            is_whole: true,
+        });
     }
-    Ok(pieces)
+    Ok(Within {
+        tuples: pieces,
+        is_whole: false,
+    })
 }
 
 /// The tuple together with each of the list, without those that hold nowhere.

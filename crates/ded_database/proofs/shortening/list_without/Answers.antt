@@ -1,6 +1,20 @@
-use Rattle.std.proofs.Common.{[], ◌∙◌, subst}
-use Rattle.ded_model.specs.Lines.{IsSubset, tuples_lines}
+use Rattle.std.proofs.Common.{Vec, Global, sym, ◌∙◌, subst}
+use Rattle.std.specs.Prelude.{IfSome}
+use Rattle.ded_model.specs.Constraint.{LinearConstraint}
+use Rattle.ded_database.specs.Changes.{before, after}
+use Rattle.ded_database.specs.Lasting.{HasLinesBut}
+use Rattle.ded_database.proofs.LostViews.{lines_but}
 use Rattle.ded_database.proofs.shortening.list_without.Goals as goal
 
-pub shortened-requires-clause-lines : goal.shortened-requires-clause-lines
-shortened-requires-clause-lines c = λ g w l i. absurd (subst (λ ts. IsSubset (tuples_lines ts) []) (c.deref.ensures.value ∙ c.list.view_is) (c.has_rows.ensures c.if-has_rows.false) l i)
+pub settled-requires-clause-but : goal.settled-requires-clause-but
+settled-requires-clause-but c =
+    let b = before c.args.change.now in
+    let d = after c.args.change.now in
+    let v = c.args.mark.now.name in
+    c.in-Ok.ensures.is c.deref-in-Ok.result.now
+    (subst (λ ls. HasLinesBut b d v ls c.args.list) (sym c.deref-in-Ok.ensures.value)
+    (subst (HasLinesBut b d v c.in-Some.lost.items) (c.deref.ensures.value ∙ c.list.view_is)
+    (subst (λ o. IfSome o (λ (w : Vec LinearConstraint Global). HasLinesBut b d v w.items c.deref.result.now)) c.in-Some.is c.in_ok-lost.ensures)))
+
+pub settled-requires-clause-loses : goal.settled-requires-clause-loses
+settled-requires-clause-loses c = λ more k. c.in-Ok.ensures.is more (lines_but (before c.args.change.now) (after c.args.change.now) c.args.mark.now.name more c.args.list c.requires.list k)

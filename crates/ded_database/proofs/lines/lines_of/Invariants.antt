@@ -1,0 +1,6 @@
+use Rattle.std.proofs.Common.{◌≡◌, take}
+use Rattle.ded_model.specs.Lines.{atoms_lines}
+use Rattle.ded_database.proofs.lines.lines_of.Given as goal
+
+abbrev pub invariant-loop-atom : goal.invariant-loop-atom
+invariant-loop-atom l = l.lines.items ≡ atoms_lines (take l.atom-index l.atoms)
