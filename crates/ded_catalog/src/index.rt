@@ -25,7 +25,7 @@ pub(crate) struct Index {
 }
 
 impl Index {
-    /// An index of no tuples, whose texts are hashed so.
+    /// An index of no tuples; `hashing` is how their texts will be hashed.
     pub(crate) fn new(alloc: Global, hashing: NameHashing) -> Index
         ensures hulls { result.hulls ≡ [] }
         ensures texts { result.texts.set.keys ≡ [] }
