@@ -7,6 +7,7 @@ ghost use Rattle.ded_syntax.specs.Symbols.{symbol, sum_sign, other_sign, slash_s
 ghost use Rattle.ded_syntax.specs.Items.{capped_of, seen, symbols, is_long_name, is_long_literal};
 
 use crate::decimal::decimal_of;
+use crate::same::is_word;
 use crate::word::word_item;
 use ded_lex::{Token, TokenKind};
 use ded_model::command::Language;
@@ -121,23 +122,23 @@ pub fn value_behind(value: u64, digits: &[u8]) -> u64
 fn sum_sign(other: Item, text: &[u8]) -> Item
     ensures { (bytes : List ℕ) → seen bytes result ≡ sum_sign (seen bytes other) text.now }
 {
-    if text == b"+".as_slice() {
+    if is_word(text, b"+") {
         Item::Plus
-    } else if text == b"-".as_slice() {
+    } else if is_word(text, b"-") {
         Item::Minus
-    } else if text == b"*".as_slice() {
+    } else if is_word(text, b"*") {
         Item::Times
-    } else if text == b"<".as_slice() {
+    } else if is_word(text, b"<") {
         Item::Relation(CompareOp::Less)
-    } else if text == b"<=".as_slice() {
+    } else if is_word(text, b"<=") {
         Item::Relation(CompareOp::LessEq)
-    } else if text == b"=".as_slice() {
+    } else if is_word(text, b"=") {
         Item::Relation(CompareOp::Equal)
-    } else if text == b"!=".as_slice() {
+    } else if is_word(text, b"!=") {
         Item::Relation(CompareOp::NotEqual)
-    } else if text == b">=".as_slice() {
+    } else if is_word(text, b">=") {
         Item::Relation(CompareOp::GreaterEq)
-    } else if text == b">".as_slice() {
+    } else if is_word(text, b">") {
         Item::Relation(CompareOp::Greater)
     } else {
         other
@@ -148,19 +149,19 @@ fn sum_sign(other: Item, text: &[u8]) -> Item
 fn other_sign(text: &[u8]) -> Item
     ensures { (bytes : List ℕ) → seen bytes result ≡ other_sign text.now }
 {
-    if text == b"(".as_slice() {
+    if is_word(text, b"(") {
         Item::Open
-    } else if text == b")".as_slice() {
+    } else if is_word(text, b")") {
         Item::Close
-    } else if text == b"{".as_slice() {
+    } else if is_word(text, b"{") {
         Item::OpenBrace
-    } else if text == b"}".as_slice() {
+    } else if is_word(text, b"}") {
         Item::CloseBrace
-    } else if text == b",".as_slice() {
+    } else if is_word(text, b",") {
         Item::Comma
-    } else if text == b":".as_slice() {
+    } else if is_word(text, b":") {
         Item::Colon
-    } else if text == b":=".as_slice() {
+    } else if is_word(text, b":=") {
         Item::Define
     } else {
         Item::Word(Keyword::Unused)
@@ -181,7 +182,7 @@ fn slash(language: Language) -> Item
 fn sign_item(text: &[u8], language: Language) -> Item
     ensures { (bytes : List ℕ) → seen bytes result ≡ sign_symbol language text.now }
 {
-    let other = if text == b"/".as_slice() {
+    let other = if is_word(text, b"/") {
         slash(language)
     } else {
         other_sign(text)

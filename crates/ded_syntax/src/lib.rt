@@ -24,6 +24,7 @@ mod item;
 mod laws;
 mod long;
 mod operand;
+mod same;
 mod scalar;
 mod side;
 mod statement;

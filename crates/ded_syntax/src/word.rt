@@ -6,6 +6,7 @@ ghost use Rattle.ded_syntax.specs.Items.{seen};
 ghost use Rattle.ded_syntax.specs.Reserved.{may_be_reserved};
 
 use crate::item::{Item, Keyword, text};
+use crate::same::is_word;
 use ded_lex::Token;
 use ded_model::command::Language;
 
@@ -13,27 +14,27 @@ use ded_model::command::Language;
 fn formula_word(other: Item, text: &[u8]) -> Item
     ensures { (bytes : List ℕ) → seen bytes result ≡ formula_word (seen bytes other) text.now }
 {
-    if text == b"and".as_slice() {
+    if is_word(text, b"and") {
         Item::Word(Keyword::And)
-    } else if text == b"or".as_slice() {
+    } else if is_word(text, b"or") {
         Item::Word(Keyword::Or)
-    } else if text == b"not".as_slice() {
+    } else if is_word(text, b"not") {
         Item::Word(Keyword::Not)
-    } else if text == b"implies".as_slice() {
+    } else if is_word(text, b"implies") {
         Item::Word(Keyword::Implies)
-    } else if text == b"exists".as_slice() {
+    } else if is_word(text, b"exists") {
         Item::Word(Keyword::Exists)
-    } else if text == b"forall".as_slice() {
+    } else if is_word(text, b"forall") {
         Item::Word(Keyword::Forall)
-    } else if text == b"true".as_slice() {
+    } else if is_word(text, b"true") {
         Item::Word(Keyword::True)
-    } else if text == b"false".as_slice() {
+    } else if is_word(text, b"false") {
         Item::Word(Keyword::False)
-    } else if text == b"closure".as_slice() {
+    } else if is_word(text, b"closure") {
         Item::Word(Keyword::Closure)
-    } else if text == b"interior".as_slice() {
+    } else if is_word(text, b"interior") {
         Item::Word(Keyword::Interior)
-    } else if text == b"text".as_slice() {
+    } else if is_word(text, b"text") {
         Item::Word(Keyword::Text)
     } else {
         other
@@ -44,31 +45,31 @@ fn formula_word(other: Item, text: &[u8]) -> Item
 fn command_word(other: Item, text: &[u8]) -> Item
     ensures { (bytes : List ℕ) → seen bytes result ≡ command_word (seen bytes other) text.now }
 {
-    if text == b"relation".as_slice() {
+    if is_word(text, b"relation") {
         Item::Word(Keyword::Relation)
-    } else if text == b"insert".as_slice() {
+    } else if is_word(text, b"insert") {
         Item::Word(Keyword::Insert)
-    } else if text == b"delete".as_slice() {
+    } else if is_word(text, b"delete") {
         Item::Word(Keyword::Delete)
-    } else if text == b"drop".as_slice() {
+    } else if is_word(text, b"drop") {
         Item::Word(Keyword::Drop)
-    } else if text == b"view".as_slice() {
+    } else if is_word(text, b"view") {
         Item::Word(Keyword::View)
-    } else if text == b"keep".as_slice() {
+    } else if is_word(text, b"keep") {
         Item::Word(Keyword::Keep)
-    } else if text == b"ask".as_slice() {
+    } else if is_word(text, b"ask") {
         Item::Word(Keyword::Ask)
-    } else if text == b"query".as_slice() {
+    } else if is_word(text, b"query") {
         Item::Word(Keyword::Query)
-    } else if text == b"show".as_slice() {
+    } else if is_word(text, b"show") {
         Item::Word(Keyword::Show)
-    } else if text == b"box".as_slice() {
+    } else if is_word(text, b"box") {
         Item::Word(Keyword::BoxOf)
-    } else if text == b"explain".as_slice() {
+    } else if is_word(text, b"explain") {
         Item::Word(Keyword::Explain)
-    } else if text == b"disjoint".as_slice() {
+    } else if is_word(text, b"disjoint") {
         Item::Word(Keyword::Disjoint)
-    } else if text == b"verify".as_slice() {
+    } else if is_word(text, b"verify") {
         Item::Word(Keyword::Verify)
     } else {
         other
@@ -79,7 +80,7 @@ fn command_word(other: Item, text: &[u8]) -> Item
 fn is_unused(text: &[u8]) -> bool
     ensures { result ≡ is_unused text.now }
 {
-    text == b"begin".as_slice() || text == b"commit".as_slice() || text == b"abort".as_slice()
+    is_word(text, b"begin") || is_word(text, b"commit") || is_word(text, b"abort")
 }
 
 /// The item of a reserved word that stands in no command, or the other item where the text isn't such a word.
@@ -117,9 +118,9 @@ fn dump(language: Language) -> Item
 fn language_word(language: Language, other: Item, text: &[u8]) -> Item
     ensures { (bytes : List ℕ) → seen bytes result ≡ language_word language (seen bytes other) text.now }
 {
-    if text == b"dedale".as_slice() {
+    if is_word(text, b"dedale") {
         dedale(language)
-    } else if text == b"dump".as_slice() {
+    } else if is_word(text, b"dump") {
         dump(language)
     } else {
         other
