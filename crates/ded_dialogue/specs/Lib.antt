@@ -4,3 +4,4 @@ pub mod Outcome
 pub mod Replies
 pub mod Runs
 pub mod Streams
+pub mod Waiting

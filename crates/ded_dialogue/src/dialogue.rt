@@ -1,10 +1,11 @@
 //! A script's statements, answered as their last bytes come.
-ghost use Rattle.std.specs.Prelude.{◌≡◌};
+ghost use Rattle.std.specs.Prelude.{◌≡◌, []};
 ghost use Rattle.ded_io.specs.Causes.{HasCause};
 ghost use Rattle.ded_session.specs.Pieces.{IsShortPiece};
 ghost use Rattle.ded_dialogue.specs.Streams.{IsReplied};
 
 use crate::answering::Answering;
+use crate::pending::{Pending, put};
 use ded_io::{Failed, Sink};
 use ded_lex::{Fed, Rest, Splitter};
 use ded_model::memory::NoMemory;
@@ -56,12 +57,17 @@ impl<A: Answering> Dialogue<A> {
     ghost use Rattle.std.specs.Prelude.{◌≡◌, ◌∷◌, [], List, ℕ, Option, IfOk, OnErr};
     ghost use Rattle.ded_io.specs.Causes.{HasCause};
     ghost use Rattle.ded_dialogue.specs.Outcome.{Concluded, Interrupted};
-    ghost use Rattle.ded_dialogue.specs.Streams.{Streamed, Grows, Breaks};
+    ghost use Rattle.ded_dialogue.specs.Streams.{Streamed, Grows, Breaks, GrowsBehind, BreaksBehind};
 
     /// Takes the next byte, and answers the statement that ends there, where one does.
-    fn feed_byte<K: Sink>(&mut self, byte: u8, sink: &mut K) -> Result<(), Failed>
-        ensures grows { IfOk result (λ _. Grows A.answers A.state self.old self.new (K.contents sink.old) (K.contents sink.new) (byte ∷ [])) }
-        ensures breaks { OnErr result (Breaks A.answers A.state self.old (K.contents sink.old) (K.contents sink.new) (byte ∷ [])) }
+    fn feed_byte<K: Sink>(
+        &mut self,
+        byte: u8,
+        pending: &mut Pending,
+        sink: &mut K,
+    ) -> Result<(), Failed>
+        ensures grows { IfOk result (λ _. GrowsBehind A.answers A.state self.old self.new (K.contents sink.old) pending.old.bytes.items (K.contents sink.new) pending.new.bytes.items (byte ∷ [])) }
+        ensures breaks { OnErr result (BreaksBehind A.answers A.state self.old (K.contents sink.old) pending.old.bytes.items (K.contents sink.new) (byte ∷ [])) }
         ensures cause { HasCause (K.faults sink.old) (K.faults sink.new) result }
     {
         match self.splitter.feed(byte) {
@@ -73,6 +79,7 @@ impl<A: Answering> Dialogue<A> {
                     piece,
                     &mut self.refused,
                     &mut self.silent,
+                    pending,
                     sink,
                 )
             }
@@ -81,12 +88,14 @@ impl<A: Answering> Dialogue<A> {
                 Piece::Long,
                 &mut self.refused,
                 &mut self.silent,
+                pending,
                 sink,
             ),
         }
     }
 
-    /// Takes the next bytes, and answers the statements that end in them.
+    /// Takes the next bytes, and answers the statements that end in them. All their replies are written when it is done; short ones go
+    /// to the sink together.
     ///
     /// # Errors
     /// `Failed` only where the sink's count of faults rose.
@@ -95,10 +104,11 @@ impl<A: Answering> Dialogue<A> {
         ensures breaks { OnErr result (Breaks A.answers A.state self.old (K.contents sink.old) (K.contents sink.new) bytes.now) }
         ensures cause { HasCause (K.faults sink.old) (K.faults sink.new) result }
     {
+        let mut pending = Pending::new();
         for byte in bytes {
-            self.feed_byte(*byte, sink)?;
+            self.feed_byte(*byte, &mut pending, sink)?;
         }
-        Ok(())
+        pending.flush(sink)
     }
 
     /// Answers the statement that the end of the script cuts, where there is one.
@@ -116,14 +126,14 @@ impl<A: Answering> Dialogue<A> {
     {
         match self.splitter.finish() {
             Rest::Blank => Ok(()),
-            Rest::Cut => answer(
+            Rest::Cut => answer_at_once(
                 &mut self.machine,
                 Piece::Cut,
                 &mut self.refused,
                 &mut self.silent,
                 sink,
             ),
-            Rest::CutLong => answer(
+            Rest::CutLong => answer_at_once(
                 &mut self.machine,
                 Piece::Long,
                 &mut self.refused,
@@ -134,8 +144,8 @@ impl<A: Answering> Dialogue<A> {
     }
 }
 
-/// Answers a piece, notes whether the reply is a refusal, and writes it unless it is one of those that aren't written.
-fn answer<A: Answering, K: Sink>(
+/// Answers a piece as [`answer`] does, with nothing that waits before it or behind it.
+fn answer_at_once<A: Answering, K: Sink>(
     machine: &mut A,
     piece: Piece<'_>,
     refused: &mut bool,
@@ -144,7 +154,27 @@ fn answer<A: Answering, K: Sink>(
 ) -> Result<(), Failed>
     requires { IsShortPiece piece }
     ensures replied { IsReplied A.answers piece.entry (A.state machine.old) (A.state machine.new) refused.old refused.new silent.old silent.new
-        (K.contents sink.old) (K.contents sink.new) result }
+        (K.contents sink.old) [] (K.contents sink.new) [] result }
+    ensures cause { HasCause (K.faults sink.old) (K.faults sink.new) result }
+{
+    let mut pending = Pending::new();
+    answer(machine, piece, refused, silent, &mut pending, sink)?;
+    pending.flush(sink)
+}
+
+/// Answers a piece, notes whether the reply is a refusal, and puts it behind those that wait, unless it is one of those that aren't
+/// written.
+fn answer<A: Answering, K: Sink>(
+    machine: &mut A,
+    piece: Piece<'_>,
+    refused: &mut bool,
+    silent: &mut u32,
+    pending: &mut Pending,
+    sink: &mut K,
+) -> Result<(), Failed>
+    requires { IsShortPiece piece }
+    ensures replied { IsReplied A.answers piece.entry (A.state machine.old) (A.state machine.new) refused.old refused.new silent.old silent.new
+        (K.contents sink.old) pending.old.bytes.items (K.contents sink.new) pending.new.bytes.items result }
     ensures cause { HasCause (K.faults sink.old) (K.faults sink.new) result }
 {
     let reply = machine.answer(piece);
@@ -153,5 +183,5 @@ fn answer<A: Answering, K: Sink>(
         *silent -= 1;
         return Ok(());
     }
-    A::write(&reply, sink)
+    put::<A, K>(&reply, pending, sink)
 }

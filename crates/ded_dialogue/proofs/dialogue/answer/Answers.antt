@@ -1,6 +1,6 @@
 use Rattle.std.proofs.Common.{◌≡◌, ◌||◌, Bool, refl, ap, arith}
 use Rattle.ded_io.specs.declared.device.Failed.{Failed}
-use Rattle.ded_dialogue.proofs.Feeding.{adds_aloud, adds_silently}
+use Rattle.ded_dialogue.proofs.Feeding.{writes_aloud, writes_silently}
 use Rattle.ded_dialogue.proofs.dialogue.answer.Goals as goal
 
 pub returns-clause-replied : goal.returns-clause-replied
@@ -11,7 +11,7 @@ returns-clause-replied g c =
       step = c.answer-reply.ensures;
       refuses = ap (λ (b : Bool). c.args.refused.now || b) c.is_refusal.ensures;
       counts = omega (arith, none);
-      written = adds_aloud _ _ _ _ _ none c.write.ensures.bytes;
+      written = writes_aloud _ _ _ _ _ _ _ none c.put.ensures.written;
     }
 
 pub returns-then-silent-gt0-clause-replied : goal.returns-then-silent-gt0-clause-replied
@@ -21,5 +21,5 @@ returns-then-silent-gt0-clause-replied g c =
       step = c.answer-reply.ensures;
       refuses = ap (λ (b : Bool). c.args.refused.now || b) c.is_refusal.ensures;
       counts = refl;
-      written = adds_silently Failed _ _ (g.A.Answering.said c.answer-reply.result) c.if-silent-gt0.true;
+      written = writes_silently Failed _ _ _ (g.A.Answering.said c.answer-reply.result) c.if-silent-gt0.true;
     }
