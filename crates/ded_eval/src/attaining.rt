@@ -8,9 +8,10 @@ ghost use Rattle.ded_theory.specs.declared.answers.Verdict.TheVariants.{Empty, I
 ghost use Rattle.ded_eval.specs.Finding.{HasValues, AreAlike, IsMetVerdict, IsConjVerdict, IsListVerdict};
 ghost use Rattle.ded_eval.specs.Reading.{atom_of};
 
+use crate::beside::put_behind;
 use crate::own_slots::{first_slot, last_slot};
 use crate::reading::{AtomRef, OfTuples};
-use ded_genrel::{GenRel, both_conjs};
+use ded_genrel::GenRel;
 use ded_model::memory::NoMemory;
 use ded_model::row::Row;
 use ded_model::slot::{Slot, Sort, stands_in};
@@ -25,15 +26,15 @@ use std::alloc::Global;
 /// Out of memory.
 pub(crate) fn list_attained<T: OfTuples>(
     alloc: Global,
-    list: &GenRel<T>,
+    list: GenRel<T>,
     atoms: &[T::Atom],
     slots: &[Slot],
 ) -> Result<Verdict, NoMemory>
     requires { AllByRecursion T.normal atoms.now }
-    ensures { IfOk result (IsListVerdict T.holds atoms.now slots.now list.now) }
+    ensures { IfOk result (IsListVerdict T.holds atoms.now slots.now list) }
 {
     let mut are_refuted = true;
-    for conj in list.list() {
+    for conj in list.conjs {
         let verdict = conj_attained::<T>(alloc, conj, atoms, slots)?;
         if is_inhabited(verdict) {
             return Ok(Verdict::Inhabited);
@@ -53,17 +54,18 @@ pub(crate) fn list_attained<T: OfTuples>(
 /// Out of memory.
 fn conj_attained<T: OfTuples>(
     alloc: Global,
-    conj: &[T::Atom],
+    conj: Vec<T::Atom>,
     atoms: &[T::Atom],
     slots: &[Slot],
 ) -> Result<Verdict, NoMemory>
-    requires conj { AllByRecursion T.normal conj.now }
+    requires conj { AllByRecursion T.normal conj.items }
     requires atoms { AllByRecursion T.normal atoms.now }
-    ensures { IfOk result (IsConjVerdict T.holds atoms.now slots.now conj.now) }
+    ensures { IfOk result (IsConjVerdict T.holds atoms.now slots.now conj.items) }
 {
+    let are_own = are_over::<T>(&conj, slots);
     match met_verdict::<T>(alloc, atoms, conj)? {
         Verdict::Empty => Ok(Verdict::Empty),
-        Verdict::Inhabited if are_over::<T>(conj, slots) => Ok(Verdict::Inhabited),
+        Verdict::Inhabited if are_own => Ok(Verdict::Inhabited),
         Verdict::Inhabited | Verdict::Unknown => Ok(Verdict::Unknown),
     }
 }
@@ -75,13 +77,13 @@ fn conj_attained<T: OfTuples>(
 fn met_verdict<T: Theory>(
     alloc: Global,
     first: &[T::Atom],
-    second: &[T::Atom],
+    second: Vec<T::Atom>,
 ) -> Result<Verdict, NoMemory>
     requires first { AllByRecursion T.normal first.now }
-    requires second { AllByRecursion T.normal second.now }
-    ensures { IfOk result (IsMetVerdict T.holds first.now second.now) }
+    requires second { AllByRecursion T.normal second.items }
+    ensures { IfOk result (IsMetVerdict T.holds first.now second.items) }
 {
-    let both = both_conjs::<T>(alloc, first, second)?;
+    let both = put_behind::<T>(alloc, first, second)?;
     T::refute(alloc, &both)
 }
 

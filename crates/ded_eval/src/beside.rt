@@ -144,3 +144,23 @@ pub(crate) fn narrowed<T: Theory>(
     }
     copy_conj::<T>(alloc, window)
 }
+
+/// The atoms, and those of the conjunction behind them.
+///
+/// # Errors
+/// Out of memory; the conjunction is lost.
+pub(crate) fn put_behind<T: Theory>(
+    alloc: Global,
+    atoms: &[T::Atom],
+    conj: Vec<T::Atom>,
+) -> Result<Vec<T::Atom>, NoMemory>
+    ensures { IfOk result (λ v. v.items ≡ atoms.now ++ conj.items) }
+{
+    if atoms.is_empty() {
+        return Ok(conj);
+    }
+    let mut conj = conj;
+    let mut both = copy_conj::<T>(alloc, atoms)?;
+    both.append(&mut conj)?;
+    Ok(both)
+}

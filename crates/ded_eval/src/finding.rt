@@ -11,11 +11,11 @@ ghost use Rattle.ded_algebra.specs.Evaluation.{IsScannable, IsScannedFrom, IsEva
 ghost use Rattle.ded_eval.specs.Finding.{IsFoundIn, IsFoundWith, AreAlike, IsPlanVerdict, IsClosedVerdict};
 
 use crate::attaining::{are_over, is_empty, is_inhabited, list_attained};
-use crate::beside::{alone, is_rows, rows_of_parts};
+use crate::beside::{alone, is_rows, put_behind, rows_of_parts};
 use crate::evaluation::rows;
 use crate::reading::OfTuples;
-use crate::scanning::first_scanned;
-use crate::tried::{is_closed, joins, others_than_rows, projects};
+use crate::scanning::{FirstTuples, first_scanned};
+use crate::tried::{Bound, is_closed, joins, others_than_rows, projects, with_slot};
 use crate::window::without_slot;
 use ded_algebra::Relations;
 use ded_genrel::{GenRel, both_conjs};
@@ -48,7 +48,7 @@ pub(crate) fn found<T: OfTuples, R: Relations>(
     requires { IsEvaluable T.reads (R.catalogue relations.now) (plan_form plan.now) }
     ensures { IfOk result (IsClosedVerdict (R.catalogue relations.now) (plan_form plan.now)) }
 {
-    if !(projects(plan) || joins(plan)) || !is_closed(alloc, plan, &[])? {
+    if !(projects(plan) || joins(plan)) || !is_closed(plan, &Bound::Nothing) {
         return Ok(Verdict::Unknown);
     }
     if !projects(plan) {
@@ -106,8 +106,7 @@ fn attained<T: OfTuples, R: Relations>(
 {
     match plan {
         Plan::Project(slot, part) => {
-            let mut inside = Vec::from_slice(alloc, slots)?;
-            inside.push(*slot)?;
+            let inside = with_slot(alloc, slots, *slot)?;
             match attained::<T, R>(alloc, part, relations, atoms, &inside)? {
                 Verdict::Empty if stands_in(slots, *slot) => Ok(Verdict::Unknown),
                 Verdict::Empty => Ok(Verdict::Empty),
@@ -145,7 +144,7 @@ fn join_attained<T: OfTuples, R: Relations>(
     if !are_over::<T>(&own, slots) {
         return Ok(Verdict::Unknown);
     }
-    let inner = both_conjs::<T>(alloc, atoms, &own)?;
+    let inner = put_behind::<T>(alloc, atoms, own)?;
     let mut found = false;
     for part in parts {
         if is_rows(part) {
@@ -184,9 +183,11 @@ fn scan_attained<T: OfTuples, R: Relations>(
     requires alike { AreAlike T.holds slots.now atoms.now }
     ensures { IfOk result (IsPlanVerdict T.holds atoms.now (R.catalogue relations.now) slots.now (atom (scan name.now columns.now))) }
 {
-    let first = first_scanned::<T, R>(alloc, name, columns, relations, atoms, NEAR)?;
-    match list_attained(alloc, &first.list, atoms, slots)? {
-        Verdict::Empty if first.is_whole => Ok(Verdict::Empty),
+    let FirstTuples { list, is_whole } = first_scanned::<T, R>(
+        alloc, name, columns, relations, atoms, NEAR,
+    )?;
+    match list_attained(alloc, list, atoms, slots)? {
+        Verdict::Empty if is_whole => Ok(Verdict::Empty),
         Verdict::Inhabited => Ok(Verdict::Inhabited),
         Verdict::Empty | Verdict::Unknown => Ok(Verdict::Unknown),
     }
@@ -210,7 +211,7 @@ fn few_attained<T: OfTuples, R: Relations>(
 {
     let mut looks = LOOKS;
     match few::<T, R>(alloc, plan, relations, atoms, &mut looks) {
-        Ok(list) => match list_attained(alloc, &list, atoms, slots)? {
+        Ok(list) => match list_attained(alloc, list, atoms, slots)? {
             Verdict::Inhabited => Ok(Verdict::Inhabited),
             Verdict::Empty | Verdict::Unknown => Ok(Verdict::Unknown),
         },

@@ -1,4 +1,6 @@
-//! Which plans are tried before they are evaluated.
+//! Which plans are tried before they are evaluated, and the slots that are projected around a part.
+ghost use Rattle.std.specs.Prelude.{◌≡◌, ◌∷◌, ◌++◌, [], IfOk};
+
 use crate::beside::is_rows;
 use ded_model::memory::NoMemory;
 use ded_model::plan::Plan;
@@ -45,35 +47,56 @@ pub(crate) fn others_than_rows(parts: &Vec<Plan>) -> usize {
     parts.iter().filter(|part| !is_rows(part)).count()
 }
 
-/// Whether each slot that the plan scans is projected in it, or one of the given ones.
-///
-/// # Errors
-/// Out of memory.
+/// The slots that are projected around a plan.
+#[derive(Clone, Copy)]
+pub(crate) enum Bound<'a> {
+    Nothing,
+    Within(Slot, &'a Bound<'a>),
+}
+
+impl<'a> Bound<'a> {
+    /// Whether the slot is one of them.
+    fn has(&self, slot: Slot) -> bool {
+        match self {
+            Bound::Nothing => false,
+            Bound::Within(own, outer) => own.is_same(slot) || outer.has(slot),
+        }
+    }
+}
+
+/// Whether each slot that the plan scans is projected in it, or around it.
 #[cycle(is_closed)]
-pub(crate) fn is_closed(alloc: Global, plan: &Plan, bound: &[Slot]) -> Result<bool, NoMemory> {
+pub(crate) fn is_closed(plan: &Plan, bound: &Bound<'_>) -> bool {
     match plan {
-        Plan::Scan(_, slots) => Ok(slots.list.iter().all(|slot| bound.contains(slot))),
-        Plan::Rows(_) => Ok(true),
-        Plan::Join(parts) | Plan::Union(parts) => are_closed(alloc, parts, bound),
-        Plan::Minus(from, taken) => {
-            Ok(is_closed(alloc, from, bound)? && is_closed(alloc, taken, bound)?)
-        }
-        Plan::Not(part) => is_closed(alloc, part, bound),
-        Plan::Project(slot, part) => {
-            let mut inside = Vec::from_slice(alloc, bound)?;
-            inside.push(*slot)?;
-            is_closed(alloc, part, &inside)
-        }
+        Plan::Scan(_, slots) => slots.list.iter().all(|slot| bound.has(*slot)),
+        Plan::Rows(_) => true,
+        Plan::Join(parts) | Plan::Union(parts) => are_closed(parts, bound),
+        Plan::Minus(from, taken) => is_closed(from, bound) && is_closed(taken, bound),
+        Plan::Not(part) => is_closed(part, bound),
+        Plan::Project(slot, part) => is_closed(part, &Bound::Within(*slot, &*bound)),
     }
 }
 
 /// Whether each slot that one of the parts scans is so.
 #[cycle(is_closed)]
-fn are_closed(alloc: Global, parts: &Vec<Plan>, bound: &[Slot]) -> Result<bool, NoMemory> {
+fn are_closed(parts: &Vec<Plan>, bound: &Bound<'_>) -> bool {
     for part in parts {
-        if !is_closed(alloc, part, bound)? {
-            return Ok(false);
+        if !is_closed(part, bound) {
+            return false;
         }
     }
-    Ok(true)
+    true
+}
+
+/// The slots, and the slot behind them.
+///
+/// # Errors
+/// Out of memory.
+pub(crate) fn with_slot(alloc: Global, slots: &[Slot], slot: Slot) -> Result<Vec<Slot>, NoMemory>
+    ensures { IfOk result (λ v. v.items ≡ slots.now ++ slot ∷ []) }
+{
+    let mut list = Vec::with_capacity(alloc, slots.len().saturating_add(1))?;
+    list.extend_from_slice(slots)?;
+    list.push(slot)?;
+    Ok(list)
 }
