@@ -28,10 +28,11 @@ use Rattle.ded_query.specs.Gathering.{IsPosed, IsEvaluated, IsViewGoal}
 use Rattle.ded_query.specs.Questions.{IsQuestion, IsAnswer}
 use Rattle.ded_query.proofs.Arguments.{byte_arguments}
 use Rattle.ded_query.proofs.Entries.{evaluated_over, evaluated_holds}
+use Rattle.ded_query.proofs.Posed.{posed_of}
 
 -- every level is at most 16
 pub question_posed : (c : Catalogue) (h : List Column) (g : GoalForm) (f : Form) → IsWellFormed c → IsQuestion c h g f → IsPosed c g 16
-question_posed c h g f w q = record { columns = h; formula = f; question = q; levels = λ n u. name_level c w n }
+question_posed c h g f w q = posed_of c h g f 16 q (λ n u. name_level c w n)
 
 -- nor is that of a name that a view uses, so the goal of a view is posed as a question is
 pub view_is_posed : (c : Catalogue) (n : List ℕ) (g : GoalForm) → IsWellFormed c → IsViewGoal c n g → IsPosed c g 16

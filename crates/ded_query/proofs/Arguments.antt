@@ -9,7 +9,7 @@ use Rattle.ded_model.specs.Value.{Argument}
 use Rattle.ded_plan.specs.Plans.{AreArguments}
 use Rattle.ded_views.specs.Same.{AreByteArguments}
 
-coordinate_value : (s : Sort) (a : Argument) → AllBytes a.1 → IsValue (argument_coordinate s a)
+pub coordinate_value : (s : Sort) (a : Argument) → AllBytes a.1 → IsValue (argument_coordinate s a)
 coordinate_value Rat a k = tt
 coordinate_value Text a k = k
 

@@ -35,6 +35,7 @@ use Rattle.ded_query.specs.Gathering.{IsGivenOf, IsGivenAs, IsPosed, IsEvaluated
 use Rattle.ded_query.specs.Questions.{IsQuestion}
 use Rattle.ded_query.specs.Windows.{column_values, IsAtColumns, IsReadable, IsNearView, IsEvaluatedWithin}
 use Rattle.ded_query.proofs.Arguments.{slots_point}
+use Rattle.ded_query.proofs.Posed.{posed_of}
 
 -- ---- headings
 
@@ -91,12 +92,9 @@ view_goal c n g e = by (entry_of c.entries n) refl e
 
 -- the goal of a view is that of an accepted formula, whose names have lesser levels
 pub view_posed : (c : Catalogue) (n : List ℕ) (g : GoalForm) (level : ℕ) → IsWellFormed c → IsViewGoal c n g → level_with (known c n) ≤ level → IsPosed c g (level - 1)
-view_posed c n g level w v l = record {
-  columns = v.columns;
-  formula = v.formula;
-  question = record { goal = v.goal; accepted = view_accepted c w n v.own v.columns v.formula v.entry };
-  levels = λ k u. let less = lesser_level c w n v.own v.columns v.formula v.entry k u in omega arith;
-}
+view_posed c n g level w v l =
+    posed_of c v.columns g v.formula (level - 1) (record { goal = v.goal; accepted = view_accepted c w n v.own v.columns v.formula v.entry })
+    (λ k u. let less = lesser_level c w n v.own v.columns v.formula v.entry k u in omega arith)
 
 -- it has at most the level that what it is made of has
 pub view_low : (c : Catalogue) (n : List ℕ) (g : GoalForm) (level : ℕ) → IsWellFormed c → IsViewGoal c n g → level_with (known c (base n)) ≤ level → level_with (known c n) ≤ level

@@ -15,15 +15,17 @@ use Rattle.ded_model.specs.Measure.{measures, goal_clashes}
 use Rattle.ded_model.specs.PlanForm.{PlanForm}
 use Rattle.ded_model.specs.Uses.{plan_uses}
 use Rattle.ded_genrel.proofs.Items.{all-push, all_weaker}
+use Rattle.ded_algebra.specs.Compiled.{ComesFrom}
 use Rattle.ded_plan.specs.Planned.{IsPlanned}
 use Rattle.ded_plan.specs.Plans.{IsScanOf}
-use Rattle.ded_plan.proofs.PlansOfFormulas.{plan_scans}
+use Rattle.ded_views.proofs.Atoms.{all_weaker as each_atom}
 use Rattle.ded_eval.specs.declared.given.GivenRelation.{GivenRelation}
 use Rattle.ded_eval.specs.Given.{has_name}
 use Rattle.ded_views.proofs.Clashing.{plan_clashing}
 use Rattle.ded_views.proofs.GoalNames.{speaks_used}
 use Rattle.ded_query.specs.Gathering.{IsGivenOf, IsGathered, IsFront, IsPosed}
 use Rattle.ded_query.specs.Over.{over_relations}
+use Rattle.ded_query.proofs.Posed.{posed_atom}
 use Rattle.ded_query.proofs.Names.{scanned_used, used_known}
 use Rattle.ded_query.proofs.Standing.{still_there}
 use Rattle.ded_views.proofs.Named.{all_named, some_named}
@@ -69,7 +71,7 @@ named_more c names i n mid new l e g h k =
 module _ (c : Catalogue) (g : GoalForm) (plan : PlanForm) (level : ℕ) (p : IsPosed c g level) (k : IsPlanned g plan) where
   -- the scans of the plan are of names that the formula uses
   pub posed_scans : AllAtoms (IsScanOf c p.formula) plan
-  posed_scans = plan_scans c p.columns p.formula plan p.question.accepted (subst (λ x. IsPlanned x plan) p.question.goal k)
+  posed_scans = each_atom (ComesFrom g) (IsScanOf c p.formula) (posed_atom c g level p) plan k.atoms
 
   pub posed_known : (names : List (List ℕ)) → ((n : List ℕ) → plan_uses n plan ≡ list_any (bytes_eq n) names) → AllByRecursion (λ n. is_some (known c (base n)) ≡ true) names
   posed_known names all = all_named (λ n. is_some (known c (base n)) ≡ true) names (λ n e. used_known (known c) p.formula n p.question.accepted.known (scanned_used c p.formula plan n posed_scans (all n ∙ e)))

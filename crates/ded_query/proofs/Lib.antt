@@ -1,12 +1,16 @@
 pub mod Answered
 pub mod Arguments
+pub mod Closings
 pub mod ColumnsRead
 pub mod Entries
 pub mod Evaluable
 pub mod Evaluations
 pub mod Gathered
 pub mod GivenNames
+pub mod MadeNames
 pub mod Names
 pub mod NearViews
+pub mod Posed
+pub mod ScanPoints
 pub mod Standing
-pub mod MadeNames
+pub mod Witnesses

@@ -238,7 +238,7 @@ module _ (c : Catalogue) (w : IsWellFormed c) (m n : List ℕ) (inner : n ≡ ba
       by r e i = clash_by c m n r e i (inner ∙ ap (base_by m) e) stored_clash
 
 -- a name that isn't made is given at a lower step than one that is
-pub lower : (l : ℕ) (a b : Bool) → a ≡ false → b ≡ true → 8 * l + (if a then 3 else 1) < 8 * l + (if b then 2 else 0)
+pub lower : (l : ℕ) (a b : Bool) → a ≡ false → b ≡ true → 9 * l + (if a then 3 else 1) < 9 * l + (if b then 2 else 0)
 lower l true b e f = absurd (true≢false e)
 lower l false true e f = omega arith
 lower l false false e f = absurd (true≢false (sym f))

@@ -21,6 +21,7 @@ use Rattle.ded_plan.specs.Planned.{IsPlanned}
 use Rattle.ded_eval.specs.declared.given.GivenRelation.{GivenRelation}
 use Rattle.ded_eval.specs.Given.{has_name}
 use Rattle.ded_views.specs.Same.{AreByteArguments}
+use Rattle.ded_query.specs.Closing.{closing}
 use Rattle.ded_query.specs.Questions.{IsQuestion}
 
 -- ---- relations
@@ -46,11 +47,15 @@ pub record IsFront (old new : List GivenRelation) : Type 0 where
 
 -- ---- goals
 
--- the goal is that of a formula over some heading that is accepted over the names, each of which that it speaks of has at most the level
+-- the goal is that of a formula over some heading that is accepted over the names, maybe with quantifiers round it. Each name that the
+-- formula speaks of has at most the level
 pub record IsPosed (c : Catalogue) (g : GoalForm) (level : ℕ) : Type 0 where
   pub columns : List Column
   pub formula : Form
-  pub question : IsQuestion c columns g formula
+  pub round : List Slot
+  pub inner : GoalForm
+  pub is : g ≡ closing round inner
+  pub question : IsQuestion c columns inner formula
   pub levels : (n : List ℕ) → speaks_of n formula ≡ true → level_with (known c n) ≤ level
 
 -- the plan is one of such a goal

@@ -1,3 +1,5 @@
+pub mod Asking
+pub mod Closing
 pub mod Columns
 pub mod Gathering
 pub mod Made

@@ -1,6 +1,6 @@
 //! What a plan scans, gathered: views as what their goals are evaluated to, as a whole or near one scan. Relations are read where they
 //! stand.
-ghost use Rattle.std.specs.Prelude.{◌≡◌, ◌≤◌, ◌||◌, true, is_some, is_none, Some, None, IfOk, IsErrOf, OnOk};
+ghost use Rattle.std.specs.Prelude.{◌≡◌, ◌≤◌, ◌||◌, true, is_some, is_none, None, IfOk, IsErrOf, OnOk};
 ghost use Rattle.std.specs.List.{AllByRecursion, list_any};
 ghost use Rattle.ded_model.specs.declared.memory.Refused.TheVariants.{Wide};
 ghost use Rattle.ded_model.specs.Entries.{known, entry_of, view_in};
@@ -19,15 +19,16 @@ ghost use Rattle.ded_query.specs.Windows.{IsEvaluatedWithin, IsGivenNear, IsNear
 
 use crate::columns::at_columns;
 use crate::made::made;
-use crate::near::{NEAR_VIEWS, add_all, near_goal, some_view};
+use crate::near::{NEAR_VIEWS, add, add_all, near_goal, some_view};
 use crate::over::Over;
 use crate::views::{held_view, view_relation};
+use crate::witness::{asked_view, truth, witnessed};
 use ded_algebra::Evaluate;
 use ded_catalog::Snapshot;
 use ded_eval::{Engine, Given, GivenRelation, reduced};
 use ded_goals::laws;
 use ded_model::goal::Goal;
-use ded_model::memory::{NoMemory, Refused};
+use ded_model::memory::Refused;
 use ded_model::name::Name;
 use ded_model::plan::Plan;
 use ded_model::tuple::{Tuple, Tuples};
@@ -66,6 +67,42 @@ pub(crate) fn evaluated(
 /// `Wide` only where each of these goals clashes, otherwise out of memory. More may be given then.
 #[cycle(evaluated)]
 pub(crate) fn evaluated_by(
+    alloc: Global,
+    snapshot: &Snapshot<'_>,
+    plan: &Plan,
+    level: u32,
+    given: &mut Given,
+) -> Result<Tuples, Refused>
+    requires posed { IsPosedPlan (snapshot_of snapshot.now) (plan_form plan.now) level }
+    requires given { AllByRecursion (IsGivenOf (snapshot_of snapshot.now)) given.old }
+    ensures is { (g : GoalForm) → IsPosed (snapshot_of snapshot.now) g level → IsPlanned g (plan_form plan.now)
+        → IfOk result (λ ts. IsEvaluated (snapshot_of snapshot.now) g ts) }
+    ensures gathered { OnOk result (IsGathered (snapshot_of snapshot.now) given.old given.new) }
+    ensures front { IsFront given.old given.new }
+    ensures wide { IsErrOf result Wide → (g : GoalForm) → IsPosed (snapshot_of snapshot.now) g level → IsPlanned g (plan_form plan.now)
+        → goal_clashes (measures (snapshot_of snapshot.now)) g ≡ true }
+{
+    let Some(name) = asked_view(snapshot, plan, given) else {
+        return evaluated_whole(alloc, snapshot, plan, level, given);
+    };
+    snapshot.formed();
+    let count = given.count();
+    match witnessed(alloc, snapshot, name, level, given) {
+        Ok(holds) => Ok(truth(alloc, holds)?),
+        Err(Refused::Wide) => {
+            given.keep_first(count);
+            evaluated_whole(alloc, snapshot, plan, level, given)
+        }
+        Err(Refused::Memory) => Err(Refused::Memory),
+    }
+}
+
+/// The same as [`evaluated_by`], by all points of the views that the plan scans.
+///
+/// # Errors
+/// As [`evaluated_by`].
+#[cycle(evaluated)]
+pub(crate) fn evaluated_whole(
     alloc: Global,
     snapshot: &Snapshot<'_>,
     plan: &Plan,
@@ -349,22 +386,4 @@ fn give_view(
     let tuples = evaluated(alloc, snapshot, goal, level - 1, given)?;
     let view = held_view(snapshot, name, reduced(alloc, tuples)?)?;
     Ok(add(snapshot, given, view)?)
-}
-
-/// Adds the relation, unless one of its name is given.
-///
-/// # Errors
-/// Out of memory; nothing is changed then.
-fn add(snapshot: &Snapshot<'_>, given: &mut Given, relation: GivenRelation) -> Result<(), NoMemory>
-    requires given { AllByRecursion (IsGivenOf (snapshot_of snapshot.now)) given.old }
-    requires of { IsGivenOf (snapshot_of snapshot.now) relation }
-    ensures gathered { OnOk result (IsGathered (snapshot_of snapshot.now) given.old given.new) }
-    ensures is { OnOk result (has_name relation.name given.new ≡ true) }
-    ensures front { IsFront given.old given.new }
-{
-    let _ = snapshot; // for its invariant
-    if given.has(&relation.name) {
-        return Ok(());
-    }
-    given.add(relation)
 }

@@ -8,6 +8,9 @@
 //! A view that several scans are of is gathered as its answer, once. One that a single scan is of is evaluated near that scan: within a
 //! tuple that holds wherever the plan asks for it. What comes of it is right there, and is taken away after the evaluation.
 //!
+//! A question that asks only whether a view has a point is asked of the view's own goal, with a quantifier for each column, so that it
+//! ends where one is found. Where that is too wide, it is asked of the whole view.
+//!
 //! The catalogue is read as a `Snapshot`: as it is, or as a change will make it. Answers of views that are held already are handed
 //! in as relations under the views' names ([`held_view`]). They are read in place of the views, without a copy, and are the same
 //! afterwards. [`give_names`] gathers views alone.
@@ -24,6 +27,7 @@ mod made;
 mod near;
 mod over;
 mod views;
+mod witness;
 
 pub use answering::{answer, give_names, is_true, planned_view, view_tuples};
 pub use over::Over;

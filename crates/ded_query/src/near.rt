@@ -1,9 +1,11 @@
 //! Views that a plan scans once: evaluated where the scan asks for them, and held beside what is given.
-ghost use Rattle.std.specs.Prelude.{◌≡◌, nat_eq, OnOk};
+ghost use Rattle.std.specs.Prelude.{◌≡◌, true, nat_eq, OnOk};
+ghost use Rattle.std.specs.List.{AllByRecursion};
 ghost use Rattle.std.specs.Option.{IfSome};
 ghost use Rattle.ded_model.specs.Goal.{goal_form};
 ghost use Rattle.ded_catalog.specs.Snapshots.{snapshot_of};
-ghost use Rattle.ded_query.specs.Gathering.{IsFront, IsViewGoal};
+ghost use Rattle.ded_eval.specs.Given.{has_name};
+ghost use Rattle.ded_query.specs.Gathering.{IsGivenOf, IsGathered, IsFront, IsViewGoal};
 ghost use Rattle.ded_query.specs.Windows.{added, scans_of};
 
 use ded_catalog::Snapshot;
@@ -76,4 +78,26 @@ pub(crate) fn add_all(given: &mut Given, relations: Vec<GivenRelation>) -> Resul
         }
     }
     Ok(())
+}
+
+/// Adds the relation, unless one of its name is given.
+///
+/// # Errors
+/// Out of memory; nothing is changed then.
+pub(crate) fn add(
+    snapshot: &Snapshot<'_>,
+    given: &mut Given,
+    relation: GivenRelation,
+) -> Result<(), NoMemory>
+    requires given { AllByRecursion (IsGivenOf (snapshot_of snapshot.now)) given.old }
+    requires of { IsGivenOf (snapshot_of snapshot.now) relation }
+    ensures gathered { OnOk result (IsGathered (snapshot_of snapshot.now) given.old given.new) }
+    ensures is { OnOk result (has_name relation.name given.new ≡ true) }
+    ensures front { IsFront given.old given.new }
+{
+    let _ = snapshot; // for its invariant
+    if given.has(&relation.name) {
+        return Ok(());
+    }
+    given.add(relation)
 }

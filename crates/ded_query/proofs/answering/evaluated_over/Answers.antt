@@ -1,14 +1,11 @@
-use Rattle.std.proofs.Common.{sym, subst}
-use Rattle.ded_model.specs.Entries.{known}
 use Rattle.ded_model.specs.Goal.{goal_form}
-use Rattle.ded_model.specs.NormalGoal.{IsNormalGoal}
 use Rattle.ded_catalog.specs.Snapshots.{snapshot_of}
+use Rattle.ded_query.proofs.Posed.{posed_normal}
 use Rattle.ded_query.proofs.answering.evaluated_over.Goals as goal
 
 pub plan-requires : goal.plan-requires
 plan-requires c =
-    let p = c.requires.posed in
-    record { normal = subst IsNormalGoal (sym p.question.goal) (c.normal_goals.ensures.accepted (known (snapshot_of c.args.snapshot.now)) p.columns p.formula p.question.accepted) }
+    record { normal = posed_normal (snapshot_of c.args.snapshot.now) (goal_form c.args.goal.now) 16 c.requires.posed c.normal_goals.ensures.accepted }
 
 pub planned_over-requires-clause-posed : goal.planned_over-requires-clause-posed
 planned_over-requires-clause-posed c = record { goal = goal_form c.args.goal.now; posed = c.requires.posed; planned = c.in_ok-plan.ensures }

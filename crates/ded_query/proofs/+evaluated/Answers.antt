@@ -1,4 +1,4 @@
-use Rattle.std.proofs.Common.{rules, ◌≡◌, ◌≤◌, ◌<◌, ◌+◌, ◌*◌, ◌∙◌, take, true, false, is_some, None, Err, List, ℕ, refl, sym, ap, subst}
+use Rattle.std.proofs.Common.{rules, ◌≡◌, ◌≤◌, ◌<◌, ◌+◌, ◌-◌, ◌*◌, ◌∙◌, take, true, false, is_some, None, Err, List, ℕ, refl, sym, ap, subst}
 use Rattle.std.specs.Prelude.{if◌then◌else◌}
 use Rattle.std.specs.List.{AllByRecursion, list_any}
 use Rattle.std.specs.Str.{bytes_eq}
@@ -9,14 +9,14 @@ use Rattle.ded_model.specs.Entries.{known}
 use Rattle.ded_model.specs.Made.{base, is_made}
 use Rattle.ded_model.specs.Goal.{goal_form}
 use Rattle.ded_model.specs.Known.{level_with}
-use Rattle.ded_model.specs.NormalGoal.{IsNormalGoal}
 use Rattle.ded_model.specs.PlanForm.{plan_form}
-use Rattle.ded_model.specs.Row.{tuple_holds}
+use Rattle.ded_model.specs.Row.{tuple_holds, tuples_hold, tuples_mention}
 use Rattle.ded_model.specs.Uses.{plan_uses}
 use Rattle.ded_catalog.specs.Snapshots.{snapshot_of}
 use Rattle.ded_complement.proofs.Cutting.{all-at}
 use Rattle.ded_eval.specs.Given.{has_name}
 use Rattle.ded_plan.specs.Scans.{IsReadWithin}
+use Rattle.ded_query.specs.Asking.{IsAskedView, IsClosedPlan}
 use Rattle.ded_query.specs.Gathering.{IsGathered, IsFront}
 use Rattle.ded_query.specs.Over.{over_relations}
 use Rattle.ded_query.proofs.Entries.{view_goal, view_posed, view_low, view_level, view_known, view_clash, near_as, relation_there}
@@ -26,32 +26,109 @@ use Rattle.ded_query.proofs.Evaluations.{evaluated_of, evaluated_inside, evaluat
 use Rattle.ded_query.proofs.Gathered.{gathered_none, gathered_more, front_none, front_more, front_kept, named_more, posed_scans, posed_known, posed_levels, posed_clash}
 use Rattle.ded_query.proofs.MadeNames.{headed_known, is_other, inner_known, inner_plain, inner_base, inner_clash, lower}
 use Rattle.ded_query.proofs.NearViews.{IsGatheredTo, posed_readable, scans_clash, right_shapes, near_agrees, near_evaluable, holds_without, whole_next, near_next}
+use Rattle.ded_query.proofs.Posed.{posed_normal}
 use Rattle.ded_query.proofs.Standing.{over_right, given_there, stored_there}
-use Rattle.ded_query.proofs.gathering.+evaluated.Goals.{gathered-in-Some+in_ok-view_near-in-Some+in_ok-push-in-Some, gathered-in-None+in_ok-give-in-None}
-use Rattle.ded_query.proofs.gathering.+evaluated.Goals as goal
+use Rattle.ded_query.proofs.Witnesses.{closed_mentions, closed_witness, closed_level, closed_posed, asked_low, asked_is, asked_within}
+use Rattle.ded_query.proofs.+evaluated.Goals.{gathering::gathered-in-Some+in_ok-view_near-in-Some+in_ok-push-in-Some, gathering::gathered-in-None+in_ok-give-in-None}
+use Rattle.ded_query.proofs.+evaluated.Goals as goal
 use Rattle.ded_views.proofs.Named.{of_named}
 
 -- ---- evaluated
 
-pub evaluated-plan-requires : goal.evaluated-plan-requires
-evaluated-plan-requires t c =
-    let p = c.requires.posed in
-    record { normal = subst IsNormalGoal (sym p.question.goal) (c.normal_goals.ensures.accepted (known (snapshot_of c.args.snapshot.now)) p.columns p.formula p.question.accepted) }
+pub gathering::evaluated-plan-requires : goal.gathering::evaluated-plan-requires
+gathering::evaluated-plan-requires t c =
+    record { normal = posed_normal (snapshot_of c.args.snapshot.now) (goal_form c.args.goal.now) c.args.level c.requires.posed c.normal_goals.ensures.accepted }
 
-pub evaluated-evaluated_by-requires : goal.evaluated-evaluated_by-requires
-evaluated-evaluated_by-requires t c =
+pub gathering::evaluated-evaluated_by-requires : goal.gathering::evaluated-evaluated_by-requires
+gathering::evaluated-evaluated_by-requires t c =
     (search rules, (record { goal = goal_form c.args.goal.now; posed = c.requires.posed; planned = c.in_ok-plan.ensures }, c.requires.given))
 
-pub evaluated-returns-clause-is : goal.evaluated-returns-clause-is
-evaluated-returns-clause-is t c = c.evaluated_by.ensures.is (goal_form c.args.goal.now) c.requires.posed c.in_ok-plan.ensures
+pub gathering::evaluated-returns-clause-is : goal.gathering::evaluated-returns-clause-is
+gathering::evaluated-returns-clause-is t c = c.evaluated_by.ensures.is (goal_form c.args.goal.now) c.requires.posed c.in_ok-plan.ensures
 
-pub evaluated-returns-clause-wide : goal.evaluated-returns-clause-wide
-evaluated-returns-clause-wide t c = λ i. c.evaluated_by.ensures.wide i (goal_form c.args.goal.now) c.requires.posed c.in_ok-plan.ensures
+pub gathering::evaluated-returns-clause-wide : goal.gathering::evaluated-returns-clause-wide
+gathering::evaluated-returns-clause-wide t c = λ i. c.evaluated_by.ensures.wide i (goal_form c.args.goal.now) c.requires.posed c.in_ok-plan.ensures
 
 -- ---- evaluated_by
 
-pub evaluated_by-give_all-requires : goal.evaluated_by-give_all-requires
-evaluated_by-give_all-requires t c =
+pub gathering::evaluated_by-witnessed-requires : goal.gathering::evaluated_by-witnessed-requires
+gathering::evaluated_by-witnessed-requires t c =
+    let cat = snapshot_of c.args.snapshot.now in
+    let plan = plan_form c.args.plan.now in
+    let q = c.requires.posed in
+    let a : IsAskedView cat plan c.in-Some.name.now = c.in-Some.ensures in
+    (search rules, (a.view, (asked_low cat c.formed.ensures q.goal plan c.args.level q.posed q.planned c.in-Some.name.now a.asking, c.requires.given)))
+
+pub gathering::evaluated_by-returns-in_ok-truth-in-Ok-clause-is : goal.gathering::evaluated_by-returns-in_ok-truth-in-Ok-clause-is
+gathering::evaluated_by-returns-in_ok-truth-in-Ok-clause-is t c = λ g p k.
+    let cat = snapshot_of c.args.snapshot.now in
+    let plan = plan_form c.args.plan.now in
+    let a : IsAskedView cat plan c.in-Some.name.now = c.in-Some.ensures in
+    asked_is cat c.formed.ensures g plan c.args.level p k c.in-Some.name.now a.asking c.in-Ok.holds c.in-Ok.ensures.is c.in_ok-truth-in-Ok.field-0 c.in_ok-truth-in-Ok.ensures
+
+-- ---- witnessed
+
+pub witness::witnessed-overflow_sub-level : goal.witness::witnessed-overflow_sub-level
+witness::witnessed-overflow_sub-level t c =
+    let cat = snapshot_of c.args.snapshot.now in
+    let x : IsClosedPlan cat c.args.name.now (plan_form c.in_ok-plan.plan) = c.in_ok-plan.ensures in
+    closed_level cat c.formed.ensures c.args.name.now x.goal c.args.level x.closed c.requires.level
+
+pub witness::witnessed-evaluated_whole-requires : goal.witness::witnessed-evaluated_whole-requires
+witness::witnessed-evaluated_whole-requires t c =
+    let cat = snapshot_of c.args.snapshot.now in
+    let n = c.args.name.now in
+    let x : IsClosedPlan cat n (plan_form c.in_ok-plan.plan) = c.in_ok-plan.ensures in
+    let above : 1 ≤ c.args.level = closed_level cat c.formed.ensures n x.goal c.args.level x.closed c.requires.level in
+    (search rules, (record { goal = x.goal; posed = closed_posed cat c.formed.ensures n x.goal c.args.level x.closed c.requires.level; planned = x.planned }, c.requires.given))
+
+pub witness::witnessed-holds_everywhere-requires : goal.witness::witnessed-holds_everywhere-requires
+witness::witnessed-holds_everywhere-requires t c =
+    let cat = snapshot_of c.args.snapshot.now in
+    let n = c.args.name.now in
+    let x : IsClosedPlan cat n (plan_form c.in_ok-plan.plan) = c.in_ok-plan.ensures in
+    let e = c.in_ok-tuples.ensures.is x.goal (closed_posed cat c.formed.ensures n x.goal c.args.level x.closed c.requires.level) x.planned in
+    record { closed = λ s. ap (λ ts. tuples_mention ts s) (c.deref.ensures.value ∙ c.tuples.view_is) ∙ closed_mentions cat c.formed.ensures n x.goal x.closed c.in_ok-tuples.tuples e s }
+
+pub witness::witnessed-returns-in_default-clause-is : goal.witness::witnessed-returns-in_default-clause-is
+witness::witnessed-returns-in_default-clause-is t c =
+    let cat = snapshot_of c.args.snapshot.now in
+    let n = c.args.name.now in
+    let x : IsClosedPlan cat n (plan_form c.in_ok-plan.plan) = c.in_ok-plan.ensures in
+    let e = c.in_ok-tuples.ensures.is x.goal (closed_posed cat c.formed.ensures n x.goal c.args.level x.closed c.requires.level) x.planned in
+    closed_witness cat n x.goal x.closed c.in_ok-tuples.tuples e c.holds_everywhere.result (λ p. ap (λ ts. tuples_hold ts p) (sym (c.deref.ensures.value ∙ c.tuples.view_is)) ∙ c.holds_everywhere.ensures p)
+
+pub witness::witnessed-overflow_sub-level-2 : goal.witness::witnessed-overflow_sub-level-2
+witness::witnessed-overflow_sub-level-2 t c =
+    let cat = snapshot_of c.args.snapshot.now in
+    let x : IsClosedPlan cat c.args.name.now (plan_form c.in_ok-plan.plan) = c.in_ok-plan.ensures in
+    closed_level cat c.formed.ensures c.args.name.now x.goal c.args.level x.closed c.requires.level
+
+pub witness::witnessed-witnessed-requires : goal.witness::witnessed-witnessed-requires
+witness::witnessed-witnessed-requires t c =
+    let cat = snapshot_of c.args.snapshot.now in
+    let n = c.args.name.now in
+    let plan = plan_form c.in_ok-plan.plan in
+    let x : IsClosedPlan cat n (plan_form c.in_ok-plan.plan) = c.in_ok-plan.ensures in
+    let a : IsAskedView cat (plan_form c.in_ok-plan.plan) c.in-Some.inner.now = c.in-Some.ensures in
+    let above : 1 ≤ c.args.level = closed_level cat c.formed.ensures n x.goal c.args.level x.closed c.requires.level in
+    let posed = closed_posed cat c.formed.ensures n x.goal c.args.level x.closed c.requires.level in
+    (search rules, (a.view, (asked_low cat c.formed.ensures x.goal plan (c.args.level - 1) posed x.planned c.in-Some.inner.now a.asking, c.requires.given)))
+
+pub witness::witnessed-returns-clause-is : goal.witness::witnessed-returns-clause-is
+witness::witnessed-returns-clause-is t c =
+    let cat = snapshot_of c.args.snapshot.now in
+    let n = c.args.name.now in
+    let plan = plan_form c.in_ok-plan.plan in
+    let x : IsClosedPlan cat n (plan_form c.in_ok-plan.plan) = c.in_ok-plan.ensures in
+    let a : IsAskedView cat (plan_form c.in_ok-plan.plan) c.in-Some.inner.now = c.in-Some.ensures in
+    let posed = closed_posed cat c.formed.ensures n x.goal c.args.level x.closed c.requires.level in
+    IfOk-weaker c.witnessed.result _ _ (λ b h. asked_within cat c.formed.ensures x.goal plan (c.args.level - 1) posed x.planned c.in-Some.inner.now a.asking b h n x.closed) c.witnessed.ensures.is
+
+-- ---- evaluated_whole
+
+pub gathering::evaluated_whole-give_all-requires : goal.gathering::evaluated_whole-give_all-requires
+gathering::evaluated_whole-give_all-requires t c =
     let cat = snapshot_of c.args.snapshot.now in
     let plan = plan_form c.args.plan.now in
     let ns = c.deref-2.result.now in
@@ -66,8 +143,8 @@ evaluated_by-give_all-requires t c =
       ),
     )
 
-pub evaluated_by-returns-in_err-give_all-clause-wide : goal.evaluated_by-returns-in_err-give_all-clause-wide
-evaluated_by-returns-in_err-give_all-clause-wide t c = λ i g q k.
+pub gathering::evaluated_whole-returns-in_err-give_all-clause-wide : goal.gathering::evaluated_whole-returns-in_err-give_all-clause-wide
+gathering::evaluated_whole-returns-in_err-give_all-clause-wide t c = λ i g q k.
     let p = err_from_is_err_and c.from_residual-in_err-give_all.result c.from_residual-in_err-give_all.ensures.1 in
     let is : c.in_err-give_all.field-0.0 ≡ Wide = cc (p.1, p.2, i) in
     let cat = snapshot_of c.args.snapshot.now in
@@ -75,8 +152,8 @@ evaluated_by-returns-in_err-give_all-clause-wide t c = λ i g q k.
     let ns = c.deref-2.result.now in
     posed_clash cat g plan c.args.level q k ns (λ n. c.in_ok-names.ensures.all n ∙ ap (list_any (bytes_eq n)) (sym c.deref-2.ensures.value)) (c.in_err-give_all.ensures.wide (ap Err is))
 
-pub evaluated_by-evaluate-requires : goal.evaluated_by-evaluate-requires
-evaluated_by-evaluate-requires t c =
+pub gathering::evaluated_whole-evaluate-requires : goal.gathering::evaluated_whole-evaluate-requires
+gathering::evaluated_whole-evaluate-requires t c =
     let cat = snapshot_of c.args.snapshot.now in
     let plan = plan_form c.args.plan.now in
     let ns = c.deref-2.result.now in
@@ -86,8 +163,8 @@ evaluated_by-evaluate-requires t c =
     (posed_scans cat c.requires.posed.goal plan c.args.level c.requires.posed.posed c.requires.posed.planned)
     (λ n u. of_named (λ m. has_name m rs ≡ true) ns n c.in_ok-give_all.ensures.all (sym (c.in_ok-names.ensures.all n ∙ ap (list_any (bytes_eq n)) (sym c.deref-2.ensures.value)) ∙ u))
 
-pub evaluated_by-returns-clause-is : goal.evaluated_by-returns-clause-is
-evaluated_by-returns-clause-is t c = λ g p k.
+pub gathering::evaluated_whole-returns-clause-is : goal.gathering::evaluated_whole-returns-clause-is
+gathering::evaluated_whole-returns-clause-is t c = λ g p k.
     let cat = snapshot_of c.args.snapshot.now in
     let plan = plan_form c.args.plan.now in
     let ns = c.deref-2.result.now in
@@ -98,16 +175,16 @@ evaluated_by-returns-clause-is t c = λ g p k.
     IfOk-weaker c.evaluate.result _ _
     (λ ts e. evaluated_of cat g plan rs (over_right cat None gs c.formed.ensures c.in_ok-give_all.ensures.gathered.of) k p.formula (posed_scans cat g plan c.args.level p k) ts uses e) c.evaluate.ensures.is
 
-pub evaluated_by-returns-clause-wide : goal.evaluated_by-returns-clause-wide
-evaluated_by-returns-clause-wide t c = λ i g p k.
+pub gathering::evaluated_whole-returns-clause-wide : goal.gathering::evaluated_whole-returns-clause-wide
+gathering::evaluated_whole-returns-clause-wide t c = λ i g p k.
     let cat = snapshot_of c.args.snapshot.now in
     let gs = c.give_all.new.given in
     clash_of_goal cat g (plan_form c.args.plan.now) (over_relations cat None gs) (shaped cat (over_relations cat None gs) (over_right cat None gs c.formed.ensures c.in_ok-give_all.ensures.gathered.of)) k (c.evaluate.ensures.wide i)
 
 -- ---- evaluated_near
 
-pub evaluated_near-gathered-requires : goal.evaluated_near-gathered-requires
-evaluated_near-gathered-requires t c =
+pub gathering::evaluated_near-gathered-requires : goal.gathering::evaluated_near-gathered-requires
+gathering::evaluated_near-gathered-requires t c =
     let cat = snapshot_of c.args.snapshot.now in
     let plan = plan_form c.args.plan.now in
     let q = c.requires.posed in
@@ -115,8 +192,8 @@ evaluated_near-gathered-requires t c =
     let r : IsReadWithin plan c.new.result.items ss = subst (IsReadWithin plan c.new.result.items) (sym c.deref.ensures.value) c.in_ok-scans.ensures in
     (search rules, (posed_readable cat q.goal plan c.args.level q.posed q.planned c.new.result.items ss r, c.requires.given))
 
-pub evaluated_near-returns-in_err-near-clause-wide : goal.evaluated_near-returns-in_err-near-clause-wide
-evaluated_near-returns-in_err-near-clause-wide t c = λ i g p k.
+pub gathering::evaluated_near-returns-in_err-near-clause-wide : goal.gathering::evaluated_near-returns-in_err-near-clause-wide
+gathering::evaluated_near-returns-in_err-near-clause-wide t c = λ i g p k.
     let cat = snapshot_of c.args.snapshot.now in
     let plan = plan_form c.args.plan.now in
     let q = c.requires.posed in
@@ -126,11 +203,11 @@ evaluated_near-returns-in_err-near-clause-wide t c = λ i g p k.
     let is : c.in_err-near.field-0.0 ≡ Wide = cc (e.1, e.2, i) in
     scans_clash cat g plan c.args.level p k c.new.result.items ss r (c.in_err-near.ensures.wide (ap Err is))
 
-pub evaluated_near-returns-in_err-add_all-clause-front : goal.evaluated_near-returns-in_err-add_all-clause-front
-evaluated_near-returns-in_err-add_all-clause-front t c = front_more c.args.given.now _ c.add_all.new.given c.in_ok-near.ensures.front c.in_err-add_all.ensures.front
+pub gathering::evaluated_near-returns-in_err-add_all-clause-front : goal.gathering::evaluated_near-returns-in_err-add_all-clause-front
+gathering::evaluated_near-returns-in_err-add_all-clause-front t c = front_more c.args.given.now _ c.add_all.new.given c.in_ok-near.ensures.front c.in_err-add_all.ensures.front
 
-pub evaluated_near-evaluate-tuples-requires : goal.evaluated_near-evaluate-tuples-requires
-evaluated_near-evaluate-tuples-requires t c =
+pub gathering::evaluated_near-evaluate-tuples-requires : goal.gathering::evaluated_near-evaluate-tuples-requires
+gathering::evaluated_near-evaluate-tuples-requires t c =
     let cat = snapshot_of c.args.snapshot.now in
     let plan = plan_form c.args.plan.now in
     let q = c.requires.posed in
@@ -138,8 +215,8 @@ evaluated_near-evaluate-tuples-requires t c =
     let r : IsReadWithin plan c.new.result.items ss = subst (IsReadWithin plan c.new.result.items) (sym c.deref.ensures.value) c.in_ok-scans.ensures in
     near_evaluable cat q.goal plan c.args.level q.posed q.planned c.new.result.items ss r _ c.in_ok-near.near.items c.add_all.new.given c.in_ok-add_all.ensures.all c.formed.ensures c.in_ok-near.ensures.gathered.of c.in_ok-near.ensures.near c.in_ok-near.ensures.all
 
-pub evaluated_near-returns-clause-is : goal.evaluated_near-returns-clause-is
-evaluated_near-returns-clause-is t c = λ g p k.
+pub gathering::evaluated_near-returns-clause-is : goal.gathering::evaluated_near-returns-clause-is
+gathering::evaluated_near-returns-clause-is t c = λ g p k.
     let cat = snapshot_of c.args.snapshot.now in
     let plan = plan_form c.args.plan.now in
     let q = c.requires.posed in
@@ -147,15 +224,15 @@ evaluated_near-returns-clause-is t c = λ g p k.
     let r : IsReadWithin plan c.new.result.items ss = subst (IsReadWithin plan c.new.result.items) (sym c.deref.ensures.value) c.in_ok-scans.ensures in
     IfOk-weaker c.evaluate-tuples.result _ _ (λ us e. evaluated_everywhere cat g us (evaluated_inside cat g plan (over_relations cat None c.add_all.new.given) (right_shapes cat q.goal plan c.args.level q.posed q.planned c.new.result.items ss r _ c.in_ok-near.near.items c.add_all.new.given c.in_ok-add_all.ensures.all c.formed.ensures c.in_ok-near.ensures.gathered.of c.in_ok-near.ensures.near c.in_ok-near.ensures.all) k c.new.result.items (λ x. true) ss us r (near_agrees cat q.goal plan c.args.level q.posed q.planned c.new.result.items ss r _ c.in_ok-near.near.items c.add_all.new.given c.in_ok-add_all.ensures.all c.formed.ensures c.in_ok-near.ensures.gathered.of c.in_ok-near.ensures.near c.in_ok-near.ensures.all) (λ x w. holds_without c.new.result.items c.new.ensures.items x) e)) c.evaluate-tuples.ensures.is
 
-pub evaluated_near-returns-clause-gathered : goal.evaluated_near-returns-clause-gathered
-evaluated_near-returns-clause-gathered t c =
+pub gathering::evaluated_near-returns-clause-gathered : goal.gathering::evaluated_near-returns-clause-gathered
+gathering::evaluated_near-returns-clause-gathered t c =
     IfOk-weaker c.evaluate-tuples.result _ _ (λ us e. subst (IsGathered (snapshot_of c.args.snapshot.now) c.args.given.now) (sym (c.keep_first.ensures ∙ ap (λ k. take k c.add_all.new.given) c.count-count.ensures ∙ front_kept _ c.add_all.new.given c.in_ok-add_all.ensures.front)) c.in_ok-near.ensures.gathered) c.evaluate-tuples.ensures.is
 
-pub evaluated_near-returns-clause-front : goal.evaluated_near-returns-clause-front
-evaluated_near-returns-clause-front t c = subst (IsFront c.args.given.now) (sym (c.keep_first.ensures ∙ ap (λ k. take k c.add_all.new.given) c.count-count.ensures ∙ front_kept _ c.add_all.new.given c.in_ok-add_all.ensures.front)) c.in_ok-near.ensures.front
+pub gathering::evaluated_near-returns-clause-front : goal.gathering::evaluated_near-returns-clause-front
+gathering::evaluated_near-returns-clause-front t c = subst (IsFront c.args.given.now) (sym (c.keep_first.ensures ∙ ap (λ k. take k c.add_all.new.given) c.count-count.ensures ∙ front_kept _ c.add_all.new.given c.in_ok-add_all.ensures.front)) c.in_ok-near.ensures.front
 
-pub evaluated_near-returns-clause-wide : goal.evaluated_near-returns-clause-wide
-evaluated_near-returns-clause-wide t c = λ i g p k.
+pub gathering::evaluated_near-returns-clause-wide : goal.gathering::evaluated_near-returns-clause-wide
+gathering::evaluated_near-returns-clause-wide t c = λ i g p k.
     let cat = snapshot_of c.args.snapshot.now in
     let plan = plan_form c.args.plan.now in
     let q = c.requires.posed in
@@ -165,8 +242,8 @@ evaluated_near-returns-clause-wide t c = λ i g p k.
 
 -- ---- evaluated_within
 
-pub evaluated_within-gathered-requires : goal.evaluated_within-gathered-requires
-evaluated_within-gathered-requires t c =
+pub gathering::evaluated_within-gathered-requires : goal.gathering::evaluated_within-gathered-requires
+gathering::evaluated_within-gathered-requires t c =
     let cat = snapshot_of c.args.snapshot.now in
     let plan = plan_form c.args.plan.now in
     let q = c.requires.posed in
@@ -174,8 +251,8 @@ evaluated_within-gathered-requires t c =
     let r : IsReadWithin plan c.args.within.now ss = subst (IsReadWithin plan c.args.within.now) (sym c.deref.ensures.value) c.in_ok-scans.ensures in
     (search rules, (posed_readable cat q.goal plan c.args.level q.posed q.planned c.args.within.now ss r, c.requires.given))
 
-pub evaluated_within-returns-in_err-near-clause-wide : goal.evaluated_within-returns-in_err-near-clause-wide
-evaluated_within-returns-in_err-near-clause-wide t c = λ i g p k.
+pub gathering::evaluated_within-returns-in_err-near-clause-wide : goal.gathering::evaluated_within-returns-in_err-near-clause-wide
+gathering::evaluated_within-returns-in_err-near-clause-wide t c = λ i g p k.
     let cat = snapshot_of c.args.snapshot.now in
     let plan = plan_form c.args.plan.now in
     let q = c.requires.posed in
@@ -185,11 +262,11 @@ evaluated_within-returns-in_err-near-clause-wide t c = λ i g p k.
     let is : c.in_err-near.field-0.0 ≡ Wide = cc (e.1, e.2, i) in
     scans_clash cat g plan c.args.level p k c.args.within.now ss r (c.in_err-near.ensures.wide (ap Err is))
 
-pub evaluated_within-returns-in_err-add_all-clause-front : goal.evaluated_within-returns-in_err-add_all-clause-front
-evaluated_within-returns-in_err-add_all-clause-front t c = front_more c.args.given.now _ c.add_all.new.given c.in_ok-near.ensures.front c.in_err-add_all.ensures.front
+pub gathering::evaluated_within-returns-in_err-add_all-clause-front : goal.gathering::evaluated_within-returns-in_err-add_all-clause-front
+gathering::evaluated_within-returns-in_err-add_all-clause-front t c = front_more c.args.given.now _ c.add_all.new.given c.in_ok-near.ensures.front c.in_err-add_all.ensures.front
 
-pub evaluated_within-evaluate_within-tuples-requires : goal.evaluated_within-evaluate_within-tuples-requires
-evaluated_within-evaluate_within-tuples-requires t c =
+pub gathering::evaluated_within-evaluate_within-tuples-requires : goal.gathering::evaluated_within-evaluate_within-tuples-requires
+gathering::evaluated_within-evaluate_within-tuples-requires t c =
     let cat = snapshot_of c.args.snapshot.now in
     let plan = plan_form c.args.plan.now in
     let q = c.requires.posed in
@@ -197,8 +274,8 @@ evaluated_within-evaluate_within-tuples-requires t c =
     let r : IsReadWithin plan c.args.within.now ss = subst (IsReadWithin plan c.args.within.now) (sym c.deref.ensures.value) c.in_ok-scans.ensures in
     near_evaluable cat q.goal plan c.args.level q.posed q.planned c.args.within.now ss r _ c.in_ok-near.near.items c.add_all.new.given c.in_ok-add_all.ensures.all c.formed.ensures c.in_ok-near.ensures.gathered.of c.in_ok-near.ensures.near c.in_ok-near.ensures.all
 
-pub evaluated_within-returns-clause-is : goal.evaluated_within-returns-clause-is
-evaluated_within-returns-clause-is t c = λ g p k.
+pub gathering::evaluated_within-returns-clause-is : goal.gathering::evaluated_within-returns-clause-is
+gathering::evaluated_within-returns-clause-is t c = λ g p k.
     let cat = snapshot_of c.args.snapshot.now in
     let plan = plan_form c.args.plan.now in
     let q = c.requires.posed in
@@ -206,15 +283,15 @@ evaluated_within-returns-clause-is t c = λ g p k.
     let r : IsReadWithin plan c.args.within.now ss = subst (IsReadWithin plan c.args.within.now) (sym c.deref.ensures.value) c.in_ok-scans.ensures in
     IfOk-weaker c.evaluate_within-tuples.result _ _ (λ us e. evaluated_inside cat g plan (over_relations cat None c.add_all.new.given) (right_shapes cat q.goal plan c.args.level q.posed q.planned c.args.within.now ss r _ c.in_ok-near.near.items c.add_all.new.given c.in_ok-add_all.ensures.all c.formed.ensures c.in_ok-near.ensures.gathered.of c.in_ok-near.ensures.near c.in_ok-near.ensures.all) k c.args.within.now (tuple_holds c.args.within.now) ss us r (near_agrees cat q.goal plan c.args.level q.posed q.planned c.args.within.now ss r _ c.in_ok-near.near.items c.add_all.new.given c.in_ok-add_all.ensures.all c.formed.ensures c.in_ok-near.ensures.gathered.of c.in_ok-near.ensures.near c.in_ok-near.ensures.all) (λ x w. w) e) c.evaluate_within-tuples.ensures.is
 
-pub evaluated_within-returns-clause-gathered : goal.evaluated_within-returns-clause-gathered
-evaluated_within-returns-clause-gathered t c =
+pub gathering::evaluated_within-returns-clause-gathered : goal.gathering::evaluated_within-returns-clause-gathered
+gathering::evaluated_within-returns-clause-gathered t c =
     IfOk-weaker c.evaluate_within-tuples.result _ _ (λ us e. subst (IsGathered (snapshot_of c.args.snapshot.now) c.args.given.now) (sym (c.keep_first.ensures ∙ ap (λ k. take k c.add_all.new.given) c.count-count.ensures ∙ front_kept _ c.add_all.new.given c.in_ok-add_all.ensures.front)) c.in_ok-near.ensures.gathered) c.evaluate_within-tuples.ensures.is
 
-pub evaluated_within-returns-clause-front : goal.evaluated_within-returns-clause-front
-evaluated_within-returns-clause-front t c = subst (IsFront c.args.given.now) (sym (c.keep_first.ensures ∙ ap (λ k. take k c.add_all.new.given) c.count-count.ensures ∙ front_kept _ c.add_all.new.given c.in_ok-add_all.ensures.front)) c.in_ok-near.ensures.front
+pub gathering::evaluated_within-returns-clause-front : goal.gathering::evaluated_within-returns-clause-front
+gathering::evaluated_within-returns-clause-front t c = subst (IsFront c.args.given.now) (sym (c.keep_first.ensures ∙ ap (λ k. take k c.add_all.new.given) c.count-count.ensures ∙ front_kept _ c.add_all.new.given c.in_ok-add_all.ensures.front)) c.in_ok-near.ensures.front
 
-pub evaluated_within-returns-clause-wide : goal.evaluated_within-returns-clause-wide
-evaluated_within-returns-clause-wide t c = λ i g p k.
+pub gathering::evaluated_within-returns-clause-wide : goal.gathering::evaluated_within-returns-clause-wide
+gathering::evaluated_within-returns-clause-wide t c = λ i g p k.
     let cat = snapshot_of c.args.snapshot.now in
     let plan = plan_form c.args.plan.now in
     let q = c.requires.posed in
@@ -224,18 +301,18 @@ evaluated_within-returns-clause-wide t c = λ i g p k.
 
 -- ---- gathered
 
-pub gathered-loop-scan-preserved : goal.gathered-loop-scan-preserved
-gathered-loop-scan-preserved t c =
+pub gathering::gathered-loop-scan-preserved : goal.gathering::gathered-loop-scan-preserved
+gathering::gathered-loop-scan-preserved t c =
     let cat = snapshot_of c.args.snapshot.now in
     let ss = c.args.scans.now in
     let old = c.args.given.now in
     let next = c.loop-scan.scan-index + 1 in
     elim c.match-near_goal.branch [
-      | gathered-in-Some+in_ok-view_near-in-Some+in_ok-push-in-Some w ↦ subst (λ gs. IsGatheredTo cat ss old next gs c.match-near_goal.near.items) (sym w.given-is)
+      | gathering::gathered-in-Some+in_ok-view_near-in-Some+in_ok-push-in-Some w ↦ subst (λ gs. IsGatheredTo cat ss old next gs c.match-near_goal.near.items) (sym w.given-is)
           (subst (λ xs. IsGatheredTo cat ss old next w.view_near.new.given xs) (sym (ap (λ v. v.items) w.near-is ∙ w.in_ok-push-in-Some.ensures.items))
           (near_next cat ss old c.loop-scan.scan-index c.scan-item.result c.loop-scan-test.true c.scan-item.is c.loop-scan.given w.view_near.new.given c.loop-scan.near.items c.loop-scan.invariant w.in_ok-view_near-in-Some.ensures.gathered w.in_ok-view_near-in-Some.ensures.front
           w.in_ok-view_near-in-Some.field-0 w.in_ok-view_near-in-Some.ensures.is w.in-Some.ensures.once))
-      | gathered-in-None+in_ok-give-in-None w ↦ subst (λ gs. IsGatheredTo cat ss old next gs c.match-near_goal.near.items) (sym w.given-is)
+      | gathering::gathered-in-None+in_ok-give-in-None w ↦ subst (λ gs. IsGatheredTo cat ss old next gs c.match-near_goal.near.items) (sym w.given-is)
           (subst (λ xs. IsGatheredTo cat ss old next w.give.new.given xs) (sym (ap (λ v. v.items) w.near-is))
           (whole_next cat ss old c.loop-scan.scan-index c.scan-item.result c.loop-scan-test.true c.scan-item.is c.loop-scan.given w.give.new.given c.loop-scan.near.items c.loop-scan.invariant w.in_ok-give-in-None.ensures.gathered w.in_ok-give-in-None.ensures.front
           w.in_ok-give-in-None.ensures.is))
@@ -243,25 +320,25 @@ gathered-loop-scan-preserved t c =
 
 -- ---- view_near
 
-pub view_near-plan-requires : goal.view_near-plan-requires
-view_near-plan-requires t c =
+pub gathering::view_near-plan-requires : goal.gathering::view_near-plan-requires
+gathering::view_near-plan-requires t c =
     let cat = snapshot_of c.args.snapshot.now in
     let n = c.args.scan.now.name in
     let g = goal_form c.args.goal.now in
     let low = view_low cat n g c.args.level c.formed.ensures c.requires.view c.requires.readable.level in
     let p = view_posed cat n g c.args.level c.formed.ensures c.requires.view low in
-    record { normal = subst IsNormalGoal (sym p.question.goal) (c.normal_goals.ensures.accepted (known cat) p.columns p.formula p.question.accepted) }
+    record { normal = posed_normal cat g (c.args.level - 1) p c.normal_goals.ensures.accepted }
 
-pub view_near-overflow_sub-level : goal.view_near-overflow_sub-level
-view_near-overflow_sub-level t c =
+pub gathering::view_near-overflow_sub-level : goal.gathering::view_near-overflow_sub-level
+gathering::view_near-overflow_sub-level t c =
     let cat = snapshot_of c.args.snapshot.now in
     let n = c.args.scan.now.name in
     let g = goal_form c.args.goal.now in
     let low = view_low cat n g c.args.level c.formed.ensures c.requires.view c.requires.readable.level in
     view_level cat n g c.args.level c.formed.ensures c.requires.view low
 
-pub view_near-evaluated_within-requires : goal.view_near-evaluated_within-requires
-view_near-evaluated_within-requires t c =
+pub gathering::view_near-evaluated_within-requires : goal.gathering::view_near-evaluated_within-requires
+gathering::view_near-evaluated_within-requires t c =
     let cat = snapshot_of c.args.snapshot.now in
     let n = c.args.scan.now.name in
     let g = goal_form c.args.goal.now in
@@ -269,8 +346,8 @@ view_near-evaluated_within-requires t c =
     let above : 1 ≤ c.args.level = view_level cat n g c.args.level c.formed.ensures c.requires.view low in
     (search rules, (record { goal = g; posed = view_posed cat n g c.args.level c.formed.ensures c.requires.view low; planned = c.in_ok-plan.ensures }, c.requires.given))
 
-pub view_near-returns-in_err-tuples-clause-wide : goal.view_near-returns-in_err-tuples-clause-wide
-view_near-returns-in_err-tuples-clause-wide t c = λ i.
+pub gathering::view_near-returns-in_err-tuples-clause-wide : goal.gathering::view_near-returns-in_err-tuples-clause-wide
+gathering::view_near-returns-in_err-tuples-clause-wide t c = λ i.
     let cat = snapshot_of c.args.snapshot.now in
     let n = c.args.scan.now.name in
     let g = goal_form c.args.goal.now in
@@ -279,11 +356,11 @@ view_near-returns-in_err-tuples-clause-wide t c = λ i.
     let is : c.in_err-tuples.field-0.0 ≡ Wide = cc (e.1, e.2, i) in
     view_clash cat n g c.formed.ensures c.requires.view (c.in_err-tuples.ensures.wide (ap Err is) g (view_posed cat n g c.args.level c.formed.ensures c.requires.view low) c.in_ok-plan.ensures)
 
-pub view_near-view_relation-requires : goal.view_near-view_relation-requires
-view_near-view_relation-requires t c = view_known (snapshot_of c.args.snapshot.now) c.args.scan.now.name (goal_form c.args.goal.now) c.formed.ensures c.requires.view
+pub gathering::view_near-view_relation-requires : goal.gathering::view_near-view_relation-requires
+gathering::view_near-view_relation-requires t c = view_known (snapshot_of c.args.snapshot.now) c.args.scan.now.name (goal_form c.args.goal.now) c.formed.ensures c.requires.view
 
-pub view_near-returns-clause-is : goal.view_near-returns-clause-is
-view_near-returns-clause-is t c =
+pub gathering::view_near-returns-clause-is : goal.gathering::view_near-returns-clause-is
+gathering::view_near-returns-clause-is t c =
     let cat = snapshot_of c.args.snapshot.now in
     let n = c.args.scan.now.name in
     let g = goal_form c.args.goal.now in
@@ -297,25 +374,25 @@ view_near-returns-clause-is t c =
 
 -- ---- give
 
-pub give-give_view-requires : goal.give-give_view-requires
-give-give_view-requires t c =
+pub gathering::give-give_view-requires : goal.gathering::give-give_view-requires
+gathering::give-give_view-requires t c =
     let cat = snapshot_of c.args.snapshot.now in
     let view = view_goal cat c.args.name.now (goal_form c.in-Some.goal.now) c.in-Some.ensures in
     (search rules, (view, (view_low cat c.args.name.now (goal_form c.in-Some.goal.now) c.args.level c.formed.ensures view c.requires.level, c.requires.given)))
 
-pub give-returns-then-has-clause-is : goal.give-returns-then-has-clause-is
-give-returns-then-has-clause-is t c = given_there (snapshot_of c.args.snapshot.now) None c.args.given.now c.args.name.now (sym c.has.ensures ∙ c.if-has.true)
+pub gathering::give-returns-then-has-clause-is : goal.gathering::give-returns-then-has-clause-is
+gathering::give-returns-then-has-clause-is t c = given_there (snapshot_of c.args.snapshot.now) None c.args.given.now c.args.name.now (sym c.has.ensures ∙ c.if-has.true)
 
-pub give-returns-in-Some-clause-is : goal.give-returns-in-Some-clause-is
-give-returns-in-Some-clause-is t c = on_ok_weaker c.give_view.result (given_there (snapshot_of c.args.snapshot.now) None c.give_view.new.given c.args.name.now) c.give_view.ensures.is
+pub gathering::give-returns-in-Some-clause-is : goal.gathering::give-returns-in-Some-clause-is
+gathering::give-returns-in-Some-clause-is t c = on_ok_weaker c.give_view.result (given_there (snapshot_of c.args.snapshot.now) None c.give_view.new.given c.args.name.now) c.give_view.ensures.is
 
 -- ---- give_all
 
-pub give_all-loop-name-init : goal.give_all-loop-name-init
-give_all-loop-name-init t c = (gathered_none (snapshot_of c.args.snapshot.now) c.args.given.now c.requires.given, tt, front_none c.args.given.now)
+pub gathering::give_all-loop-name-init : goal.gathering::give_all-loop-name-init
+gathering::give_all-loop-name-init t c = (gathered_none (snapshot_of c.args.snapshot.now) c.args.given.now c.requires.given, tt, front_none c.args.given.now)
 
-pub give_all-give-requires : goal.give_all-give-requires
-give_all-give-requires t c =
+pub gathering::give_all-give-requires : goal.gathering::give_all-give-requires
+gathering::give_all-give-requires t c =
     let k = known (snapshot_of c.args.snapshot.now) in (
       search rules,
       (
@@ -327,34 +404,34 @@ give_all-give-requires t c =
       ),
     )
 
-pub give_all-loop-name-preserved : goal.give_all-loop-name-preserved
-give_all-loop-name-preserved t c =
+pub gathering::give_all-loop-name-preserved : goal.gathering::give_all-loop-name-preserved
+gathering::give_all-loop-name-preserved t c =
     let cat = snapshot_of c.args.snapshot.now in (
       gathered_more cat c.args.given.now c.loop-name.given c.give.new.given c.loop-name.invariant.0 c.in_ok-give.ensures.gathered,
       named_more cat c.args.names.now c.loop-name.name-index c.name-item.result c.loop-name.given c.give.new.given c.loop-name-test.true c.name-item.is c.in_ok-give.ensures.gathered c.in_ok-give.ensures.is c.loop-name.invariant.1,
       front_more c.args.given.now c.loop-name.given c.give.new.given c.loop-name.invariant.2 c.give.ensures.front,
     )
 
-pub give_all-returns-clause-gathered : goal.give_all-returns-clause-gathered
-give_all-returns-clause-gathered t c = c.loop-name.invariant.0
+pub gathering::give_all-returns-clause-gathered : goal.gathering::give_all-returns-clause-gathered
+gathering::give_all-returns-clause-gathered t c = c.loop-name.invariant.0
 
-pub give_all-returns-clause-all : goal.give_all-returns-clause-all
-give_all-returns-clause-all t c =
+pub gathering::give_all-returns-clause-all : goal.gathering::give_all-returns-clause-all
+gathering::give_all-returns-clause-all t c =
     subst (AllByRecursion (λ n. has_name n (over_relations (snapshot_of c.args.snapshot.now) None c.loop-name.given) ≡ true)) (take_all c.loop-name.name-index c.args.names.now c.loop-name-test.false) c.loop-name.invariant.1
 
-pub give_all-returns-clause-front : goal.give_all-returns-clause-front
-give_all-returns-clause-front t c = c.loop-name.invariant.2
+pub gathering::give_all-returns-clause-front : goal.gathering::give_all-returns-clause-front
+gathering::give_all-returns-clause-front t c = c.loop-name.invariant.2
 
-pub give_all-returns-in_err-give-clause-front : goal.give_all-returns-in_err-give-clause-front
-give_all-returns-in_err-give-clause-front t c = front_more c.args.given.now c.loop-name.given c.give.new.given c.loop-name.invariant.2 c.give.ensures.front
+pub gathering::give_all-returns-in_err-give-clause-front : goal.gathering::give_all-returns-in_err-give-clause-front
+gathering::give_all-returns-in_err-give-clause-front t c = front_more c.args.given.now c.loop-name.given c.give.new.given c.loop-name.invariant.2 c.give.ensures.front
 
 -- ---- give_view
 
-pub give_view-overflow_sub-level : goal.give_view-overflow_sub-level
-give_view-overflow_sub-level t c = view_level (snapshot_of c.args.snapshot.now) c.args.name.now (goal_form c.args.goal.now) c.args.level c.formed.ensures c.requires.view c.requires.level
+pub gathering::give_view-overflow_sub-level : goal.gathering::give_view-overflow_sub-level
+gathering::give_view-overflow_sub-level t c = view_level (snapshot_of c.args.snapshot.now) c.args.name.now (goal_form c.args.goal.now) c.args.level c.formed.ensures c.requires.view c.requires.level
 
-pub give_view-evaluated-requires : goal.give_view-evaluated-requires
-give_view-evaluated-requires t c =
+pub gathering::give_view-evaluated-requires : goal.gathering::give_view-evaluated-requires
+gathering::give_view-evaluated-requires t c =
     let cat = snapshot_of c.args.snapshot.now in
     let above : 1 ≤ c.args.level = view_level cat c.args.name.now (goal_form c.args.goal.now) c.args.level c.formed.ensures c.requires.view c.requires.level in (
       search rules,
@@ -364,14 +441,14 @@ give_view-evaluated-requires t c =
       ),
     )
 
-pub give_view-returns-in_err-tuples-clause-wide : goal.give_view-returns-in_err-tuples-clause-wide
-give_view-returns-in_err-tuples-clause-wide t c = λ i.
+pub gathering::give_view-returns-in_err-tuples-clause-wide : goal.gathering::give_view-returns-in_err-tuples-clause-wide
+gathering::give_view-returns-in_err-tuples-clause-wide t c = λ i.
     let p = err_from_is_err_and c.from_residual.result c.from_residual.ensures.1 in
     let is : c.in_err-tuples.field-0.0 ≡ Wide = cc (p.1, p.2, i) in
     view_clash (snapshot_of c.args.snapshot.now) c.args.name.now (goal_form c.args.goal.now) c.formed.ensures c.requires.view (c.in_err-tuples.ensures.wide (ap Err is))
 
-pub give_view-held_view-requires : goal.give_view-held_view-requires
-give_view-held_view-requires t c = record {
+pub gathering::give_view-held_view-requires : goal.gathering::give_view-held_view-requires
+gathering::give_view-held_view-requires t c = record {
   goal = goal_form c.args.goal.now;
   view = c.requires.view;
   evaluated = evaluated_part (snapshot_of c.args.snapshot.now) (goal_form c.args.goal.now) c.in_ok-tuples.tuples c.in_ok-reduced.field-0 c.in_ok-tuples.ensures.is c.in_ok-reduced.ensures.holds c.in_ok-reduced.ensures.slots c.in_ok-reduced.ensures.lines;
@@ -380,15 +457,15 @@ give_view-held_view-requires t c = record {
 
 -- ---- give_other
 
-pub give_other-returns-then-is_some-clause-is : goal.give_other-returns-then-is_some-clause-is
-give_other-returns-then-is_some-clause-is t c =
+pub gathering::give_other-returns-then-is_some-clause-is : goal.gathering::give_other-returns-then-is_some-clause-is
+gathering::give_other-returns-then-is_some-clause-is t c =
     let cat = snapshot_of c.args.snapshot.now in
     let n = c.args.name.now in
     let there : is_some (known cat n) ≡ true = sym (headed_known (λ h. h.now) c.heading.result (known cat n) c.heading.ensures) ∙ sym c.is_some.ensures ∙ c.if-is_some.true in
     stored_there cat None c.args.given.now n refl (relation_there cat n there c.requires.view)
 
-pub give_other-give-requires : goal.give_other-give-requires
-give_other-give-requires t c =
+pub gathering::give_other-give-requires : goal.gathering::give_other-give-requires
+gathering::give_other-give-requires t c =
     let cat = snapshot_of c.args.snapshot.now in
     let n = c.args.name.now in
     let unknown : is_some (known cat n) ≡ false = sym (headed_known (λ h. h.now) c.heading.result (known cat n) c.heading.ensures) ∙ sym c.is_some.ensures ∙ c.if-is_some.false in
@@ -396,7 +473,7 @@ give_other-give-requires t c =
     let other = is_other cat c.formed.ensures n m c.in_ok-inner.ensures unknown c.requires.defined in
     let plain = inner_plain cat c.formed.ensures n m c.in_ok-inner.ensures unknown c.requires.defined in
     let same = inner_base cat c.formed.ensures n m c.in_ok-inner.ensures unknown c.requires.defined in
-    let below : 8 * c.args.level + (if is_made m then 3 else 1) < 8 * c.args.level + (if is_made n then 2 else 0) = lower c.args.level (is_made m) (is_made n) plain other in (
+    let below : 9 * c.args.level + (if is_made m then 3 else 1) < 9 * c.args.level + (if is_made n then 2 else 0) = lower c.args.level (is_made m) (is_made n) plain other in (
       search (rules, below),
       (
         subst (λ x. is_some (known cat x) ≡ true) (sym same) c.requires.defined,
@@ -407,8 +484,8 @@ give_other-give-requires t c =
       ),
     )
 
-pub give_other-returns-in_err-give-clause-wide : goal.give_other-returns-in_err-give-clause-wide
-give_other-returns-in_err-give-clause-wide t c = λ i.
+pub gathering::give_other-returns-in_err-give-clause-wide : goal.gathering::give_other-returns-in_err-give-clause-wide
+gathering::give_other-returns-in_err-give-clause-wide t c = λ i.
     let cat = snapshot_of c.args.snapshot.now in
     let n = c.args.name.now in
     let p = err_from_is_err_and c.from_residual-in_err-give.result c.from_residual-in_err-give.ensures.1 in
@@ -416,8 +493,8 @@ give_other-returns-in_err-give-clause-wide t c = λ i.
     let unknown : is_some (known cat n) ≡ false = sym (headed_known (λ h. h.now) c.heading.result (known cat n) c.heading.ensures) ∙ sym c.is_some.ensures ∙ c.if-is_some.false in
     inner_clash cat c.formed.ensures n c.in_ok-inner.inner c.in_ok-inner.ensures unknown c.requires.defined (c.in_err-give.ensures.wide (ap Err is))
 
-pub give_other-made-requires : goal.give_other-made-requires
-give_other-made-requires t c =
+pub gathering::give_other-made-requires : goal.gathering::give_other-made-requires
+gathering::give_other-made-requires t c =
     let cat = snapshot_of c.args.snapshot.now in
     let n = c.args.name.now in
     let unknown : is_some (known cat n) ≡ false = sym (headed_known (λ h. h.now) c.heading.result (known cat n) c.heading.ensures) ∙ sym c.is_some.ensures ∙ c.if-is_some.false in
@@ -429,7 +506,7 @@ give_other-made-requires t c =
       given = c.in_ok-give.ensures.gathered.of;
     }
 
-pub give_other-returns-clause-is : goal.give_other-returns-clause-is
-give_other-returns-clause-is t c =
+pub gathering::give_other-returns-clause-is : goal.gathering::give_other-returns-clause-is
+gathering::give_other-returns-clause-is t c =
     given_there (snapshot_of c.args.snapshot.now) None c.add.new.given c.args.name.now
     (subst (λ (x : List ℕ). has_name x c.add.new.given ≡ true) c.in_ok-near.ensures.is.name c.in_ok-add.ensures.is)

@@ -2,7 +2,7 @@ use Rattle.std.proofs.Common.{ap, ◌∙◌}
 use Rattle.std.proofs.lemmas.Result.{on_ok_weaker}
 use Rattle.ded_eval.specs.Given.{has_name}
 use Rattle.ded_query.proofs.GivenNames.{has_last}
-use Rattle.ded_query.proofs.gathering.add.Goals as goal
+use Rattle.ded_query.proofs.near.add.Goals as goal
 
 pub returns-clause-is : goal.returns-clause-is
 returns-clause-is c =
