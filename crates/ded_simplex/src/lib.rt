@@ -7,8 +7,8 @@
 //! So are the least and the greatest value of a slot, where there are such, by [`extent`]: what attains it, comes near it or goes on
 //! without end is a point or a direction, and numbers refute the rows together with one that says that the slot is beyond.
 //!
-//! They are looked for by the dual simplex, over whole numbers ([`find`]). Of the search nothing is promised but that it is safe and
-//! ends. Whoever asks of nearly the same rows again and again hands a [`Hint`] from one question to the next ([`told_from`]), and
+//! Where equalities of one slot each fix all slots, their point alone is tried. Otherwise both are looked for by the dual simplex, over
+//! whole numbers ([`find`]). Of the search nothing is promised but that it is safe and ends. Whoever asks of nearly the same rows again and again hands a [`Hint`] from one question to the next ([`told_from`]), and
 //! whoever has the numbers already asks nothing but whether they refute the rows ([`are_refuted`]).
 #![tactic(auto)]
 
@@ -16,6 +16,7 @@ mod ends;
 mod exact;
 mod extremes;
 mod few;
+mod fixed;
 mod fraction;
 mod hint;
 pub mod laws;

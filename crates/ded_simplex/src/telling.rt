@@ -8,6 +8,7 @@ ghost use Rattle.ded_theory.specs.Verdicts.{HoldsNowhere};
 ghost use Rattle.ded_simplex.specs.Columns.{lent};
 ghost use Rattle.ded_simplex.specs.Sure.{IsSure};
 
+use crate::fixed::Fixed;
 use crate::hint::Hint;
 use crate::meeting::meets;
 use crate::search::{Found, find_from};
@@ -37,6 +38,35 @@ pub fn told(alloc: Global, rows: &[Row]) -> Result<Verdict, NoMemory>
 /// # Errors
 /// Out of memory.
 pub fn told_from(alloc: Global, rows: &[&Row], hint: &mut Hint) -> Result<Verdict, NoMemory>
+    requires { AllByRecursion (λ r. AreCoefs r.coefs) (lent rows.now) }
+    ensures { IfOk result (λ v. IsSure (lent rows.now) v) }
+{
+    match told_at_fixed(alloc, rows)? {
+        Verdict::Empty => Ok(Verdict::Empty),
+        Verdict::Inhabited => Ok(Verdict::Inhabited),
+        Verdict::Unknown => told_by_search(alloc, rows, hint),
+    }
+}
+
+/// The same where equalities of one slot each fix a point: whether that satisfies the rows. `Unknown` where they don't.
+fn told_at_fixed(alloc: Global, rows: &[&Row]) -> Result<Verdict, NoMemory>
+    requires { AllByRecursion (λ r. AreCoefs r.coefs) (lent rows.now) }
+    ensures { IfOk result (λ v. IsSure (lent rows.now) v) }
+{
+    let Some(fixed) = Fixed::new(alloc, rows)? else {
+        return Ok(Verdict::Unknown);
+    };
+    if let Verdict::Inhabited = checked_point(rows, &fixed.witness) {
+        return Ok(Verdict::Inhabited);
+    }
+    match fixed.multipliers(alloc, rows)? {
+        Some(multipliers) => checked_multipliers(alloc, rows, &multipliers),
+        None => Ok(Verdict::Unknown),
+    }
+}
+
+/// The same by a search, which begins among many rows with those of the hint.
+fn told_by_search(alloc: Global, rows: &[&Row], hint: &mut Hint) -> Result<Verdict, NoMemory>
     requires { AllByRecursion (λ r. AreCoefs r.coefs) (lent rows.now) }
     ensures { IfOk result (λ v. IsSure (lent rows.now) v) }
 {
