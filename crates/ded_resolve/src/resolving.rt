@@ -3,13 +3,13 @@ ghost use Rattle.std.specs.Prelude.{◌≡◌, ◌≢◌, ◌≤◌, false, map,
 ghost use Rattle.ded_model.specs.Catalogue.{Catalogue};
 ghost use Rattle.ded_model.specs.Command.{command_form, insert, view, ask, query, explain};
 ghost use Rattle.ded_model.specs.Form.{form, forms};
-ghost use Rattle.ded_model.specs.Known.{IsTupleOver};
+ghost use Rattle.ded_model.specs.Known.{IsTupleOver, columns_with};
 ghost use Rattle.ded_model.specs.LongRows.{has_long_row};
 ghost use Rattle.ded_model.specs.Plain.{IsPlainCommand};
 ghost use Rattle.ded_model.specs.Slotted.{goal_of, tuple_of};
 ghost use Rattle.ded_model.specs.Width.{tuple_length};
 ghost use Rattle.ded_model.specs.Goal.{goal_form};
-ghost use Rattle.ded_sorts.specs.Checks.{HasNoCause, IsLeastCause};
+ghost use Rattle.ded_sorts.specs.Checks.{HasNoCause, IsLeastCause, known_form};
 ghost use Rattle.ded_resolve.specs.Resolved.{IsResolved};
 ghost use Rattle.ded_model.specs.Entries.{columns_in};
 ghost use Rattle.ded_resolve.specs.Ready.{IsReady, AreReady};
@@ -84,21 +84,33 @@ fn insertion<N: Names>(
     ensures resolved { IfOk result (λ k. IsResolved (N.catalogue names.now) (insert name (forms comparisons.items)) k) }
     ensures stored { IfOk result (λ k. IsStorable (N.catalogue names.now) k) }
 {
-    let heading = heading_of(alloc, &name, names)?;
-    let tuple = short_tuple(alloc, &heading, &comparisons)?;
+    let tuple = tuple_over(alloc, names.known(&name), &comparisons)?;
     Ok(Checked::Insert(name, tuple))
 }
 
-/// The columns of a relation or a view, at most 16; none where the name isn't defined.
-fn heading_of<N: Names>(alloc: Global, name: &Name, names: &N) -> Result<Heading, NoMemory>
-    ensures value { IfOk result (λ h. h ≡ columns_in (N.catalogue names.now) name.now) }
-    ensures few { IfOk result (λ h. length h ≤ 16) }
+/// The normal tuple of comparisons over the columns of what is known of a name, none where it isn't defined. It has numbers of at most 63
+/// digits.
+fn tuple_over(
+    alloc: Global,
+    entry: Option<Known<'_>>,
+    comparisons: &[Formula],
+) -> Result<Tuple, NoMemory>
+    requires few { length (columns_with (known_form entry)) ≤ 16 }
+    requires ready { AreReady (columns_with (known_form entry)) (forms comparisons.now) }
+    ensures value { IfOk result (λ t. t ≡ tuple_of (columns_with (known_form entry.entry)) (map form comparisons.now)) }
+    ensures over { IfOk result (λ t. IsTupleOver (columns_with (known_form entry.entry)) t) }
+    ensures short { IfOk result (λ t. tuple_length t ≤ 63) }
 {
-    match names.known(name) {
-        Some(Known::Relation(heading) | Known::View(heading, _)) => heading.copy(),
-        None => Ok(Heading {
-            columns: Vec::new(alloc),
-        }),
+    match entry {
+        Some(Known::Relation(heading) | Known::View(heading, _)) => {
+            short_tuple(alloc, heading, comparisons)
+        }
+        None => {
+            let heading = Heading {
+                columns: Vec::new(alloc),
+            };
+            short_tuple(alloc, &heading, comparisons)
+        }
     }
 }
 

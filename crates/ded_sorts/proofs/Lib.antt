@@ -8,3 +8,4 @@ pub mod Overs
 pub mod Rationals
 pub mod Frees
 pub mod Unscoped
+pub mod Soundness

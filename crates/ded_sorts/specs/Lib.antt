@@ -1,4 +1,5 @@
 pub mod Causes
 pub mod Changes
 pub mod Checks
+pub mod Facts
 pub mod Scopes

@@ -1,14 +1,17 @@
 //! The causes of refusals, each over a command and the names that it may use.
-ghost use Rattle.std.specs.Prelude.{◌≡◌, ◌||◌, IfOk, is_some, is_none};
+ghost use Rattle.std.specs.Prelude.{◌≡◌, IfOk, is_some, is_none};
 ghost use Rattle.ded_model.specs.Command.{command_form};
 ghost use Rattle.ded_model.specs.Form.{form, forms};
-ghost use Rattle.ded_model.specs.Known.{scope_of, uses_unknown, has_other_arity, columns_with};
-ghost use Rattle.ded_model.specs.Logic.{some_below, some_below_of};
+ghost use Rattle.ded_model.specs.Catalogue.{Catalogue};
+ghost use Rattle.ded_model.specs.Entries.{known};
+ghost use Rattle.ded_model.specs.Known.{scope_of, uses_unknown, has_other_arity, has_missorted, columns_with};
+ghost use Rattle.ded_model.specs.Logic.{some_below_of};
 ghost use Rattle.ded_sorts.specs.Causes as cause;
 ghost use Rattle.ded_sorts.specs.Checks.{known_form};
-ghost use Rattle.ded_model.specs.Entries.{known, columns_in};
+ghost use Rattle.ded_sorts.specs.Facts.{AreFacts};
 
-use crate::atoms::{AtomTest, some_atom, some_atom_of};
+use crate::atoms::{some_atom, some_atom_of};
+use crate::facts::{Facts, columns_of, some_in_command};
 use crate::names::{Known, Names};
 use crate::scope::Scope;
 use crate::shape::{has_twice, is_many};
@@ -18,7 +21,7 @@ use ded_model::command::Command;
 use ded_model::formula::Formula;
 use ded_model::limits;
 use ded_model::memory::NoMemory;
-use ded_model::name::{Column, Name};
+use ded_model::name::Name;
 
 /// Whether a heading with a formula, or a heading alone, has too many columns and quantifiers.
 pub(crate) fn has_many(command: &Command) -> bool
@@ -51,56 +54,60 @@ pub(crate) fn names_twice(command: &Command) -> bool
 ///
 /// # Errors
 /// Out of memory.
-pub(crate) fn names_unknown<N: Names>(command: &Command, names: &N) -> Result<bool, NoMemory>
+pub(crate) fn names_unknown<N: Names>(
+    command: &Command,
+    facts: Facts<'_>,
+    names: &N,
+) -> Result<bool, NoMemory>
+    requires { AreFacts (N.catalogue names.now) (command_form command.now) facts }
     ensures { IfOk result (λ b. b ≡ cause.names_unknown (N.catalogue names.now) (command_form command.now)) }
 {
     match command {
         Command::Header | Command::Relation(_, _) | Command::Dump => Ok(false),
-        Command::Insert(name, _) => is_undefined(name, names),
-        Command::Delete(name, _) => is_undefined(name, names),
-        Command::Drop(name) => is_undefined(name, names),
-        Command::Keep(name) => is_undefined(name, names),
-        Command::Show(name) => is_undefined(name, names),
-        Command::BoxOf(name) => is_undefined(name, names),
-        Command::View(_, _, formula) => uses_undefined(formula, names),
-        Command::Ask(formula) => uses_undefined(formula, names),
-        Command::Query(_, formula) => uses_undefined(formula, names),
-        Command::Explain(_, formula) => uses_undefined(formula, names),
-        Command::Disjoint(first, second) => is_one_undefined(first, second, names),
-        Command::Verify(first, second, _) => is_one_undefined(first, second, names),
+        Command::Insert(_, _)
+        | Command::Delete(_, _)
+        | Command::Drop(_)
+        | Command::Keep(_)
+        | Command::Show(_)
+        | Command::BoxOf(_) => Ok(is_undefined(facts.first)),
+        Command::Disjoint(_, _) | Command::Verify(_, _, _) => {
+            Ok(is_undefined(facts.first) || is_undefined(facts.second))
+        }
+        Command::View(_, _, formula)
+        | Command::Ask(formula)
+        | Command::Query(_, formula)
+        | Command::Explain(_, formula) => {
+            if facts.is_sound {
+                Ok(false)
+            } else {
+                uses_undefined(formula, names)
+            }
+        }
     }
 }
 
 /// Whether a relation or a view is given a name that is defined.
-///
-/// # Errors
-/// Out of memory.
-pub(crate) fn takes_name<N: Names>(command: &Command, names: &N) -> Result<bool, NoMemory>
-    ensures { IfOk result (λ b. b ≡ cause.takes_name (N.catalogue names.now) (command_form command.now)) }
+pub(crate) fn takes_name(command: &Command, facts: Facts<'_>) -> bool
+    ensures { (c : Catalogue) → AreFacts c (command_form command.now) facts.entry → result ≡ cause.takes_name c (command_form command.now) }
 {
     match command {
-        Command::Relation(name, _) => is_defined(name, names),
-        Command::View(name, _, _) => is_defined(name, names),
-        _ => Ok(false),
+        Command::Relation(_, _) | Command::View(_, _, _) => is_defined(facts.first),
+        _ => false,
     }
 }
 
 /// Whether a view is named where a relation has to be, or a relation where a view has to be.
-///
-/// # Errors
-/// Out of memory.
-pub(crate) fn names_other_kind<N: Names>(command: &Command, names: &N) -> Result<bool, NoMemory>
-    ensures { IfOk result (λ b. b ≡ cause.names_other_kind (N.catalogue names.now) (command_form command.now)) }
+pub(crate) fn names_other_kind(command: &Command, facts: Facts<'_>) -> bool
+    ensures { (c : Catalogue) → AreFacts c (command_form command.now) facts.entry → result ≡ cause.names_other_kind c (command_form command.now) }
 {
     match command {
-        Command::Insert(name, _) => is_view(name, names),
-        Command::Delete(name, _) => is_view(name, names),
-        Command::Show(name) => is_view(name, names),
-        Command::BoxOf(name) => is_view(name, names),
-        Command::Keep(name) => is_relation(name, names),
-        Command::Disjoint(first, second) => is_one_view(first, second, names),
-        Command::Verify(first, second, _) => is_one_view(first, second, names),
-        _ => Ok(false),
+        Command::Insert(_, _) | Command::Delete(_, _) | Command::Show(_) | Command::BoxOf(_) =>
+            is_view(facts.first),
+        Command::Keep(_) => is_relation(facts.first),
+        Command::Disjoint(_, _) | Command::Verify(_, _, _) => {
+            is_view(facts.first) || is_view(facts.second)
+        }
+        _ => false,
     }
 }
 
@@ -109,31 +116,47 @@ pub(crate) fn names_other_kind<N: Names>(command: &Command, names: &N) -> Result
 ///
 /// # Errors
 /// Out of memory.
-pub(crate) fn has_wrong_arity<N: Names>(command: &Command, names: &N) -> Result<bool, NoMemory>
+pub(crate) fn has_wrong_arity<N: Names>(
+    command: &Command,
+    facts: Facts<'_>,
+    names: &N,
+) -> Result<bool, NoMemory>
+    requires { AreFacts (N.catalogue names.now) (command_form command.now) facts }
     ensures { IfOk result (λ b. b ≡ cause.has_wrong_arity (N.catalogue names.now) (command_form command.now)) }
 {
     match command {
-        Command::Disjoint(first, second) => do_lengths_differ(first, second, names),
-        Command::Verify(first, second, _) => do_lengths_differ(first, second, names),
-        _ => has_other_arity(command, names),
+        Command::Disjoint(_, _) | Command::Verify(_, _, _) => Ok(do_lengths_differ(facts)),
+        _ => has_other_arity(command, facts, names),
     }
 }
 
 /// Whether an atom of the command's formula has another number of arguments than its relation or view has columns.
-fn has_other_arity<N: Names>(command: &Command, names: &N) -> Result<bool, NoMemory>
+fn has_other_arity<N: Names>(
+    command: &Command,
+    facts: Facts<'_>,
+    names: &N,
+) -> Result<bool, NoMemory>
+    requires { AreFacts (N.catalogue names.now) (command_form command.now) facts }
     ensures { IfOk result (λ b. b ≡ cause.passes_with (cause.formula_in (command_form command.now)) (has_other_arity (known (N.catalogue names.now)))) }
 {
-    some_in_command(&OtherArity { names }, command, names)
+    if facts.is_sound {
+        return Ok(false);
+    }
+    some_in_command(&OtherArity { names }, command, columns_of(facts.first))
 }
 
 /// Whether a variable is in no quantifier round it, not in the heading, and in an insert isn't a column.
 ///
 /// # Errors
 /// Out of memory.
-pub(crate) fn has_unbound<N: Names>(command: &Command, names: &N) -> Result<bool, NoMemory>
-    ensures { IfOk result (λ b. b ≡ cause.has_unbound_name (N.catalogue names.now) (command_form command.now)) }
+pub(crate) fn has_unbound(command: &Command, facts: Facts<'_>) -> Result<bool, NoMemory>
+    ensures { (c : Catalogue) → AreFacts c (command_form command.now) facts.entry
+        → IfOk result (λ b. b ≡ cause.has_unbound_name c (command_form command.now)) }
 {
-    some_in_command(&Unbound, command, names)
+    if facts.is_sound {
+        return Ok(false);
+    }
+    some_in_command(&Unbound, command, columns_of(facts.first))
 }
 
 /// Whether a text stands where a number has to, or a number where a text has to, or `!=` between numbers in an insert, or two
@@ -141,17 +164,29 @@ pub(crate) fn has_unbound<N: Names>(command: &Command, names: &N) -> Result<bool
 ///
 /// # Errors
 /// Out of memory.
-pub(crate) fn has_wrong_sort<N: Names>(command: &Command, names: &N) -> Result<bool, NoMemory>
+pub(crate) fn has_wrong_sort<N: Names>(
+    command: &Command,
+    facts: Facts<'_>,
+    names: &N,
+) -> Result<bool, NoMemory>
+    requires { AreFacts (N.catalogue names.now) (command_form command.now) facts }
     ensures { IfOk result (λ b. b ≡ cause.has_wrong_sort (N.catalogue names.now) (command_form command.now)) }
 {
     match command {
-        Command::Disjoint(first, second) => do_headings_differ(first, second, names),
-        Command::Verify(first, second, _) => do_headings_differ(first, second, names),
-        _ => Ok(
-            some_in_command(&Missorted { names }, command, names)?
-                || has_inequality(command, names)?,
-        ),
+        Command::Disjoint(_, _) | Command::Verify(_, _, _) => Ok(do_headings_differ(facts)),
+        _ => Ok(has_missorted(command, facts, names)? || has_inequality(command, facts)?),
     }
+}
+
+/// Whether a text stands in the command's formula where a number has to, or a number where a text has to.
+fn has_missorted<N: Names>(command: &Command, facts: Facts<'_>, names: &N) -> Result<bool, NoMemory>
+    requires { AreFacts (N.catalogue names.now) (command_form command.now) facts }
+    ensures { IfOk result (λ b. b ≡ cause.passes_with (cause.formula_in (command_form command.now)) (has_missorted (known (N.catalogue names.now)) (cause.heading_in (N.catalogue names.now) (command_form command.now)))) }
+{
+    if facts.is_sound {
+        return Ok(false);
+    }
+    some_in_command(&Missorted { names }, command, columns_of(facts.first))
 }
 
 /// Whether the name to be dropped is in the formula of a view.
@@ -187,80 +222,52 @@ pub(crate) fn is_too_high<N: Names>(command: &Command, names: &N) -> Result<bool
     }
 }
 
-/// Whether no relation or view has the name.
-fn is_undefined<N: Names>(name: &Name, names: &N) -> Result<bool, NoMemory>
-    ensures { IfOk result (λ b. b ≡ is_none (known (N.catalogue names.now) name.now)) }
+/// Whether nothing is known of a name.
+fn is_undefined(entry: Option<Known<'_>>) -> bool
+    ensures { result ≡ is_none (known_form entry.entry) }
 {
-    Ok(names.known(name).is_none())
+    entry.is_none()
 }
 
-/// Whether no relation or view has one of the names.
-fn is_one_undefined<N: Names>(first: &Name, second: &Name, names: &N) -> Result<bool, NoMemory>
-    ensures { IfOk result (λ b. b ≡ (is_none (known (N.catalogue names.now) first.now) || is_none (known (N.catalogue names.now) second.now))) }
+/// Whether something is known of a name.
+fn is_defined(entry: Option<Known<'_>>) -> bool
+    ensures { result ≡ is_some (known_form entry.entry) }
 {
-    Ok(is_undefined(first, names)? || is_undefined(second, names)?)
+    entry.is_some()
 }
 
-/// Whether one of the names is that of a view.
-fn is_one_view<N: Names>(first: &Name, second: &Name, names: &N) -> Result<bool, NoMemory>
-    ensures { IfOk result (λ b. b ≡ (cause.is_view_with (known (N.catalogue names.now) first.now) || cause.is_view_with (known (N.catalogue names.now) second.now))) }
-{
-    Ok(is_view(first, names)? || is_view(second, names)?)
-}
-
-/// The columns of what is known of a name, none where it isn't defined.
-fn columns_of(entry: Option<Known<'_>>) -> &[Column]
-    ensures { result.now ≡ columns_with (known_form entry.entry) }
+/// Whether a name is that of a view.
+fn is_view(entry: Option<Known<'_>>) -> bool
+    ensures { result ≡ cause.is_view_with (known_form entry.entry) }
 {
     match entry {
-        None => &[],
-        Some(entry) => entry.columns(),
+        None => false,
+        Some(entry) => entry.is_view(),
     }
 }
 
-/// Whether the headings of the names are of different lengths.
-fn do_lengths_differ<N: Names>(first: &Name, second: &Name, names: &N) -> Result<bool, NoMemory>
-    ensures { IfOk result (λ b. b ≡ cause.lengths_differ (columns_in (N.catalogue names.now) first.now) (columns_in (N.catalogue names.now) second.now)) }
+/// Whether a name is that of a relation.
+fn is_relation(entry: Option<Known<'_>>) -> bool
+    ensures { result ≡ cause.is_relation_with (known_form entry.entry) }
 {
-    let first = names.known(first);
-    let second = names.known(second);
-    Ok(columns_of(first).len() != columns_of(second).len())
-}
-
-/// Whether the headings of the names have different sorts at one place.
-fn do_headings_differ<N: Names>(first: &Name, second: &Name, names: &N) -> Result<bool, NoMemory>
-    ensures { IfOk result (λ b. b ≡ cause.headings_differ (columns_in (N.catalogue names.now) first.now) (columns_in (N.catalogue names.now) second.now)) }
-{
-    let first = names.known(first);
-    let second = names.known(second);
-    Ok(do_columns_differ(columns_of(first), columns_of(second)))
-}
-
-/// Whether a relation or a view has the name.
-fn is_defined<N: Names>(name: &Name, names: &N) -> Result<bool, NoMemory>
-    ensures { IfOk result (λ b. b ≡ is_some (known (N.catalogue names.now) name.now)) }
-{
-    Ok(names.known(name).is_some())
-}
-
-/// Whether the name is that of a view.
-fn is_view<N: Names>(name: &Name, names: &N) -> Result<bool, NoMemory>
-    ensures { IfOk result (λ b. b ≡ cause.is_view_with (known (N.catalogue names.now) name.now)) }
-{
-    match names.known(name) {
-        None => Ok(false),
-        Some(entry) => Ok(entry.is_view()),
+    match entry {
+        None => false,
+        Some(entry) => !entry.is_view(),
     }
 }
 
-/// Whether the name is that of a relation.
-fn is_relation<N: Names>(name: &Name, names: &N) -> Result<bool, NoMemory>
-    ensures { IfOk result (λ b. b ≡ cause.is_relation_with (known (N.catalogue names.now) name.now)) }
+/// Whether the headings of both names are of different lengths.
+fn do_lengths_differ(facts: Facts<'_>) -> bool
+    ensures { result ≡ cause.lengths_differ (columns_with (known_form facts.entry.first)) (columns_with (known_form facts.entry.second)) }
 {
-    match names.known(name) {
-        None => Ok(false),
-        Some(entry) => Ok(!entry.is_view()),
-    }
+    columns_of(facts.first).len() != columns_of(facts.second).len()
+}
+
+/// Whether the headings of both names have different sorts at one place.
+fn do_headings_differ(facts: Facts<'_>) -> bool
+    ensures { result ≡ cause.headings_differ (columns_with (known_form facts.entry.first)) (columns_with (known_form facts.entry.second)) }
+{
+    do_columns_differ(columns_of(facts.first), columns_of(facts.second))
 }
 
 /// Whether an atom of the formula uses a name that isn't defined.
@@ -271,61 +278,22 @@ fn uses_undefined<N: Names>(formula: &Formula, names: &N) -> Result<bool, NoMemo
 }
 
 /// Whether the command is an insert with `!=` between numbers.
-fn has_inequality<N: Names>(command: &Command, names: &N) -> Result<bool, NoMemory>
-    ensures { IfOk result (λ b. b ≡ cause.has_inequality (N.catalogue names.now) (command_form command.now)) }
+fn has_inequality(command: &Command, facts: Facts<'_>) -> Result<bool, NoMemory>
+    ensures { (c : Catalogue) → AreFacts c (command_form command.now) facts.entry → IfOk result (λ b. b ≡ cause.has_inequality c (command_form command.now)) }
 {
     match command {
-        Command::Insert(name, formulas) => some_in_insert(
-            &RationalInequality,
-            name,
-            formulas,
-            names,
-        ),
+        Command::Insert(_, formulas) => some_in_insert(formulas, facts),
         _ => Ok(false),
     }
 }
 
-/// Whether some atom of the command's formula passes below its heading; for an insert, below the relation's columns.
-fn some_in_command<T: AtomTest, N: Names>(
-    test: &T,
-    command: &Command,
-    names: &N,
-) -> Result<bool, NoMemory>
-    ensures { IfOk result (λ b. b ≡ cause.passes_with (cause.formula_in (command_form command.now)) (some_below (T.passes test.now) (scope_of (cause.heading_in (N.catalogue names.now) (command_form command.now))))) }
+/// Whether some comparison of an insert, below the columns of its relation, is `!=` between numbers.
+fn some_in_insert(formulas: &Vec<Formula>, facts: Facts<'_>) -> Result<bool, NoMemory>
+    ensures { IfOk result (λ b. b ≡ some_below_of cause.is_rational_inequality (scope_of (columns_with (known_form facts.entry.first))) (forms formulas.now.items)) }
 {
-    match command {
-        Command::Insert(name, formulas) => some_in_insert(test, name, formulas, names),
-        Command::View(_, heading, formula) => some_atom(
-            test,
-            &Scope::Heading(&heading.columns),
-            formula,
-        ),
-        Command::Query(heading, formula) => some_atom(
-            test,
-            &Scope::Heading(&heading.columns),
-            formula,
-        ),
-        Command::Explain(heading, formula) => some_atom(
-            test,
-            &Scope::Heading(&heading.columns),
-            formula,
-        ),
-        Command::Ask(formula) => some_atom(test, &Scope::Heading(&[]), formula),
-        _ => Ok(false),
-    }
-}
-
-/// Whether some atom of the comparisons of an insert passes below the columns of the name.
-fn some_in_insert<T: AtomTest, N: Names>(
-    test: &T,
-    name: &Name,
-    formulas: &Vec<Formula>,
-    names: &N,
-) -> Result<bool, NoMemory>
-    ensures { IfOk result (λ b. b ≡ some_below_of (T.passes test.now) (scope_of (columns_in (N.catalogue names.now) name.now)) (forms formulas.now.items)) }
-{
-    match names.known(name) {
-        None => some_atom_of(test, &Scope::Heading(&[]), formulas),
-        Some(entry) => some_atom_of(test, &Scope::Heading(entry.columns()), formulas),
-    }
+    some_atom_of(
+        &RationalInequality,
+        &Scope::Heading(columns_of(facts.first)),
+        formulas,
+    )
 }

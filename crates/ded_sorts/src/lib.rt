@@ -13,6 +13,7 @@
 mod atoms;
 mod causes;
 mod checking;
+mod facts;
 pub mod laws;
 mod names;
 mod scope;

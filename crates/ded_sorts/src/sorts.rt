@@ -1,5 +1,5 @@
 //! Variables that nothing binds, and texts and numbers where the other has to stand.
-ghost use Rattle.std.specs.Prelude.{◌≡◌};
+ghost use Rattle.std.specs.Prelude.{◌≡◌, ◌||◌};
 ghost use Rattle.std.specs.List.{list_any};
 ghost use Rattle.ded_model.specs.declared.slot.Sort.TheVariants.{Text};
 ghost use Rattle.ded_model.specs.Known as model;
@@ -7,6 +7,7 @@ ghost use Rattle.ded_model.specs.Known.{is_unbound_operand, is_unbound_atom, is_
 ghost use Rattle.ded_model.specs.Point.{same_sort};
 ghost use Rattle.ded_sorts.specs.Causes.{is_rational_inequality, headings_differ};
 ghost use Rattle.ded_model.specs.Entries.{known};
+ghost use Rattle.ded_sorts.specs.Facts.{is_faulty_atom};
 ghost use Rattle.ded_sorts.specs.Scopes.{scope_form};
 
 use crate::atoms::AtomTest;
@@ -39,12 +40,7 @@ impl AtomTest for Unbound {
         _: &Name,
         operands: &Operands,
     ) -> Result<bool, NoMemory> {
-        Ok(
-            operands
-                .list
-                .iter()
-                .any(|operand| is_unbound(scope, operand)),
-        )
+        Ok(have_unbound_operand(scope, &operands.list))
     }
 }
 
@@ -64,10 +60,43 @@ impl<N: Names> AtomTest for Missorted<'_, N> {
         op: CompareOp,
         right: &Operand,
     ) -> Result<bool, NoMemory> {
+        Ok(is_missorted(scope, left, op, right))
+    }
+
+    fn on_member(
+        &self,
+        scope: &Scope<'_>,
+        name: &Name,
+        operands: &Operands,
+    ) -> Result<bool, NoMemory> {
+        match known_base(self.names, name)? {
+            None => Ok(have_text_sum(scope, &operands.list)),
+            Some(entry) => Ok(are_missorted(scope, entry.columns(), &operands.list)),
+        }
+    }
+}
+
+/// Passes atoms that one of [`Undefined`](crate::uses::Undefined), [`OtherArity`](crate::uses::OtherArity), [`Unbound`] and
+/// [`Missorted`] passes. A name is looked up once.
+#[derive(Drop)]
+pub(crate) struct Faulty<'a, N> {
+    pub(crate) names: &'a N,
+}
+
+impl<N: Names> AtomTest for Faulty<'_, N> {
+    ghost passes = { λ s scope a. is_faulty_atom (known (N.catalogue s.names.now)) scope a };
+
+    fn on_comparison(
+        &self,
+        scope: &Scope<'_>,
+        left: &Operand,
+        op: CompareOp,
+        right: &Operand,
+    ) -> Result<bool, NoMemory> {
         Ok(
-            is_text_sum(scope, left)
-                || is_text_sum(scope, right)
-                || do_sorts_differ(op, sort_of(scope, left), sort_of(scope, right)),
+            is_unbound(scope, left)
+                || is_unbound(scope, right)
+                || is_missorted(scope, left, op, right),
         )
     }
 
@@ -77,11 +106,15 @@ impl<N: Names> AtomTest for Missorted<'_, N> {
         name: &Name,
         operands: &Operands,
     ) -> Result<bool, NoMemory> {
-        let has_text_sum = have_text_sum(scope, &operands.list);
         match known_base(self.names, name)? {
-            None => Ok(has_text_sum),
+            None => Ok(true),
             Some(entry) => {
-                Ok(has_text_sum || do_arguments_differ(scope, entry.columns(), &operands.list))
+                let columns = entry.columns();
+                Ok(
+                    operands.list.len() != columns.len()
+                        || have_unbound_operand(scope, &operands.list)
+                        || are_missorted(scope, columns, &operands.list),
+                )
             }
         }
     }
@@ -132,6 +165,13 @@ fn have_unbound(scope: &Scope<'_>, parts: &[(Name, i128)]) -> bool
     ensures { result ≡ list_any (λ c. model.is_unbound_name (scope_form scope.now) c.0) parts.now }
 {
     parts.iter().any(|part| scope.sort_of(&part.0).is_none())
+}
+
+/// Whether one of the operands has a variable with no column in the scope.
+fn have_unbound_operand(scope: &Scope<'_>, operands: &[Operand]) -> bool
+    ensures { result ≡ list_any (is_unbound_operand (scope_form scope.now)) operands.now }
+{
+    operands.iter().any(|operand| is_unbound(scope, operand))
 }
 
 /// What the variable ranges over; one that nothing binds counts as a number.
@@ -186,6 +226,23 @@ fn have_text_sum(scope: &Scope<'_>, operands: &[Operand]) -> bool
     ensures { result ≡ list_any (model.is_text_sum (scope_form scope.now)) operands.now }
 {
     operands.iter().any(|operand| is_text_sum(scope, operand))
+}
+
+/// Whether the comparison has a text where a number has to stand, or a number where a text has to.
+fn is_missorted(scope: &Scope<'_>, left: &Operand, op: CompareOp, right: &Operand) -> bool
+    ensures { result ≡ (model.is_text_sum (scope_form scope.now) left.now || model.is_text_sum (scope_form scope.now) right.now
+        || model.sorts_differ op (model.operand_sort (scope_form scope.now) left.now) (model.operand_sort (scope_form scope.now) right.now)) }
+{
+    is_text_sum(scope, left)
+        || is_text_sum(scope, right)
+        || do_sorts_differ(op, sort_of(scope, left), sort_of(scope, right))
+}
+
+/// Whether the operands have a text where a number has to stand for one of the columns, or a number where a text has to.
+fn are_missorted(scope: &Scope<'_>, columns: &[Column], operands: &[Operand]) -> bool
+    ensures { result ≡ (list_any (model.is_text_sum (scope_form scope.now)) operands.now || model.arguments_differ (scope_form scope.now) columns.now operands.now) }
+{
+    have_text_sum(scope, operands) || do_arguments_differ(scope, columns, operands)
 }
 
 /// Whether the comparison is of a text with a number, or orders texts.
