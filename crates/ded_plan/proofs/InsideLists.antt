@@ -1,12 +1,12 @@
 -- How many members of a join mention a key, and what its projection is by that.
-use Rattle.std.proofs.Common.{◌≡◌, ℕ, suc, ◌+◌, Bool, true, false, not, cond, length, List, [], ◌∷◌, arith, refl, sym, ap, ◌∙◌}
+use Rattle.std.proofs.Common.{◌≡◌, ℕ, suc, ◌+◌, Bool, true, false, not, ◌||◌, cond, length, List, [], ◌∷◌, arith, refl, sym, ap, ◌∙◌}
 use Rattle.ded_model.specs.declared.slot.Sort.{Sort}
 use Rattle.ded_model.specs.declared.plan.Plan.{Plan}
 use Rattle.ded_model.specs.Point.{Key}
 use Rattle.ded_model.specs.Logic.{every_of, exists, Logics, none, also}
 use Rattle.ded_model.specs.PlanForm.{PlanAtom, plan_forms, plan_mentions}
 use Rattle.ded_model.specs.Pushed.{is_one}
-use Rattle.ded_plan.specs.Rewrite.{is_none, count_of, inside, outside, projected_apart, projected_join}
+use Rattle.ded_plan.specs.Rewrite.{is_none, count_of, inside, outside, projected_apart, projected_join, projected_down, each_projected, projected}
 
 pub count_forms : (ps : List Plan) → count_of (plan_forms ps) ≡ length ps
 count_forms [] = refl
@@ -39,6 +39,31 @@ not_one_counted : (fs : Logics PlanAtom) → ¬ (count_of fs ≡ 1) → is_one f
 not_one_counted none h = refl
 not_one_counted (also f none) h = absurd (h refl)
 not_one_counted (also f (also g fs)) h = refl
+
+-- no member mentions the key
+none_mentions : (k : Key) (fs : Logics PlanAtom) → count_of (inside k fs) ≡ 0 → plan_mentions (every_of fs) k ≡ false
+none_mentions k none h = refl
+none_mentions k (also f fs) h = go (plan_mentions f k) h (none_mentions k fs)
+  where
+    go : (b : Bool) → count_of (cond b (also f (inside k fs)) (inside k fs)) ≡ 0 → (count_of (inside k fs) ≡ 0 → plan_mentions (every_of fs) k ≡ false) → (b || plan_mentions (every_of fs) k) ≡ false
+    go true h rest = absurd (omega arith)
+    go false h rest = rest h
+
+-- one does
+one_mentions : (k : Key) (fs : Logics PlanAtom) → ¬ (count_of (inside k fs) ≡ 0) → plan_mentions (every_of fs) k ≡ true
+one_mentions k none h = absurd (h refl)
+one_mentions k (also f fs) h = go (plan_mentions f k) h (one_mentions k fs)
+  where
+    go : (b : Bool) → ¬ (count_of (cond b (also f (inside k fs)) (inside k fs)) ≡ 0) → (¬ (count_of (inside k fs) ≡ 0) → plan_mentions (every_of fs) k ≡ true) → (b || plan_mentions (every_of fs) k) ≡ true
+    go true h rest = refl
+    go false h rest = rest h
+
+-- what is projected of a join, by whether a member mentions the key
+pub none_projected : (s : Sort) (k : Key) (fs : Logics PlanAtom) (m : ℕ) → m ≡ count_of (inside k fs) → m ≡ 0 → every_of fs ≡ projected s k (every_of fs)
+none_projected s k fs m i z = ap (λ b. cond b (projected_down s k (every_of fs)) (every_of fs)) (sym (none_mentions k fs (sym i ∙ z)))
+
+pub some_projected : (s : Sort) (k : Key) (fs : Logics PlanAtom) (m : ℕ) → m ≡ count_of (inside k fs) → ¬ (m ≡ 0) → projected_join s k fs (each_projected s k fs) ≡ projected s k (every_of fs)
+some_projected s k fs m i z = ap (λ b. cond b (projected_down s k (every_of fs)) (every_of fs)) (sym (one_mentions k fs (λ o. z (i ∙ o))))
 
 module _ (s : Sort) (k : Key) (fs one : Logics PlanAtom) (m n : ℕ) (i : m ≡ count_of (inside k fs)) (l : n ≡ count_of fs) where
   -- all do

@@ -1,12 +1,13 @@
 -- Lists of plans as members: what a list built plan after plan stands for.
 use Rattle.std.specs.Prelude.{◌==◌}
 use Rattle.std.proofs.lemmas.Bool.Decides.{nat_tests}
-use Rattle.std.proofs.Common.{◌≡◌, arith, ℕ, suc, Bool, true, false, cond, length, List, [], ◌∷◌, ◌++◌, refl, sym, ap, ◌∙◌, map, true≢false}
+use Rattle.std.proofs.Common.{◌≡◌, arith, ℕ, suc, Bool, true, false, not, cond, length, List, [], ◌∷◌, ◌++◌, refl, sym, ap, ap₂, ◌∙◌, map, true≢false}
 use Rattle.ded_model.specs.declared.plan.Plan.{Plan}
 use Rattle.ded_model.specs.Logic.{atom, always, never, negation, every_of, some_of, implies, minus, exists, forall, Logics, none, also}
 use Rattle.ded_model.specs.PlanForm.{PlanAtom, PlanForm, plan_form, plan_forms}
-use Rattle.ded_model.specs.Pushed.{is_join, is_not}
-use Rattle.ded_plan.specs.Rewrite.{appended, filtered, join_of, union_of, negated, distributed, members_of, flattened, part_of, taken, difference_of}
+use Rattle.ded_model.specs.Pushed.{is_join, is_not, some_member}
+use Rattle.ded_model.proofs.Bools.{or_false_left, or_false_right}
+use Rattle.ded_plan.specs.Rewrite.{appended, filtered, join_of, union_of, negated, distributed, members_of, comes_apart, flattened, part_of, kept, taken, difference_of, joined}
 
 pub appended_none : (fs : Logics PlanAtom) → appended fs none ≡ fs
 appended_none none = refl
@@ -119,3 +120,24 @@ pub taken_from_some : (ks ts : List Plan) (m n : ℕ) → m ≡ length ks → n 
 taken_from_some ks [] m n k t e d = absurd (true≢false (sym (d ∙ ap (λ i. i == 0) t)))
 taken_from_some [] (p ∷ ts) m n k t e d = absurd (true≢false (sym (e ∙ ap (λ i. i == 0) k)))
 taken_from_some (q ∷ ks) (p ∷ ts) m n k t e d = refl
+
+-- ---- members of which none comes apart
+
+flattened_whole : (fs : Logics PlanAtom) → some_member comes_apart fs ≡ false → flattened fs ≡ fs
+flattened_whole none h = refl
+flattened_whole (also f fs) h =
+    flattened_other f fs (or_false_left (is_join f) (is_not f) (or_false_left (comes_apart f) _ h)) ∙ ap (also f) (flattened_whole fs (or_false_right (comes_apart f) _ h))
+
+kept_whole : (fs : Logics PlanAtom) → some_member comes_apart fs ≡ false → kept fs ≡ fs
+kept_whole none h = refl
+kept_whole (also f fs) h =
+    filtered_kept (λ g. not (is_not g)) f fs (ap not (or_false_right (is_join f) (is_not f) (or_false_left (comes_apart f) _ h))) ∙ ap (also f) (kept_whole fs (or_false_right (comes_apart f) _ h))
+
+taken_whole : (fs : Logics PlanAtom) → some_member comes_apart fs ≡ false → taken fs ≡ none
+taken_whole none h = refl
+taken_whole (also f fs) h = taken_same f fs (or_false_right (is_join f) (is_not f) (or_false_left (comes_apart f) _ h)) ∙ taken_whole fs (or_false_right (comes_apart f) _ h)
+
+-- their join has them as they are
+pub joined_whole : (fs : Logics PlanAtom) → some_member comes_apart fs ≡ false → join_of (distributed fs) ≡ joined fs
+joined_whole fs h =
+    sym (ap (λ gs. difference_of (kept gs) (taken gs)) (flattened_whole fs h) ∙ ap₂ difference_of (kept_whole fs h) (taken_whole fs h))

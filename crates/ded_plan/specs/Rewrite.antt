@@ -1,11 +1,11 @@
 -- The plan that is put in the place of a plan.
-use Rattle.std.specs.Prelude.{ℕ, suc, Bool, true, false, not, ◌&&◌, List, [], ◌∷◌, if◌then◌else◌}
+use Rattle.std.specs.Prelude.{ℕ, suc, Bool, true, false, not, ◌&&◌, ◌||◌, List, [], ◌∷◌, if◌then◌else◌}
 use Rattle.ded_model.specs.declared.slot.Sort.{Sort}
 use Rattle.ded_model.specs.Point.{Key}
 use Rattle.ded_model.specs.Row.{Atom}
 use Rattle.ded_model.specs.Logic.{atom, always, never, negation, every_of, some_of, implies, minus, exists, forall, Logics, none, also}
 use Rattle.ded_model.specs.PlanForm.{PlanAtom, rows, PlanForm, plan_mentions}
-use Rattle.ded_model.specs.Pushed.{is_union, is_not, is_rows, some_member, is_one}
+use Rattle.ded_model.specs.Pushed.{is_union, is_join, is_not, is_rows, some_member, is_one}
 
 -- ---- members
 
@@ -102,6 +102,10 @@ members_of f = also f none
 abbrev pub flattened : Logics PlanAtom → Logics PlanAtom
 flattened none = none
 flattened (also f fs) = appended (members_of f) (flattened fs)
+
+-- whether a join takes the plan apart: a join into its members, a complement into its part
+abbrev pub comes_apart : PlanForm → Bool
+comes_apart f = is_join f || is_not f
 
 -- the part of a complement
 abbrev pub part_of : PlanForm → PlanForm

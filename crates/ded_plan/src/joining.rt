@@ -1,7 +1,8 @@
 //! Joins, unions and complements of plans.
 ghost use Rattle.std.specs.Prelude.{◌≡◌, ◌++◌, IfOk};
 ghost use Rattle.ded_model.specs.PlanForm.{plan_form, plan_forms};
-ghost use Rattle.ded_plan.specs.Rewrite.{join_of, union_of, negated, flattened, kept, taken, difference_of, joined};
+ghost use Rattle.ded_model.specs.Pushed.{some_member};
+ghost use Rattle.ded_plan.specs.Rewrite.{join_of, union_of, negated, comes_apart, flattened, kept, taken, difference_of, joined};
 
 use crate::distributing::distributed;
 use ded_model::memory::NoMemory;
@@ -15,6 +16,9 @@ use std::alloc::Global;
 pub fn joined(alloc: Global, plans: Vec<Plan>) -> Result<Plan, NoMemory>
     ensures { IfOk result (λ p. plan_form p ≡ joined (plan_forms plans.items)) }
 {
+    if !some_comes_apart(&plans) {
+        return Ok(join_of(distributed(alloc, plans)?));
+    }
     let mut kept = Vec::with_capacity(alloc, plans.len())?;
     let mut taken = Vec::new(alloc);
     for plan in flattened(alloc, plans)? {
@@ -24,6 +28,25 @@ pub fn joined(alloc: Global, plans: Vec<Plan>) -> Result<Plan, NoMemory>
         }
     }
     difference_of(alloc, kept, taken)
+}
+
+/// Whether a join takes one of the plans apart.
+fn some_comes_apart(plans: &Vec<Plan>) -> bool
+    ensures { result ≡ some_member comes_apart (plan_forms plans.now.items) }
+{
+    for plan in plans {
+        if comes_apart(plan) {
+            return true;
+        }
+    }
+    false
+}
+
+/// Whether a join takes the plan apart: a join into its members, a complement into its part.
+fn comes_apart(plan: &Plan) -> bool
+    ensures { result ≡ comes_apart (plan_form plan.now) }
+{
+    matches!(plan, Plan::Join(_) | Plan::Not(_))
 }
 
 /// The plans with the members of joins in the joins' places.

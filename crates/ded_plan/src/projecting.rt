@@ -1,9 +1,10 @@
 //! Projections of plans.
-ghost use Rattle.std.specs.Prelude.{◌≡◌, IfOk};
-ghost use Rattle.ded_model.specs.Logic.{exists};
+ghost use Rattle.std.specs.Prelude.{◌≡◌, false, IfOk};
+ghost use Rattle.ded_model.specs.Logic.{every_of, exists};
 ghost use Rattle.ded_model.specs.PlanForm.{plan_form, plan_forms};
 ghost use Rattle.ded_model.specs.Point.{slot};
-ghost use Rattle.ded_plan.specs.Rewrite.{count_of, inside, projected_down, projected, each_projected, projected_join, projected_apart};
+ghost use Rattle.ded_model.specs.Pushed.{is_join};
+ghost use Rattle.ded_plan.specs.Rewrite.{count_of, inside, projected_down, projected, each_projected, projected_apart};
 
 use crate::slots::mentions;
 use ded_model::memory::NoMemory;
@@ -19,21 +20,25 @@ use std::alloc::Global;
 pub fn projected(alloc: Global, at: Slot, plan: Plan) -> Result<Plan, NoMemory>
     ensures { IfOk result (λ p. plan_form p ≡ projected at.sort (slot at) (plan_form plan)) }
 {
-    if mentions(&plan, at) {
-        projected_down(alloc, at, plan)
-    } else {
-        Ok(plan)
+    match plan {
+        Plan::Join(parts) => projected_join(alloc, at, parts),
+        other => {
+            if mentions(&other, at) {
+                projected_down(alloc, at, other)
+            } else {
+                Ok(other)
+            }
+        }
     }
 }
 
-/// A plan that mentions the slot, without it.
+/// A plan that mentions the slot and is no join, without it.
 #[cycle(projected)]
 fn projected_down(alloc: Global, at: Slot, plan: Plan) -> Result<Plan, NoMemory>
-    ensures { IfOk result (λ p. plan_form p ≡ projected_down at.sort (slot at) (plan_form plan)) }
+    ensures { is_join (plan_form plan) ≡ false → IfOk result (λ p. plan_form p ≡ projected_down at.sort (slot at) (plan_form plan)) }
 {
     match plan {
         Plan::Union(parts) => Ok(Plan::Union(each_projected(alloc, at, parts)?)),
-        Plan::Join(parts) => projected_join(alloc, at, parts),
         other => projection_of(alloc, at, other),
     }
 }
@@ -41,11 +46,12 @@ fn projected_down(alloc: Global, at: Slot, plan: Plan) -> Result<Plan, NoMemory>
 /// The join of the parts without the slot: only parts that mention it are projected.
 #[cycle(projected)]
 fn projected_join(alloc: Global, at: Slot, parts: Vec<Plan>) -> Result<Plan, NoMemory>
-    ensures { IfOk result (λ p. let fs = plan_forms parts.items in
-        plan_form p ≡ projected_join at.sort (slot at) fs (each_projected at.sort (slot at) fs)) }
+    ensures { IfOk result (λ p. plan_form p ≡ projected at.sort (slot at) (every_of (plan_forms parts.items))) }
 {
     let inside = count_inside(&parts, at);
-    if inside == parts.len() {
+    if inside == 0 {
+        Ok(Plan::Join(parts))
+    } else if inside == parts.len() {
         projection_of(alloc, at, Plan::Join(parts))
     } else if inside == 1 {
         Ok(Plan::Join(each_projected(alloc, at, parts)?))

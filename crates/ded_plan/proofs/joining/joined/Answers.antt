@@ -4,14 +4,17 @@ use Rattle.std.proofs.lemmas.Iterator.Consumers.{YieldsList-end}
 use Rattle.ded_model.specs.declared.plan.Plan.TheFolds.{fold-roll-Plan, fold_out-Plan}
 use Rattle.ded_model.specs.declared.plan.Plan.TheViews.{the_lemmas}
 use Rattle.ded_model.specs.Logic.{negation}
-use Rattle.ded_model.specs.PlanForm.{plan_form}
+use Rattle.ded_model.specs.PlanForm.{plan_form, plan_forms}
 use Rattle.ded_model.specs.Pushed.{is_not}
-use Rattle.ded_plan.specs.Rewrite.{kept, taken, difference_of}
-use Rattle.ded_plan.proofs.PlanLists.{made_one, made_same, made_yielded, filtered_kept, filtered_dropped, taken_more, taken_same}
+use Rattle.ded_plan.specs.Rewrite.{kept, taken, join_of, difference_of}
+use Rattle.ded_plan.proofs.PlanLists.{made_one, made_same, made_yielded, filtered_kept, filtered_dropped, taken_more, taken_same, joined_whole}
 use Rattle.ded_plan.proofs.joining.joined.Goals as goal
 
-pub loop-plan-preserved-in-Continue-branch-3 : goal.loop-plan-preserved-in-Continue-branch-3
-loop-plan-preserved-in-Continue-branch-3 c =
+pub returns-then-not-some_comes_apart : goal.returns-then-not-some_comes_apart
+returns-then-not-some_comes_apart c = c.join_of.ensures ∙ ap join_of c.in_ok-distributed.ensures ∙ joined_whole (plan_forms c.args.plans.items) (search rules)
+
+pub loop-plan-preserved-in_ok-push-in-Not : goal.loop-plan-preserved-in_ok-push-in-Not
+loop-plan-preserved-in_ok-push-in-Not c =
     let e : plan_form c.in-Some.plan ≡ negation (plan_form c.into_inner.result) = search (rules, the_lemmas, fold-roll-Plan, fold_out-Plan) in
     let dropped : not (is_not (plan_form c.in-Some.plan)) ≡ false = ap (λ f. not (is_not f)) e in (
       made_same kept c.loop-plan.yielded c.loop-plan.kept.items c.in-Some.plan (λ fs. filtered_dropped (λ f. not (is_not f)) (plan_form c.in-Some.plan) fs dropped) c.loop-plan.invariant.0,
