@@ -9,6 +9,7 @@ use Rattle.ded_model.specs.declared.slot.Slot.{Slot}
 use Rattle.ded_model.specs.declared.name.Column.{Column}
 use Rattle.ded_model.specs.Row.{Atom, tuples_hold}
 use Rattle.ded_model.specs.Known.{IsTupleOver}
+use Rattle.ded_model.specs.Normal.{IsNormalTuple}
 use Rattle.ded_model.specs.Value.{Argument, Meaning}
 use Rattle.ded_model.specs.Lines.{Line, tuples_lines}
 use Rattle.ded_model.specs.Catalogue.{Entry, relation, view, Catalogue, entry_name, tuples_of, at_slots, with_entry, meaning_from, stored}
@@ -125,6 +126,10 @@ lent_found Reads c n ss w us o e g s a = go (given_tuples c n) refl (subst (λ (
 -- their atoms are read
 pub lent_reads : (Reads : Atom → Type 0) (c : Catalogue) (n : List ℕ) (ss : List Slot) (w : Window) (us : List (List Atom)) → IsLent Reads c n ss w us → AllByRecursion (λ t. AllByRecursion Reads t) us
 lent_reads Reads c n ss w us k = near_all w (λ t. AllByRecursion Reads t) us k.all k.near (all_weaker (λ t. IsTupleOver k.found.heading t × AllByRecursion Reads t) (λ t. AllByRecursion Reads t) k.all (λ t j. j.1) k.found.over)
+
+-- they are normal
+pub lent_normal : (Reads : Atom → Type 0) (c : Catalogue) (n : List ℕ) (ss : List Slot) (w : Window) (us : List (List Atom)) → IsLent Reads c n ss w us → AllByRecursion IsNormalTuple us
+lent_normal Reads c n ss w us k = near_all w IsNormalTuple us k.all k.near (all_weaker (λ t. IsTupleOver k.found.heading t × AllByRecursion Reads t) IsNormalTuple k.all (λ t j. j.0.normal) k.found.over)
 
 -- a name that a plan scans is lent
 pub not_lent : (Reads : Atom → Type 0) (c : Catalogue) (n : List ℕ) (ss : List Slot) (w : Window) (o : Option (List (List Atom))) → o ≡ None → IsScannedFrom Reads (entry_of c.entries n) ss → AreLent w o (given_tuples c n) → ⊥

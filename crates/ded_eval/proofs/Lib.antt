@@ -30,6 +30,7 @@ pub mod ScannedFirst
 pub mod Shown
 pub mod Sifted
 pub mod Slotless
+pub mod Staying
 pub mod Taken
 pub mod TupleParts
 pub mod TuplesOfBoth

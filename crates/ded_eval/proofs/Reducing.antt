@@ -1,9 +1,10 @@
 -- Tuples without those that hold nowhere and those that are known.
 --
 -- Each loop over a list of tuples keeps parts of those that it has passed, which hold where those do.
-use Rattle.std.proofs.Common.{◌≡◌, ◌≢◌, Bool, true, ◌||◌, Some, List, [], ◌∷◌, ◌++◌, refl, sym, ap, ap₂, ◌∙◌, subst}
+use Rattle.std.proofs.Common.{◌≡◌, ◌≢◌, ℕ, ◌+◌, ◌<◌, ◌≤◌, Bool, true, ◌||◌, Some, List, [], ◌∷◌, ◌++◌, length, get_or, drop, drop-cons, add-one, refl, sym, ap, ap₂, ◌∙◌, subst}
 use Rattle.std.specs.Cmp.{IsEquivalence}
-use Rattle.std.specs.List.{AllPairs, IsDistinct}
+use Rattle.std.specs.List.{AllByRecursion, AllPairs, IsDistinct}
+use Rattle.std.proofs.lemmas.List.{drop_all}
 use Rattle.std.proofs.lemmas.Map.Made.{AllPairs-from_IsDistinct}
 use Rattle.indexmap.specs.IndexSet.{insert_all}
 use Rattle.ded_model.specs.Point.{Point}
@@ -13,10 +14,14 @@ use Rattle.ded_theory.specs.Verdicts.{HoldsNowhere}
 use Rattle.ded_theme.proofs.Lists.{all-append}
 use Rattle.std.proofs.Math.Bool.{or-false}
 use Rattle.ded_model.specs.Sublists.{IsSublist}
+use Rattle.ded_model.proofs.Sublists.{sublist_refl}
+use Rattle.ded_genrel.proofs.Items.{all_weaker}
 use Rattle.ded_eval.specs.Kept.{ArePartsOf, IsReducedTuple, IsReducedOrder, IsReducedPart, AreReducedParts}
+use Rattle.ded_eval.specs.Own.{HaveOwnSlots}
 use Rattle.ded_eval.proofs.Once.{once_all, told}
+use Rattle.ded_eval.proofs.OwnSlots.{own_reduced}
 use Rattle.ded_eval.proofs.TuplesRead.{tuples_hold-push}
-use Rattle.ded_eval.proofs.TupleParts.{parts_push, parts_skip, parts_after, parts_before}
+use Rattle.ded_eval.proofs.TupleParts.{parts_push, parts_skip, parts_after, parts_before, sublist_parts}
 
 -- ---- tuples that are known
 
@@ -58,6 +63,30 @@ reduced_more us ts u t k r = record {
   reduced = all-append IsReducedTuple ts t r.reduced k.3;
   orders = all-append IsReducedOrder ts t r.orders k.4;
 }
+
+-- ---- tuples whose atoms have slots of their own
+
+-- a normal tuple whose atoms have slots of their own
+abbrev pub IsOwnTuple : List Atom → Type 0
+IsOwnTuple t = IsNormalTuple t × HaveOwnSlots t
+
+-- such tuples stay as they are
+pub own_parts : (us : List (List Atom)) → AllByRecursion IsOwnTuple us → AreReducedParts us us
+own_parts us o = record {
+  holds = λ p i. refl;
+  parts = sublist_parts us us (sublist_refl _ us);
+  normal = all_weaker IsOwnTuple IsNormalTuple us (λ t k. k.0) o;
+  reduced = all_weaker IsOwnTuple IsReducedTuple us (λ t k narrow. own_reduced t k.0 k.1) o;
+  orders = all_weaker IsOwnTuple IsReducedOrder us (λ t k orders. own_reduced t k.0 k.1) o;
+}
+
+-- one more of them
+pub own_more : (us : List (List Atom)) (i : ℕ) (u : List Atom) → i < length us → u ≡ get_or us i u → IsOwnTuple u
+    → (AllByRecursion IsOwnTuple (drop i us) → AllByRecursion IsOwnTuple us) → AllByRecursion IsOwnTuple (drop (i + 1) us) → AllByRecursion IsOwnTuple us
+own_more us i u l is o h k = h (subst (AllByRecursion IsOwnTuple) (sym (drop-cons us i u l ∙ ap₂ (λ x j. x ∷ drop j us) (sym is) (sym (add-one i)))) (o, k))
+
+pub own_done : (us : List (List Atom)) (i : ℕ) → length us ≤ i → (AllByRecursion IsOwnTuple (drop i us) → AllByRecursion IsOwnTuple us) → AreReducedParts us us
+own_done us i l h = own_parts us (h (subst (AllByRecursion IsOwnTuple) (sym (drop_all i us l)) tt))
 
 -- ---- one after another
 

@@ -10,7 +10,6 @@ use Rattle.ded_model.specs.declared.slot.Slot.{Slot}
 use Rattle.ded_model.specs.declared.name.Column.{Column}
 use Rattle.ded_model.specs.Point.{Point, IsPoint, stands_in, AreDistinctSlots}
 use Rattle.ded_model.specs.Row.{Atom, row_mentions, tuple_mentions, tuples_hold, tuples_mention}
-use Rattle.ded_model.specs.Coefs.{AreCoefs}
 use Rattle.ded_model.specs.Known.{IsTupleOver, heading_slots}
 use Rattle.ded_model.specs.Value.{slot_value, overs, arguments}
 use Rattle.ded_model.specs.Catalogue.{Catalogue, GivenHolds}
@@ -35,7 +34,8 @@ use Rattle.ded_eval.specs.Within.{IsWindowOf}
 use Rattle.ded_eval.proofs.Columns.{IsRead, read, read_sort, read_into, read_once}
 use Rattle.ded_eval.proofs.ColumnCoefs.{mapped_columns}
 use Rattle.ded_eval.proofs.ColumnPoints.{column_point, column_point_is, overs_one, columns_point}
-use Rattle.ded_eval.proofs.Found.{IsLent}
+use Rattle.ded_eval.proofs.Found.{IsLent, lent_normal}
+use Rattle.ded_eval.proofs.Staying.{tuples_in_order}
 use Rattle.ded_eval.proofs.Windowed.{columns_within}
 
 -- tuples over columns mention the columns' slots
@@ -59,6 +59,7 @@ module _ {A : Type 0} (h : A → Point → Bool) (m : A → Slot → Bool) (l : 
   lists_lines P each [] k x i = absurd i
   lists_lines P each (c ∷ cs) k x i = ⊎_elim (λ (j : In x (conj_lines l c)). lines_of P each c k.0 x j) (λ j. lists_lines P each cs k.1 x j) (In-split x (conj_lines l c) (conjs_lines l cs) i)
 
+module _ {A : Type 0} (h : A → Point → Bool) (m : A → Slot → Bool) (l : A → List Line) where
   module _ (Reads : Atom → Type 0) (c : Catalogue) (x : List ℕ) (ss : List Slot) (w : Window) (us : List (List Atom)) (k : IsLent Reads c x ss w us) (list : List (List A)) (is : IsListOf h m l list us) where
     -- the list is over the columns
     columns : (s : Slot) → conjs_mention m list s ≡ true → stands_in (heading_slots 0 k.found.heading) s ≡ true
@@ -89,9 +90,9 @@ module _ {A : Type 0} (h : A → Point → Bool) (m : A → Slot → Bool) (l : 
           (λ t. means.1 (sym e ∙ t), λ t. e ∙ means.0 t)
 
       -- so it is the scan there
-      pub scan_is : ((a : A) (y : Line) → n a → In y (l a) → AreCoefs y.coefs) → ((a : A) (y : Line) (s : Slot) → In y (l a) → row_mentions y s ≡ true → m a s ≡ true)
-          → AreDistinctSlots ss → AreNormal n list → IsEvaluationWithin c (atom (scan x ss)) inside (conjs_hold h out) (conjs_mention m out) (conjs_lines l out)
-      scan_is line_coefs line_slots d n-list = record {
+      pub scan_is : ((a : A) (y : Line) (s : Slot) → In y (l a) → row_mentions y s ≡ true → m a s ≡ true)
+          → AreDistinctSlots ss → IsEvaluationWithin c (atom (scan x ss)) inside (conjs_hold h out) (conjs_mention m out) (conjs_lines l out)
+      scan_is line_slots d = record {
         holds = scan_holds;
         slots = λ t e. (let s = r.slots t e in read_into 0 k.found.heading ss s.0 t (subst (IsRead 0 k.found.heading ss s.0) s.2 (read 0 k.found.heading ss s.0 k.found.sorts (columns s.0 s.1))));
         lines = subst (λ ys. IsSubset ys (renamed_lines ss (stored_measures c x).lines)) (sym (r.lines ∙ mapped))
@@ -99,4 +100,4 @@ module _ {A : Type 0} (h : A → Point → Bool) (m : A → Slot → Bool) (l : 
       }
         where
           mapped : mapped_lines (column_pairs 0 ss) (conjs_lines l list) ≡ renamed_lines ss (conjs_lines l list)
-          mapped = mapped_columns k.found.heading ss k.found.sorts d (conjs_lines l list) (λ y i. (lists_lines (λ z. AreCoefs z.coefs) line_coefs list n-list y i, λ s e. columns s (conjs_line_slots l m line_slots list y s i (mentioned y s e))))
+          mapped = mapped_columns k.found.heading ss k.found.sorts d (conjs_lines l list) (λ y i. (tuples_in_order us (lent_normal Reads c x ss w us k) y (is.lines y i), λ s e. columns s (conjs_line_slots l m line_slots list y s i (mentioned y s e))))

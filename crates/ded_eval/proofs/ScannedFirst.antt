@@ -8,6 +8,7 @@ use Rattle.ded_model.specs.declared.slot.Slot.{Slot}
 use Rattle.ded_model.specs.Point.{Point, stands_in, AreDistinctSlots}
 use Rattle.ded_model.specs.Row.{Atom, tuple_holds, tuples_hold}
 use Rattle.ded_model.specs.Known.{IsTupleOver, heading_slots}
+use Rattle.ded_model.specs.Normal.{IsNormalTuple}
 use Rattle.ded_model.specs.Value.{slot_value, overs, arguments}
 use Rattle.ded_model.specs.Catalogue.{Catalogue}
 use Rattle.ded_model.specs.Logic.{atom}
@@ -78,6 +79,9 @@ all_lent Reads c n ss w k l bs e t a = subst (λ (us : List Lent). IsLent Reads 
 
 pub first_reads : (Reads : Atom → Type 0) (c : Catalogue) (n : List ℕ) (ss : List Slot) (us : List (List Atom)) → IsSomeOf Reads c n ss us → AllByRecursion (λ t. AllByRecursion Reads t) us
 first_reads Reads c n ss us k = all_weaker (λ t. IsTupleOver k.found.heading t × AllByRecursion Reads t) (λ t. AllByRecursion Reads t) us (λ t j. j.1) k.over
+
+pub first_normal : (Reads : Atom → Type 0) (c : Catalogue) (n : List ℕ) (ss : List Slot) (us : List (List Atom)) → IsSomeOf Reads c n ss us → AllByRecursion IsNormalTuple us
+first_normal Reads c n ss us k = all_weaker (λ t. IsTupleOver k.found.heading t × AllByRecursion Reads t) IsNormalTuple us (λ t j. j.0.normal) k.over
 
 module _ {A : Type 0} (h : A → Point → Bool) (m : A → Slot → Bool) (l : A → List Line) (Reads : Atom → Type 0) (c : Catalogue) (x : List ℕ) (ss : List Slot) (us : List (List Atom)) (k : IsSomeOf Reads c x ss us) (list : List (List A)) (is : IsListOf h m l list us) where
   -- the list is over the columns

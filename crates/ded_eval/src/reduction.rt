@@ -39,7 +39,23 @@ pub fn reduced(alloc: Global, tuples: Tuples) -> Result<Tuples, NoMemory>
     ensures orders { IfOk result (λ ts. AllByRecursion (λ t. AreOrderAtoms t → IsReduced atom_holds t) ts) }
 {
     let first = distinct_tuples(alloc, tuples)?;
+    if all_have_own_slots(&first.list) {
+        return Ok(first);
+    }
     distinct_tuples(alloc, each_reduced(alloc, first)?)
+}
+
+/// Whether each atom of each tuple mentions a slot that no other atom of its tuple does. Then none of the tuples has superfluous
+/// atoms.
+fn all_have_own_slots(tuples: &[Tuple]) -> bool
+    ensures { result ≡ true → AreReducedParts tuples.now tuples.now }
+{
+    for tuple in tuples {
+        if !have_own_slots(&tuple.atoms) {
+            return false;
+        }
+    }
+    true
 }
 
 /// Each tuple without superfluous atoms, if it isn't found to hold nowhere.

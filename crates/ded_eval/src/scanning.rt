@@ -1,9 +1,12 @@
 //! Scans: the tuples of a relation, its columns read into slots.
-ghost use Rattle.std.specs.Prelude.{◌≡◌, ◌+◌, true, IfOk};
+ghost use Rattle.std.specs.Prelude.{◌≡◌, ◌+◌, true, [], IfOk};
+ghost use Rattle.ded_model.specs.declared.slot.Slot.{Slot};
 ghost use Rattle.ded_model.specs.Entries.{entry_of};
 ghost use Rattle.ded_model.specs.Logic.{atom};
 ghost use Rattle.ded_model.specs.PlanForm.{scan};
+ghost use Rattle.ded_model.specs.Renaming.{renamed, IsOneToOne, KeepsSorts};
 ghost use Rattle.ded_genrel.specs.Lists.{conjs_hold, conjs_mention, conjs_lines};
+ghost use Rattle.ded_genrel.specs.Operations.{IsRenaming};
 ghost use Rattle.ded_model.specs.Cell.{conj_holds};
 ghost use Rattle.ded_algebra.specs.Evaluation.{IsScannedFrom, IsEvaluationWithin};
 ghost use Rattle.ded_eval.specs.Finding.{IsFoundIn, IsWholeIn};
@@ -36,10 +39,7 @@ pub(crate) fn scanned<T: OfTuples, R: Relations>(
     relations.formed();
     let columns = columns_window::<T>(alloc, window, &slots.list)?;
     match relations.near(alloc, name, &columns)? {
-        Some(tuples) => {
-            let pairs = column_pairs(alloc, &slots.list)?;
-            conjunctions::<T>(alloc, &tuples)?.rename(&pairs)
-        }
+        Some(tuples) => in_slots(alloc, conjunctions::<T>(alloc, &tuples)?, slots),
         None => unreachable!(),
     }
 }
@@ -74,12 +74,45 @@ pub(crate) fn first_scanned<T: OfTuples, R: Relations>(
         Some(mut tuples) => {
             let is_whole = tuples.len() <= count;
             tuples.truncate(count);
-            let pairs = column_pairs(alloc, &slots.list)?;
-            let list = conjunctions::<T>(alloc, &tuples)?.rename(&pairs)?;
+            let list = in_slots(alloc, conjunctions::<T>(alloc, &tuples)?, slots)?;
             Ok(FirstTuples { list, is_whole })
         }
         None => unreachable!(),
     }
+}
+
+/// The list with its columns read into the slots, as [`GenRel::rename`] gives it. It stays as it is where each column is its slot.
+///
+/// # Errors
+/// Out of memory.
+fn in_slots<T: Theory>(alloc: Global, list: GenRel<T>, slots: &Slots) -> Result<GenRel<T>, NoMemory>
+    requires one { IsOneToOne (column_pairs 0 slots.now) (conjs_mention T.mentions list) }
+    requires sorts { KeepsSorts (column_pairs 0 slots.now) (conjs_mention T.mentions list) }
+    requires stays { IsRenaming [] (conjs_hold T.holds list) (conjs_hold T.holds list) (conjs_mention T.mentions list) (conjs_mention T.mentions list) (conjs_lines T.lines list) (conjs_lines T.lines list) }
+    ensures { IfOk result (λ r. IsRenaming (column_pairs 0 slots.now) (conjs_hold T.holds list) (conjs_hold T.holds r) (conjs_mention T.mentions list) (conjs_mention T.mentions r) (conjs_lines T.lines list) (conjs_lines T.lines r)) }
+{
+    if are_columns(&slots.list) {
+        return Ok(list);
+    }
+    let pairs = column_pairs(alloc, &slots.list)?;
+    list.rename(&pairs)
+}
+
+/// Whether each slot is found to have the number of the column that is read into it.
+fn are_columns(slots: &[Slot]) -> bool
+    ensures { result ≡ true → (s : Slot) → renamed (column_pairs 0 slots.now) s ≡ s }
+{
+    let mut number = 0;
+    for slot in slots {
+        if slot.number != number {
+            return false;
+        }
+        let Some(next) = number.checked_add(1) else {
+            return false;
+        };
+        number = next;
+    }
+    true
 }
 
 /// Each column, by number from 0, with the slot that it is read into.

@@ -1,11 +1,28 @@
+use Rattle.std.proofs.Common.{◌∙◌, subst}
 use Rattle.std.proofs.lemmas.Result.{IfOk-weaker}
 use Rattle.ded_model.specs.Normal.{IsNormalTuple}
 use Rattle.ded_model.specs.Sublists.{IsSublist}
 use Rattle.ded_model.proofs.Sublists.{sublist_all}
-use Rattle.ded_eval.specs.Kept.{IsReducedTuple, IsReducedOrder}
-use Rattle.ded_eval.proofs.TupleParts.{parts_slots, parts_lines}
+use Rattle.ded_eval.specs.Kept.{IsReducedTuple, IsReducedOrder, AreReducedParts}
+use Rattle.ded_eval.proofs.TupleParts.{parts_slots, parts_lines, sublist_parts}
 use Rattle.ded_eval.proofs.Reducing.{parts_distinct}
 use Rattle.ded_eval.proofs.reduction.reduced.Goals as goal
+use Rattle.ded_eval.proofs.reduction.reduced.Goals.{Then-all_have_own_slots}
+
+own_parts : (c : Then-all_have_own_slots) → AreReducedParts c.in_ok-first.first c.in_ok-first.first
+own_parts c = subst (λ ts. AreReducedParts ts ts) (c.deref.ensures.value ∙ c.first.view_is) (c.all_have_own_slots.ensures c.if-all_have_own_slots.true)
+
+pub returns-then-all_have_own_slots-clause-kept : goal.returns-then-all_have_own_slots-clause-kept
+returns-then-all_have_own_slots-clause-kept c = sublist_parts c.in_ok-first.first c.args.tuples c.in_ok-first.ensures.kept
+
+pub returns-then-all_have_own_slots-clause-normal : goal.returns-then-all_have_own_slots-clause-normal
+returns-then-all_have_own_slots-clause-normal c = (own_parts c).normal
+
+pub returns-then-all_have_own_slots-clause-reduced : goal.returns-then-all_have_own_slots-clause-reduced
+returns-then-all_have_own_slots-clause-reduced c = (own_parts c).reduced
+
+pub returns-then-all_have_own_slots-clause-orders : goal.returns-then-all_have_own_slots-clause-orders
+returns-then-all_have_own_slots-clause-orders c = (own_parts c).orders
 
 pub returns-clause-kept : goal.returns-clause-kept
 returns-clause-kept c =

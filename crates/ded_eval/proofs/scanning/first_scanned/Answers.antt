@@ -2,61 +2,59 @@ use Rattle.std.proofs.Common.{◌∙◌, sym, ap, subst}
 use Rattle.std.specs.Option.{option_map}
 use Rattle.ded_model.specs.Cell.{conj_holds}
 use Rattle.ded_model.specs.Point.{AreDistinctSlots}
-use Rattle.ded_model.specs.Renaming.{IsOneToOne, KeepsSorts}
-use Rattle.ded_genrel.specs.Lists.{conjs_hold, conjs_mention, conjs_lines}
-use Rattle.ded_genrel.specs.Operations.{IsRenaming}
 use Rattle.ded_packed.specs.Lent.{lent}
-use Rattle.ded_eval.specs.Scanning.{column_pairs}
 use Rattle.ded_eval.specs.Within.{IsWindowOf}
 use Rattle.ded_eval.proofs.Found.{IsLent, lent_found}
 use Rattle.ded_eval.proofs.Scanned.{scan_holds}
-use Rattle.ded_eval.proofs.ScannedFirst.{IsSomeOf, first_lent, all_lent, first_reads, first_apart, first_sorts, first_found}
+use Rattle.ded_eval.proofs.ScannedFirst.{IsSomeOf, first_lent, all_lent, first_reads, first_normal, first_apart, first_sorts, first_found}
+use Rattle.ded_eval.proofs.Staying.{list_stays}
 use Rattle.ded_eval.proofs.scanning.first_scanned.Goals as goal
 
-pub rename-requires-clause-one : goal.rename-requires-clause-one
-rename-requires-clause-one g c =
-    subst (λ ps. IsOneToOne ps (conjs_mention g.T.Theory.mentions c.in_ok-conjunctions-in-Some.field-0)) (sym (c.deref-in-Some-3.ensures.value ∙ c.in_ok-pairs-in-Some.ensures ∙ ap (column_pairs 0) (c.deref-in-Some.ensures.value ∙ c.slots.view_is)))
-    (first_apart g.T.Theory.holds g.T.Theory.mentions g.T.Theory.lines g.T.OfTuples.reads (g.R.Relations.catalogue c.args.relations.now) c.args.name.now c.args.slots.now (lent c.deref-in-Some-2.result.now)
-    (subst (λ bs. IsSomeOf g.T.OfTuples.reads (g.R.Relations.catalogue c.args.relations.now) c.args.name.now c.args.slots.now (lent bs)) (sym (c.deref-in-Some-2.ensures.value ∙ c.truncate.ensures.items))
+pub in_slots-requires-clause-one : goal.in_slots-requires-clause-one
+in_slots-requires-clause-one g c =
+    first_apart g.T.Theory.holds g.T.Theory.mentions g.T.Theory.lines g.T.OfTuples.reads (g.R.Relations.catalogue c.args.relations.now) c.args.name.now c.args.slots.now (lent c.deref-in-Some.result.now)
+    (subst (λ bs. IsSomeOf g.T.OfTuples.reads (g.R.Relations.catalogue c.args.relations.now) c.args.name.now c.args.slots.now (lent bs)) (sym (c.deref-in-Some.ensures.value ∙ c.truncate.ensures.items))
     (first_lent g.T.OfTuples.reads (g.R.Relations.catalogue c.args.relations.now) c.args.name.now c.args.slots.now c.in_ok-columns.columns c.args.count c.in-Some.tuples.items
     (lent_found g.T.OfTuples.reads (g.R.Relations.catalogue c.args.relations.now) c.args.name.now c.args.slots.now c.in_ok-columns.columns (lent c.in-Some.tuples.items) (option_map (λ ts. lent ts.items) c.in_ok-tuples.field-0) (ap (option_map (λ ts. lent ts.items)) c.in-Some.is) c.formed.ensures c.requires c.in_ok-tuples.ensures)))
-    c.in_ok-conjunctions-in-Some.field-0 c.in_ok-conjunctions-in-Some.ensures (subst AreDistinctSlots c.slots.view_is c.slots.invariant))
+    c.in_ok-conjunctions-in-Some.field-0 c.in_ok-conjunctions-in-Some.ensures (subst AreDistinctSlots c.slots.view_is c.slots.invariant)
 
-pub rename-requires-clause-sorts : goal.rename-requires-clause-sorts
-rename-requires-clause-sorts g c =
-    subst (λ ps. KeepsSorts ps (conjs_mention g.T.Theory.mentions c.in_ok-conjunctions-in-Some.field-0)) (sym (c.deref-in-Some-3.ensures.value ∙ c.in_ok-pairs-in-Some.ensures ∙ ap (column_pairs 0) (c.deref-in-Some.ensures.value ∙ c.slots.view_is)))
-    (first_sorts g.T.Theory.holds g.T.Theory.mentions g.T.Theory.lines g.T.OfTuples.reads (g.R.Relations.catalogue c.args.relations.now) c.args.name.now c.args.slots.now (lent c.deref-in-Some-2.result.now)
-    (subst (λ bs. IsSomeOf g.T.OfTuples.reads (g.R.Relations.catalogue c.args.relations.now) c.args.name.now c.args.slots.now (lent bs)) (sym (c.deref-in-Some-2.ensures.value ∙ c.truncate.ensures.items))
+pub in_slots-requires-clause-sorts : goal.in_slots-requires-clause-sorts
+in_slots-requires-clause-sorts g c =
+    first_sorts g.T.Theory.holds g.T.Theory.mentions g.T.Theory.lines g.T.OfTuples.reads (g.R.Relations.catalogue c.args.relations.now) c.args.name.now c.args.slots.now (lent c.deref-in-Some.result.now)
+    (subst (λ bs. IsSomeOf g.T.OfTuples.reads (g.R.Relations.catalogue c.args.relations.now) c.args.name.now c.args.slots.now (lent bs)) (sym (c.deref-in-Some.ensures.value ∙ c.truncate.ensures.items))
     (first_lent g.T.OfTuples.reads (g.R.Relations.catalogue c.args.relations.now) c.args.name.now c.args.slots.now c.in_ok-columns.columns c.args.count c.in-Some.tuples.items
     (lent_found g.T.OfTuples.reads (g.R.Relations.catalogue c.args.relations.now) c.args.name.now c.args.slots.now c.in_ok-columns.columns (lent c.in-Some.tuples.items) (option_map (λ ts. lent ts.items) c.in_ok-tuples.field-0) (ap (option_map (λ ts. lent ts.items)) c.in-Some.is) c.formed.ensures c.requires c.in_ok-tuples.ensures)))
-    c.in_ok-conjunctions-in-Some.field-0 c.in_ok-conjunctions-in-Some.ensures)
+    c.in_ok-conjunctions-in-Some.field-0 c.in_ok-conjunctions-in-Some.ensures
+
+pub in_slots-requires-clause-stays : goal.in_slots-requires-clause-stays
+in_slots-requires-clause-stays g c =
+    list_stays g.T.Theory.holds g.T.Theory.mentions g.T.Theory.lines c.in_ok-conjunctions-in-Some.field-0 (lent c.deref-in-Some.result.now)
+    (first_normal g.T.OfTuples.reads (g.R.Relations.catalogue c.args.relations.now) c.args.name.now c.args.slots.now (lent c.deref-in-Some.result.now)
+    (subst (λ bs. IsSomeOf g.T.OfTuples.reads (g.R.Relations.catalogue c.args.relations.now) c.args.name.now c.args.slots.now (lent bs)) (sym (c.deref-in-Some.ensures.value ∙ c.truncate.ensures.items))
+    (first_lent g.T.OfTuples.reads (g.R.Relations.catalogue c.args.relations.now) c.args.name.now c.args.slots.now c.in_ok-columns.columns c.args.count c.in-Some.tuples.items
+    (lent_found g.T.OfTuples.reads (g.R.Relations.catalogue c.args.relations.now) c.args.name.now c.args.slots.now c.in_ok-columns.columns (lent c.in-Some.tuples.items) (option_map (λ ts. lent ts.items) c.in_ok-tuples.field-0) (ap (option_map (λ ts. lent ts.items)) c.in-Some.is) c.formed.ensures c.requires c.in_ok-tuples.ensures))))
+    c.in_ok-conjunctions-in-Some.ensures
 
 pub conjunctions-requires : goal.conjunctions-requires
 conjunctions-requires g c =
-    first_reads g.T.OfTuples.reads (g.R.Relations.catalogue c.args.relations.now) c.args.name.now c.args.slots.now (lent c.deref-in-Some-2.result.now)
-    (subst (λ bs. IsSomeOf g.T.OfTuples.reads (g.R.Relations.catalogue c.args.relations.now) c.args.name.now c.args.slots.now (lent bs)) (sym (c.deref-in-Some-2.ensures.value ∙ c.truncate.ensures.items))
+    first_reads g.T.OfTuples.reads (g.R.Relations.catalogue c.args.relations.now) c.args.name.now c.args.slots.now (lent c.deref-in-Some.result.now)
+    (subst (λ bs. IsSomeOf g.T.OfTuples.reads (g.R.Relations.catalogue c.args.relations.now) c.args.name.now c.args.slots.now (lent bs)) (sym (c.deref-in-Some.ensures.value ∙ c.truncate.ensures.items))
     (first_lent g.T.OfTuples.reads (g.R.Relations.catalogue c.args.relations.now) c.args.name.now c.args.slots.now c.in_ok-columns.columns c.args.count c.in-Some.tuples.items
     (lent_found g.T.OfTuples.reads (g.R.Relations.catalogue c.args.relations.now) c.args.name.now c.args.slots.now c.in_ok-columns.columns (lent c.in-Some.tuples.items) (option_map (λ ts. lent ts.items) c.in_ok-tuples.field-0) (ap (option_map (λ ts. lent ts.items)) c.in-Some.is) c.formed.ensures c.requires c.in_ok-tuples.ensures)))
 
 pub returns-clause-found : goal.returns-clause-found
 returns-clause-found g c =
-    first_found g.T.Theory.holds g.T.Theory.mentions g.T.Theory.lines g.T.OfTuples.reads (g.R.Relations.catalogue c.args.relations.now) c.args.name.now c.args.slots.now (lent c.deref-in-Some-2.result.now)
-    (subst (λ bs. IsSomeOf g.T.OfTuples.reads (g.R.Relations.catalogue c.args.relations.now) c.args.name.now c.args.slots.now (lent bs)) (sym (c.deref-in-Some-2.ensures.value ∙ c.truncate.ensures.items))
+    first_found g.T.Theory.holds g.T.Theory.mentions g.T.Theory.lines g.T.OfTuples.reads (g.R.Relations.catalogue c.args.relations.now) c.args.name.now c.args.slots.now (lent c.deref-in-Some.result.now)
+    (subst (λ bs. IsSomeOf g.T.OfTuples.reads (g.R.Relations.catalogue c.args.relations.now) c.args.name.now c.args.slots.now (lent bs)) (sym (c.deref-in-Some.ensures.value ∙ c.truncate.ensures.items))
     (first_lent g.T.OfTuples.reads (g.R.Relations.catalogue c.args.relations.now) c.args.name.now c.args.slots.now c.in_ok-columns.columns c.args.count c.in-Some.tuples.items
     (lent_found g.T.OfTuples.reads (g.R.Relations.catalogue c.args.relations.now) c.args.name.now c.args.slots.now c.in_ok-columns.columns (lent c.in-Some.tuples.items) (option_map (λ ts. lent ts.items) c.in_ok-tuples.field-0) (ap (option_map (λ ts. lent ts.items)) c.in-Some.is) c.formed.ensures c.requires c.in_ok-tuples.ensures)))
-    c.in_ok-conjunctions-in-Some.field-0 c.in_ok-conjunctions-in-Some.ensures (conj_holds g.T.Theory.holds c.args.window.now) c.in_ok-list-in-Some.list
-    (subst (λ ps. IsRenaming ps (conjs_hold g.T.Theory.holds c.in_ok-conjunctions-in-Some.field-0) (conjs_hold g.T.Theory.holds c.in_ok-list-in-Some.list) (conjs_mention g.T.Theory.mentions c.in_ok-conjunctions-in-Some.field-0) (conjs_mention g.T.Theory.mentions c.in_ok-list-in-Some.list)
-    (conjs_lines g.T.Theory.lines c.in_ok-conjunctions-in-Some.field-0) (conjs_lines g.T.Theory.lines c.in_ok-list-in-Some.list))
-    (c.deref-in-Some-3.ensures.value ∙ c.in_ok-pairs-in-Some.ensures ∙ ap (column_pairs 0) (c.deref-in-Some.ensures.value ∙ c.slots.view_is)) c.in_ok-list-in-Some.ensures)
+    c.in_ok-conjunctions-in-Some.field-0 c.in_ok-conjunctions-in-Some.ensures (conj_holds g.T.Theory.holds c.args.window.now) c.in_ok-list-in-Some.list c.in_ok-list-in-Some.ensures
 
 pub returns-clause-whole : goal.returns-clause-whole
 returns-clause-whole g c = λ e p i w x.
-    (scan_holds g.T.Theory.holds g.T.Theory.mentions g.T.Theory.lines g.T.Theory.normal g.T.OfTuples.reads (g.R.Relations.catalogue c.args.relations.now) c.args.name.now c.args.slots.now c.in_ok-columns.columns (lent c.deref-in-Some-2.result.now)
-    (subst (λ bs. IsLent g.T.OfTuples.reads (g.R.Relations.catalogue c.args.relations.now) c.args.name.now c.args.slots.now c.in_ok-columns.columns (lent bs)) (sym (c.deref-in-Some-2.ensures.value ∙ c.truncate.ensures.items))
+    (scan_holds g.T.Theory.holds g.T.Theory.mentions g.T.Theory.lines g.T.OfTuples.reads (g.R.Relations.catalogue c.args.relations.now) c.args.name.now c.args.slots.now c.in_ok-columns.columns (lent c.deref-in-Some.result.now)
+    (subst (λ bs. IsLent g.T.OfTuples.reads (g.R.Relations.catalogue c.args.relations.now) c.args.name.now c.args.slots.now c.in_ok-columns.columns (lent bs)) (sym (c.deref-in-Some.ensures.value ∙ c.truncate.ensures.items))
     (all_lent g.T.OfTuples.reads (g.R.Relations.catalogue c.args.relations.now) c.args.name.now c.args.slots.now c.in_ok-columns.columns c.args.count c.len.result c.in-Some.tuples.items (c.len.ensures ∙ c.in-Some.tuples.ok.0) e
     (lent_found g.T.OfTuples.reads (g.R.Relations.catalogue c.args.relations.now) c.args.name.now c.args.slots.now c.in_ok-columns.columns (lent c.in-Some.tuples.items) (option_map (λ ts. lent ts.items) c.in_ok-tuples.field-0) (ap (option_map (λ ts. lent ts.items)) c.in-Some.is) c.formed.ensures c.requires c.in_ok-tuples.ensures)))
     c.in_ok-conjunctions-in-Some.field-0 c.in_ok-conjunctions-in-Some.ensures (conj_holds g.T.Theory.holds c.args.window.now)
-    (subst (λ ss. IsWindowOf ss (conj_holds g.T.Theory.holds c.args.window.now) c.in_ok-columns.columns) (c.deref.ensures.value ∙ c.slots.view_is) c.in_ok-columns.ensures) c.in_ok-list-in-Some.list
-    (subst (λ ps. IsRenaming ps (conjs_hold g.T.Theory.holds c.in_ok-conjunctions-in-Some.field-0) (conjs_hold g.T.Theory.holds c.in_ok-list-in-Some.list) (conjs_mention g.T.Theory.mentions c.in_ok-conjunctions-in-Some.field-0) (conjs_mention g.T.Theory.mentions c.in_ok-list-in-Some.list)
-    (conjs_lines g.T.Theory.lines c.in_ok-conjunctions-in-Some.field-0) (conjs_lines g.T.Theory.lines c.in_ok-list-in-Some.list))
-    (c.deref-in-Some-3.ensures.value ∙ c.in_ok-pairs-in-Some.ensures ∙ ap (column_pairs 0) (c.deref-in-Some.ensures.value ∙ c.slots.view_is)) c.in_ok-list-in-Some.ensures) p i w).1 x
+    (subst (λ ss. IsWindowOf ss (conj_holds g.T.Theory.holds c.args.window.now) c.in_ok-columns.columns) (c.deref.ensures.value ∙ c.slots.view_is) c.in_ok-columns.ensures) c.in_ok-list-in-Some.list c.in_ok-list-in-Some.ensures p i w).1 x
