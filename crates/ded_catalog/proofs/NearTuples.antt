@@ -33,13 +33,17 @@ picked-append : (is js : List ℕ) (ts : List (ℕ × List Atom)) → picked (is
 picked-append [] js ts = refl
 picked-append (i ∷ is) js ts = ap (λ us. with_number i (lookup (is_at (nat_cmp i)) ts) ++ us) (picked-append is js ts) ∙ sym (append_assoc (with_number i (lookup (is_at (nat_cmp i)) ts)) (picked is ts) (picked js ts))
 
+-- those of one number more
+pub picked_next : (is : List ℕ) (k i : ℕ) (ts : List (ℕ × List Atom)) (o : Option (List Atom)) → k < length is → i ≡ get_or is k 0 → o ≡ lookup (is_at (nat_cmp i)) ts
+    → picked (take (k + 1) is) ts ≡ picked (take k is) ts ++ with_number i o
+picked_next is k i ts o h e f =
+    ap (λ js. picked js ts) (taken_more is k 0 h ∙ ap (λ x. take k is ++ x ∷ []) (sym e)) ∙ picked-append (take k is) (i ∷ []) ts ∙ ap (λ us. picked (take k is) ts ++ us) (append-nil (with_number i (lookup (is_at (nat_cmp i)) ts)) ∙ ap (with_number i) (sym f))
+
 -- of the next number
 pub picked_more : (w : Window) (is : List ℕ) (k i : ℕ) (ts old new : List (ℕ × List Atom)) (o : Option (List Atom)) → k < length is → i ≡ get_or is k 0 → o ≡ lookup (is_at (nat_cmp i)) ts → AddsNear w (with_number i o) old new
     → AreNear w old (picked (take k is) ts) → AreNear w new (picked (take (k + 1) is) ts)
 picked_more w is k i ts old new o h e f a n =
-    let more : picked (take (k + 1) is) ts ≡ picked (take k is) ts ++ with_number i o =
-    ap (λ js. picked js ts) (taken_more is k 0 h ∙ ap (λ x. take k is ++ x ∷ []) (sym e)) ∙ picked-append (take k is) (i ∷ []) ts ∙ ap (λ us. picked (take k is) ts ++ us) (append-nil (with_number i (lookup (is_at (nat_cmp i)) ts)) ∙ ap (with_number i) (sym f)) in
-    subst (AreNear w new) (sym more) (subst (λ us. AreNear w us (picked (take k is) ts ++ with_number i o)) (sym a.list) (sublist_append (λ u. IsMissed w u.1) old (picked (take k is) ts) a.more (with_number i o) n a.near))
+    subst (AreNear w new) (sym (picked_next is k i ts o h e f)) (subst (λ us. AreNear w us (picked (take k is) ts ++ with_number i o)) (sym a.list) (sublist_append (λ u. IsMissed w u.1) old (picked (take k is) ts) a.more (with_number i o) n a.near))
 
 -- ---- after a change
 

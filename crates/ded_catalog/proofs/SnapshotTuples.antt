@@ -282,3 +282,15 @@ tuples-changed c (deletion n k) m = by (bytes_eq n m) refl
         ap (λ v. read_with (if v then Some k else None) None (relation_in (entry_of c.entries m))) b
         ∙ read_all (relation_in (entry_of c.entries m))
         ∙ ap (λ o. option_map tuples_of (relation_in o)) (sym (other_entry n (entry_without k) (without_named k) (without_known_same k) m b c.entries))
+
+-- ---- kinds
+
+pub mapped_there : {A B : Type 0} (f : A → B) (o : Option A) → is_some (option_map f o) ≡ is_some o
+mapped_there f None = refl
+mapped_there f (Some x) = refl
+
+-- a name is that of a relation where it was
+pub relation-changed : (c : Catalogue) (x : Change) (m : List ℕ) → is_some (relation_in (entry_of (changed c x).entries m)) ≡ is_some (relation_in (entry_of c.entries m))
+relation-changed c x m =
+    sym (mapped_there tuples_of (relation_in (entry_of (changed c x).entries m))) ∙ sym (ap is_some (tuples-changed c x m))
+    ∙ mapped_there (λ ts. with_last (tuples_of (without_number (deleted_in x m) ts)) (inserted_in x m)) (relation_in (entry_of c.entries m))

@@ -1,5 +1,5 @@
 //! The tuples of a relation that may hold in a window, and all of them.
-ghost use Rattle.std.specs.Prelude.{◌≡◌, ◌∷◌, [], IfOk};
+ghost use Rattle.std.specs.Prelude.{◌≡◌, ◌++◌, ◌∷◌, [], IfOk};
 ghost use Rattle.std.specs.Option.{option_map};
 ghost use Rattle.ded_catalog.specs.Nearby.{numbered, AreNear, AddsNear, with_number, picked};
 
@@ -42,6 +42,41 @@ pub(crate) fn listed(
         list.push((*number, tuple))?;
     }
     Ok(list)
+}
+
+/// The tuples of the numbers, with the numbers, in the order of these.
+///
+/// # Errors
+/// Out of memory.
+pub(crate) fn picked<'a>(
+    alloc: Global,
+    tuples: &'a BTreeMap<u32, Packed>,
+    numbers: &[u32],
+) -> Result<Vec<(u32, &'a Packed)>, NoMemory>
+    ensures { IfOk result (λ found. numbered found.items ≡ picked numbers.now tuples.now.entries) }
+{
+    let mut found = Vec::with_capacity(alloc, numbers.len())?;
+    for number in numbers {
+        push_there(*number, tuples.get(number), &mut found)?;
+    }
+    Ok(found)
+}
+
+/// Adds the tuple under its number, if there is one.
+///
+/// # Errors
+/// Out of memory.
+fn push_there<'a>(
+    number: u32,
+    tuple: Option<&'a Packed>,
+    found: &mut Vec<(u32, &'a Packed)>,
+) -> Result<(), NoMemory>
+    ensures { IfOk result (λ _. numbered found.new.items ≡ numbered found.old.items ++ with_number number (option_map (λ t. t.now) tuple.entry)) }
+{
+    match tuple {
+        Some(tuple) => Ok(found.push((number, tuple))?),
+        None => Ok(()),
+    }
 }
 
 /// The tuples of the numbers that may hold in the window of the sieve, with the numbers, in the order of these.

@@ -10,7 +10,7 @@ ghost use Rattle.ded_catalog.specs.Nearby.{numbered, AreNear};
 ghost use Rattle.ded_catalog.specs.Relations.{IsIndexOf};
 ghost use Rattle.ded_catalog.specs.Tuples.{AreUpTo, refusal_of, IsSame, Pushes, Removes};
 
-use crate::finding::{listed, looked_up, sifted};
+use crate::finding::{listed, looked_up, picked, sifted};
 use crate::index::Index;
 use crate::stored::Relation;
 use ded_hull::{Sieve, Window};
@@ -120,12 +120,15 @@ impl Relation {
         if window.limits.is_empty() && window.texts.is_empty() {
             return listed(alloc, &self.tuples);
         }
-        let sieve = Sieve::new(alloc, window)?;
         let count = self.tuples.len(); // for the order of the numbers too
-        match self.index.find(alloc, &self.heading, window, count)? {
-            Some(numbers) => looked_up(alloc, &self.tuples, &numbers, &sieve),
-            None => sifted(alloc, &self.tuples, &sieve),
+        let Some(numbers) = self.index.find(alloc, &self.heading, window, count)? else {
+            return sifted(alloc, &self.tuples, &Sieve::new(alloc, window)?);
+        };
+        if numbers.len() <= 1 || window.limits.is_empty() {
+            // whoever looks at them sees as soon whether they hold
+            return picked(alloc, &self.tuples, &numbers);
         }
+        looked_up(alloc, &self.tuples, &numbers, &Sieve::new(alloc, window)?)
     }
 }
 

@@ -1,5 +1,5 @@
 //! Snapshots.
-ghost use Rattle.std.specs.Prelude.{◌≡◌, ◌==◌, ◌+◌, ◌≤◌, true, None, IfOk};
+ghost use Rattle.std.specs.Prelude.{◌≡◌, ◌==◌, ◌+◌, ◌≤◌, true, None, is_some, IfOk};
 ghost use Rattle.std.specs.List.{list_any};
 ghost use Rattle.std.specs.Option.{option_map};
 
@@ -116,6 +116,14 @@ impl<'a> Snapshot<'a> {
     {
         let catalogue = self.catalogue;
         catalogue.goal(name)
+    }
+
+    /// Whether the name is that of a relation.
+    pub fn is_relation(&self, name: &Name) -> bool
+        ensures { result ≡ is_some (relation_in (entry_of (snapshot_of self.now).entries name.now)) }
+    {
+        let catalogue = self.catalogue;
+        catalogue.stored(name).is_some()
     }
 
     /// The tuples of a relation that may hold in the window, in order of their numbers. All that hold somewhere in it are among

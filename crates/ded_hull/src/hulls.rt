@@ -18,12 +18,12 @@ use std::collections::BTreeMap;
 use std::marker::Model;
 
 /// How many new entries stand beside the trees, as long as there is memory for trees.
-const FEW: usize = 64;
+const FEW: usize = 32;
 
 /// Reaches under numbers. Contracts see the list of the entries.
 ///
-/// New entries stand in a list. When it is full, they and those of all last trees that have at most about twice as many become one
-/// tree, so each entry moves few times.
+/// New entries stand in a list. When it is full, they and those of all last trees that have at most as many become one tree, so each
+/// entry moves few times.
 #[derive(Drop)]
 pub struct Hulls {
     trees: Vec<Tree>,
@@ -172,13 +172,13 @@ fn settle(trees: &mut Vec<Tree>, tail: &mut Vec<Entry>) -> Result<(), NoMemory>
     plant(trees, tail)
 }
 
-/// How many of the first trees stay as they are: those before the last that have at most about twice as many entries as stand behind
-/// them, where so many stand behind all trees.
+/// How many of the first trees stay as they are: those before the last that have at most as many entries as stand behind them, where so
+/// many stand behind all trees.
 fn kept(trees: &[Tree], mut behind: usize) -> usize
     ensures { result ≤ length trees.now }
 {
     let mut keep = trees.len();
-    while 0 < keep && trees[keep - 1].len() / 2 <= behind {
+    while 0 < keep && trees[keep - 1].len() <= behind {
         keep = keep - 1;
         behind = behind.saturating_add(trees[keep].len());
     }

@@ -323,6 +323,9 @@ fn give(
     if given.has(name) {
         return Ok(());
     }
+    if snapshot.is_relation(name) {
+        return Ok(());
+    }
     match snapshot.goal(name) {
         Some(goal) => give_view(alloc, snapshot, name, goal, level, given),
         None => give_other(alloc, snapshot, name, level, given),

@@ -383,6 +383,10 @@ gathering::give-give_view-requires t c =
 pub gathering::give-returns-then-has-clause-is : goal.gathering::give-returns-then-has-clause-is
 gathering::give-returns-then-has-clause-is t c = given_there (snapshot_of c.args.snapshot.now) None c.args.given.now c.args.name.now (sym c.has.ensures ∙ c.if-has.true)
 
+pub gathering::give-returns-then-is_relation-clause-is : goal.gathering::give-returns-then-is_relation-clause-is
+gathering::give-returns-then-is_relation-clause-is t c =
+    stored_there (snapshot_of c.args.snapshot.now) None c.args.given.now c.args.name.now refl (sym c.is_relation.ensures ∙ c.if-is_relation.true)
+
 pub gathering::give-returns-in-Some-clause-is : goal.gathering::give-returns-in-Some-clause-is
 gathering::give-returns-in-Some-clause-is t c = on_ok_weaker c.give_view.result (given_there (snapshot_of c.args.snapshot.now) None c.give_view.new.given c.args.name.now) c.give_view.ensures.is
 
