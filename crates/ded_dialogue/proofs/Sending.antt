@@ -1,9 +1,8 @@
 -- What is sent of texts that wait for a sink.
-use Rattle.std.proofs.Common.{◌≡◌, ℕ, length, take, List, [], ◌++◌, sym, ap, ◌∙◌, append_assoc, subst, true≢false}
+use Rattle.std.proofs.Common.{◌≡◌, ℕ, List, [], ◌++◌, sym, ap, ◌∙◌, append_assoc, subst, true≢false}
 use Rattle.std.specs.Prelude.{Option, None, Some, Result, Ok, Err, IsErr}
 use Rattle.std.specs.Io.KnownBytes.{Appends}
 use Rattle.std.proofs.lemmas.List.{append-nil}
-use Rattle.std.proofs.Math.Seq.{take-append_seam}
 use Rattle.ded_io.specs.Devices.{Sent, AddsAll}
 use Rattle.ded_io.proofs.Steps.{appends_both}
 use Rattle.ded_dialogue.specs.Waiting.{WritesBehind}
@@ -46,15 +45,6 @@ front_sent h0 h1 h2 text w rest s t = record {
 }
 
 -- ---- a text is put behind what waits
-
--- it is kept
-pub put_kept : {E : Type 0} (h : Option (List ℕ)) (w waits text : List ℕ) → waits ≡ w ++ text → WritesBehind {T = Unit {0}} {E = E} h w h waits (Ok tt) text
-put_kept h w waits text is = record { bytes = record { front = []; is = is; adds = appends_nothing h } }
-
--- what was put of it is taken back
-pub taken_back : {T E : Type 0} (r : Result T E) (w waits text : List ℕ) → AddsAll (Some w) (Some waits) r text → take (length w) waits ≡ w
-taken_back (Ok x) w waits text adds = ap (λ (l : List ℕ). take (length w) l) adds ∙ take-append_seam w text
-taken_back (Err e) w waits text adds = ap (λ (l : List ℕ). take (length w) l) adds.1.adds ∙ take-append_seam w adds.1.front
 
 -- the sink failed before it
 pub put_stopped : {E : Type 0} (r : Result (Unit {0}) E) (h0 h1 : Option (List ℕ)) (w v waits rest text : List ℕ) → IsErr r → v ≡ w → Sent h0 h1 v rest → WritesBehind h0 w h1 waits r text

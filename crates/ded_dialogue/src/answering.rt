@@ -36,6 +36,9 @@ pub trait Answering {
     fn is_refusal(reply: &Self::Reply) -> bool
         ensures { result ≡ (said reply.now).refuses };
 
+    /// Whether the text of a reply is taken for one line, which may wait for further replies. It decides only how many writes there are.
+    fn is_line(reply: &Self::Reply) -> bool;
+
     /// Writes the text of a reply, or a front of it where the sink fails.
     ///
     /// # Errors

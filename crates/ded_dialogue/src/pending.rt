@@ -1,5 +1,5 @@
-//! Replies that wait for a sink, so that short ones cost few writes.
-ghost use Rattle.std.specs.Prelude.{◌≡◌, ◌≢◌, [], OnOk, OnErr};
+//! Replies that wait for a sink, so that those of one line cost few writes.
+ghost use Rattle.std.specs.Prelude.{◌≡◌, ◌≢◌, ◌++◌, [], true, false, OnOk, OnErr};
 ghost use Rattle.ded_io.specs.Causes.{HasCause};
 ghost use Rattle.ded_io.specs.Devices.{AddsAll};
 ghost use Rattle.ded_dialogue.specs.Waiting.{WritesBehind};
@@ -66,8 +66,8 @@ impl Sink for Pending {
     }
 }
 
-/// Puts the text of a reply behind the bytes that wait, where there is room for it. Otherwise these go to the sink first, and then the
-/// text.
+/// Puts the text of a reply behind the bytes that wait, where it is one line and there is room for it. Otherwise these go to the sink
+/// first, and then the text.
 ///
 /// # Errors
 /// `Failed` only where the sink's count of faults rose.
@@ -79,11 +79,25 @@ pub(crate) fn put<A: Answering, K: Sink>(
     ensures written { WritesBehind (K.contents sink.old) pending.old.bytes.items (K.contents sink.new) pending.new.bytes.items result (A.said reply.now).text }
     ensures cause { HasCause (K.faults sink.old) (K.faults sink.new) result }
 {
-    let waiting = pending.bytes.len();
-    if A::write(reply, pending).is_ok() {
+    if keep::<A>(reply, pending) {
         return Ok(());
     }
-    pending.bytes.truncate(waiting);
     pending.flush(sink)?;
     A::write(reply, sink)
+}
+
+/// Puts the text of a reply behind the bytes that wait, where it is one line and there is room for it. Returns whether it did.
+fn keep<A: Answering>(reply: &A::Reply, pending: &mut Pending) -> bool
+    ensures kept { result ≡ true → pending.new.bytes.items ≡ pending.old.bytes.items ++ (A.said reply.now).text }
+    ensures left { result ≡ false → pending.new.bytes.items ≡ pending.old.bytes.items }
+{
+    if !A::is_line(reply) {
+        return false;
+    }
+    let waiting = pending.bytes.len();
+    if A::write(reply, pending).is_ok() {
+        return true;
+    }
+    pending.bytes.truncate(waiting);
+    false
 }

@@ -50,6 +50,10 @@ impl Answering for OneSession {
         reply.is_refusal()
     }
 
+    fn is_line(reply: &Reply) -> bool {
+        reply.is_line()
+    }
+
     fn write<K: Sink>(reply: &Reply, sink: &mut K) -> Result<(), Failed> {
         write_reply(reply, sink)
     }

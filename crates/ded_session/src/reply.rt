@@ -40,6 +40,23 @@ pub enum Reply {
 }
 
 impl Reply {
+    /// Whether its text is one line, whatever the relations hold. It decides only how many writes there are.
+    pub fn is_line(&self) -> bool {
+        match self {
+            Reply::Done
+            | Reply::Number(_)
+            | Reply::Truth(_)
+            | Reply::Meet(_, _)
+            | Reply::Refused(_) => true,
+            Reply::Tuples(_)
+            | Reply::Stored(_, _)
+            | Reply::Boxes(_, _)
+            | Reply::Steps(_)
+            | Reply::Script(_)
+            | Reply::Apart(_) => false,
+        }
+    }
+
     /// Whether the reply is a refusal.
     pub fn is_refusal(&self) -> bool
         ensures { result ≡ is_refusal (reply_form self.now) }

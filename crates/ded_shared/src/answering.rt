@@ -37,6 +37,13 @@ impl Answering for Shared {
         reply.is_refusal()
     }
 
+    fn is_line(reply: &SharedReply) -> bool {
+        match reply {
+            SharedReply::Plain(reply) => reply.is_line(),
+            SharedReply::Begun | SharedReply::NotBegun | SharedReply::Conflict(_) => true,
+        }
+    }
+
     fn write<K: Sink>(reply: &SharedReply, sink: &mut K) -> Result<(), Failed> {
         match reply {
             SharedReply::Plain(reply) => write_reply(reply, sink),
