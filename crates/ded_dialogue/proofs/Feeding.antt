@@ -5,6 +5,7 @@ use Rattle.std.specs.Io.KnownBytes.{Appends}
 use Rattle.std.proofs.lemmas.List.{append-nil, map-append, take_all, take_more, take-append-drop, length-take}
 use Rattle.std.proofs.lemmas.List.Concat.{flat_map-append}
 use Rattle.ded_io.specs.Devices.{Sent, AddsAll}
+use Rattle.ded_io.proofs.Steps.{sent_whole, sent_both, sent_longer, all_sent}
 use Rattle.ded_lex.specs.Gaps.{IsBlank}
 use Rattle.ded_lex.specs.Pieces.{Statement, Whole, HasNoWhole, IsCut, EndsPiece}
 use Rattle.ded_lex.specs.Pieces as pieces
@@ -16,7 +17,7 @@ use Rattle.ded_dialogue.specs.Outcome.{Concluded, WholesAnswered, Interrupted}
 use Rattle.ded_dialogue.specs.Streams.{SoFar, IsBehind, Stopped, Streaming, Streamed, Grows, Breaks, GrowsBehind, BreaksBehind, IsFresh, spoken}
 use Rattle.ded_dialogue.specs.Waiting.{WritesBehind}
 use Rattle.ded_dialogue.proofs.Steps.{GoesOn, SomeSteps, some_steps}
-use Rattle.ded_dialogue.proofs.Sending.{appends_nothing, sent_then, sent_longer, sent_all, all_sent, front_sent}
+use Rattle.ded_dialogue.proofs.Sending.{appends_nothing, sent_then}
 
 -- ---- one reply more
 
@@ -145,7 +146,7 @@ module _ {M : Type 0} (R : Answers M) (start : M) (silent left : ℕ) where
     replies = [];
     goes = λ statements more last steps. subst (λ (n : M). Steps R n statements more last) same steps;
     counts = omega (arith, all);
-    written = subst (λ (rs : List Said). Sent contents contents (texts rs) []) (sym (drop_none silent)) (sent_all contents contents [] (appends_nothing contents));
+    written = subst (λ (rs : List Said). Sent contents contents (texts rs) []) (sym (drop_none silent)) (sent_whole contents contents [] (appends_nothing contents));
     behind = inl refl;
     refuses = sym none;
   }
@@ -212,7 +213,7 @@ module _ {M : Type 0} (R : Answers M) (start : M) (silent left : ℕ) where
       replies = s.replies;
       goes = s.goes;
       counts = s.counts;
-      written = front_sent h0 h1 h2 (texts (drop silent s.replies)) w [] s.written (sent_all h1 h2 w adds);
+      written = sent_both h0 h1 h2 (texts (drop silent s.replies)) w [] s.written (sent_whole h1 h2 w adds);
       behind = inl refl;
       refuses = s.refuses;
     }
@@ -234,7 +235,7 @@ module _ {M : Type 0} (R : Answers M) (start : M) (silent left : ℕ) where
           };
           unwritten = rest ++ unheard;
           written = subst (λ (l : List ℕ). Sent h0 h2 l (rest ++ unheard)) (sym (heard_later silent left s.replies later.replies s.counts))
-              (sent_longer h0 h2 (texts (drop silent s.replies)) rest unheard (front_sent h0 h1 h2 (texts (drop silent s.replies)) w rest s.written write));
+              (sent_longer h0 h2 (texts (drop silent s.replies)) rest unheard (sent_both h0 h1 h2 (texts (drop silent s.replies)) w rest s.written write));
         }
       where
         is_behind : (w ≡ []) ⊎ IsBehind R m → IsBehind R m

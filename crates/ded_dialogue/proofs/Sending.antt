@@ -4,7 +4,7 @@ use Rattle.std.specs.Prelude.{Option, None, Some, Result, Ok, Err, IsErr}
 use Rattle.std.specs.Io.KnownBytes.{Appends}
 use Rattle.std.proofs.lemmas.List.{append-nil}
 use Rattle.ded_io.specs.Devices.{Sent, AddsAll}
-use Rattle.ded_io.proofs.Steps.{appends_both}
+use Rattle.ded_io.proofs.Steps.{appends_both, sent_whole, sent_both, sent_longer}
 use Rattle.ded_dialogue.specs.Waiting.{WritesBehind}
 
 pub appends_nothing : (a : Option (List ℕ)) → Appends a a []
@@ -22,28 +22,6 @@ sent_then h0 h1 h2 text w more waits s t = record {
   adds = appends_both h0 h1 h2 s.front t.front s.adds t.adds;
 }
 
-pub sent_longer : (h0 h1 : Option (List ℕ)) (text rest later : List ℕ) → Sent h0 h1 text rest → Sent h0 h1 (text ++ later) (rest ++ later)
-sent_longer h0 h1 text rest later s = record {
-  front = s.front;
-  is = sym (append_assoc s.front rest later) ∙ ap (λ (l : List ℕ). l ++ later) s.is;
-  adds = s.adds;
-}
-
--- all that waited was sent
-pub sent_all : (h0 h1 : Option (List ℕ)) (text : List ℕ) → Appends h0 h1 text → Sent h0 h1 text []
-sent_all h0 h1 text adds = record { front = text; is = append-nil text; adds = adds }
-
-pub all_sent : (h0 h1 : Option (List ℕ)) (text : List ℕ) → Sent h0 h1 text [] → Appends h0 h1 text
-all_sent h0 h1 text s = subst (λ (l : List ℕ). Appends h0 h1 l) (sym (append-nil s.front) ∙ s.is) s.adds
-
--- or a front of it
-pub front_sent : (h0 h1 h2 : Option (List ℕ)) (text w rest : List ℕ) → Sent h0 h1 text w → Sent h1 h2 w rest → Sent h0 h2 text rest
-front_sent h0 h1 h2 text w rest s t = record {
-  front = s.front ++ t.front;
-  is = append_assoc s.front t.front rest ∙ ap (λ (l : List ℕ). s.front ++ l) t.is ∙ s.is;
-  adds = appends_both h0 h1 h2 s.front t.front s.adds t.adds;
-}
-
 -- ---- a text is put behind what waits
 
 -- the sink failed before it
@@ -57,7 +35,7 @@ put_stopped (Err e) h0 h1 w v waits rest text failed same s = record {
 pub put_sent : {T E : Type 0} (r : Result T E) (h0 h1 h2 : Option (List ℕ)) (w v waits text : List ℕ) → v ≡ w → waits ≡ [] → Appends h0 h1 v → AddsAll h1 h2 r text → WritesBehind h0 w h2 waits r text
 put_sent (Ok x) h0 h1 h2 w v waits text same none first adds = record {
   bytes = subst (λ (l : List ℕ). Sent h0 h2 (w ++ text) l) (sym none)
-      (sent_all h0 h2 (w ++ text) (appends_both h0 h1 h2 w text (subst (λ (l : List ℕ). Appends h0 h1 l) same first) adds));
+      (sent_whole h0 h2 (w ++ text) (appends_both h0 h1 h2 w text (subst (λ (l : List ℕ). Appends h0 h1 l) same first) adds));
 }
 put_sent (Err e) h0 h1 h2 w v waits text same none first adds = record {
   bytes = (
@@ -82,8 +60,8 @@ stopped_at_once e (Err d) h0 h1 w waits text none failed p = record {
 -- or it was sent, or the sink failed at what was kept back
 pub sent_at_once : {E : Type 0} (r : Result (Unit {0}) E) (h0 h1 h2 : Option (List ℕ)) (w waits text : List ℕ) → w ≡ [] → Sent h0 h1 (w ++ text) waits → AddsAll h1 h2 r waits → WritesBehind h0 [] h2 [] r text
 sent_at_once (Ok x) h0 h1 h2 w waits text none s adds = record {
-  bytes = front_sent h0 h1 h2 text waits [] (subst (λ (l : List ℕ). Sent h0 h1 (l ++ text) waits) none s) (sent_all h1 h2 waits adds);
+  bytes = sent_both h0 h1 h2 text waits [] (subst (λ (l : List ℕ). Sent h0 h1 (l ++ text) waits) none s) (sent_whole h1 h2 waits adds);
 }
 sent_at_once (Err e) h0 h1 h2 w waits text none s adds = record {
-  bytes = (adds.0, front_sent h0 h1 h2 text waits adds.0 (subst (λ (l : List ℕ). Sent h0 h1 (l ++ text) waits) none s) adds.1);
+  bytes = (adds.0, sent_both h0 h1 h2 text waits adds.0 (subst (λ (l : List ℕ). Sent h0 h1 (l ++ text) waits) none s) adds.1);
 }

@@ -94,8 +94,8 @@ impl<A: Answering> Dialogue<A> {
         }
     }
 
-    /// Takes the next bytes, and answers the statements that end in them. All their replies are written when it is done; short ones go
-    /// to the sink together.
+    /// Takes the next bytes, and answers the statements that end in them. All their replies are written when it is done; those of one
+    /// line go to the sink together.
     ///
     /// # Errors
     /// `Failed` only where the sink's count of faults rose.

@@ -1,5 +1,5 @@
 -- Steps of a sink add up to what `send` promises.
-use Rattle.std.proofs.Common.{◌≡◌, ℕ, ◌-◌, length-drop, List, ◌++◌, length, take, drop, ap, ◌∙◌, append_assoc, subst}
+use Rattle.std.proofs.Common.{◌≡◌, ℕ, ◌-◌, length-drop, List, [], ◌++◌, length, take, drop, sym, ap, ◌∙◌, append_assoc, append-nil, subst}
 use Rattle.std.specs.Prelude.{None, Some}
 use Rattle.std.specs.declared.option.Option.{Option}
 use Rattle.std.specs.Io.KnownBytes.{Appends}
@@ -25,3 +25,28 @@ sent_more a b c bytes rest n s p = rw range_from (record {
   is = append_assoc s.front (take n rest) (drop n rest) ∙ ap (λ t. s.front ++ t) (take-append-drop n rest) ∙ s.is;
   adds = appends_both a b c s.front (take n rest) s.adds p;
 })
+
+-- ---- what was sent of a text
+
+-- all of it
+pub sent_whole : (a b : Option (List ℕ)) (text : List ℕ) → Appends a b text → Sent a b text []
+sent_whole a b text adds = record { front = text; is = append-nil text; adds = adds }
+
+pub all_sent : (a b : Option (List ℕ)) (text : List ℕ) → Sent a b text [] → Appends a b text
+all_sent a b text s = subst (λ z. Appends a b z) (sym (append-nil s.front) ∙ s.is) s.adds
+
+-- a front of what was left of it
+pub sent_both : (a b c : Option (List ℕ)) (text rest more : List ℕ) → Sent a b text rest → Sent b c rest more → Sent a c text more
+sent_both a b c text rest more s t = record {
+  front = s.front ++ t.front;
+  is = append_assoc s.front t.front more ∙ ap (λ z. s.front ++ z) t.is ∙ s.is;
+  adds = appends_both a b c s.front t.front s.adds t.adds;
+}
+
+-- more text stands behind it, all of which is left
+pub sent_longer : (a b : Option (List ℕ)) (text rest more : List ℕ) → Sent a b text rest → Sent a b (text ++ more) (rest ++ more)
+sent_longer a b text rest more s = record {
+  front = s.front;
+  is = sym (append_assoc s.front rest more) ∙ ap (λ z. z ++ more) s.is;
+  adds = s.adds;
+}

@@ -7,7 +7,7 @@ use Rattle.std.specs.Io.KnownBytes.{Appends}
 use Rattle.ded_io.specs.declared.device.Failed.{Failed}
 use Rattle.ded_io.specs.Causes.{HasCause}
 use Rattle.ded_io.specs.Devices.{Sent, AddsAll}
-use Rattle.ded_io.proofs.Steps.{appends_both}
+use Rattle.ded_io.proofs.Steps.{sent_whole, sent_both, sent_longer, all_sent}
 use Rattle.ded_print.specs.Gathering.{Output, Printed, Puts, SendsAfter, Finishes}
 
 differ : false ≡ true → ⊥
@@ -27,46 +27,13 @@ puts_none a = record {
 -- the bytes wait after those that wait
 pub puts_pending : (contents : Option (List ℕ)) (faults : ℕ) (pending bytes : List ℕ) (sent : Result (Unit {0}) Failed) → Puts (record { contents = contents; faults = faults; pending = pending; sent = sent }) (record { contents = contents; faults = faults; pending = pending ++ bytes; sent = sent }) bytes
 puts_pending contents faults pending bytes (Ok u) = record {
-  goes = λ before faults_before text h. record {
-    bytes = record {
-      front = h.bytes.front;
-      is = sym (append_assoc h.bytes.front pending bytes) ∙ ap (λ z. z ++ bytes) h.bytes.is;
-      adds = h.bytes.adds;
-    };
-    cause = h.cause;
-  };
+  goes = λ before faults_before text h. record { bytes = sent_longer before contents text pending bytes h.bytes; cause = h.cause };
 }
 puts_pending contents faults pending bytes (Err e) = record {
   goes = λ before faults_before text h. record {
-    bytes = (
-      h.bytes.0 ++ bytes,
-      record {
-        front = h.bytes.1.front;
-        is = sym (append_assoc h.bytes.1.front h.bytes.0 bytes) ∙ ap (λ z. z ++ bytes) h.bytes.1.is;
-        adds = h.bytes.1.adds;
-      },
-    );
+    bytes = (h.bytes.0 ++ bytes, sent_longer before contents text h.bytes.0 bytes h.bytes.1);
     cause = h.cause;
   };
-}
-
--- a front of what was left was sent
-sent_both : (a b c : Option (List ℕ)) (text rest more : List ℕ) → Sent a b text rest → Sent b c rest more → Sent a c text more
-sent_both a b c text rest more s q = record {
-  front = s.front ++ q.front;
-  is = append_assoc s.front q.front more ∙ ap (λ z. s.front ++ z) q.is ∙ s.is;
-  adds = appends_both a b c s.front q.front s.adds q.adds;
-}
-
-sent_whole : (b c : Option (List ℕ)) (rest : List ℕ) → Appends b c rest → Sent b c rest []
-sent_whole b c rest h = record { front = rest; is = append-nil rest; adds = h }
-
--- more text, all of which is left
-sent_longer : (a b : Option (List ℕ)) (text rest more : List ℕ) → Sent a b text rest → Sent a b (text ++ more) (rest ++ more)
-sent_longer a b text rest more s = record {
-  front = s.front;
-  is = sym (append_assoc s.front rest more) ∙ ap (λ z. z ++ more) s.is;
-  adds = s.adds;
 }
 
 adds_after : (a b c : Option (List ℕ)) (text rest : List ℕ) (result : Result (Unit {0}) Failed) → Sent a b text rest → AddsAll b c result rest → MatchResult result (λ _. Sent a c text []) (λ _. (more : List ℕ) × Sent a c text more)
@@ -100,7 +67,7 @@ sends_pending so_far contents held_now faults faults_now pending result s =
     puts_sent so_far contents held_now faults faults_now pending [] result (subst (λ z. SendsAfter so_far contents faults held_now faults_now result z) (sym (append-nil pending)) s)
 
 ends_with : (contents held_now : Option (List ℕ)) (result : Result (Unit {0}) Failed) (text : List ℕ) → MatchResult result (λ _. Sent contents held_now text []) (λ _. (rest : List ℕ) × Sent contents held_now text rest) → AddsAll contents held_now result text
-ends_with contents held_now (Ok u) text s = subst (λ z. Appends contents held_now z) (sym (append-nil s.front) ∙ s.is) s.adds
+ends_with contents held_now (Ok u) text s = all_sent contents held_now text s
 ends_with contents held_now (Err e) text s = s
 
 pub finishes : (so_far : Result (Unit {0}) Failed) (contents held_now : Option (List ℕ)) (faults faults_now : ℕ) (pending : List ℕ) (result : Result (Unit {0}) Failed)
