@@ -1,7 +1,4 @@
 //! Certificates: what shows of pairs of tuples that they have no common point.
-ghost use Rattle.std.specs.Prelude.{◌≡◌, IfOk};
-
-use crate::memory::NoMemory;
 use std::marker::Model;
 
 /// Numbers by which the rows of two tuples are multiplied, one for each row in stored order, those of the first tuple
@@ -37,63 +34,4 @@ pub struct Entry {
     pub first: u64,
     pub second: u64,
     pub proof: Proof,
-}
-
-impl Multipliers {
-    /// Equal multipliers.
-    ///
-    /// # Errors
-    /// Out of memory.
-    pub fn copy(&self) -> Result<Multipliers, NoMemory>
-        ensures { IfOk result (λ m. m ≡ self.now) }
-    {
-        Ok(Multipliers {
-            list: self.list.clone()?,
-        })
-    }
-}
-
-impl Proof {
-    /// An equal proof.
-    ///
-    /// # Errors
-    /// Out of memory.
-    pub fn copy(&self) -> Result<Proof, NoMemory>
-        ensures { IfOk result (λ p. p ≡ self.now) }
-    {
-        match self {
-            Proof::Text => Ok(Proof::Text),
-            Proof::Multipliers(multipliers) => Ok(Proof::Multipliers(multipliers.copy()?)),
-        }
-    }
-}
-
-impl Entry {
-    /// An equal entry.
-    ///
-    /// # Errors
-    /// Out of memory.
-    pub fn copy(&self) -> Result<Entry, NoMemory>
-        ensures { IfOk result (λ e. e ≡ self.now) }
-    {
-        Ok(Entry {
-            first: self.first,
-            second: self.second,
-            proof: self.proof.copy()?,
-        })
-    }
-}
-
-/// Equal entries, one for each.
-///
-/// # Errors
-/// Out of memory.
-pub fn copy_entries(entries: &Vec<Entry>) -> Result<Vec<Entry>, NoMemory>
-    ensures { IfOk result (λ es. es.items ≡ entries.now.items) }
-{
-    let mut copies = Vec::with_capacity(*entries.allocator(), entries.len())?;
-    for entry in entries {
-        copies.push(entry.copy()?)?;
-    }
-    Ok(copies)
 }

@@ -1,10 +1,6 @@
 //! Commands, the languages in which they are read, and the causes for which a statement is refused.
-ghost use Rattle.std.specs.Prelude.{◌≡◌, IfOk};
-ghost use Rattle.ded_model.specs.Command.{command_form};
-
-use crate::certificate::{Entry, copy_entries};
-use crate::formula::{Formula, copy_formulas};
-use crate::memory::NoMemory;
+use crate::certificate::Entry;
+use crate::formula::Formula;
 use crate::name::{Heading, Name};
 
 /// The language in which a statement is read. `One` is the plain one, `Two` is to have fractions and decimals. The first statement
@@ -65,48 +61,4 @@ pub enum Refusal {
     Level,
     Wide,
     Memory,
-}
-
-impl Command {
-    /// A command that stands for the same.
-    ///
-    /// # Errors
-    /// Out of memory.
-    pub fn copy(&self) -> Result<Command, NoMemory>
-        ensures { IfOk result (λ c. command_form c ≡ command_form self.now) }
-    {
-        match self {
-            Command::Header => Ok(Command::Header),
-            Command::Relation(name, heading) => {
-                Ok(Command::Relation(name.copy()?, heading.copy()?))
-            }
-            Command::Insert(name, formulas) => {
-                Ok(Command::Insert(name.copy()?, copy_formulas(formulas)?))
-            }
-            Command::Delete(name, number) => Ok(Command::Delete(name.copy()?, *number)),
-            Command::Drop(name) => Ok(Command::Drop(name.copy()?)),
-            Command::View(name, heading, formula) => {
-                Ok(Command::View(name.copy()?, heading.copy()?, formula.copy()?))
-            }
-            Command::Keep(name) => Ok(Command::Keep(name.copy()?)),
-            Command::Ask(formula) => Ok(Command::Ask(formula.copy()?)),
-            Command::Query(heading, formula) => {
-                Ok(Command::Query(heading.copy()?, formula.copy()?))
-            }
-            Command::Show(name) => Ok(Command::Show(name.copy()?)),
-            Command::BoxOf(name) => Ok(Command::BoxOf(name.copy()?)),
-            Command::Explain(heading, formula) => {
-                Ok(Command::Explain(heading.copy()?, formula.copy()?))
-            }
-            Command::Dump => Ok(Command::Dump),
-            Command::Disjoint(first, second) => {
-                Ok(Command::Disjoint(first.copy()?, second.copy()?))
-            }
-            Command::Verify(first, second, entries) => Ok(Command::Verify(
-                first.copy()?,
-                second.copy()?,
-                copy_entries(entries)?,
-            )),
-        }
-    }
 }

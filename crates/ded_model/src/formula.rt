@@ -185,24 +185,17 @@ impl Formula {
                 Ok(Formula::Compare(left.copy()?, *op, right.copy()?))
             }
             Formula::Member(name, operands) => Ok(Formula::Member(name.copy()?, operands.copy()?)),
-            Formula::Not(part) => Ok(Formula::Not(Box::new(*Box::allocator(part), part.copy()?)?)),
+            Formula::Not(part) => Ok(Formula::Not(copy_boxed(part)?)),
             Formula::And(parts) => Ok(Formula::And(copy_formulas(parts)?)),
             Formula::Or(parts) => Ok(Formula::Or(copy_formulas(parts)?)),
-            Formula::Implies(left, right) => Ok(Formula::Implies(
-                Box::new(*Box::allocator(left), left.copy()?)?,
-                Box::new(*Box::allocator(right), right.copy()?)?,
-            )),
+            Formula::Implies(left, right) => {
+                Ok(Formula::Implies(copy_boxed(left)?, copy_boxed(right)?))
+            }
             Formula::Exists(column, part) => {
-                Ok(Formula::Exists(
-                    column.copy()?,
-                    Box::new(*Box::allocator(part), part.copy()?)?,
-                ))
+                Ok(Formula::Exists(column.copy()?, copy_boxed(part)?))
             }
             Formula::Forall(column, part) => {
-                Ok(Formula::Forall(
-                    column.copy()?,
-                    Box::new(*Box::allocator(part), part.copy()?)?,
-                ))
+                Ok(Formula::Forall(column.copy()?, copy_boxed(part)?))
             }
         }
     }
@@ -240,12 +233,23 @@ impl Formula {
     }
 }
 
+/// A formula that stands for the same, in a box of its own.
+///
+/// # Errors
+/// Out of memory.
+#[cycle(copy)]
+fn copy_boxed(part: &Box<Formula>) -> Result<Box<Formula>, NoMemory>
+    ensures { IfOk result (λ f. form f.value ≡ form part.now.value) }
+{
+    Ok(Box::new(*Box::allocator(part), part.copy()?)?)
+}
+
 /// Formulas that stand for the same, one for each.
 ///
 /// # Errors
 /// Out of memory.
 #[cycle(copy)]
-pub fn copy_formulas(parts: &Vec<Formula>) -> Result<Vec<Formula>, NoMemory>
+fn copy_formulas(parts: &Vec<Formula>) -> Result<Vec<Formula>, NoMemory>
     ensures { IfOk result (λ fs. forms fs.items ≡ forms parts.now.items) }
 {
     let mut copies = Vec::with_capacity(*parts.allocator(), parts.len())?;

@@ -40,10 +40,7 @@ pub fn resolve<N: Names>(alloc: Global, command: Command, names: &N) -> Result<C
     ensures refused { IfErr result (λ r. r ≢ Refusal.Memory → IsLeastCause r (N.catalogue names.now) (command_form command)) }
 {
     check(&command, names)?;
-    match by_slots(alloc, command, names) {
-        Ok(checked) => Ok(checked),
-        Err(_) => Err(Refusal::Memory),
-    }
+    by_slots(alloc, command, names).map_err(|_| Refusal::Memory)
 }
 
 /// The command by slots, where it is accepted over the names.
@@ -144,7 +141,7 @@ fn question(alloc: Global, formula: Formula) -> Result<Checked, NoMemory>
     let heading = Heading {
         columns: Vec::new(alloc),
     };
-    Ok(Checked::Ask(ready_goal(alloc, &heading, &formula)?))
+    Ok(Checked::Ask(goal_only(alloc, &heading, formula)?))
 }
 
 /// A query by slots: the goal of its formula.
@@ -153,7 +150,7 @@ fn query(alloc: Global, heading: Heading, formula: Formula) -> Result<Checked, N
     ensures resolved { (c : Catalogue) → IfOk result (λ k. IsResolved c (query heading (form formula)) k) }
     ensures stored { (c : Catalogue) → IfOk result (λ k. IsStorable c k) }
 {
-    let goal = ready_goal(alloc, &heading, &formula)?;
+    let goal = goal_only(alloc, &heading, formula)?;
     Ok(Checked::Query(heading, goal))
 }
 
@@ -163,7 +160,7 @@ fn explanation(alloc: Global, heading: Heading, formula: Formula) -> Result<Chec
     ensures resolved { (c : Catalogue) → IfOk result (λ k. IsResolved c (explain heading (form formula)) k) }
     ensures stored { (c : Catalogue) → IfOk result (λ k. IsStorable c k) }
 {
-    let goal = ready_goal(alloc, &heading, &formula)?;
+    let goal = goal_only(alloc, &heading, formula)?;
     Ok(Checked::Explain(heading, goal))
 }
 
@@ -173,4 +170,12 @@ fn ready_goal(alloc: Global, heading: &Heading, formula: &Formula) -> Result<Goa
     ensures { IfOk result (λ g. goal_form g ≡ goal_of heading.now (form formula.now)) }
 {
     goal(alloc, heading, formula)
+}
+
+/// The goal of a formula over a heading, where the formula isn't wanted any more.
+fn goal_only(alloc: Global, heading: &Heading, formula: Formula) -> Result<Goal, NoMemory>
+    requires { IsReady heading.now (form formula) }
+    ensures { IfOk result (λ g. goal_form g ≡ goal_of heading.now (form formula)) }
+{
+    ready_goal(alloc, heading, &formula)
 }
