@@ -60,7 +60,7 @@ impl Evaluate for Engine {
 ///
 /// # Errors
 /// Out of memory.
-fn everywhere(alloc: Global) -> Result<Tuples, NoMemory>
+pub fn everywhere(alloc: Global) -> Result<Tuples, NoMemory>
     ensures { IfOk result (λ ts. ts ≡ [] ∷ []) }
 {
     let mut list = Vec::new(alloc);
@@ -71,7 +71,7 @@ fn everywhere(alloc: Global) -> Result<Tuples, NoMemory>
 }
 
 /// No tuples, which hold nowhere.
-fn nowhere(alloc: Global) -> Tuples
+pub fn nowhere(alloc: Global) -> Tuples
     ensures { result ≡ [] }
 {
     Tuples {

@@ -60,7 +60,7 @@ mod window;
 
 pub use atoms::{eval, eval_counted};
 pub use closed::holds_everywhere;
-pub use engine::{Engine, tuples};
+pub use engine::{Engine, everywhere, nowhere, tuples};
 pub use evaluation::{evaluate_counted, evaluate_within};
 pub use extents::extended;
 pub use given::{Given, GivenRelation};

@@ -15,14 +15,14 @@ ghost use Rattle.ded_query.specs.Gathering.{IsGivenOf, IsGathered, IsFront};
 
 use crate::gathering::evaluated_whole;
 use ded_catalog::Snapshot;
-use ded_eval::{Given, holds_everywhere};
+use ded_eval::{Given, everywhere, holds_everywhere, nowhere};
 use ded_goals::laws;
 use ded_model::goal::Goal;
 use ded_model::memory::{NoMemory, Refused};
 use ded_model::name::{Column, Name};
 use ded_model::plan::Plan;
 use ded_model::slot::{Slot, Slots};
-use ded_model::tuple::{Tuple, Tuples};
+use ded_model::tuple::Tuples;
 use ded_plan::plan;
 use std::alloc::{AllocError, Global};
 
@@ -184,12 +184,8 @@ fn closed_goal(
 pub(crate) fn truth(alloc: Global, holds: bool) -> Result<Tuples, NoMemory>
     ensures { IfOk result (IsTruthOf holds) }
 {
-    let mut list = Vec::new(alloc);
     if !holds {
-        return Ok(Tuples { list });
+        return Ok(nowhere(alloc));
     }
-    list.push(Tuple {
-        atoms: Vec::new(alloc),
-    })?;
-    Ok(Tuples { list })
+    everywhere(alloc)
 }
