@@ -1,5 +1,5 @@
 -- Tests that fewer atoms pass, and what follows where no atom of a command's formula is at fault.
-use Rattle.std.proofs.Common.{◌≡◌, Bool, false, ◌||◌, Option, Some, None, refl, sym, ◌∙◌}
+use Rattle.std.proofs.Common.{◌≡◌, Bool, false, Option, Some, None, refl, sym, ◌∙◌}
 use Rattle.std.proofs.lemmas.Bool.{or_parts, or_from}
 use Rattle.ded_model.specs.Catalogue.{Catalogue}
 use Rattle.ded_model.specs.Command.{CommandForm, header, relation, insert, delete, drop, view, keep, ask, query, show, box_of, explain, dump, disjoint, verify}

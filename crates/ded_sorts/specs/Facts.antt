@@ -1,11 +1,11 @@
 -- What a command and the names tell at once of all causes of refusals.
-use Rattle.std.specs.Prelude.{◌≡◌, Bool, true, false, ◌||◌, Option, Some, None, List, []}
+use Rattle.std.specs.Prelude.{◌≡◌, Bool, true, false, ◌||◌, Option, None, List, []}
 use Rattle.ded_model.specs.declared.name.Column.{Column}
 use Rattle.ded_model.specs.Catalogue.{Catalogue}
 use Rattle.ded_model.specs.Command.{CommandForm, relation, insert, delete, drop, view, keep, query, show, box_of, explain, disjoint, verify}
 use Rattle.ded_model.specs.Entries.{known}
 use Rattle.ded_model.specs.Form.{FormAtom}
-use Rattle.ded_model.specs.Known.{Known, KnownNames, columns_with, is_unknown_atom, is_arity_atom, is_unbound_atom, is_missorted_atom, uses_unknown, has_other_arity, has_missorted}
+use Rattle.ded_model.specs.Known.{Known, KnownNames, is_unknown_atom, is_arity_atom, is_unbound_atom, is_missorted_atom, uses_unknown, has_other_arity, has_missorted}
 use Rattle.ded_model.specs.Logic.{Scope}
 use Rattle.ded_sorts.specs.Causes.{formula_in, heading_in, passes_with, has_unbound_name}
 use Rattle.ded_sorts.specs.Checks.{known_form}

@@ -3,9 +3,8 @@
 ghost use Rattle.std.specs.Prelude.{◌≡◌, IfOk, true};
 ghost use Rattle.ded_model.specs.Command.{command_form};
 ghost use Rattle.ded_model.specs.Entries.{known};
-ghost use Rattle.ded_model.specs.Form.{forms};
 ghost use Rattle.ded_model.specs.Known.{scope_of, columns_with};
-ghost use Rattle.ded_model.specs.Logic.{some_below, some_below_of};
+ghost use Rattle.ded_model.specs.Logic.{some_below};
 ghost use Rattle.ded_sorts.specs.Causes as cause;
 ghost use Rattle.ded_sorts.specs.Checks.{known_form};
 ghost use Rattle.ded_sorts.specs.Facts.{AreFacts, IsSound, first_known, second_known, heading_with};

@@ -1,5 +1,4 @@
 use Rattle.std.proofs.Common.{sym, ap, ◌∙◌, is_some}
-use Rattle.ded_model.specs.Catalogue.{tuples_of}
 use Rattle.ded_model.specs.Entries.{entry_of, relation_in}
 use Rattle.ded_catalog.specs.State.{catalogue_of}
 use Rattle.ded_catalog.specs.Forms.{change_form}
