@@ -6,11 +6,11 @@ ghost use Rattle.ded_index.specs.Entries.{numbered, has_id, without, AreFound, m
 ghost use Rattle.ded_index.specs.Trees.{entries_of, AreFull, AreSound, AreApart};
 
 use crate::entry::{Entry, is_full};
-use crate::steps::Steps;
 use crate::tree::{Node, arrange, fill, visit_all};
 use ded_box::BoundBox;
 use ded_model::bound::Bound;
 use ded_model::memory::NoMemory;
+use ded_model::steps::Steps;
 use std::alloc::Global;
 use std::marker::{Brand, Model};
 use std::sync::ledger::{Blank, Ledger};

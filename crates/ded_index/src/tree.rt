@@ -10,10 +10,10 @@ ghost use Rattle.ded_index.specs.Trees.{entries_of, IsGreatest, AreEnds, AreFull
 ghost use Rattle.ded_index.specs.Costs.{IsCost};
 
 use crate::entry::{Entry, first_interval, is_full, order};
-use crate::steps::Steps;
 use ded_box::{BoundBox, Side, may_meet, meets, wider};
 use ded_model::bound::Bound;
 use ded_model::memory::NoMemory;
+use ded_model::steps::Steps;
 use std::sync::ledger::Ledger;
 
 /// An entry whose first interval isn't empty, and the greatest high end in the range of which it is the middle.
