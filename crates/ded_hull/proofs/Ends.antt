@@ -1,10 +1,10 @@
 -- Ends of reaches: rounded outward, and those that contain both.
 use Rattle.std.proofs.Common.{◌≡◌, ℕ, Bool, true, false, cond, Option, Some, None, arith, refl, sym, ap, ◌∙◌, subst}
-use Rattle.std.specs.Prelude.{ℤ, pos, ◌*ℤ◌, ◌≤ℤ◌, ◌<ℤ◌, int_lt, neg_ℤ}
+use Rattle.std.specs.Prelude.{ℤ, pos, ◌^◌, ◌+ℤ◌, ◌-ℤ◌, ◌*ℤ◌, ◌≤ℤ◌, ◌<ℤ◌, int_lt, neg_ℤ}
 use Rattle.std.specs.Option.{IfSome, SomeIff}
 use Rattle.std.specs.Int.{int_div_euclid}
 use Rattle.std.specs.Ordering.{int_eq}
-use Rattle.std.proofs.lemmas.Int.{ints}
+use Rattle.std.proofs.lemmas.Int.{ints, by_lt_z}
 use borrow.Author.Differences.{up}
 use Rattle.ded_num.specs.Length.{IsShort}
 use Rattle.ded_num.proofs.Ring.{parts, diff_same, ring}
@@ -12,8 +12,8 @@ use Rattle.ded_model.specs.declared.bound.Bound.{Bound}
 use Rattle.ded_model.specs.declared.bound.Bound.TheVariants.{Included}
 use Rattle.ded_model.specs.Bound.{Fraction}
 use Rattle.ded_hull.specs.declared.reach.Range.{Range}
-use Rattle.ded_hull.specs.Codes.{fine, lowest, units_of, code_of, end_of, is_none, is_lower}
-use Rattle.ded_hull.specs.Coding.{code_under}
+use Rattle.ded_hull.specs.Codes.{fine, edge, shift, lowest, units_of, code_of, end_of, IsShortEnd, is_none, is_lower}
+use Rattle.ded_hull.specs.Coding.{code_under, units_low, units_high, units_own}
 use Rattle.ded_hull.specs.Reaches.{IsAbove, IsBelow, IsFloor, IsCeil, NotAbove, NotBelow, lower_of, higher_of, both_low, both_high, IsPart, joined, everywhere}
 use Rattle.ded_hull.specs.Scaling.{times_up, times_neg, le_self, of_lt_true, of_lt_false, le_unscale, not_negative, commute, quotient_at_most}
 
@@ -211,3 +211,28 @@ part_self r = record { low = above_self r.low; high = below_self r.high }
 
 pub part_everywhere : (r : Range) → IsPart r everywhere
 part_everywhere r = record { low = tt; high = tt }
+
+-- ---- how far ends lie from 0
+
+pub units_short : (c : ℤ) → lowest ≤ℤ c → c <ℤ pos (2 ^ 63) → IsShortEnd (units_of c)
+units_short c low high = by_lt_z c (neg_ℤ edge)
+    (λ h. subst IsShortEnd (units_low c c refl h) (record { low = far_low c low; high = near_low c h }))
+    (λ h. by_lt_z edge c (λ k. subst IsShortEnd (units_high c c refl h k) (record { low = near_high c k; high = far_high c high })) (λ k. subst IsShortEnd (units_own c c refl h k) (record { low = own_low c h; high = own_high c k })))
+  where
+    far_low : (c : ℤ) → lowest ≤ℤ c → neg_ℤ (pos (2 ^ 96)) ≤ℤ (pos fine *ℤ (c +ℤ shift))
+    far_low c l = omega (arith, ints)
+
+    near_low : (c : ℤ) → c <ℤ neg_ℤ edge → (pos fine *ℤ (c +ℤ shift)) ≤ℤ pos (2 ^ 96)
+    near_low c l = omega (arith, ints)
+
+    near_high : (c : ℤ) → edge <ℤ c → neg_ℤ (pos (2 ^ 96)) ≤ℤ (pos fine *ℤ (c -ℤ shift))
+    near_high c l = omega (arith, ints)
+
+    far_high : (c : ℤ) → c <ℤ pos (2 ^ 63) → (pos fine *ℤ (c -ℤ shift)) ≤ℤ pos (2 ^ 96)
+    far_high c l = omega (arith, ints)
+
+    own_low : (c : ℤ) → neg_ℤ edge ≤ℤ c → neg_ℤ (pos (2 ^ 96)) ≤ℤ c
+    own_low c l = omega (arith, ints)
+
+    own_high : (c : ℤ) → c ≤ℤ edge → c ≤ℤ pos (2 ^ 96)
+    own_high c l = omega (arith, ints)

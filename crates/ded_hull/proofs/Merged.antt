@@ -16,7 +16,7 @@ all_of-append (t ∷ ts) us = ap (λ es. t ++ es) (all_of-append ts us) ∙ sym 
 
 -- ---- one more
 
-tree_more : (ts : List (List Entry)) (i : ℕ) (t : List Entry) → i < length ts → t ≡ get_or ts i t → all_of (take (i + 1) ts) ≡ all_of (take i ts) ++ t
+pub tree_more : (ts : List (List Entry)) (i : ℕ) (t : List Entry) → i < length ts → t ≡ get_or ts i t → all_of (take (i + 1) ts) ≡ all_of (take i ts) ++ t
 tree_more ts i t h is = ap all_of (taken_more ts i t h ∙ ap (λ x. take i ts ++ x ∷ []) (sym is)) ∙ all_of-append (take i ts) (t ∷ []) ∙ ap (λ es. all_of (take i ts) ++ es) (append-nil t)
 
 -- counts, as far as m

@@ -1,5 +1,5 @@
 -- Trees in lists: built of halves, and looked through.
-use Rattle.std.proofs.Common.{◌≡◌, ℕ, zero, suc, ◌+◌, ◌-◌, ◌≤◌, false, true≢false, Option, Some, List, [], ◌∷◌, ◌++◌, take, drop, length, arith, refl, sym, ap, ap₂, ◌∙◌, subst, append_assoc, length-append}
+use Rattle.std.proofs.Common.{◌≡◌, ℕ, zero, suc, ◌+◌, ◌-◌, ◌<◌, ◌≤◌, true, false, true≢false, Option, Some, List, [], ◌∷◌, ◌++◌, take, drop, length, arith, refl, sym, ap, ap₂, ◌∙◌, subst, append_assoc, length-append}
 use Rattle.std.proofs.Math.Seq.{take-length}
 use Rattle.std.proofs.lemmas.List.{take-append-le, drop-append-le, take_all, take-append-drop, drop-drop, length-drop}
 use Rattle.std.specs.Prelude.{is_some}
@@ -15,8 +15,9 @@ use Rattle.ded_hull.specs.declared.tree.Node.{Node}
 use Rattle.ded_hull.specs.Reaches.{IsWithin}
 use Rattle.ded_hull.specs.Limits.{may_hold}
 use Rattle.ded_hull.specs.Entries.{ids_in, Covers}
-use Rattle.ded_hull.specs.Trees.{owns, owned, IsRoot, IsTree, IsOver, IsStep}
+use Rattle.ded_hull.specs.Trees.{owns, owned, IsRoot, IsTree, IsOver, AreNarrow, looked_at, IsStep}
 use Rattle.ded_hull.proofs.Found.{ids_in-append, covers_wider, nothing_found}
+use Rattle.ded_hull.proofs.Halved.{looked_over, looked_into, looked_leaf, narrow_behind}
 
 -- ---- what nodes own
 
@@ -124,11 +125,13 @@ tree_past n ns es t =
 
 module _ (ls : List Limit) (n : Node) (ns : List Node) (es : List Entry) (t : IsTree (n ∷ ns) es) where
   -- the limits can't hold in the hull
-  pub step_past : (next : List Node) (rest : List Entry) (old : List ℕ) → next ≡ drop n.below ns → rest ≡ drop n.count es → may_hold n.hull ls ≡ false → IsStep ls ns es next rest old old
+  pub step_past : (next : List Node) (rest : List Entry) (old : List ℕ) → next ≡ drop n.below ns → rest ≡ drop n.count es → may_hold n.hull ls ≡ false → IsStep ls n ns es next rest old old
   step_past next rest old e f h = record {
     tree = subst (λ zs. IsTree next zs) (sym f) (subst (λ ks. IsTree ks (drop n.count es)) (sym e) (tree_past n ns es t));
     shorter = subst (λ ks. length ks ≤ length ns) (sym e) (fewer n.below);
     found = ap (λ xs. old ++ xs) (ap (ids_in ls) f ∙ sym same);
+    narrow = λ a. subst AreNarrow (sym e) (narrow_behind n.below ns a.1);
+    looks = λ a. looked_over ls n ns h ∙ ap (λ ks. 1 + looked_at ls 0 ks) (sym e);
   }
     where
       less : (a b c : ℕ) → c ≡ b - a → c ≤ b
@@ -142,12 +145,14 @@ module _ (ls : List Limit) (n : Node) (ns : List Node) (es : List Entry) (t : Is
           ∙ ap (λ xs. xs ++ ids_in ls (drop n.count es)) (nothing_found ls n.hull (take n.count es) h t.0.covers)
 
   -- all its entries are its own
-  pub step_own : (next : List Node) (own rest : List Entry) (old new : List ℕ) → next ≡ ns → own ≡ take n.count es → rest ≡ drop n.count es → n.below ≡ 0 → new ≡ old ++ ids_in ls own → IsStep ls ns es next rest old new
+  pub step_own : (next : List Node) (own rest : List Entry) (old new : List ℕ) → next ≡ ns → own ≡ take n.count es → rest ≡ drop n.count es → n.below ≡ 0 → new ≡ old ++ ids_in ls own → IsStep ls n ns es next rest old new
   step_own next own rest old new e f g h k = record {
     tree = subst (λ zs. IsTree next zs) (sym g) (subst (λ ks. IsTree ks (drop n.count es)) (sym e) (subst (λ j. IsTree ns (drop j es)) (all n.below n.count h) t.1));
     shorter = le_of (length next) (length ns) (ap (λ (ks : List Node). length ks) e);
     found = ap₂ (λ (xs ys : List ℕ). xs ++ ys) k (ap (ids_in ls) g) ∙ append_assoc old (ids_in ls own) (ids_in ls (drop n.count es))
         ∙ ap (λ xs. old ++ xs) (ap (λ zs. ids_in ls zs ++ ids_in ls (drop n.count es)) f ∙ sym (ids_in-append ls (take n.count es) (drop n.count es)) ∙ ap (ids_in ls) (take-append-drop n.count es));
+    narrow = λ a. subst AreNarrow (sym e) a.1;
+    looks = λ a. looked_leaf ls n ns h ∙ ap (λ ks. 1 + looked_at ls 0 ks) (sym e);
   }
     where
       le_of : (a b : ℕ) → a ≡ b → a ≤ b
@@ -156,6 +161,23 @@ module _ (ls : List Limit) (n : Node) (ns : List Node) (es : List Entry) (t : Is
       all : (b c : ℕ) → b ≡ 0 → owns b c ≡ c
       all zero c e = refl
       all (suc b) c e = absurd (omega (arith, e))
+
+  -- others are below it, and stand next
+  pub step_into : (next : List Node) (rest : List Entry) (old : List ℕ) → next ≡ ns → rest ≡ es → 0 < n.below → (length n.hull ≡ 1 → may_hold n.hull ls ≡ true) → IsStep ls n ns es next rest old old
+  step_into next rest old e f some passes = record {
+    tree = subst (λ zs. IsTree next zs) (sym f) (subst (λ ks. IsTree ks es) (sym e) (subst (λ j. IsTree ns (drop j es)) (none n.below n.count some) t.1));
+    shorter = le_of (length next) (length ns) (ap (λ (ks : List Node). length ks) e);
+    found = ap (λ zs. old ++ ids_in ls zs) f;
+    narrow = λ a. subst AreNarrow (sym e) a.1;
+    looks = λ a. looked_into ls n ns (passes a.0) ∙ ap (λ ks. 1 + looked_at ls 0 ks) (sym e);
+  }
+    where
+      le_of : (a b : ℕ) → a ≡ b → a ≤ b
+      le_of a b e = omega arith
+
+      none : (b c : ℕ) → 0 < b → owns b c ≡ 0
+      none zero c h = absurd (omega (arith, h))
+      none (suc b) c h = refl
 
 -- ---- hulls over halves
 

@@ -1,5 +1,5 @@
 -- Codes of ends: a number of units is its own code up to 2 to the power of 62, codes beyond stand for whole numbers, and one for no end.
-use Rattle.std.specs.Prelude.{◌-◌, ◌^◌, ◌+ℤ◌, ◌-ℤ◌, ◌*ℤ◌, ℕ, ℤ, pos, Bool, true, false, int_lt, int_le, if◌then◌else◌, Option, Some, None}
+use Rattle.std.specs.Prelude.{◌-◌, ◌^◌, ◌+ℤ◌, ◌-ℤ◌, ◌*ℤ◌, ◌≤ℤ◌, ℕ, ℤ, pos, Bool, true, false, int_lt, int_le, if◌then◌else◌, Option, Some, None}
 use lib.IntN.{neg_ℤ}
 use Rattle.std.specs.Int.{int_div_euclid}
 use Rattle.std.specs.Ordering.{int_eq}
@@ -35,6 +35,11 @@ end_of c = if int_eq c lowest then None else Some (units_of c)
 abbrev pub code_at : Option ℤ → ℤ
 code_at None = lowest
 code_at (Some k) = code_of k
+
+-- what sums of two ends and twice an end are told from in 128 bits
+pub record IsShortEnd (k : ℤ) : Type 0 where
+  pub low : neg_ℤ (pos (2 ^ 96)) ≤ℤ k
+  pub high : k ≤ℤ pos (2 ^ 96)
 
 -- the negative of an end
 abbrev pub turned : Option ℤ → Option ℤ

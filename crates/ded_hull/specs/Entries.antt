@@ -1,10 +1,11 @@
 -- Entries: reaches under numbers, and in which of them limits may hold.
-use Rattle.std.specs.Prelude.{◌≡◌, ◌↔◌, ◌<◌, ℕ, ℤ, true, List, [], ◌∷◌, if◌then◌else◌, is_some}
+use Rattle.std.specs.Prelude.{◌≡◌, ◌↔◌, ◌<◌, ◌+◌, ◌*◌, ℕ, ℤ, pos, true, List, [], ◌∷◌, length, if◌then◌else◌, is_some}
 use Rattle.std.specs.BTreeMap.{is_at}
 use Rattle.std.specs.List.{Contains, filter}
 use Rattle.std.specs.List.Sorted.{IsStrictlyIncreasing}
 use Rattle.std.specs.Map.{lookup}
 use Rattle.std.specs.Ordering.{nat_cmp}
+use Rattle.ded_num.specs.Length.{length_of}
 use Rattle.ded_model.proofs.Lists.{Every, Some}
 use Rattle.ded_hull.specs.declared.reach.Range.{Range}
 use Rattle.ded_hull.specs.declared.limit.Limit.{Limit}
@@ -33,6 +34,11 @@ pub record AreFound (ls : List Limit) (es : List Entry) (ids : List ℕ) : Type 
 -- no entry is lost in whose reach lie values that meet all limits
 abbrev pub IsComplete : List Limit → List Entry → List ℕ → Type 0
 IsComplete ls es ids = (v : ℕ → ℤ) (den : ℕ) → 0 < den → are_met v den ls ≡ true → Every (λ e. Lies e.reach v den → Contains ids e.id) es
+
+-- how many nodes a look-up may look at where each limit has at most one term and entries have one range each: with k entries found of
+-- n, (2 k + 2 d + 1) d, where d is the count of binary digits of n
+abbrev pub most_nodes : List Limit → List Entry → ℕ
+most_nodes ls es = (2 * length (ids_in ls es) + 2 * length_of (pos (length es)) + 1) * length_of (pos (length es))
 
 -- the hull contains the reaches of all entries
 abbrev pub Covers : List Range → List Entry → Type 0

@@ -5,6 +5,7 @@ pub mod Entries
 pub mod Limits
 pub mod Reaches
 pub mod Scaling
+pub mod Segments
 pub mod Trees
 pub mod Tuples
 pub mod Windows

@@ -2,8 +2,8 @@
 //!
 //! A number of units up to 2 to the power of 62 is its own code. Codes beyond stand for whole numbers, and the least one for no end. So
 //! ends stand in the order of their codes, those near 0 are fine, and those far away are whole numbers up to about 2 to the power of 62.
-ghost use Rattle.std.specs.Prelude.{◌≡◌, Option, Some, None};
-ghost use Rattle.ded_hull.specs.Codes.{units_of, code_of, turned, is_none, is_lower, is_up_to};
+ghost use Rattle.std.specs.Prelude.{◌≡◌, Option, Some, None, IfSome};
+ghost use Rattle.ded_hull.specs.Codes.{units_of, code_of, turned, is_none, is_lower, is_up_to, IsShortEnd};
 ghost use Rattle.ded_hull.specs.Reaches.{NotAbove, NotBelow};
 
 use std::marker::Model;
@@ -52,9 +52,10 @@ impl End {
         self.code == i64::MIN
     }
 
-    /// The number of units, if there is an end.
+    /// The number of units, if there is an end: less than 2 to the power of 96 on either side of 0.
     pub fn units(self) -> Option<i128>
-        ensures { result ≡ self }
+        ensures value { result ≡ self }
+        ensures short { IfSome result (λ k. IsShortEnd k) }
     {
         if self.code == i64::MIN {
             None
@@ -83,11 +84,6 @@ impl End {
             Some(units) => rounded_up(units),
             None => End::none(),
         }
-    }
-
-    /// A number that grows with the end, the least one for none.
-    pub(crate) fn code(self) -> i64 {
-        self.code
     }
 
     /// Whether it is lower than the other, where no end is lower than all.

@@ -1,12 +1,15 @@
 //! Entries, the hulls of lists of them, and how such lists are split.
-ghost use Rattle.std.specs.Prelude.{◌≡◌, ◌++◌, [], ◌∷◌, IfOk};
+ghost use Rattle.std.specs.Prelude.{◌≡◌, ◌<◌, ◌≤◌, ◌%◌, ◌++◌, List, [], ◌∷◌, length, IfOk};
 ghost use Rattle.std.specs.List.Sorted.{IsPermutation};
+ghost use Rattle.ded_hull.specs.declared.entry.Entry.{Entry};
 ghost use Rattle.ded_hull.specs.Entries.{ids_in, of_keys, Covers};
+ghost use Rattle.ded_hull.specs.Segments.{middle, middle_order, AreSegments, InOrder, IsHull, IsFirst};
 
 use crate::probe::Probe;
 use crate::reach::{Range, Reach};
 use ded_model::memory::NoMemory;
 use std::alloc::Global;
+use std::cmp::Ordering;
 use std::collections::BTreeMap;
 
 /// How many times a list that is sorted once is halved.
@@ -19,12 +22,13 @@ pub struct Entry {
     pub reach: Reach,
 }
 
-/// A hull of the entries.
+/// A hull of the entries, whose ends are ends of theirs where each has one range.
 ///
 /// # Errors
 /// Out of memory.
 pub(crate) fn hull_of(alloc: Global, entries: &[Entry]) -> Result<Reach, NoMemory>
-    ensures { IfOk result (λ h. Covers h entries.now) }
+    ensures covers { IfOk result (λ h. Covers h entries.now) }
+    ensures hull { IfOk result (λ h. AreSegments entries.now → 0 < length entries.now → IsHull h entries.now) }
 {
     let mut hull = first_reach(alloc, entries)?;
     cover(&mut hull, entries);
@@ -32,7 +36,12 @@ pub(crate) fn hull_of(alloc: Global, entries: &[Entry]) -> Result<Reach, NoMemor
 }
 
 /// The reach of the first entry, if there is one.
-fn first_reach(alloc: Global, entries: &[Entry]) -> Result<Reach, NoMemory> {
+///
+/// # Errors
+/// Out of memory.
+fn first_reach(alloc: Global, entries: &[Entry]) -> Result<Reach, NoMemory>
+    ensures { IfOk result (λ h. IsFirst h entries.now) }
+{
     match entries {
         [first, ..] => first.reach.copy(),
         [] => Ok(Reach::new(alloc)),
@@ -41,7 +50,8 @@ fn first_reach(alloc: Global, entries: &[Entry]) -> Result<Reach, NoMemory> {
 
 /// Widens the hull to one of the entries too.
 fn cover(hull: &mut Reach, entries: &[Entry])
-    ensures { Covers hull.new entries.now }
+    ensures covers { Covers hull.new entries.now }
+    ensures hull { (xs : List Entry) → IsHull hull.old xs → AreSegments entries.now → IsHull hull.new (xs ++ entries.now) }
 {
     for i in 0..entries.len() {
         hull.widen(&entries[i].reach);
@@ -94,16 +104,26 @@ pub(crate) fn copy_all(from: &[Entry], to: &mut Vec<Entry>) -> Result<(), NoMemo
 /// On every second level, sorts the entries by their middles in the column in which these lie farthest apart. So each sort is good for
 /// four parts.
 pub(crate) fn arrange(entries: &mut [Entry], level: u32)
-    ensures { IsPermutation entries.old entries.new }
+    ensures entries { IsPermutation entries.old entries.new }
+    ensures order { AreSegments entries.old → (0 < level % 2 → InOrder entries.old) → InOrder entries.new }
 {
     if level % LEVELS == 0 {
         let place = widest(entries);
-        entries.sort_unstable_by_key(|entry| middle(entry.reach.at(place)));
+        entries.sort_unstable_by(|a, b| order(a, b, place));
     }
 }
 
+/// The order of the middles of two entries in a column.
+fn order(a: &Entry, b: &Entry, place: usize) -> Ordering
+    ensures { result ≡ middle_order place a.now b.now }
+{
+    middle(a.reach.at(place)).cmp(&middle(b.reach.at(place)))
+}
+
 /// The column, of those of the first entry, in which the middles of the entries lie farthest apart.
-fn widest(entries: &[Entry]) -> usize {
+fn widest(entries: &[Entry]) -> usize
+    ensures { AreSegments entries.now → result ≡ 0 }
+{
     let mut best = 0;
     let mut most = 0;
     for place in 0..width(entries) {
@@ -117,17 +137,19 @@ fn widest(entries: &[Entry]) -> usize {
 }
 
 /// How many columns the reach of the first entry has.
-fn width(entries: &[Entry]) -> usize {
+fn width(entries: &[Entry]) -> usize
+    ensures { AreSegments entries.now → result ≤ 1 }
+{
     match entries {
         [first, ..] => first.reach.ranges().len(),
         [] => 0,
     }
 }
 
-/// How far the middles of the entries lie apart in a column.
-fn spread(entries: &[Entry], place: usize) -> i64 {
-    let mut least = i64::MAX;
-    let mut greatest = i64::MIN;
+/// How far the middles of the entries lie apart in a column, twice.
+fn spread(entries: &[Entry], place: usize) -> i128 {
+    let mut least = i128::MAX;
+    let mut greatest = i128::MIN;
     for entry in entries {
         let middle = middle(entry.reach.at(place));
         least = least.min(middle);
@@ -136,13 +158,14 @@ fn spread(entries: &[Entry], place: usize) -> i64 {
     greatest.saturating_sub(least)
 }
 
-/// The middle of a range, or its one end, by the codes of ends, which stand in their order.
-fn middle(range: Range) -> i64 {
-    match (range.low.is_none(), range.high.is_none()) {
-        (false, false) => range.low.code() / 2 + range.high.code() / 2,
-        (false, true) => range.low.code(),
-        (true, false) => range.high.code(),
-        (true, true) => 0,
+/// Twice the middle of a range, or twice its one end, in units; 0 where it has none.
+fn middle(range: Range) -> i128
+    ensures { result ≡ middle range }
+{
+    match (range.low.units(), range.high.units()) {
+        (Some(low), Some(high)) => low + high,
+        (Some(end), None) | (None, Some(end)) => end + end,
+        (None, None) => 0,
     }
 }
 

@@ -2,10 +2,11 @@
 //!
 //! Entries are moved and never copied. The trees that become one give their entries to the list, which takes over the memory of the
 //! largest, and the new tree takes over the list. Where memory for a tree is wanting, its entries stay in the list, and none is lost.
-ghost use Rattle.std.specs.Prelude.{◌≡◌, ◌≤◌, ◌-◌, ◌^◌, ◌++◌, ◌∷◌, [], min, length, IfOk, OnOk, OnErr};
+ghost use Rattle.std.specs.Prelude.{◌≡◌, ◌<◌, ◌≤◌, ◌+◌, ◌-◌, ◌^◌, ◌++◌, ◌∷◌, [], min, length, take, drop, IfOk, OnOk, OnErr};
 ghost use Rattle.std.specs.List.Sorted.{IsPermutation};
-ghost use Rattle.ded_hull.specs.Entries.{ids_in, of_keys, AreFound, IsComplete};
-ghost use Rattle.ded_hull.specs.Trees.{all_of};
+ghost use Rattle.ded_hull.specs.Entries.{ids_in, of_keys, AreFound, IsComplete, most_nodes};
+ghost use Rattle.ded_hull.specs.Segments.{AreSegments};
+ghost use Rattle.ded_hull.specs.Trees.{all_of, AreAlong, AreFalling, IsRoomFor, IsCostOfAll};
 
 use crate::entry::{Entry, copy_all, keep_present, push_passing};
 use crate::limit::Limit;
@@ -13,17 +14,19 @@ use crate::probe::Probe;
 use crate::reach::Reach;
 use crate::tree::Tree;
 use ded_model::memory::NoMemory;
+use ded_model::steps::Steps;
 use std::alloc::Global;
 use std::collections::BTreeMap;
-use std::marker::Model;
+use std::marker::{Brand, Model};
+use std::sync::ledger::{Blank, Ledger};
 
 /// How many new entries stand beside the trees, as long as there is memory for trees.
 const FEW: usize = 32;
 
 /// Reaches under numbers. Contracts see the list of the entries.
 ///
-/// New entries stand in a list. When it is full, they and those of all last trees that have at most as many become one tree, so each
-/// entry moves few times.
+/// New entries stand in a list. When it is full, they and those of all last trees that have less than twice as many become one tree. So
+/// each entry moves few times, and each tree has at least twice as many entries as the next one.
 #[derive(Drop)]
 pub struct Hulls {
     trees: Vec<Tree>,
@@ -33,11 +36,13 @@ pub struct Hulls {
 impl Model for Hulls {
     ghost use Rattle.std.specs.Prelude.{List, ◌++◌};
     ghost use Rattle.ded_hull.specs.declared.entry.Entry.{Entry};
-    ghost use Rattle.ded_hull.specs.Trees.{all_of};
+    ghost use Rattle.ded_hull.specs.Trees.{all_of, AreFalling};
 
     ghost Value = { List Entry };
 
     ghost view = { λ x. all_of x.trees.items ++ x.tail.items };
+
+    ghost invariant = { λ x. AreFalling x.trees.items };
 }
 
 impl Hulls {
@@ -105,7 +110,33 @@ impl Hulls {
         Ok(Hulls { trees, tail })
     }
 
-    /// The numbers of the entries in whose reaches the limits may hold, ascending.
+    /// The numbers of the entries in whose reaches the limits may hold, ascending. Each node of a tree that is looked at is a step. With
+    /// k entries found of n that have one range each, and limits of one term that may hold at some value, these are at most
+    /// (2k + 2d + 1) d, where d is the count of binary digits of n. A node has at most 8 entries of its own. The entries that stand in
+    /// no tree, fewer than 32 as long as there is memory for trees, are looked at besides.
+    ///
+    /// # Errors
+    /// Out of memory.
+    pub fn look_up<L: Ledger>(
+        &self,
+        alloc: Global,
+        limits: &[Limit],
+        steps: &mut Steps<L>,
+    ) -> Result<Vec<u32>, NoMemory>
+        ensures found { IfOk result (λ ids. AreFound limits.now self.now ids.items) }
+        ensures complete { IfOk result (λ ids. IsComplete limits.now self.now ids.items) }
+        ensures steps { AreAlong limits.now → AreSegments self.now → steps.new ≤ steps.old + most_nodes limits.now self.now }
+    {
+        let probe = Probe::new(alloc, limits)?;
+        let mut found = Vec::new(alloc);
+        find_in(&self.trees, &probe, &mut found, steps)?;
+        push_passing(&self.tail, &probe, &mut found)?;
+        found.sort_unstable();
+        found.dedup();
+        Ok(found)
+    }
+
+    /// The numbers of the entries in whose reaches the limits may hold, ascending, without counting steps.
     ///
     /// # Errors
     /// Out of memory.
@@ -113,13 +144,27 @@ impl Hulls {
         ensures found { IfOk result (λ ids. AreFound limits.now self.now ids.items) }
         ensures complete { IfOk result (λ ids. IsComplete limits.now self.now ids.items) }
     {
-        let probe = Probe::new(alloc, limits)?;
-        let mut found = Vec::new(alloc);
-        find_in(&self.trees, &probe, &mut found)?;
-        push_passing(&self.tail, &probe, &mut found)?;
-        found.sort_unstable();
-        found.dedup();
-        Ok(found)
+        self.find_over::<Brand>(alloc, limits, Blank::new(1))
+    }
+
+    /// The numbers of the entries in whose reaches the limits may hold, ascending, with the steps counted on a new ledger.
+    ///
+    /// # Errors
+    /// Out of memory.
+    fn find_over<L: Ledger>(
+        &self,
+        alloc: Global,
+        limits: &[Limit],
+        blank: Blank,
+    ) -> Result<Vec<u32>, NoMemory>
+        requires name { blank.name ≡ L.name }
+        requires parts { blank.parts ≡ L.parts }
+        requires some { 0 < L.parts }
+        ensures found { IfOk result (λ ids. AreFound limits.now self.now ids.items) }
+        ensures complete { IfOk result (λ ids. IsComplete limits.now self.now ids.items) }
+    {
+        let mut steps = Steps::<L>::new(blank);
+        self.look_up(alloc, limits, &mut steps)
     }
 }
 
@@ -138,11 +183,17 @@ fn count_in(trees: &[Tree]) -> usize
 ///
 /// # Errors
 /// Out of memory.
-fn find_in(trees: &[Tree], probe: &Probe, found: &mut Vec<u32>) -> Result<(), NoMemory>
-    ensures { IfOk result (λ _. found.new.items ≡ found.old.items ++ ids_in probe.now (all_of trees.now)) }
+fn find_in<L: Ledger>(
+    trees: &[Tree],
+    probe: &Probe,
+    found: &mut Vec<u32>,
+    steps: &mut Steps<L>,
+) -> Result<(), NoMemory>
+    ensures found { IfOk result (λ _. found.new.items ≡ found.old.items ++ ids_in probe.now (all_of trees.now)) }
+    ensures steps { IsCostOfAll probe.now trees.now steps.old steps.new }
 {
     for i in 0..trees.len() {
-        trees[i].find(probe, found)?;
+        trees[i].find(probe, found, steps)?;
     }
     Ok(())
 }
@@ -165,20 +216,22 @@ fn copy_trees(trees: &[Tree], to: &mut Vec<Entry>) -> Result<(), NoMemory>
 /// # Errors
 /// Out of memory; the entries stay then too, some of them in the list.
 fn settle(trees: &mut Vec<Tree>, tail: &mut Vec<Entry>) -> Result<(), NoMemory>
-    ensures { IsPermutation (all_of trees.old.items ++ tail.old.items) (all_of trees.new.items ++ tail.new.items) }
+    ensures entries { IsPermutation (all_of trees.old.items ++ tail.old.items) (all_of trees.new.items ++ tail.new.items) }
+    ensures falling { AreFalling trees.old.items → AreFalling trees.new.items }
 {
     let keep = kept(trees, tail.len());
     gather(trees, keep, tail)?;
     plant(trees, tail)
 }
 
-/// How many of the first trees stay as they are: those before the last that have at most as many entries as stand behind them, where so
-/// many stand behind all trees.
+/// How many of the first trees stay as they are: those before the last that have less than twice as many entries as stand behind them,
+/// where so many stand behind all trees.
 fn kept(trees: &[Tree], mut behind: usize) -> usize
-    ensures { result ≤ length trees.now }
+    ensures inside { result ≤ length trees.now }
+    ensures room { IsRoomFor (length (all_of (drop result trees.now)) + behind) (take result trees.now) }
 {
     let mut keep = trees.len();
-    while 0 < keep && trees[keep - 1].len() <= behind {
+    while 0 < keep && trees[keep - 1].len() / 2 < behind {
         keep = keep - 1;
         behind = behind.saturating_add(trees[keep].len());
     }
@@ -191,7 +244,8 @@ fn kept(trees: &[Tree], mut behind: usize) -> usize
 /// Out of memory; some of the trees have given their entries then.
 fn gather(trees: &mut Vec<Tree>, keep: usize, tail: &mut Vec<Entry>) -> Result<(), NoMemory>
     ensures moved { all_of trees.new.items ++ tail.new.items ≡ all_of trees.old.items ++ tail.old.items }
-    ensures gathered { OnOk result (length trees.new.items ≤ keep) }
+    ensures first { trees.new.items ≡ take (length trees.new.items) trees.old.items }
+    ensures gathered { OnOk result (length trees.new.items ≡ min keep (length trees.old.items)) }
 {
     while keep < trees.len() {
         let last = trees.len() - 1;
@@ -201,13 +255,17 @@ fn gather(trees: &mut Vec<Tree>, keep: usize, tail: &mut Vec<Entry>) -> Result<(
     Ok(())
 }
 
-/// Makes a last tree of the list.
+/// Makes a last tree of the list, if there are entries.
 ///
 /// # Errors
 /// Out of memory; the entries stay in the list then, in another order.
 fn plant(trees: &mut Vec<Tree>, tail: &mut Vec<Entry>) -> Result<(), NoMemory>
-    ensures { IsPermutation (all_of trees.old.items ++ tail.old.items) (all_of trees.new.items ++ tail.new.items) }
+    ensures entries { IsPermutation (all_of trees.old.items ++ tail.old.items) (all_of trees.new.items ++ tail.new.items) }
+    ensures falling { AreFalling trees.old.items → IsRoomFor (length tail.old.items) trees.old.items → AreFalling trees.new.items }
 {
+    if tail.is_empty() {
+        return Ok(());
+    }
     trees.reserve(1)?;
     let tree = Tree::build(tail)?;
     trees.push_reserved(tree);

@@ -2,7 +2,7 @@
 //!
 //! Most reaches that a look-up meets don't overlap the box of the limits of one term. They are told apart by codes of ends alone, and
 //! only for the others sums of products are made.
-ghost use Rattle.std.specs.Prelude.{◌≡◌, true, IfOk};
+ghost use Rattle.std.specs.Prelude.{◌≡◌, true, length, IfOk};
 ghost use Rattle.ded_hull.specs.Boxes.{overlap, overlaps};
 ghost use Rattle.ded_hull.specs.Limits.{may_hold};
 
@@ -51,11 +51,17 @@ impl<'a> Probe<'a> {
         overlaps(self.around.ranges(), reach.ranges()) && may_hold(reach, self.limits)
     }
 
-    /// Whether all limits may hold in the reach, as far as the box and the limits of several terms tell.
+    /// Whether all limits may hold in the reach: as far as the box and the limits of several terms tell, and for certain where it has
+    /// one range.
     pub(crate) fn may_pass(&self, reach: &Reach) -> bool
-        ensures { may_hold reach.now self.now ≡ true → result ≡ true }
+        ensures sound { may_hold reach.now self.now ≡ true → result ≡ true }
+        ensures exact { length reach.now ≡ 1 → result ≡ may_hold reach.now self.now }
     {
-        overlaps(self.around.ranges(), reach.ranges()) && others_may_hold(reach, self.limits)
+        if reach.ranges().len() == 1 {
+            self.may_hold(reach)
+        } else {
+            overlaps(self.around.ranges(), reach.ranges()) && others_may_hold(reach, self.limits)
+        }
     }
 }
 

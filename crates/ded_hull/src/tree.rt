@@ -4,21 +4,27 @@
 //! stand in another list in the order of their nodes, so those under a node stand side by side. A look-up is one pass over both lists,
 //! in which a node where the limits cannot hold is passed over with all that is below it.
 //!
+//! Where each reach has one range, the two halves of a list are those with earlier and with later middles. A node whose hull passes then
+//! has an entry that is found below it, but for one node on each level at most, so that few more nodes are looked at than are needed.
+//!
 //! A tree never changes. It is built over a list of entries, which are put in its order where they stand, and gives the list back for
 //! a larger tree.
-ghost use Rattle.std.specs.Prelude.{◌≡◌, ◌+◌, ◌++◌, ◌∷◌, [], List, length, IfOk, OnOk, OnErr};
+ghost use Rattle.std.specs.Prelude.{◌≡◌, ◌<◌, ◌≤◌, ◌+◌, ◌%◌, ◌^◌, ◌++◌, ◌∷◌, [], ℕ, List, length, IfOk, OnOk, OnErr};
 ghost use Rattle.std.specs.List.Sorted.{IsPermutation};
 ghost use Rattle.ded_hull.specs.declared.entry.Entry.{Entry};
 ghost use Rattle.ded_hull.specs.Entries.{ids_in, Covers};
-ghost use Rattle.ded_hull.specs.Trees.{IsTree, IsOver, IsStep};
+ghost use Rattle.ded_hull.specs.Segments.{AreSegments, InOrder};
+ghost use Rattle.ded_hull.specs.Trees.{IsTree, IsOver, IsHalved, AreNarrow, HullsJoined, IsStep, IsCost, looked_at};
 
 use crate::entry::{Entry, arrange, copy_all, hull_of, push_passing};
 use crate::probe::Probe;
 use crate::reach::Reach;
 use ded_model::memory::NoMemory;
+use ded_model::steps::Steps;
 use std::alloc::Global;
 use std::marker::Model;
 use std::mem;
+use std::sync::ledger::Ledger;
 
 /// How many entries a node without others below it has at most.
 const LEAF: usize = 8;
@@ -41,13 +47,13 @@ pub(crate) struct Tree {
 impl Model for Tree {
     ghost use Rattle.std.specs.Prelude.{List};
     ghost use Rattle.ded_hull.specs.declared.entry.Entry.{Entry};
-    ghost use Rattle.ded_hull.specs.Trees.{IsTree};
+    ghost use Rattle.ded_hull.specs.Trees.{IsTree, IsBalanced};
 
     ghost Value = { List Entry };
 
     ghost view = { λ t. t.entries.items };
 
-    ghost invariant = { λ t. IsTree t.nodes.items t.entries.items };
+    ghost invariant = { λ t. IsTree t.nodes.items t.entries.items × IsBalanced t.nodes.items t.entries.items };
 }
 
 impl Tree {
@@ -75,14 +81,20 @@ impl Tree {
         self.entries.len()
     }
 
-    /// Adds the numbers of the entries in whose reaches the limits may hold.
+    /// Adds the numbers of the entries in whose reaches the limits may hold. Each node that is looked at is a step.
     ///
     /// # Errors
     /// Out of memory.
-    pub(crate) fn find(&self, probe: &Probe, found: &mut Vec<u32>) -> Result<(), NoMemory>
-        ensures { IfOk result (λ _. found.new.items ≡ found.old.items ++ ids_in probe.now self.now) }
+    pub(crate) fn find<L: Ledger>(
+        &self,
+        probe: &Probe,
+        found: &mut Vec<u32>,
+        steps: &mut Steps<L>,
+    ) -> Result<(), NoMemory>
+        ensures found { IfOk result (λ _. found.new.items ≡ found.old.items ++ ids_in probe.now self.now) }
+        ensures steps { IsCost probe.now self.now steps.old steps.new }
     {
-        visit_all(&self.nodes, &self.entries, probe, found)
+        visit_all(&self.nodes, &self.entries, probe, found, steps)
     }
 
     /// Adds copies of the entries.
@@ -122,6 +134,7 @@ pub(crate) fn build(alloc: Global, entries: &mut [Entry], level: u32) -> Result<
     ensures tree { IfOk result (λ ns. IsTree ns.items entries.new) }
     ensures over { IfOk result (λ ns. IsOver ns.items entries.new) }
     ensures entries { IsPermutation entries.old entries.new }
+    ensures halved { IfOk result (λ ns. AreSegments entries.old → (0 < level % 2 → InOrder entries.old) → 0 < length entries.old → (h : ℕ) → length entries.old ≤ 2 ^ h → IsHalved h ns.items entries.new) }
 {
     let count = entries.len();
     if count <= LEAF {
@@ -141,7 +154,8 @@ pub(crate) fn build(alloc: Global, entries: &mut [Entry], level: u32) -> Result<
 /// # Errors
 /// Out of memory.
 fn hull_over(alloc: Global, first: &[Node], second: &[Node]) -> Result<Reach, NoMemory>
-    ensures { IfOk result (λ h. (xs ys : List Entry) → IsOver first.now xs → IsOver second.now ys → Covers h (xs ++ ys)) }
+    ensures covers { IfOk result (λ h. (xs ys : List Entry) → IsOver first.now xs → IsOver second.now ys → Covers h (xs ++ ys)) }
+    ensures value { IfOk result (λ h. HullsJoined first.now second.now h) }
 {
     match (first.first(), second.first()) {
         (Some(first), Some(second)) => {
@@ -189,22 +203,25 @@ fn joined(
     Ok(nodes)
 }
 
-/// Adds the numbers of the entries of a tree in whose reaches the limits may hold.
+/// Adds the numbers of the entries of a tree in whose reaches the limits may hold. Each node that is looked at is a step.
 ///
 /// # Errors
 /// Out of memory.
-pub(crate) fn visit_all(
+pub(crate) fn visit_all<L: Ledger>(
     nodes: &[Node],
     entries: &[Entry],
     probe: &Probe,
     found: &mut Vec<u32>,
+    steps: &mut Steps<L>,
 ) -> Result<(), NoMemory>
     requires { IsTree nodes.now entries.now }
-    ensures { IfOk result (λ _. found.new.items ≡ found.old.items ++ ids_in probe.now entries.now) }
+    ensures found { IfOk result (λ _. found.new.items ≡ found.old.items ++ ids_in probe.now entries.now) }
+    ensures steps { AreNarrow nodes.now → steps.new ≤ steps.old + looked_at probe.now 0 nodes.now }
 {
     let mut next = nodes;
     let mut rest = entries;
     while let Some((node, behind)) = next.split_first() {
+        steps.tick();
         (next, rest) = visit(node, behind, rest, probe, found)?;
     }
     Ok(())
@@ -223,7 +240,7 @@ fn visit<'a>(
     found: &mut Vec<u32>,
 ) -> Result<(&'a [Node], &'a [Entry]), NoMemory>
     requires { IsTree (node.now ∷ behind.now) entries.now }
-    ensures { IfOk result (λ next. IsStep probe.now behind.now entries.now next.0.now next.1.now found.old.items found.new.items) }
+    ensures { IfOk result (λ next. IsStep probe.now node.now behind.now entries.now next.0.now next.1.now found.old.items found.new.items) }
 {
     if !probe.may_pass(&node.hull) {
         return Ok((&behind[node.below..], &entries[node.count..]));

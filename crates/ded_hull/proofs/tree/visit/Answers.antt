@@ -1,14 +1,21 @@
-use Rattle.std.proofs.Common.{rules, ◌≡◌, false, take, refl}
+use Rattle.std.proofs.Common.{rules, ◌≡◌, ◌<◌, true, false, take, refl, sym, ◌∙◌}
 use Rattle.ded_hull.specs.Limits.{may_hold}
 use Rattle.ded_hull.proofs.Columns.{contrary}
-use Rattle.ded_hull.proofs.Rooted.{whole_rest, step_past, step_own}
+use Rattle.ded_hull.proofs.Rooted.{whole_rest, step_past, step_into, step_own}
 use Rattle.ded_hull.proofs.tree.visit.Goals as goal
 
 pub returns-then-not-may_pass : goal.returns-then-not-may_pass
 returns-then-not-may_pass c =
     let n = c.args.node.now in
-    let apart : may_hold n.hull c.args.probe.now ≡ false = contrary (may_hold n.hull c.args.probe.now) c.may_pass.result c.may_pass.ensures (search rules) in
+    let apart : may_hold n.hull c.args.probe.now ≡ false = contrary (may_hold n.hull c.args.probe.now) c.may_pass.result c.may_pass.ensures.sound (search rules) in
     step_past c.args.probe.now n c.args.behind.now c.args.entries.now c.requires _ _ c.args.found.now.items (whole_rest c.args.behind.now n.below) (whole_rest c.args.entries.now n.count) apart
+
+pub returns-then-node-gt0 : goal.returns-then-node-gt0
+returns-then-node-gt0 c =
+    let n = c.args.node.now in
+    let passes : c.may_pass.result ≡ true = search rules in
+    let some : 0 < n.below = search rules in
+    step_into c.args.probe.now n c.args.behind.now c.args.entries.now c.requires _ _ c.args.found.now.items refl refl some (λ e. sym (c.may_pass.ensures.exact e) ∙ passes)
 
 pub returns : goal.returns
 returns c =

@@ -10,7 +10,7 @@ pub returns-then-len-ge-FEW-clause-inserted : goal.returns-then-len-ge-FEW-claus
 returns-then-len-ge-FEW-clause-inserted c =
     let e : Entry = record { id = c.args.id; reach = c.args.reach } in
     let added = added_last (all_of c.self.inside.trees.items) c.self.inside.tail.items c.push.new.self.items e c.in_ok-push.ensures.items in
-    subst (λ v. IsPermutation (e ∷ v) (all_of c.settle.new.trees.items ++ c.settle.new.tail.items)) c.self.view_is (IsPermutation-trans _ _ _ added c.settle.ensures)
+    subst (λ v. IsPermutation (e ∷ v) (all_of c.settle.new.trees.items ++ c.settle.new.tail.items)) c.self.view_is (IsPermutation-trans _ _ _ added c.settle.ensures.entries)
 
 pub returns-else-len-ge-FEW-clause-inserted : goal.returns-else-len-ge-FEW-clause-inserted
 returns-else-len-ge-FEW-clause-inserted c =

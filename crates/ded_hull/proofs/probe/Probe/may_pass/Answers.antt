@@ -5,8 +5,8 @@ use Rattle.ded_hull.proofs.Around.{passes}
 use Rattle.ded_hull.proofs.Sums.{and_second}
 use Rattle.ded_hull.proofs.probe.Probe.may_pass.Goals as goal
 
-pub returns-then-overlaps : goal.returns-then-overlaps
-returns-then-overlaps c = λ m.
+pub returns-then-overlaps-clause-sound : goal.returns-then-overlaps-clause-sound
+returns-then-overlaps-clause-sound c = λ m.
     let rs = c.args.reach.now in
     let ls = c.args.self.now in
     let b = c.self.inside.around in
