@@ -39,7 +39,10 @@ pub fn resolve<N: Names>(alloc: Global, command: Command, names: &N) -> Result<C
     ensures stored { IfOk result (λ k. IsStorable (N.catalogue names.now) k) }
     ensures refused { IfErr result (λ r. r ≢ Refusal.Memory → IsLeastCause r (N.catalogue names.now) (command_form command)) }
 {
-    check(&command, names)?;
+    if let Err(refusal) = check(&command, names) {
+        drop(command);
+        return Err(refusal);
+    }
     by_slots(alloc, command, names).map_err(|_| Refusal::Memory)
 }
 
@@ -177,5 +180,7 @@ fn goal_only(alloc: Global, heading: &Heading, formula: Formula) -> Result<Goal,
     requires { IsReady heading.now (form formula) }
     ensures { IfOk result (λ g. goal_form g ≡ goal_of heading.now (form formula)) }
 {
-    ready_goal(alloc, heading, &formula)
+    let goal = ready_goal(alloc, heading, &formula);
+    drop(formula);
+    goal
 }
