@@ -6,10 +6,9 @@ mod names;
 mod reads;
 
 use crate::index::Index;
-use crate::mentions::mentioned;
 use crate::shared::SharedRelation;
 use crate::stored::{Relation, Stored, View};
-use crate::table::{Table, add, delete_from, insert_into, level_in, take_out};
+use crate::table::{Table, add, delete_from, insert_into, spoken, take_out};
 use ded_model::command::Refusal;
 use ded_model::formula::Formula;
 use ded_model::goal::Goal;
@@ -176,16 +175,23 @@ impl Catalogue {
         ensures ok { OnOk result (AddsEntry (catalogue_of self.old) (catalogue_of self.new) (view name heading (form f))) }
         ensures err { OnErr result (catalogue_of self.new ≡ catalogue_of self.old) }
     {
-        let level = level_in(&self.names, &f)? + 1;
-        let mentions = mentioned(self.names.alloc(), self.names.hashing(), &f)?;
-        let view = Stored::View(View {
-            heading,
-            formula: f,
-            goal: g,
-            level,
-            mentions,
-        });
-        add(&mut self.names, name, view)
+        match spoken(&self.names, &f) {
+            Ok((below, mentions)) => {
+                let view = Stored::View(View {
+                    heading,
+                    formula: f,
+                    goal: g,
+                    level: below + 1,
+                    mentions,
+                });
+                add(&mut self.names, name, view)
+            }
+            Err(error) => {
+                drop(f);
+                drop(g);
+                Err(error)
+            }
+        }
     }
 
     /// Drops a name that is defined and that no view speaks of. The others keep their order. It does not allocate.

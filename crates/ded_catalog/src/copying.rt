@@ -17,11 +17,11 @@ impl Clone for Stored {
         match self {
             Stored::Relation(relation) => Ok(Stored::Relation(relation.share()?)),
             Stored::View(view) => Ok(Stored::View(View {
+                level: view.level,
                 heading: view.heading.copy()?,
+                mentions: view.mentions.clone()?,
                 formula: view.formula.copy()?,
                 goal: view.goal.copy()?,
-                level: view.level,
-                mentions: view.mentions.clone()?,
             })),
         }
     }

@@ -247,17 +247,12 @@ fn put_last(linked: &mut Linked, name: Name, entry: Entry, key: &Name) -> Result
     let _ = linked.len(); // it has room for one more
     match linked.put(name, entry) {
         Ok(old) => {
-            give_up(old);
+            drop(old);
             let _ = linked.demote(key);
             Ok(())
         }
         Err(failed) => Err(failed.value.1),
     }
-}
-
-/// Gives up an entry. It is a function of its own, so that no other proof goes through all that an entry may have.
-fn give_up(entry: Option<Entry>) {
-    let _ = entry;
 }
 
 /// Takes out the entry of the name.
@@ -349,11 +344,12 @@ fn copy_into(copies: &mut Entries, linked: &Linked) -> Result<(), NoMemory>
 {
     let _ = linked.len(); // each name stands once
     for (name, entry) in linked {
+        let key = name.copy()?;
         let copy = Entry {
             stored: entry.stored.clone()?,
             users: entry.users,
         };
-        push_copy(copies, name.copy()?, copy)?;
+        push_copy(copies, key, copy)?;
     }
     Ok(())
 }
@@ -369,7 +365,7 @@ fn push_copy(copies: &mut Entries, name: Name, entry: Entry) -> Result<(), NoMem
     match copies.push(name, entry) {
         Ok(()) => Ok(()),
         Err(entry) => {
-            give_up(Some(entry));
+            drop(entry);
             Err(AllocError)
         }
     }

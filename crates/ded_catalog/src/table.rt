@@ -11,12 +11,14 @@ ghost use Rattle.ded_sorts.specs.Checks.{known_form};
 ghost use Rattle.ded_catalog.specs.declared.stored.Relation.{Relation};
 ghost use Rattle.ded_catalog.specs.Changed.{ChangesRelation};
 ghost use Rattle.ded_catalog.specs.Copies.{AreCopies};
+ghost use Rattle.ded_catalog.specs.Mentions.{AreMentions};
 ghost use Rattle.ded_catalog.specs.State.{known_with, relation_at, view_at, heading_at, level_at, stored_uses, atom_level_in};
 ghost use Rattle.ded_catalog.specs.Tuples.{AreUpTo, refusal_of, IsSame, Pushes, Removes};
 ghost use Rattle.ded_catalog.specs.Users.{HasMentions};
 
 use crate::entries::{Entries, Entry};
 use crate::hashing::NameHashing;
+use crate::mentions::mentioned;
 use crate::stored::{Relation, Stored, View};
 use crate::users::{count, discount};
 use ded_model::command::Refusal;
@@ -218,12 +220,25 @@ pub(crate) fn some_uses(table: &Table, name: &Name) -> bool
     }
 }
 
+/// The greatest level of a name that the formula speaks of, 0 where it speaks of none, and these names, each once.
+///
+/// # Errors
+/// Out of memory.
+pub(crate) fn spoken(table: &Table, formula: &Formula) -> Result<(u32, Vec<Name>), NoMemory>
+    ensures level { IfOk result (λ s. s.0 ≡ greatest (atom_level_in table.now.entries) (form formula.now)) }
+    ensures mentions { IfOk result (λ s. AreMentions s.1.items (form formula.now)) }
+{
+    let level = level_in(table, formula)?;
+    let names = mentioned(table.alloc(), table.hashing(), formula)?;
+    Ok((level, names))
+}
+
 /// The greatest level of a name that the formula speaks of, 0 where it speaks of none.
 ///
 /// # Errors
 /// Out of memory.
 #[cycle(level)]
-pub(crate) fn level_in(table: &Table, formula: &Formula) -> Result<u32, NoMemory>
+fn level_in(table: &Table, formula: &Formula) -> Result<u32, NoMemory>
     ensures { IfOk result (λ n. n ≡ greatest (atom_level_in table.now.entries) (form formula.now)) }
 {
     match formula {

@@ -33,6 +33,7 @@ pub(crate) fn discount(entries: &mut Entries, stored: Stored)
     if let Stored::View(view) = &stored {
         lower_all(entries, &view.mentions);
     }
+    drop(stored);
 }
 
 /// Counts one view more that speaks of each of the names.

@@ -1,5 +1,6 @@
 //! Joins, unions and complements of plans.
 ghost use Rattle.std.specs.Prelude.{◌≡◌, ◌++◌, IfOk};
+ghost use Rattle.ded_model.specs.Logic.{minus};
 ghost use Rattle.ded_model.specs.PlanForm.{plan_form, plan_forms};
 ghost use Rattle.ded_model.specs.Pushed.{some_member};
 ghost use Rattle.ded_plan.specs.Rewrite.{join_of, union_of, negated, comes_apart, flattened, kept, taken, difference_of, joined};
@@ -79,13 +80,24 @@ fn difference_of(alloc: Global, kept: Vec<Plan>, taken: Vec<Plan>) -> Result<Pla
     ensures { IfOk result (λ p. plan_form p ≡ difference_of (plan_forms kept.items) (plan_forms taken.items)) }
 {
     if taken.is_empty() {
+        drop(taken);
         return Ok(join_of(distributed(alloc, kept)?));
     }
-    let taken = union_of(taken);
     if kept.is_empty() {
-        return negated(alloc, taken);
+        drop(kept);
+        return negated(alloc, union_of(taken));
     }
     let from = join_of(distributed(alloc, kept)?);
+    minus_of(alloc, from, union_of(taken))
+}
+
+/// The first plan without the second.
+///
+/// # Errors
+/// Out of memory.
+pub(crate) fn minus_of(alloc: Global, from: Plan, taken: Plan) -> Result<Plan, NoMemory>
+    ensures { IfOk result (λ p. plan_form p ≡ minus (plan_form from) (plan_form taken)) }
+{
     Ok(Plan::Minus(Box::new(alloc, from)?, Box::new(alloc, taken)?))
 }
 

@@ -7,7 +7,7 @@ ghost use Rattle.ded_model.specs.Point.{AreDistinctSlots};
 ghost use Rattle.ded_plan.specs.Rewrite.{rewritten, each_rewritten};
 ghost use Rattle.ded_plan.specs.Rewritten.{IsTidyPlan, IsRewritten};
 
-use crate::joining::{joined, negated, union_of};
+use crate::joining::{joined, minus_of, negated, union_of};
 use crate::projecting::projected;
 use ded_model::memory::NoMemory;
 use ded_model::name::Name;
@@ -43,7 +43,7 @@ fn rewritten(alloc: Global, plan: Plan) -> Result<Plan, NoMemory>
         Plan::Minus(from, taken) => {
             let from = rewritten(alloc, Box::into_inner(from))?;
             let taken = rewritten(alloc, Box::into_inner(taken))?;
-            Ok(Plan::Minus(Box::new(alloc, from)?, Box::new(alloc, taken)?))
+            minus_of(alloc, from, taken)
         }
         Plan::Not(part) => negated(alloc, rewritten(alloc, Box::into_inner(part))?),
         Plan::Project(slot, part) => projected(

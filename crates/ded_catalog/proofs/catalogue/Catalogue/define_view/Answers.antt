@@ -9,11 +9,11 @@ use Rattle.ded_catalog.proofs.Results.{after}
 use Rattle.ded_catalog.proofs.Unused.{unspoken, unused_there}
 use Rattle.ded_catalog.proofs.catalogue.Catalogue.define_view.Goals as goal
 
-pub overflow_add-level : goal.overflow_add-level
-overflow_add-level c =
+pub overflow_add-view : goal.overflow_add-view
+overflow_add-view c =
     let level = level_there c.self.inside.limit c.self.inside.names.entries c.self.invariant (form c.args.f) in
     let low = subst (λ t. level_of (known (catalogue_of t)) (form c.args.f) ≤ 16) (sym c.self.view_is) c.requires.level in
-    omega (arith, level, low, c.in_ok-level.ensures)
+    omega (arith, level, low, c.in-Ok.ensures.level)
 
 pub add-requires-clause-new : goal.add-requires-clause-new
 add-requires-clause-new c = new_name c.self.inside.limit c.self.inside.names.entries c.args.name c.self.invariant (subst (λ t. known (catalogue_of t) c.args.name ≡ None) (sym c.self.view_is) c.requires.new.0)
@@ -33,6 +33,6 @@ invariant_of-self c =
     (subst (λ t. IsNewName (known (catalogue_of t)) c.args.name) (sym c.self.view_is) c.requires.new)
     (subst (λ t. IsAccepted (known (catalogue_of t)) c.args.heading (form c.args.f)) (sym c.self.view_is) c.requires.accepted)
     (subst (λ t. level_of (known (catalogue_of t)) (form c.args.f) ≤ 16) (sym c.self.view_is) c.requires.level)
-    (ap (λ l. l + 1) c.in_ok-level.ensures ∙ level_there c.self.inside.limit c.self.inside.names.entries c.self.invariant (form c.args.f))
-    c.requires.goal c.requires.plain c.requires.short c.in_ok-mentions.ensures)
+    (ap (λ l. l + 1) c.in-Ok.ensures.level ∙ level_there c.self.inside.limit c.self.inside.names.entries c.self.invariant (form c.args.f))
+    c.requires.goal c.requires.plain c.requires.short c.in-Ok.ensures.mentions)
     c.self.invariant
