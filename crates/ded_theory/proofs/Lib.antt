@@ -2,4 +2,5 @@ pub mod Conjunctions
 pub mod Merged
 pub mod Parted
 pub mod PartLaws
+pub mod Pieces
 pub mod TwoKinds

@@ -2,6 +2,8 @@
 use Rattle.std.specs.Prelude.{List, [], ◌∷◌}
 use Rattle.ded_model.specs.declared.tuple.BothAtom.{BothAtom}
 use Rattle.ded_model.specs.declared.tuple.BothAtom.TheVariants.{First, Second}
+use Rattle.ded_model.specs.declared.tuple.Negated.{Negated}
+use Rattle.ded_model.specs.declared.tuple.Negated.TheVariants.{One, Two}
 
 -- what is said of each kind
 abbrev pub by_kind : {A B R : Type 0} → (A → R) → (B → R) → BothAtom A B → R
@@ -24,3 +26,13 @@ abbrev pub seconds : {A B : Type 0} → List (BothAtom A B) → List B
 seconds [] = []
 seconds (First a ∷ atoms) = seconds atoms
 seconds (Second b ∷ atoms) = b ∷ seconds atoms
+
+-- the pieces of a negation, each as an atom of the first kind
+abbrev pub first_pieces : {A B : Type 0} → Negated A → Negated (BothAtom A B)
+first_pieces (One a) = One (First a)
+first_pieces (Two a b) = Two (First a) (First b)
+
+-- each as an atom of the second kind
+abbrev pub second_pieces : {A B : Type 0} → Negated B → Negated (BothAtom A B)
+second_pieces (One b) = One (Second b)
+second_pieces (Two a b) = Two (Second a) (Second b)

@@ -8,7 +8,7 @@ ghost use Rattle.ded_theory.specs.Conjunctions.{conj_lines};
 ghost use Rattle.ded_theory.specs.Eliminations.{IsElimination};
 ghost use Rattle.ded_theory.specs.Verdicts.{joined_verdict, joined_span};
 ghost use Rattle.ded_theory.specs.KindLaws.{kinds_respect, kinds_tell, kinds_owned, kinds_line_slots};
-ghost use Rattle.ded_theory.specs.Both.{by_kind, IsByKind, firsts, seconds};
+ghost use Rattle.ded_theory.specs.Both.{by_kind, IsByKind, firsts, seconds, first_pieces, second_pieces};
 
 use crate::answers::{Eliminated, Span, Verdict};
 use crate::theory::{OfNumbers, OfTexts, Theory};
@@ -67,18 +67,8 @@ impl<A: OfNumbers, B: OfTexts> Theory for Both<A, B> {
         atom: &BothAtom<A::Atom, B::Atom>,
     ) -> Result<Negated<BothAtom<A::Atom, B::Atom>>, NoMemory> {
         match atom {
-            BothAtom::First(first) => match A::negate(first)? {
-                Negated::One(only) => Ok(Negated::One(BothAtom::First(only))),
-                Negated::Two(one, other) => {
-                    Ok(Negated::Two(BothAtom::First(one), BothAtom::First(other)))
-                }
-            },
-            BothAtom::Second(second) => match B::negate(second)? {
-                Negated::One(only) => Ok(Negated::One(BothAtom::Second(only))),
-                Negated::Two(one, other) => {
-                    Ok(Negated::Two(BothAtom::Second(one), BothAtom::Second(other)))
-                }
-            },
+            BothAtom::First(first) => Ok(first_pieces(A::negate(first)?)),
+            BothAtom::Second(second) => Ok(second_pieces(B::negate(second)?)),
         }
     }
 
@@ -130,6 +120,26 @@ impl<A: OfNumbers, B: OfTexts> Theory for Both<A, B> {
     ghost owned_slots = { kinds_owned A.mentions B.mentions A.normal B.normal A.owned B.owned A.owned_slots B.owned_slots };
 
     ghost line_slots = { kinds_line_slots A.mentions B.mentions A.lines B.lines A.line_slots B.line_slots };
+}
+
+/// The pieces, each as an atom of the first kind.
+fn first_pieces<A: Drop, B: Drop>(pieces: Negated<A>) -> Negated<BothAtom<A, B>>
+    ensures { result ≡ first_pieces pieces }
+{
+    match pieces {
+        Negated::One(only) => Negated::One(BothAtom::First(only)),
+        Negated::Two(one, other) => Negated::Two(BothAtom::First(one), BothAtom::First(other)),
+    }
+}
+
+/// The pieces, each as an atom of the second kind.
+fn second_pieces<A: Drop, B: Drop>(pieces: Negated<B>) -> Negated<BothAtom<A, B>>
+    ensures { result ≡ second_pieces pieces }
+{
+    match pieces {
+        Negated::One(only) => Negated::One(BothAtom::Second(only)),
+        Negated::Two(one, other) => Negated::Two(BothAtom::Second(one), BothAtom::Second(other)),
+    }
 }
 
 /// Eliminates a slot from the atoms of the first kind and keeps those of the second.
