@@ -18,7 +18,7 @@ use Rattle.ded_hull.specs.declared.tree.Node.{Node}
 use Rattle.ded_hull.specs.Reaches.{range_at, lower_of, higher_of, joined, hull}
 use Rattle.ded_hull.specs.Limits.{may_hold}
 use Rattle.ded_hull.specs.Entries.{ids_in}
-use Rattle.ded_hull.specs.Segments.{range_of, IsSegment, AreSegments, InOrder, IsHull, IsFirst}
+use Rattle.ded_hull.specs.Segments.{first_range, IsSegment, AreSegments, InOrder, IsHull, IsFirst}
 use Rattle.ded_hull.specs.Trees.{IsLeaf, IsFork, IsHalved, IsBalanced, AreNarrow, HullsJoined, looked_at, AreAlong, IsCost}
 use Rattle.ded_hull.proofs.Found.{ids_in-append, taken_more}
 use Rattle.ded_hull.proofs.Middles.{IsAside, aside_found, one_aside, aside_left, aside_right, every_moved, inorder-left, inorder-right, inorder-before, before_moved}
@@ -214,12 +214,12 @@ pub hulls_joined : (a b : List Range) (xs ys : List Entry) → IsHull a xs → I
 hulls_joined a b xs ys h k = record {
   one = hull_length a b ∙ h.one;
   low = elim (lower_one (range_at a 0).low (range_at b 0).low) [
-    | inl e ↦ some-left (λ x. (range_of x).low ≡ (range_at (hull a b) 0).low) xs ys (some_weaker _ _ xs (λ x g. g ∙ sym (ap (λ (r : Range). r.low) at ∙ e)) h.low)
-    | inr e ↦ some-right (λ x. (range_of x).low ≡ (range_at (hull a b) 0).low) xs ys (some_weaker _ _ ys (λ x g. g ∙ sym (ap (λ (r : Range). r.low) at ∙ e)) k.low)
+    | inl e ↦ some-left (λ x. (first_range x).low ≡ (range_at (hull a b) 0).low) xs ys (some_weaker _ _ xs (λ x g. g ∙ sym (ap (λ (r : Range). r.low) at ∙ e)) h.low)
+    | inr e ↦ some-right (λ x. (first_range x).low ≡ (range_at (hull a b) 0).low) xs ys (some_weaker _ _ ys (λ x g. g ∙ sym (ap (λ (r : Range). r.low) at ∙ e)) k.low)
   ];
   high = elim (higher_one (range_at a 0).high (range_at b 0).high) [
-    | inl e ↦ some-left (λ x. (range_of x).high ≡ (range_at (hull a b) 0).high) xs ys (some_weaker _ _ xs (λ x g. g ∙ sym (ap (λ (r : Range). r.high) at ∙ e)) h.high)
-    | inr e ↦ some-right (λ x. (range_of x).high ≡ (range_at (hull a b) 0).high) xs ys (some_weaker _ _ ys (λ x g. g ∙ sym (ap (λ (r : Range). r.high) at ∙ e)) k.high)
+    | inl e ↦ some-left (λ x. (first_range x).high ≡ (range_at (hull a b) 0).high) xs ys (some_weaker _ _ xs (λ x g. g ∙ sym (ap (λ (r : Range). r.high) at ∙ e)) h.high)
+    | inr e ↦ some-right (λ x. (first_range x).high ≡ (range_at (hull a b) 0).high) xs ys (some_weaker _ _ ys (λ x g. g ∙ sym (ap (λ (r : Range). r.high) at ∙ e)) k.high)
   ];
 }
   where
@@ -244,7 +244,7 @@ pub hull_whole : (first last : List Range) (es : List Entry) → IsFirst first e
 hull_whole first last [] f c s h = absurd (omega (arith, h))
 hull_whole first last (e ∷ es) f c s h =
     let whole : IsHull last (e ∷ (e ∷ es)) = c (e ∷ []) (subst (λ r. IsHull r (e ∷ [])) (sym f) (hull_alone e s.0)) s in
-    record { one = whole.one; low = again (λ x. (range_of x).low ≡ (range_at last 0).low) whole.low; high = again (λ x. (range_of x).high ≡ (range_at last 0).high) whole.high }
+    record { one = whole.one; low = again (λ x. (first_range x).low ≡ (range_at last 0).low) whole.low; high = again (λ x. (first_range x).high ≡ (range_at last 0).high) whole.high }
   where
     again : (P : Entry → Type 0) → SomeOf P (e ∷ (e ∷ es)) → SomeOf P (e ∷ es)
     again P (inl k) = inl k

@@ -17,7 +17,7 @@ use Rattle.ded_hull.specs.Reaches.{range_at, everywhere, NotAbove, NotBelow, IsP
 use Rattle.ded_hull.specs.Limits.{Term, kept, plus, times, least_end, turned, least_of, at_most_zero, below_zero, may_stand, may_meet, may_hold}
 use Rattle.ded_hull.specs.Entries.{ids_in}
 use Rattle.ded_hull.specs.Scaling.{of_le_true, le_self}
-use Rattle.ded_hull.specs.Segments.{range_of, IsSegment, AreSegments, middle_between, middle, middle_order, NotLater, InOrder, AreBefore, IsHull}
+use Rattle.ded_hull.specs.Segments.{first_range, IsSegment, AreSegments, middle_between, middle, middle_order, NotLater, InOrder, AreBefore, IsHull}
 use Rattle.ded_hull.specs.Trees.{AreAlong}
 use Rattle.ded_hull.proofs.Ends.{part_self}
 use Rattle.ded_hull.proofs.Sums.{and_both, and_first, and_second, may_hold_wider}
@@ -87,11 +87,11 @@ mixed_to v r a = by (int_lt (pos 0) a)
 
 -- the middle of the entry is no later than the value
 abbrev pub IsEarly : ℤ → Entry → Type 0
-IsEarly v e = middle (range_of e) ≤ℤ (v +ℤ v)
+IsEarly v e = middle (first_range e) ≤ℤ (v +ℤ v)
 
 -- the middle of the entry is no earlier than the value
 abbrev pub IsLate : ℤ → Entry → Type 0
-IsLate v e = (v +ℤ v) ≤ℤ middle (range_of e)
+IsLate v e = (v +ℤ v) ≤ℤ middle (first_range e)
 
 low_early : (l h : Option ℤ) (v : ℤ) → is_up_to l h ≡ true → middle_between l h ≤ℤ (v +ℤ v) → NotAbove l (Some v)
 low_early None h v u m = tt
@@ -137,22 +137,22 @@ module _ (ls : List Limit) (along : AreAlong ls) (h : List Range) (one : length 
   in_one : may_hold (range_at h 0 ∷ []) ls ≡ true
   in_one = subst (λ rs. may_hold rs ls ≡ true) (one_range h one) holds
 
-  wider : (x : Range) (e : Entry) → IsSegment e → IsPart x (range_of e) → may_hold (x ∷ []) ls ≡ true → may_hold e.reach ls ≡ true
-  wider x e s p k = subst (λ rs. may_hold rs ls ≡ true) (sym (one_range e.reach s.one)) (may_hold_wider (x ∷ []) (range_of e ∷ []) ls (alone_within x (range_of e) p) k)
+  wider : (x : Range) (e : Entry) → IsSegment e → IsPart x (first_range e) → may_hold (x ∷ []) ls ≡ true → may_hold e.reach ls ≡ true
+  wider x e s p k = subst (λ rs. may_hold rs ls ≡ true) (sym (one_range e.reach s.one)) (may_hold_wider (x ∷ []) (first_range e ∷ []) ls (alone_within x (first_range e) p) k)
 
   -- the entry that reaches furthest
-  early_one : (e : Entry) → IsSegment e → IsEarly along.value e → (range_of e).high ≡ (range_at h 0).high → may_hold e.reach ls ≡ true
+  early_one : (e : Entry) → IsSegment e → IsEarly along.value e → (first_range e).high ≡ (range_at h 0).high → may_hold e.reach ls ≡ true
   early_one e s m is =
       let v = along.value in
       let x = from_value v (range_at h 0) in
-      wider x e s (record { low = low_early (range_of e).low (range_of e).high v s.ends m; high = not_below_same (range_of e).high (range_at h 0).high is })
+      wider x e s (record { low = low_early (first_range e).low (first_range e).high v s.ends m; high = not_below_same (first_range e).high (range_at h 0).high is })
       (all_held x (value_alone v) (range_at h 0) (mixed_from v (range_at h 0)) ls along.single along.holds in_one)
 
-  late_one : (e : Entry) → IsSegment e → IsLate along.value e → (range_of e).low ≡ (range_at h 0).low → may_hold e.reach ls ≡ true
+  late_one : (e : Entry) → IsSegment e → IsLate along.value e → (first_range e).low ≡ (range_at h 0).low → may_hold e.reach ls ≡ true
   late_one e s m is =
       let v = along.value in
       let x = to_value v (range_at h 0) in
-      wider x e s (record { low = not_above_same (range_of e).low (range_at h 0).low is; high = high_late (range_of e).low (range_of e).high v s.ends m })
+      wider x e s (record { low = not_above_same (first_range e).low (range_at h 0).low is; high = high_late (first_range e).low (first_range e).high v s.ends m })
       (all_held x (value_alone v) (range_at h 0) (mixed_to v (range_at h 0)) ls along.single along.holds in_one)
 
   passing_later : (b : Bool) (i : ℕ) (is : List ℕ) → 1 ≤ length is → 1 ≤ length (cond b (i ∷ is) is)
@@ -163,12 +163,12 @@ module _ (ls : List Limit) (along : AreAlong ls) (h : List Range) (one : length 
   passing_first true i is k = omega arith
   passing_first false i is k = absurd (true≢false (sym k))
 
-  early_found : (es : List Entry) → AreSegments es → Every (IsEarly along.value) es → SomeOf (λ e. (range_of e).high ≡ (range_at h 0).high) es → 1 ≤ length (ids_in ls es)
+  early_found : (es : List Entry) → AreSegments es → Every (IsEarly along.value) es → SomeOf (λ e. (first_range e).high ≡ (range_at h 0).high) es → 1 ≤ length (ids_in ls es)
   early_found [] s m k = absurd k
   early_found (e ∷ es) s m (inl k) = passing_first (may_hold e.reach ls) e.id (ids_in ls es) (early_one e s.0 m.0 k)
   early_found (e ∷ es) s m (inr k) = passing_later (may_hold e.reach ls) e.id (ids_in ls es) (early_found es s.1 m.1 k)
 
-  late_found : (es : List Entry) → AreSegments es → Every (IsLate along.value) es → SomeOf (λ e. (range_of e).low ≡ (range_at h 0).low) es → 1 ≤ length (ids_in ls es)
+  late_found : (es : List Entry) → AreSegments es → Every (IsLate along.value) es → SomeOf (λ e. (first_range e).low ≡ (range_at h 0).low) es → 1 ≤ length (ids_in ls es)
   late_found [] s m k = absurd k
   late_found (e ∷ es) s m (inl k) = passing_first (may_hold e.reach ls) e.id (ids_in ls es) (late_one e s.0 m.0 k)
   late_found (e ∷ es) s m (inr k) = passing_later (may_hold e.reach ls) e.id (ids_in ls es) (late_found es s.1 m.1 k)
@@ -185,7 +185,7 @@ aside_found ls along h es k m s (inr a) = late_found ls along h k.one m es s a k
 -- of two lists, one before the other, one lies aside
 pub one_aside : (v : ℤ) (ds es : List Entry) → AreBefore ds es → Every (IsEarly v) ds ⊎ Every (IsLate v) es
 one_aside v [] es b = inl tt
-one_aside v (d ∷ ds) es b = by (int_le (middle (range_of d)) (v +ℤ v)) refl (one_aside v ds es b.1)
+one_aside v (d ∷ ds) es b = by (int_le (middle (first_range d)) (v +ℤ v)) refl (one_aside v ds es b.1)
   where
     le_of : (x y : ℤ) → int_le x y ≡ true → x ≤ℤ y
     le_of x y e = of_le_true x y e
@@ -193,12 +193,12 @@ one_aside v (d ∷ ds) es b = by (int_le (middle (range_of d)) (v +ℤ v)) refl 
     past : (x y z : ℤ) → int_le x y ≡ false → x ≤ℤ z → y ≤ℤ z
     past x y z e h = omega (arith, ints)
 
-    late : (xs : List Entry) → int_le (middle (range_of d)) (v +ℤ v) ≡ false → Every (NotLater d) xs → Every (IsLate v) xs
+    late : (xs : List Entry) → int_le (middle (first_range d)) (v +ℤ v) ≡ false → Every (NotLater d) xs → Every (IsLate v) xs
     late [] e h = tt
-    late (x ∷ xs) e h = (past (middle (range_of d)) (v +ℤ v) (middle (range_of x)) e h.0, late xs e h.1)
+    late (x ∷ xs) e h = (past (middle (first_range d)) (v +ℤ v) (middle (first_range x)) e h.0, late xs e h.1)
 
-    by : (b : Bool) → int_le (middle (range_of d)) (v +ℤ v) ≡ b → Every (IsEarly v) ds ⊎ Every (IsLate v) es → Every (IsEarly v) (d ∷ ds) ⊎ Every (IsLate v) es
-    by true e (inl k) = inl (le_of (middle (range_of d)) (v +ℤ v) e, k)
+    by : (b : Bool) → int_le (middle (first_range d)) (v +ℤ v) ≡ b → Every (IsEarly v) ds ⊎ Every (IsLate v) es → Every (IsEarly v) (d ∷ ds) ⊎ Every (IsLate v) es
+    by true e (inl k) = inl (le_of (middle (first_range d)) (v +ℤ v) e, k)
     by true e (inr k) = inr k
     by false e k = inr (late es e b.0)
 
@@ -221,8 +221,8 @@ is_before d e = is_lt (middle_order 0 d e)
 pub entries_ranked : IsStrictWeakOrder is_before
 unfolding is_before
 entries_ranked = record {
-  one_way = λ a b h. one_way (middle (range_of a)) (middle (range_of b)) h;
-  chain = λ a b c h k. chain (middle (range_of a)) (middle (range_of b)) (middle (range_of c)) h k;
+  one_way = λ a b h. one_way (middle (first_range a)) (middle (first_range b)) h;
+  chain = λ a b c h k. chain (middle (first_range a)) (middle (first_range b)) (middle (first_range c)) h k;
 }
   where
     one_way : (x y : ℤ) → is_lt (int_cmp x y) ≡ true → is_lt (int_cmp y x) ≡ false
@@ -237,7 +237,7 @@ not_later x y h = grind (arith, ints)
 all_later : (e : Entry) (es : List Entry) → ((j : ℕ) (d : Entry) → j < length es → is_before (get_or es j d) e ≡ false) → Every (NotLater e) es
 unfolding is_before
 all_later e [] h = tt
-all_later e (x ∷ es) h = (not_later (middle (range_of e)) (middle (range_of x)) (h zero x (omega arith)), all_later e es (λ j d l. h (suc j) d (omega arith)))
+all_later e (x ∷ es) h = (not_later (middle (first_range e)) (middle (first_range x)) (h zero x (omega arith)), all_later e es (λ j d l. h (suc j) d (omega arith)))
 
 in_order_from : (es : List Entry) → ((i j : ℕ) (d : Entry) → i ≤ j → j < length es → is_before (get_or es j d) (get_or es i d) ≡ false) → InOrder es
 in_order_from [] h = tt

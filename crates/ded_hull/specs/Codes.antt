@@ -36,7 +36,7 @@ abbrev pub code_at : Option ℤ → ℤ
 code_at None = lowest
 code_at (Some k) = code_of k
 
--- what sums of two ends and twice an end are told from in 128 bits
+-- at most 2 to the power of 96 on either side of 0, so that the sum of two has less than 128 binary digits
 pub record IsShortEnd (k : ℤ) : Type 0 where
   pub low : neg_ℤ (pos (2 ^ 96)) ≤ℤ k
   pub high : k ≤ℤ pos (2 ^ 96)

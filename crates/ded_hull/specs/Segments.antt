@@ -9,13 +9,13 @@ use Rattle.ded_hull.specs.Codes.{is_up_to}
 use Rattle.ded_hull.specs.Reaches.{range_at}
 
 -- the first range of an entry
-abbrev pub range_of : Entry → Range
-range_of e = range_at e.reach 0
+abbrev pub first_range : Entry → Range
+first_range e = range_at e.reach 0
 
 -- the entry has one range, which doesn't end before it begins
 pub record IsSegment (e : Entry) : Type 0 where
   pub one : length e.reach ≡ 1
-  pub ends : is_up_to (range_of e).low (range_of e).high ≡ true
+  pub ends : is_up_to (first_range e).low (first_range e).high ≡ true
 
 abbrev pub AreSegments : List Entry → Type 0
 AreSegments es = Every IsSegment es
@@ -38,7 +38,7 @@ middle_order p d e = int_cmp (middle (range_at d.reach p)) (middle (range_at e.r
 
 -- the first has its middle no later than the second
 abbrev pub NotLater : Entry → Entry → Type 0
-NotLater d e = middle (range_of d) ≤ℤ middle (range_of e)
+NotLater d e = middle (first_range d) ≤ℤ middle (first_range e)
 
 -- each has its middle no later than those after it
 abbrev pub InOrder : List Entry → Type 0
@@ -54,8 +54,8 @@ AreBefore ds es = Every (λ d. Every (NotLater d) es) ds
 -- one range, whose ends are ends of some of the entries
 pub record IsHull (h : List Range) (es : List Entry) : Type 0 where
   pub one : length h ≡ 1
-  pub low : SomeOf (λ e. (range_of e).low ≡ (range_at h 0).low) es
-  pub high : SomeOf (λ e. (range_of e).high ≡ (range_at h 0).high) es
+  pub low : SomeOf (λ e. (first_range e).low ≡ (range_at h 0).low) es
+  pub high : SomeOf (λ e. (first_range e).high ≡ (range_at h 0).high) es
 
 -- the reach is that of the first entry, if there is one
 abbrev pub IsFirst : List Range → List Entry → Type 0

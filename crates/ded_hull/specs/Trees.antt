@@ -57,7 +57,7 @@ pub record IsLeaf (ns : List Node) (es : List Entry) : Type 0 where
   pub below : node.below ≡ 0
   pub ends : IsHull node.hull es
 
--- a node over two parts, none of which is empty, and whose middles don't lie between one another
+-- a node over two parts, of which the first has no later middles than the second
 pub record IsFork (Part : List Node → List Entry → Type 0) (ns : List Node) (es : List Entry) : Type 0 where
   pub node : Node
   pub first : List Node
@@ -77,7 +77,7 @@ abbrev pub IsHalved : ℕ → List Node → List Entry → Type 0
 IsHalved zero ns es = IsLeaf ns es
 IsHalved (suc h) ns es = IsLeaf ns es ⊎ IsFork (IsHalved h) ns es
 
--- segments are halved until one is left at most
+-- a list of segments is halved at most so many times, if there are at most as many as the power of 2
 abbrev pub IsBalanced : List Node → List Entry → Type 0
 IsBalanced ns es = AreSegments es → 0 < length es → (h : ℕ) → length es ≤ 2 ^ h → IsHalved h ns es
 

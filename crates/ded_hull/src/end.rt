@@ -52,7 +52,7 @@ impl End {
         self.code == i64::MIN
     }
 
-    /// The number of units, if there is an end: less than 2 to the power of 96 on either side of 0.
+    /// The number of units, if there is an end: at most 2 to the power of 96 on either side of 0.
     pub fn units(self) -> Option<i128>
         ensures value { result ≡ self }
         ensures short { IfSome result (λ k. IsShortEnd k) }
