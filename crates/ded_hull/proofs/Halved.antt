@@ -1,7 +1,7 @@
 -- How many nodes a look-up looks at in a tree of segments, by induction on how often the list is halved.
 --
--- Limits that may hold at some value let few nodes pass in which nothing is found: where all middles lie on one side of the value, the
--- entry that reaches furthest towards it is found in each hull that passes. Of two halves one lies aside, so with k entries found in a
+-- Limits that some value meets let few nodes pass in which nothing is found: where all middles lie on one side of the value, the entry
+-- that reaches furthest towards it is found in each hull that passes. Of two halves one lies aside, so with k entries found in a
 -- list that is halved h times at most 2 k h + 1 nodes are looked at where it lies aside, and 2 (k + 1) h + 1 in general.
 use Rattle.std.proofs.Common.{◌≡◌, ℕ, zero, suc, ◌+◌, ◌*◌, ◌/◌, ◌^◌, ◌<◌, ◌≤◌, Bool, true, false, cond, Option, Some, None, List, [], ◌∷◌, ◌++◌, length, take, drop, get_or, ◌⊎◌, inl, inr, arith, refl, sym, ap, ap₂, ◌∙◌, subst, true≢false, append_assoc, append-nil, length-append}
 use Rattle.std.specs.Prelude.{ℤ, int_lt, is_some}
@@ -21,7 +21,7 @@ use Rattle.ded_hull.specs.Entries.{ids_in}
 use Rattle.ded_hull.specs.Segments.{first_range, IsSegment, AreSegments, InOrder, IsHull, IsFirst}
 use Rattle.ded_hull.specs.Trees.{IsLeaf, IsFork, IsHalved, IsBalanced, AreNarrow, HullsJoined, looked_at, AreAlong, IsCost}
 use Rattle.ded_hull.proofs.Found.{ids_in-append, taken_more}
-use Rattle.ded_hull.proofs.Middles.{IsAside, aside_found, one_aside, aside_left, aside_right, every_moved, inorder-left, inorder-right, inorder-before, before_moved}
+use Rattle.ded_hull.proofs.Middles.{floor_at, IsAside, aside_found, one_aside, aside_left, aside_right, every_moved, inorder-left, inorder-right, inorder-before, before_moved}
 
 -- ---- nodes that are passed over
 
@@ -132,28 +132,28 @@ module _ (ls : List Limit) where
       both : may_hold f.node.hull ls ≡ true → looked_at ls 0 ns ≡ 1 + (looked_at ls 0 f.first + looked_at ls 0 f.second)
       both e = ap (λ ks. looked_at ls 0 ks) f.nodes ∙ fork_into f.node f.first f.second f.below (looked-append h f.first f.left f.front) (looked-append h f.second f.right f.back) e
 
-      fork_aside : IsAside along.value es → looked_at ls 0 f.first ≤ 2 * (found_in f.left * h) + 1 → looked_at ls 0 f.second ≤ 2 * (found_in f.right * h) + 1 → (b : Bool) → may_hold f.node.hull ls ≡ b → looked_at ls 0 ns ≤ 2 * (found_in es * suc h) + 1
+      fork_aside : IsAside (floor_at ls along) es → looked_at ls 0 f.first ≤ 2 * (found_in f.left * h) + 1 → looked_at ls 0 f.second ≤ 2 * (found_in f.right * h) + 1 → (b : Bool) → may_hold f.node.hull ls ≡ b → looked_at ls 0 ns ≤ 2 * (found_in es * suc h) + 1
       fork_aside a k l false e = passed_over (found_in es * suc h) e
       fork_aside a k l true e =
           subst (λ i. looked_at ls 0 ns ≤ 2 * (i * suc h) + 1) (sym split)
           (two_aside (looked_at ls 0 ns) (looked_at ls 0 f.first) (looked_at ls 0 f.second) (found_in f.left) (found_in f.right) h (subst (λ i. 1 ≤ i) split (aside_found ls along f.node.hull es f.ends e s a)) (both e) k l)
 
-      fork_any : ((e : IsAside along.value f.left) → looked_at ls 0 f.first ≤ 2 * (found_in f.left * h) + 1) → ((e : IsAside along.value f.right) → looked_at ls 0 f.second ≤ 2 * (found_in f.right * h) + 1)
+      fork_any : ((e : IsAside (floor_at ls along) f.left) → looked_at ls 0 f.first ≤ 2 * (found_in f.left * h) + 1) → ((e : IsAside (floor_at ls along) f.right) → looked_at ls 0 f.second ≤ 2 * (found_in f.right * h) + 1)
           → looked_at ls 0 f.first ≤ 2 * ((found_in f.left + 1) * h) + 1 → looked_at ls 0 f.second ≤ 2 * ((found_in f.right + 1) * h) + 1 → (b : Bool) → may_hold f.node.hull ls ≡ b → looked_at ls 0 ns ≤ 2 * ((found_in es + 1) * suc h) + 1
       fork_any x y k l false e = passed_over ((found_in es + 1) * suc h) e
       fork_any x y k l true e =
           subst (λ i. looked_at ls 0 ns ≤ 2 * ((i + 1) * suc h) + 1) (sym split)
-          (elim (one_aside along.value f.left f.right f.before) [
+          (elim (one_aside (floor_at ls along) f.left f.right f.before) [
             | inl m ↦ left_aside (looked_at ls 0 ns) (looked_at ls 0 f.first) (looked_at ls 0 f.second) (found_in f.left) (found_in f.right) h (both e) (x (inl m)) l
             | inr m ↦ right_aside (looked_at ls 0 ns) (looked_at ls 0 f.first) (looked_at ls 0 f.second) (found_in f.left) (found_in f.right) h (both e) k (y (inr m))
           ])
 
-    cost_aside : (h : ℕ) (ns : List Node) (es : List Entry) → IsHalved h ns es → AreSegments es → IsAside along.value es → looked_at ls 0 ns ≤ 2 * (found_in es * h) + 1
+    cost_aside : (h : ℕ) (ns : List Node) (es : List Entry) → IsHalved h ns es → AreSegments es → IsAside (floor_at ls along) es → looked_at ls 0 ns ≤ 2 * (found_in es * h) + 1
     cost_aside zero ns es l s a = at_most_one (looked_at ls 0 ns) (found_in es * 0) (leaf_cost ns es l)
     cost_aside (suc h) ns es (inl l) s a = at_most_one (looked_at ls 0 ns) (found_in es * suc h) (leaf_cost ns es l)
     cost_aside (suc h) ns es (inr f) s a =
-        let side : IsAside along.value (f.left ++ f.right) = subst (IsAside along.value) f.entries a in
-        fork_aside h ns es f s a (cost_aside h f.first f.left f.front (on_left h ns es f s) (aside_left along.value f.left f.right side)) (cost_aside h f.second f.right f.back (on_right h ns es f s) (aside_right along.value f.left f.right side)) (may_hold f.node.hull ls) refl
+        let side : IsAside (floor_at ls along) (f.left ++ f.right) = subst (IsAside (floor_at ls along)) f.entries a in
+        fork_aside h ns es f s a (cost_aside h f.first f.left f.front (on_left h ns es f s) (aside_left (floor_at ls along) f.left f.right side)) (cost_aside h f.second f.right f.back (on_right h ns es f s) (aside_right (floor_at ls along) f.left f.right side)) (may_hold f.node.hull ls) refl
 
     pub cost_any : (h : ℕ) (ns : List Node) (es : List Entry) → IsHalved h ns es → AreSegments es → looked_at ls 0 ns ≤ 2 * ((found_in es + 1) * h) + 1
     cost_any zero ns es l s = at_most_one (looked_at ls 0 ns) ((found_in es + 1) * 0) (leaf_cost ns es l)

@@ -1,6 +1,7 @@
--- Middles of segments: in order, and beside a value at which limits of one term may hold.
+-- Middles of segments: in order, and beside the units next to values that meet limits of one term.
 use Rattle.std.proofs.Common.{◌≡◌, ℕ, zero, suc, ◌<◌, ◌≤◌, Bool, true, false, cond, List, [], ◌∷◌, ◌++◌, length, get_or, Option, Some, None, ◌⊎◌, inl, inr, arith, refl, sym, ap, ◌∙◌, subst, true≢false}
-use Rattle.std.specs.Prelude.{ℤ, pos, ◌+ℤ◌, ◌≤ℤ◌, ◌*ℤ◌, int_lt, int_le}
+use Rattle.std.specs.Prelude.{ℤ, pos, ◌+ℤ◌, ◌≤ℤ◌, ◌<ℤ◌, ◌*ℤ◌, int_lt, int_le}
+use Rattle.std.specs.Int.{int_div_euclid}
 use Rattle.std.specs.Ordering.{int_cmp, is_lt}
 use Rattle.std.specs.Cmp.{IsStrictWeakOrder}
 use Rattle.std.specs.List.Sorted.{IsPermutation, IsSortedBy}
@@ -13,27 +14,28 @@ use Rattle.ded_hull.specs.declared.reach.Range.{Range}
 use Rattle.ded_hull.specs.declared.limit.Limit.{Limit}
 use Rattle.ded_hull.specs.declared.entry.Entry.{Entry}
 use Rattle.ded_hull.specs.Codes.{fine, is_up_to}
-use Rattle.ded_hull.specs.Reaches.{range_at, everywhere, NotAbove, NotBelow, IsPart, IsWithin}
+use Rattle.ded_hull.specs.Reaches.{range_at, everywhere, Lies, NotAbove, NotBelow, IsPart, IsWithin}
 use Rattle.ded_hull.specs.Limits.{Term, kept, plus, times, least_end, turned, least_of, at_most_zero, below_zero, may_stand, may_meet, may_hold}
 use Rattle.ded_hull.specs.Entries.{ids_in}
-use Rattle.ded_hull.specs.Scaling.{of_le_true, le_self}
+use Rattle.ded_hull.specs.Scaling.{of_le_true, le_self, commute, quotient_up_to, quotient_next}
 use Rattle.ded_hull.specs.Segments.{first_range, IsSegment, AreSegments, middle_between, middle, middle_order, NotLater, InOrder, AreBefore, IsHull}
 use Rattle.ded_hull.specs.Trees.{AreAlong}
 use Rattle.ded_hull.proofs.Ends.{part_self}
-use Rattle.ded_hull.proofs.Sums.{and_both, and_first, and_second, may_hold_wider}
+use Rattle.ded_hull.proofs.Sums.{and_both, and_first, and_second, may_hold_sound, may_hold_wider}
 
 -- ---- limits of one term: what they let through is told at one end
 
--- at a value and at the high end of a range
-abbrev from_value : ℤ → Range → Range
-from_value v r = record { low = Some v; high = r.high }
+-- from a number of units to the high end of a range
+abbrev from_unit : ℤ → Range → Range
+from_unit u r = record { low = Some u; high = r.high }
 
--- at the low end of a range and at a value
-abbrev to_value : ℤ → Range → Range
-to_value v r = record { low = r.low; high = Some v }
+-- from the low end of a range to the next number of units
+abbrev to_unit : ℤ → Range → Range
+to_unit u r = record { low = r.low; high = Some (u +ℤ pos 1) }
 
-abbrev value_alone : ℤ → Range
-value_alone v = record { low = Some v; high = Some v }
+-- between a number of units and the next one
+abbrev unit_alone : ℤ → Range
+unit_alone u = record { low = Some u; high = Some (u +ℤ pos 1) }
 
 -- the least sum in a mixed range is that in one of two others
 module _ (x m r : Range) (mixed : (a : ℤ) → (least_end a x ≡ least_end a m) ⊎ (least_end a x ≡ least_end a r)) where
@@ -69,51 +71,77 @@ module _ (x m r : Range) (mixed : (a : ℤ) → (least_end a x ≡ least_end a m
       (one_met l s.0 (and_first (may_meet (m ∷ []) l) (may_hold (m ∷ []) ls) h) (and_first (may_meet (r ∷ []) l) (may_hold (r ∷ []) ls) k))
       (all_held ls s.1 (and_second (may_meet (m ∷ []) l) (may_hold (m ∷ []) ls) h) (and_second (may_meet (r ∷ []) l) (may_hold (r ∷ []) ls) k))
 
-mixed_from : (v : ℤ) (r : Range) (a : ℤ) → (least_end a (from_value v r) ≡ least_end a (value_alone v)) ⊎ (least_end a (from_value v r) ≡ least_end a r)
-mixed_from v r a = by (int_lt (pos 0) a)
+mixed_from : (u : ℤ) (r : Range) (a : ℤ) → (least_end a (from_unit u r) ≡ least_end a (unit_alone u)) ⊎ (least_end a (from_unit u r) ≡ least_end a r)
+mixed_from u r a = by (int_lt (pos 0) a)
   where
-    by : (b : Bool) → (cond b (Some v) r.high ≡ cond b (Some v) (Some v)) ⊎ (cond b (Some v) r.high ≡ cond b r.low r.high)
+    by : (b : Bool) → (cond b (Some u) r.high ≡ cond b (Some u) (Some (u +ℤ pos 1))) ⊎ (cond b (Some u) r.high ≡ cond b r.low r.high)
     by true = inl refl
     by false = inr refl
 
-mixed_to : (v : ℤ) (r : Range) (a : ℤ) → (least_end a (to_value v r) ≡ least_end a (value_alone v)) ⊎ (least_end a (to_value v r) ≡ least_end a r)
-mixed_to v r a = by (int_lt (pos 0) a)
+mixed_to : (u : ℤ) (r : Range) (a : ℤ) → (least_end a (to_unit u r) ≡ least_end a (unit_alone u)) ⊎ (least_end a (to_unit u r) ≡ least_end a r)
+mixed_to u r a = by (int_lt (pos 0) a)
   where
-    by : (b : Bool) → (cond b r.low (Some v) ≡ cond b (Some v) (Some v)) ⊎ (cond b r.low (Some v) ≡ cond b r.low r.high)
+    by : (b : Bool) → (cond b r.low (Some (u +ℤ pos 1)) ≡ cond b (Some u) (Some (u +ℤ pos 1))) ⊎ (cond b r.low (Some (u +ℤ pos 1)) ≡ cond b r.low r.high)
     by true = inr refl
     by false = inl refl
 
--- ---- before and behind a value
+-- ---- where the limits may hold
 
--- the middle of the entry is no later than the value
+-- the units at or below the value of the first column
+abbrev pub floor_at : (ls : List Limit) → AreAlong ls → ℤ
+floor_at ls along = int_div_euclid (along.values 0 *ℤ pos fine) (pos along.den)
+
+-- all limits may hold between these units and the next ones
+unit_held : (ls : List Limit) (along : AreAlong ls) → may_hold (unit_alone (floor_at ls along) ∷ []) ls ≡ true
+unit_held ls along = may_hold_sound (unit_alone u ∷ []) along.values along.den ls along.some lies along.met
+  where
+    n : ℤ
+    n = along.values 0 *ℤ pos fine
+
+    u : ℤ
+    u = floor_at ls along
+
+    turned_low : (a b n : ℤ) → b ≡ a → a ≤ℤ n → b ≤ℤ n
+    turned_low a b n e h = omega (arith, ints)
+
+    turned_high : (a b n : ℤ) → b ≡ a → n <ℤ a → n ≤ℤ b
+    turned_high a b n e h = omega (arith, ints)
+
+    lies : Lies (unit_alone u ∷ []) along.values along.den
+    lies zero = record { low = turned_low (pos along.den *ℤ u) (u *ℤ pos along.den) n (commute u (pos along.den)) (quotient_up_to n along.den along.some); high = turned_high (pos along.den *ℤ (u +ℤ pos 1)) ((u +ℤ pos 1) *ℤ pos along.den) n (commute (u +ℤ pos 1) (pos along.den)) (quotient_next n along.den along.some) }
+    lies (suc p) = record { low = tt; high = tt }
+
+-- ---- before and behind these units
+
+-- the middle of the entry is no later than that of the units and the next ones
 abbrev pub IsEarly : ℤ → Entry → Type 0
-IsEarly v e = middle (first_range e) ≤ℤ (v +ℤ v)
+IsEarly u e = middle (first_range e) ≤ℤ ((u +ℤ u) +ℤ pos 1)
 
--- the middle of the entry is no earlier than the value
+-- the middle of the entry is no earlier than that of the units and the next ones
 abbrev pub IsLate : ℤ → Entry → Type 0
-IsLate v e = (v +ℤ v) ≤ℤ middle (first_range e)
+IsLate u e = ((u +ℤ u) +ℤ pos 1) ≤ℤ middle (first_range e)
 
-low_early : (l h : Option ℤ) (v : ℤ) → is_up_to l h ≡ true → middle_between l h ≤ℤ (v +ℤ v) → NotAbove l (Some v)
-low_early None h v u m = tt
-low_early (Some l) None v u m = half l v m
+low_early : (l h : Option ℤ) (u : ℤ) → is_up_to l h ≡ true → middle_between l h ≤ℤ ((u +ℤ u) +ℤ pos 1) → NotAbove l (Some u)
+low_early None h u i m = tt
+low_early (Some l) None u i m = half l u m
   where
-    half : (l v : ℤ) → (l +ℤ l) ≤ℤ (v +ℤ v) → l ≤ℤ v
-    half l v m = omega (arith, ints)
-low_early (Some l) (Some h) v u m = half l h v (of_le_true l h u) m
+    half : (l u : ℤ) → (l +ℤ l) ≤ℤ ((u +ℤ u) +ℤ pos 1) → l ≤ℤ u
+    half l u m = omega (arith, ints)
+low_early (Some l) (Some h) u i m = half l h u (of_le_true l h i) m
   where
-    half : (l h v : ℤ) → l ≤ℤ h → (l +ℤ h) ≤ℤ (v +ℤ v) → l ≤ℤ v
-    half l h v k m = omega (arith, ints)
+    half : (l h u : ℤ) → l ≤ℤ h → (l +ℤ h) ≤ℤ ((u +ℤ u) +ℤ pos 1) → l ≤ℤ u
+    half l h u k m = omega (arith, ints)
 
-high_late : (l h : Option ℤ) (v : ℤ) → is_up_to l h ≡ true → (v +ℤ v) ≤ℤ middle_between l h → NotBelow h (Some v)
-high_late l None v u m = tt
-high_late None (Some h) v u m = half h v m
+high_late : (l h : Option ℤ) (u : ℤ) → is_up_to l h ≡ true → ((u +ℤ u) +ℤ pos 1) ≤ℤ middle_between l h → NotBelow h (Some (u +ℤ pos 1))
+high_late l None u i m = tt
+high_late None (Some h) u i m = half h u m
   where
-    half : (h v : ℤ) → (v +ℤ v) ≤ℤ (h +ℤ h) → v ≤ℤ h
-    half h v m = omega (arith, ints)
-high_late (Some l) (Some h) v u m = half l h v (of_le_true l h u) m
+    half : (h u : ℤ) → ((u +ℤ u) +ℤ pos 1) ≤ℤ (h +ℤ h) → (u +ℤ pos 1) ≤ℤ h
+    half h u m = omega (arith, ints)
+high_late (Some l) (Some h) u i m = half l h u (of_le_true l h i) m
   where
-    half : (l h v : ℤ) → l ≤ℤ h → (v +ℤ v) ≤ℤ (l +ℤ h) → v ≤ℤ h
-    half l h v k m = omega (arith, ints)
+    half : (l h u : ℤ) → l ≤ℤ h → ((u +ℤ u) +ℤ pos 1) ≤ℤ (l +ℤ h) → (u +ℤ pos 1) ≤ℤ h
+    half l h u k m = omega (arith, ints)
 
 -- a list of one range
 one_range : (rs : List Range) → length rs ≡ 1 → rs ≡ range_at rs 0 ∷ []
@@ -141,19 +169,19 @@ module _ (ls : List Limit) (along : AreAlong ls) (h : List Range) (one : length 
   wider x e s p k = subst (λ rs. may_hold rs ls ≡ true) (sym (one_range e.reach s.one)) (may_hold_wider (x ∷ []) (first_range e ∷ []) ls (alone_within x (first_range e) p) k)
 
   -- the entry that reaches furthest
-  early_one : (e : Entry) → IsSegment e → IsEarly along.value e → (first_range e).high ≡ (range_at h 0).high → may_hold e.reach ls ≡ true
+  early_one : (e : Entry) → IsSegment e → IsEarly (floor_at ls along) e → (first_range e).high ≡ (range_at h 0).high → may_hold e.reach ls ≡ true
   early_one e s m is =
-      let v = along.value in
-      let x = from_value v (range_at h 0) in
-      wider x e s (record { low = low_early (first_range e).low (first_range e).high v s.ends m; high = not_below_same (first_range e).high (range_at h 0).high is })
-      (all_held x (value_alone v) (range_at h 0) (mixed_from v (range_at h 0)) ls along.single along.holds in_one)
+      let u = floor_at ls along in
+      let x = from_unit u (range_at h 0) in
+      wider x e s (record { low = low_early (first_range e).low (first_range e).high u s.ends m; high = not_below_same (first_range e).high (range_at h 0).high is })
+      (all_held x (unit_alone u) (range_at h 0) (mixed_from u (range_at h 0)) ls along.single (unit_held ls along) in_one)
 
-  late_one : (e : Entry) → IsSegment e → IsLate along.value e → (first_range e).low ≡ (range_at h 0).low → may_hold e.reach ls ≡ true
+  late_one : (e : Entry) → IsSegment e → IsLate (floor_at ls along) e → (first_range e).low ≡ (range_at h 0).low → may_hold e.reach ls ≡ true
   late_one e s m is =
-      let v = along.value in
-      let x = to_value v (range_at h 0) in
-      wider x e s (record { low = not_above_same (first_range e).low (range_at h 0).low is; high = high_late (first_range e).low (first_range e).high v s.ends m })
-      (all_held x (value_alone v) (range_at h 0) (mixed_to v (range_at h 0)) ls along.single along.holds in_one)
+      let u = floor_at ls along in
+      let x = to_unit u (range_at h 0) in
+      wider x e s (record { low = not_above_same (first_range e).low (range_at h 0).low is; high = high_late (first_range e).low (first_range e).high u s.ends m })
+      (all_held x (unit_alone u) (range_at h 0) (mixed_to u (range_at h 0)) ls along.single (unit_held ls along) in_one)
 
   passing_later : (b : Bool) (i : ℕ) (is : List ℕ) → 1 ≤ length is → 1 ≤ length (cond b (i ∷ is) is)
   passing_later true i is k = omega arith
@@ -163,29 +191,29 @@ module _ (ls : List Limit) (along : AreAlong ls) (h : List Range) (one : length 
   passing_first true i is k = omega arith
   passing_first false i is k = absurd (true≢false (sym k))
 
-  early_found : (es : List Entry) → AreSegments es → Every (IsEarly along.value) es → SomeOf (λ e. (first_range e).high ≡ (range_at h 0).high) es → 1 ≤ length (ids_in ls es)
+  early_found : (es : List Entry) → AreSegments es → Every (IsEarly (floor_at ls along)) es → SomeOf (λ e. (first_range e).high ≡ (range_at h 0).high) es → 1 ≤ length (ids_in ls es)
   early_found [] s m k = absurd k
   early_found (e ∷ es) s m (inl k) = passing_first (may_hold e.reach ls) e.id (ids_in ls es) (early_one e s.0 m.0 k)
   early_found (e ∷ es) s m (inr k) = passing_later (may_hold e.reach ls) e.id (ids_in ls es) (early_found es s.1 m.1 k)
 
-  late_found : (es : List Entry) → AreSegments es → Every (IsLate along.value) es → SomeOf (λ e. (first_range e).low ≡ (range_at h 0).low) es → 1 ≤ length (ids_in ls es)
+  late_found : (es : List Entry) → AreSegments es → Every (IsLate (floor_at ls along)) es → SomeOf (λ e. (first_range e).low ≡ (range_at h 0).low) es → 1 ≤ length (ids_in ls es)
   late_found [] s m k = absurd k
   late_found (e ∷ es) s m (inl k) = passing_first (may_hold e.reach ls) e.id (ids_in ls es) (late_one e s.0 m.0 k)
   late_found (e ∷ es) s m (inr k) = passing_later (may_hold e.reach ls) e.id (ids_in ls es) (late_found es s.1 m.1 k)
 
--- all middles lie on one side of the value
+-- all middles lie on one side of the units
 abbrev pub IsAside : ℤ → List Entry → Type 0
 IsAside v es = Every (IsEarly v) es ⊎ Every (IsLate v) es
 
 -- where the hull passes, some entry is found
-pub aside_found : (ls : List Limit) (along : AreAlong ls) (h : List Range) (es : List Entry) → IsHull h es → may_hold h ls ≡ true → AreSegments es → IsAside along.value es → 1 ≤ length (ids_in ls es)
+pub aside_found : (ls : List Limit) (along : AreAlong ls) (h : List Range) (es : List Entry) → IsHull h es → may_hold h ls ≡ true → AreSegments es → IsAside (floor_at ls along) es → 1 ≤ length (ids_in ls es)
 aside_found ls along h es k m s (inl a) = early_found ls along h k.one m es s a k.high
 aside_found ls along h es k m s (inr a) = late_found ls along h k.one m es s a k.low
 
 -- of two lists, one before the other, one lies aside
 pub one_aside : (v : ℤ) (ds es : List Entry) → AreBefore ds es → Every (IsEarly v) ds ⊎ Every (IsLate v) es
 one_aside v [] es b = inl tt
-one_aside v (d ∷ ds) es b = by (int_le (middle (first_range d)) (v +ℤ v)) refl (one_aside v ds es b.1)
+one_aside v (d ∷ ds) es b = by (int_le (middle (first_range d)) ((v +ℤ v) +ℤ pos 1)) refl (one_aside v ds es b.1)
   where
     le_of : (x y : ℤ) → int_le x y ≡ true → x ≤ℤ y
     le_of x y e = of_le_true x y e
@@ -193,12 +221,12 @@ one_aside v (d ∷ ds) es b = by (int_le (middle (first_range d)) (v +ℤ v)) re
     past : (x y z : ℤ) → int_le x y ≡ false → x ≤ℤ z → y ≤ℤ z
     past x y z e h = omega (arith, ints)
 
-    late : (xs : List Entry) → int_le (middle (first_range d)) (v +ℤ v) ≡ false → Every (NotLater d) xs → Every (IsLate v) xs
+    late : (xs : List Entry) → int_le (middle (first_range d)) ((v +ℤ v) +ℤ pos 1) ≡ false → Every (NotLater d) xs → Every (IsLate v) xs
     late [] e h = tt
-    late (x ∷ xs) e h = (past (middle (first_range d)) (v +ℤ v) (middle (first_range x)) e h.0, late xs e h.1)
+    late (x ∷ xs) e h = (past (middle (first_range d)) ((v +ℤ v) +ℤ pos 1) (middle (first_range x)) e h.0, late xs e h.1)
 
-    by : (b : Bool) → int_le (middle (first_range d)) (v +ℤ v) ≡ b → Every (IsEarly v) ds ⊎ Every (IsLate v) es → Every (IsEarly v) (d ∷ ds) ⊎ Every (IsLate v) es
-    by true e (inl k) = inl (le_of (middle (first_range d)) (v +ℤ v) e, k)
+    by : (b : Bool) → int_le (middle (first_range d)) ((v +ℤ v) +ℤ pos 1) ≡ b → Every (IsEarly v) ds ⊎ Every (IsLate v) es → Every (IsEarly v) (d ∷ ds) ⊎ Every (IsLate v) es
+    by true e (inl k) = inl (le_of (middle (first_range d)) ((v +ℤ v) +ℤ pos 1) e, k)
     by true e (inr k) = inr k
     by false e k = inr (late es e b.0)
 

@@ -35,8 +35,8 @@ pub record AreFound (ls : List Limit) (es : List Entry) (ids : List ℕ) : Type 
 abbrev pub IsComplete : List Limit → List Entry → List ℕ → Type 0
 IsComplete ls es ids = (v : ℕ → ℤ) (den : ℕ) → 0 < den → are_met v den ls ≡ true → Every (λ e. Lies e.reach v den → Contains ids e.id) es
 
--- how many nodes a look-up may look at where each limit has at most one term and entries have one range each: with k entries found of
--- n, (2 k + 2 d + 1) d, where d is the count of binary digits of n
+-- how many nodes a look-up may look at where entries have one range each, and limits one term at most that some values meet: with k
+-- entries found of n, (2 k + 2 d + 1) d, where d is the count of binary digits of n
 abbrev pub most_nodes : List Limit → List Entry → ℕ
 most_nodes ls es = (2 * length (ids_in ls es) + 2 * length_of (pos (length es)) + 1) * length_of (pos (length es))
 

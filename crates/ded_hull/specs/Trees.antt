@@ -1,5 +1,5 @@
 -- Trees in lists: behind each node stand those below it, and the entries under a node stand side by side.
-use Rattle.std.specs.Prelude.{◌≡◌, ◌<◌, ◌≤◌, ◌+◌, ◌*◌, ◌^◌, ◌⊎◌, ℕ, zero, suc, ℤ, true, List, [], ◌∷◌, ◌++◌, take, drop, length, Some, if◌then◌else◌}
+use Rattle.std.specs.Prelude.{◌≡◌, ◌<◌, ◌≤◌, ◌+◌, ◌*◌, ◌^◌, ◌⊎◌, ℕ, zero, suc, ℤ, true, List, [], ◌∷◌, ◌++◌, take, drop, length, if◌then◌else◌}
 use Rattle.ded_model.proofs.Lists.{flat, Every}
 use Rattle.ded_hull.specs.declared.reach.Range.{Range}
 use Rattle.ded_hull.specs.declared.limit.Limit.{Limit}
@@ -7,7 +7,7 @@ use Rattle.ded_hull.specs.declared.entry.Entry.{Entry}
 use Rattle.ded_hull.specs.declared.tree.Node.{Node}
 use Rattle.ded_hull.specs.Entries.{ids_in, Covers}
 use Rattle.ded_hull.specs.Reaches.{hull}
-use Rattle.ded_hull.specs.Limits.{may_hold}
+use Rattle.ded_hull.specs.Limits.{are_met, may_hold}
 use Rattle.ded_hull.specs.Segments.{AreSegments, AreBefore, IsHull}
 
 -- how many entries a node has for its own: all of its count where no nodes are below it, else none
@@ -104,11 +104,13 @@ pub record IsStep (ls : List Limit) (n : Node) (behind : List Node) (es : List E
 
 -- ---- how many nodes a look-up looks at
 
--- each limit has at most one term, and all may hold at some value of the only column
+-- each limit has at most one term, and some values meet them all
 pub record AreAlong (ls : List Limit) : Type 0 where
   pub single : Every (λ l. length l.terms.items ≤ 1) ls
-  pub value : ℤ
-  pub holds : may_hold (record { low = Some value; high = Some value } ∷ []) ls ≡ true
+  pub values : ℕ → ℤ
+  pub den : ℕ
+  pub some : 0 < den
+  pub met : are_met values den ls ≡ true
 
 -- with k entries found in a list that is halved h times, at most 2 (k + 1) h + 1 nodes
 abbrev pub IsCost : List Limit → List Entry → ℕ → ℕ → Type 0

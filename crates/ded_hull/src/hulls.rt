@@ -111,8 +111,8 @@ impl Hulls {
     }
 
     /// The numbers of the entries in whose reaches the limits may hold, ascending. Each node of a tree that is looked at is a step. With
-    /// k entries found of n that have one range each, with ends in order, and limits of one term at most that may all hold at some value,
-    /// these are at most (2k + 2d + 1) d, where d is the count of binary digits of n. A node has at most 8 entries of its own. The
+    /// k entries found of n that have one range each, with ends in order, and limits of one term at most that some values meet, these are
+    /// at most (2k + 2d + 1) d, where d is the count of binary digits of n. A node has at most 8 entries of its own. The
     /// entries that stand in no tree, fewer than 32 as long as there is memory for trees, are looked at besides.
     ///
     /// # Errors
