@@ -200,14 +200,19 @@ fn column_of(columns: &[Variable], slot: Slot) -> Option<usize> {
 
 /// The place of the line whose variable first gets to where it may go no further, as that of the column goes to this side.
 fn stopping(lines: &[Line], column: usize, towards: Ordering) -> Option<usize> {
-    let first = lines
-        .iter()
-        .enumerate()
-        .filter(|(_, line)| line.stops(column, towards))
-        .reduce(|best, next| if next.1.stops_before(best.1, column) {
-            next
-        } else {
-            best
-        })?;
-    Some(first.0)
+    let mut first = None;
+    for (at, line) in lines.iter().enumerate() {
+        if line.stops(column, towards) && is_stopped_before(line, first, column) {
+            first = Some((at, line));
+        }
+    }
+    Some(first?.0)
+}
+
+/// Whether the line stops the variable of the column before the line found so far, if there is one.
+fn is_stopped_before(line: &Line, found: Option<(usize, &Line)>, column: usize) -> bool {
+    match found {
+        Some((_, other)) => line.stops_before(other, column),
+        None => true,
+    }
 }

@@ -120,41 +120,54 @@ fn next_step(table: &Table, greedy: bool) -> Step {
     }
 }
 
-/// Of the lines whose variables may not have their values, the one with the greatest value, and its place.
+/// Of the lines whose variables may not have their values, the last one with the greatest value, and its place.
 fn greatest_violated(lines: &[Line]) -> Option<(usize, &Line)> {
-    lines
-        .iter()
-        .enumerate()
-        .filter(|(_, line)| line.is_violated())
-        .max_by_key(|(_, line)| line.value.whole.unsigned_abs())
+    let mut greatest = None;
+    let mut most = 0;
+    for (at, line) in lines.iter().enumerate() {
+        let size = line.value.whole.unsigned_abs();
+        if size >= most && line.is_violated() {
+            greatest = Some((at, line));
+            most = size;
+        }
+    }
+    greatest
 }
 
 /// Of the lines whose variables may not have their values, that of the first variable, and its place.
 fn first_violated(lines: &[Line]) -> Option<(usize, &Line)> {
-    lines
-        .iter()
-        .enumerate()
-        .filter(|(_, line)| line.is_violated())
-        .reduce(|best, next| {
-            if next.1.variable.is_before(best.1.variable) {
-                next
-            } else {
-                best
-            }
-        })
+    let mut first = None;
+    for (at, line) in lines.iter().enumerate() {
+        if line.is_violated() && is_line_before(line, first) {
+            first = Some((at, line));
+        }
+    }
+    first
+}
+
+/// Whether the variable of the line comes before that of the line found so far, if there is one.
+fn is_line_before(line: &Line, found: Option<(usize, &Line)>) -> bool {
+    match found {
+        Some((_, other)) => line.variable.is_before(other.variable),
+        None => true,
+    }
 }
 
 /// The place of the first variable among those of the columns that may change so that the value of the line comes nearer to 0.
 pub(crate) fn helping(columns: &[Variable], line: &Line, side: Ordering) -> Option<usize> {
-    let helpful = columns
-        .iter()
-        .zip(&line.coefs)
-        .enumerate()
-        .filter(|(_, (variable, a))| variable.may_help(**a, side));
-    let first = helpful.reduce(|best, next| if next.1.0.is_before(*best.1.0) {
-        next
-    } else {
-        best
-    })?;
-    Some(first.0)
+    let mut first = None;
+    for (place, (variable, a)) in columns.iter().zip(&line.coefs).enumerate() {
+        if variable.may_help(*a, side) && is_column_before(*variable, first) {
+            first = Some((place, *variable));
+        }
+    }
+    Some(first?.0)
+}
+
+/// Whether the variable comes before that of the column found so far, if there is one.
+fn is_column_before(variable: Variable, found: Option<(usize, Variable)>) -> bool {
+    match found {
+        Some((_, other)) => variable.is_before(other),
+        None => true,
+    }
 }

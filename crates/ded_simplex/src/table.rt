@@ -163,10 +163,10 @@ impl Table {
         let Some((before, from)) = self.lines.split_at_mut_checked(line) else {
             return false;
         };
-        let (Some((solved, after)), Some(entering)) = (
-            from.split_first_mut(),
-            self.columns.get_mut(column),
-        ) else {
+        let Some((solved, after)) = from.split_first_mut() else {
+            return false;
+        };
+        let Some(entering) = self.columns.get_mut(column) else {
             return false;
         };
         let Some(pivot) = solved.solve(column, self.denominator) else {
