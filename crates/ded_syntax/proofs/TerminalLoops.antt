@@ -1,7 +1,8 @@
 -- Terminals, as a loop reads them.
-use Rattle.std.proofs.Common.{◌≡◌, ◌≢◌, Bool, true, false, ◌==◌, ℕ, suc, ◌+◌, ◌-◌, ◌<◌, ◌≤◌, List, [], ◌∷◌, ◌++◌, length, refl, sym, ap, ◌∙◌, append_assoc, arith}
+use Rattle.std.proofs.Common.{◌≡◌, ◌≢◌, Bool, true, false, ◌==◌, ℕ, suc, ◌+◌, ◌-◌, ◌<◌, ◌≤◌, List, [], ◌∷◌, ◌++◌, length, map, refl, sym, ap, ◌∙◌, append_assoc, arith}
 use Rattle.std.specs.Prelude.{Option, Some, None}
 use Rattle.std.proofs.lemmas.List.{append-nil}
+use Rattle.std.proofs.lemmas.Bool.Decides.{nat_tests}
 use Rattle.ded_grammar.specs.Building.{◌>>=◌}
 use Rattle.ded_grammar.specs.Trees.{TerminalForm}
 use Rattle.ded_syntax.specs.Symbols.{Symbol}
@@ -15,6 +16,23 @@ not_none [] b e f = absurd (differ (sym e ∙ f))
     differ : true ≡ false → ⊥
     differ e = cc
 not_none (x ∷ xs) b e f = omega arith
+
+pub none_seen : {A B : Type 0} (f : A → B) (xs : List A) (b : Bool) → b ≡ (length xs == 0) → b ≡ true → map f xs ≡ []
+none_seen f [] b e h = refl
+none_seen f (x ∷ xs) b e h = absurd (differ (length xs) (sym h ∙ e))
+  where
+    differ : (n : ℕ) → true ≡ (suc n == 0) → ⊥
+    differ n e = grind (arith, nat_tests)
+
+pub some_seen : {A B : Type 0} (f : A → B) (xs : List A) (b : Bool) → b ≡ (length xs == 0) → b ≡ false → map f xs ≢ []
+some_seen f [] b e h = absurd (differ (sym e ∙ h))
+  where
+    differ : true ≡ false → ⊥
+    differ e = cc
+some_seen f (x ∷ xs) b e h = λ k. differ (f x) (map f xs) k
+  where
+    differ : {B : Type 0} (y : B) (ys : List B) → y ∷ ys ≡ [] → ⊥
+    differ y ys e = cc
 
 module _ (value : Reader) where
   abbrev pub with_terminals : List TerminalForm → Option (List TerminalForm) → Option (List TerminalForm)

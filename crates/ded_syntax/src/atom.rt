@@ -106,14 +106,17 @@ pub enum Naming {
     Interior,
 }
 
-/// A name in parentheses, and what stands behind them; none where the rest begins otherwise.
-fn enclosed(rest: Rest<'_>) -> Option<(&[u8], Rest<'_>)>
-    ensures some { IfSome result (λ x. enclosed_at (left rest.entry) ≡ Some (x.0.now, left x.1)) }
+/// How a member is named, with the name in parentheses with which the rest begins, and what stands behind these; none where the
+/// rest begins otherwise.
+fn enclosed(naming: Naming, rest: Rest<'_>) -> Option<(Naming, &[u8], Rest<'_>)>
+    ensures naming { IfSome result (λ x. x.0 ≡ naming) }
+    ensures some { IfSome result (λ x. enclosed_at (left rest.entry) ≡ Some (x.1.now, left x.2)) }
     ensures none { IfNone result (enclosed_at (left rest.entry) ≡ None) }
-    ensures low { IfSome result (λ x. length (left x.1) < length (left rest.entry)) }
+    ensures low { IfSome result (λ x. length (left x.2) < length (left rest.entry)) }
 {
     match rest.items {
         [Item::Open, Item::Name(name), Item::Close, items @ ..] => Some((
+            naming,
             text(rest.bytes, *name),
             Rest { items, ..rest },
         )),
@@ -135,16 +138,10 @@ fn named(rest: Rest<'_>) -> Option<(Naming, &[u8], Rest<'_>)>
             Rest { items, ..rest },
         )),
         [Item::Word(Keyword::Closure), items @ ..] => {
-            let Some((name, behind)) = enclosed(Rest { items, ..rest }) else {
-                return None;
-            };
-            Some((Naming::Closure, name, behind))
+            enclosed(Naming::Closure, Rest { items, ..rest })
         }
         [Item::Word(Keyword::Interior), items @ ..] => {
-            let Some((name, behind)) = enclosed(Rest { items, ..rest }) else {
-                return None;
-            };
-            Some((Naming::Interior, name, behind))
+            enclosed(Naming::Interior, Rest { items, ..rest })
         }
         _ => None,
     }

@@ -44,6 +44,7 @@ fn spelled_draft(alloc: Global, items: Rest<'_>) -> Result<Draft, ReadFault>
     if is_spelled(&draft) {
         Ok(draft)
     } else {
+        drop(draft);
         Err(ReadFault::NotRead)
     }
 }
@@ -108,7 +109,10 @@ fn command_by(alloc: Global, items: Rest<'_>) -> Result<Command, Refusal>
         Err(ReadFault::Memory) => return Err(Refusal::Memory),
     };
     match long_refusal(items, &draft) {
-        Some(refusal) => Err(refusal),
+        Some(refusal) => {
+            drop(draft);
+            Err(refusal)
+        }
         None => command_of(alloc, draft),
     }
 }

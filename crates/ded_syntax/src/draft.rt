@@ -200,6 +200,7 @@ pub fn ended(command: Command, rest: Rest<'_>) -> Result<Draft, ReadFault>
     if rest.items.is_empty() {
         Ok(Draft::Plain(command))
     } else {
+        drop(command);
         Err(ReadFault::NotRead)
     }
 }

@@ -20,3 +20,9 @@ loop-part-preserved c =
 
 pub returns-clause-bounded : goal.returns-clause-bounded
 returns-clause-bounded c = bounded_more _ _ (seen_totals c.loop-part.totals) (omega (arith, c.loop-part.invariant.within, c.requires.few)) c.loop-part.invariant.bounded
+
+pub add_part-requires-clause-bounded : goal.add_part-requires-clause-bounded
+add_part-requires-clause-bounded c = bounded_more _ _ (seen_totals c.loop-part.totals) (omega (arith, c.loop-part.invariant.within, c.requires.few)) c.loop-part.invariant.bounded
+
+pub add_part-requires-clause-small : goal.add_part-requires-clause-small
+add_part-requires-clause-small c = (small_on c.args.over c.loop-part.part-index c.args.parts.now _ c.loop-part-test.true c.loop-part.invariant.small).0

@@ -4,7 +4,7 @@ use Rattle.std.proofs.lemmas.Result.{err_from_is_err_and}
 use Rattle.ded_grammar.specs.Forms.{terminal_form, terminal_forms}
 use Rattle.ded_syntax.specs.Items.{seen, left}
 use Rattle.ded_syntax.specs.Literals.{capped_reader}
-use Rattle.ded_syntax.proofs.TerminalLoops.{terminals_on, terminals_fail, not_none}
+use Rattle.ded_syntax.proofs.TerminalLoops.{terminals_on, terminals_done, terminals_fail, terminals_out, not_none, none_seen, some_seen}
 use Rattle.ded_syntax.proofs.terminals.terminals.Goals as goal
 
 pub returns-in_err-next-clause-unread : goal.returns-in_err-next-clause-unread
@@ -22,3 +22,18 @@ loop-preserved c = record {
       ∙ c.loop.invariant.same;
   low = omega (arith, c.loop.invariant.low, c.in_ok-next.ensures.low);
 }
+
+pub returns-then-is_empty-clause-read : goal.returns-then-is_empty-clause-read
+returns-then-is_empty-clause-read c =
+    sym c.loop.invariant.same
+    ∙ terminals_done capped_reader (length (left c.args.items)) c.loop.counter (terminal_forms c.loop.list.items) (left c.loop.rest) (none_seen (seen c.loop.rest.bytes.now) c.loop.rest.items.now c.is_empty.result c.is_empty.ensures c.if-is_empty.true)
+
+pub returns-then-not-is_empty-clause-unread : goal.returns-then-not-is_empty-clause-unread
+returns-then-not-is_empty-clause-unread c = λ other.
+    sym c.loop.invariant.same
+    ∙ terminals_out capped_reader (length (left c.args.items)) c.loop.counter (terminal_forms c.loop.list.items) (left c.loop.rest) (omega (arith, c.loop-test.false, length-map c.args.items.items.now (seen c.args.items.bytes.now))) (some_seen (seen c.loop.rest.bytes.now) c.loop.rest.items.now c.is_empty-2.result c.is_empty-2.ensures c.if-not-is_empty.true)
+
+pub returns-clause-read : goal.returns-clause-read
+returns-clause-read c =
+    sym c.loop.invariant.same
+    ∙ terminals_done capped_reader (length (left c.args.items)) c.loop.counter (terminal_forms c.loop.list.items) (left c.loop.rest) (none_seen (seen c.loop.rest.bytes.now) c.loop.rest.items.now c.is_empty-2.result c.is_empty-2.ensures c.if-not-is_empty.false)
