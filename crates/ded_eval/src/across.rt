@@ -8,11 +8,13 @@ ghost use Rattle.std.specs.List.{AllByRecursion};
 ghost use Rattle.ded_model.specs.Cell.{conj_holds};
 ghost use Rattle.ded_model.specs.Point.{Point};
 ghost use Rattle.ded_genrel.specs.Rounds.{AreRational};
+ghost use Rattle.ded_join.specs.Picks.{IsIndexOver};
 ghost use Rattle.ded_eval.specs.Inside.{IsInsidePart, IsMeetInside};
 
 use crate::beside::alone;
 use crate::reading::{AtomRef, OfTuples};
 use ded_genrel::{GenRel, both_conjs};
+use ded_index::BoxIndex;
 use ded_join::{index_over, is_small, join_over, join_shorter};
 use ded_model::memory::NoMemory;
 use ded_model::row::Row;
@@ -103,10 +105,30 @@ fn pairs_inside<T: OfTuples>(
     ensures { IfOk result (λ r. IsMeetInside T.holds T.mentions T.lines (conj_holds T.holds across.now) list.now next.now r) }
 {
     let index = index_over(alloc, next, slots)?;
+    let pairs = pairs_by(alloc, list, next, slots, across, &index, met);
+    drop(index);
+    pairs
+}
+
+/// Those pairs, by the index over the second list.
+fn pairs_by<T: OfTuples>(
+    alloc: Global,
+    list: &GenRel<T>,
+    next: &GenRel<T>,
+    slots: &[Slot],
+    across: &[T::Atom],
+    index: &Option<BoxIndex>,
+    met: &mut u64,
+) -> Result<GenRel<T>, NoMemory>
+    requires rational { AreRational slots.now }
+    requires across { AllByRecursion T.normal across.now }
+    requires index { IsIndexOver T.holds T.mentions T.lines slots.now next.now index.now }
+    ensures { IfOk result (λ r. IsMeetInside T.holds T.mentions T.lines (conj_holds T.holds across.now) list.now next.now r) }
+{
     let mut out = GenRel::new(alloc);
     for conj in list.list() {
         let one = alone(alloc, conj)?;
-        let pairs = join_over(alloc, &one, next, slots, &index, met)?;
+        let pairs = join_over(alloc, &one, next, slots, index, met)?;
         out.append(kept_inside(alloc, pairs, across)?)?;
     }
     Ok(out)

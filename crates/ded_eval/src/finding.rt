@@ -1,5 +1,5 @@
 //! What shows a closed plan to hold, or not to: a few conjunctions of each part, tried before the plan is evaluated.
-ghost use Rattle.std.specs.Prelude.{◌≡◌, true, IfOk};
+ghost use Rattle.std.specs.Prelude.{◌≡◌, ◌∷◌, [], true, IfOk, List};
 ghost use Rattle.std.specs.List.{AllByRecursion};
 ghost use Rattle.ded_model.specs.Cell.{conj_holds};
 ghost use Rattle.ded_model.specs.Entries.{entry_of};
@@ -7,6 +7,7 @@ ghost use Rattle.ded_model.specs.Logic.{atom, every_of, some_of, AllAtomsOf};
 ghost use Rattle.ded_model.specs.PlanForm.{scan, plan_form, plan_forms};
 ghost use Rattle.ded_model.specs.Point.{Point};
 ghost use Rattle.ded_genrel.specs.Lists.{conjs_hold};
+ghost use Rattle.ded_genrel.specs.Operations.{IsMeet, IsInhabitedPart};
 ghost use Rattle.ded_algebra.specs.Evaluation.{IsScannable, IsScannedFrom, IsEvaluable};
 ghost use Rattle.ded_eval.specs.Finding.{IsFoundIn, IsFoundWith, AreAlike, IsPlanVerdict, IsClosedVerdict};
 
@@ -302,9 +303,26 @@ fn few_with<T: OfTuples, R: Relations>(
         }
         let inner = with_atoms::<T>(alloc, window, conj)?;
         let next = few(alloc, plan, relations, &inner, looks)?;
-        joined.append(alone(alloc, conj)?.meet(&next)?.inhabited()?)?;
+        joined.append(pairs_of(alloc, conj, &next)?)?;
     }
     Ok(joined)
+}
+
+/// The pairs of the conjunction with those of the list, without those that no point satisfies.
+///
+/// # Errors
+/// Out of memory.
+fn pairs_of<T: Theory>(
+    alloc: Global,
+    conj: &[T::Atom],
+    next: &GenRel<T>,
+) -> Result<GenRel<T>, NoMemory>
+    requires { AllByRecursion T.normal conj.now }
+    ensures { IfOk result (λ r. (both : List (List T.Atom)) × IsMeet T.holds T.mentions T.lines (conj.now ∷ []) next.now both × IsInhabitedPart T.holds T.mentions T.lines both r) }
+{
+    let one = alone(alloc, conj)?;
+    let both = one.meet(next)?;
+    both.inhabited()
 }
 
 /// A few conjunctions of the union of the parts.

@@ -78,8 +78,22 @@ pub(crate) fn near_count<T: OfTuples, R: Relations>(
     let Some((name, slots)) = scan_in(plan) else {
         return Ok(None);
     };
+    Ok(Some(near_of::<T, R>(alloc, conj, name, slots, relations)?))
+}
+
+/// How many tuples of the name may hold where the conjunction does.
+///
+/// # Errors
+/// Out of memory.
+fn near_of<T: OfTuples, R: Relations>(
+    alloc: Global,
+    conj: &[T::Atom],
+    name: &Name,
+    slots: &Slots,
+    relations: &R,
+) -> Result<usize, NoMemory> {
     let window = columns_window::<T>(alloc, conj, &slots.list)?;
-    Ok(Some(count(relations.near(alloc, name, &window)?)))
+    Ok(count(relations.near(alloc, name, &window)?))
 }
 
 /// Whether few tuples of the name may hold where the conjunction does.
@@ -93,8 +107,7 @@ fn is_selective<T: OfTuples, R: Relations>(
     slots: &Slots,
     relations: &R,
 ) -> Result<bool, NoMemory> {
-    let window = columns_window::<T>(alloc, conj, &slots.list)?;
-    let near = count(relations.near(alloc, name, &window)?);
+    let near = near_of::<T, R>(alloc, conj, name, slots, relations)?;
     let all = count(relations.near(alloc, name, &Window::everything(alloc))?);
     Ok(near <= all / FEW)
 }

@@ -20,8 +20,11 @@ pub(crate) fn met(alloc: Global, first: &Tuple, second: &Tuple) -> Result<Option
 {
     let atoms = both_conjs::<Atoms>(alloc, &first.atoms, &second.atoms)?;
     if let Verdict::Empty = Atoms::refute(alloc, &atoms)? {
+        drop(atoms);
         return Ok(None);
     }
     let both = normal_tuple(alloc, atoms)?;
-    reduce_answer(alloc, &both)
+    let reduced = reduce_answer(alloc, &both);
+    drop(both);
+    reduced
 }

@@ -62,8 +62,8 @@ pub few_with-with_atoms-requires-clause-conj : goal.few_with-with_atoms-requires
 few_with-with_atoms-requires-clause-conj g t c =
     subst (AllByRecursion g.T.Theory.normal) (sym c.deref.ensures.value) (normal-at g.T.Theory.normal c.list-conj-items.result.now c.loop-conj.conj-index c.conj-item.result c.loop-conj-test.true c.conj-item.is c.list-conj-items.ensures.normal)
 
-pub few_with-alone-requires : goal.few_with-alone-requires
-few_with-alone-requires g t c =
+pub few_with-pairs_of-requires : goal.few_with-pairs_of-requires
+few_with-pairs_of-requires g t c =
     subst (AllByRecursion g.T.Theory.normal) (sym c.deref-in-loop-conj-2.ensures.value) (normal-at g.T.Theory.normal c.list-conj-items.result.now c.loop-conj.conj-index c.conj-item.result c.loop-conj-test.true c.conj-item.is c.list-conj-items.ensures.normal)
 
 pub few_with-loop-conj-preserved : goal.few_with-loop-conj-preserved
@@ -76,12 +76,13 @@ few_with-loop-conj-preserved g t c =
     let i = c.loop-conj.conj-index in
     let into : (p : Point) → inside p ≡ true → conj_holds h c.conj-item.result.items p ≡ true → conj_holds h c.deref-in-loop-conj.result.now p ≡ true
     = λ p w x. ap (λ xs. conj_holds h xs p) c.deref-in-loop-conj.ensures.value ∙ c.in_ok-inner.ensures.holds p w (ap (λ xs. conj_holds h xs p) c.deref.ensures.value ∙ x) in
+    let pairs = c.in_ok-pairs_of.ensures in
     subst (IsFoundWith h cat inside f (conjs_of items)) (sym c.in_ok-append.ensures)
-    (with_append h cat inside f (conjs_of items) c.loop-conj.joined c.in_ok-inhabited.field-0 c.loop-conj.invariant
-    (with_conj h cat inside g.T.Theory.mentions g.T.Theory.lines f items i c.conj-item.result (conj_holds h c.deref-in-loop-conj.result.now) c.in_ok-next.next c.in_ok-meet.field-0 c.in_ok-inhabited.field-0 c.loop-conj-test.true c.conj-item.is into
+    (with_append h cat inside f (conjs_of items) c.loop-conj.joined c.in_ok-pairs_of.field-0 c.loop-conj.invariant
+    (with_conj h cat inside g.T.Theory.mentions g.T.Theory.lines f items i c.conj-item.result (conj_holds h c.deref-in-loop-conj.result.now) c.in_ok-next.next pairs.0 c.in_ok-pairs_of.field-0 c.loop-conj-test.true c.conj-item.is into
     c.in_ok-next.ensures
-    (subst (λ xs. IsMeet h g.T.Theory.mentions g.T.Theory.lines xs c.in_ok-next.next c.in_ok-meet.field-0) (c.in_ok-alone.ensures ∙ ap (λ atoms. atoms ∷ []) c.deref-in-loop-conj-2.ensures.value) c.in_ok-meet.ensures.is)
-    c.in_ok-inhabited.ensures))
+    (subst (λ xs. IsMeet h g.T.Theory.mentions g.T.Theory.lines xs c.in_ok-next.next pairs.0) (ap (λ atoms. atoms ∷ []) c.deref-in-loop-conj-2.ensures.value) pairs.1)
+    pairs.2))
 
 pub few_united-loop-part-preserved : goal.few_united-loop-part-preserved
 few_united-loop-part-preserved g t c =

@@ -31,6 +31,6 @@ returns-in-Empty c =
 
 pub returns : goal.returns
 returns c =
-    IfOk-weaker c.reduce_answer.result _ _
+    IfOk-weaker c.reduce_answer-reduced.result _ _
     (λ o k. met c.args.first.now c.args.second.now c.in_ok-atoms.atoms.items c.in_ok-both.both o (c.in_ok-atoms.ensures ∙ ap₂ (λ xs ys. xs ++ ys) (c.deref.ensures.value ∙ c.first.view_is) (c.deref-2.ensures.value ∙ c.second.view_is))
-    c.in_ok-both.ensures.holds c.in_ok-both.ensures.slots c.in_ok-both.ensures.lines k) c.reduce_answer.ensures.part
+    c.in_ok-both.ensures.holds c.in_ok-both.ensures.slots c.in_ok-both.ensures.lines k) c.reduce_answer-reduced.ensures.part
