@@ -144,6 +144,7 @@ impl<'a> Snapshot<'a> {
             return Ok(None);
         };
         let left = left_of(alloc, &found, self.change.deleted(name))?;
+        drop(found);
         Ok(Some(with_inserted(left, self.change.inserted(name))?))
     }
 
@@ -160,6 +161,7 @@ impl<'a> Snapshot<'a> {
         };
         let list = listed(alloc, tuples)?;
         let left = left_of(alloc, &list, self.change.deleted(name))?;
+        drop(list);
         let inserted = self.change.inserted(name);
         Ok(Some(with_inserted(left, inserted)?))
     }

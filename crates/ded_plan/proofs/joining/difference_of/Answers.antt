@@ -1,7 +1,4 @@
-use Rattle.std.proofs.Common.{rules, ◌≡◌, IfOk, ap, ap₂, subst, ◌∙◌}
-use Rattle.ded_model.specs.declared.plan.Plan as plan
-use Rattle.ded_model.specs.declared.plan.Plan.TheFolds.{fold_out-Plan}
-use Rattle.ded_model.specs.declared.plan.Plan.TheViews.{the_lemmas}
+use Rattle.std.proofs.Common.{◌≡◌, IfOk, ap, ap₂, subst, ◌∙◌}
 use Rattle.ded_model.specs.Logic.{minus}
 use Rattle.ded_model.specs.PlanForm.{plan_form, plan_forms}
 use Rattle.ded_plan.specs.Rewrite.{join_of, negated, distributed}
