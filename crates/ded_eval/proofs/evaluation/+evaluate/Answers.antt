@@ -1,4 +1,4 @@
-use Rattle.std.proofs.Common.{rules, arith, ◌≡◌, true, ◌++◌, ◌∷◌, [], ◌∙◌, sym, ap, subst, take, drop, map, length, get_or, ◌<◌, ◌≤◌}
+use Rattle.std.proofs.Common.{rules, arith, ◌≡◌, true, ◌++◌, ◌∷◌, [], ◌∙◌, sym, ap, subst, take, map, length, get_or, ◌<◌, ◌≤◌}
 use Rattle.std.proofs.lemmas.List.{take_all}
 use Rattle.ded_model.specs.declared.plan.Plan.TheFolds.{fold-roll-Plan, fold_out-Plan}
 use Rattle.ded_model.specs.declared.plan.Plan.TheViews.{the_lemmas}
