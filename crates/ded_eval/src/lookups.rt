@@ -93,7 +93,9 @@ fn near_of<T: OfTuples, R: Relations>(
     relations: &R,
 ) -> Result<usize, NoMemory> {
     let window = columns_window::<T>(alloc, conj, &slots.list)?;
-    Ok(count(relations.near(alloc, name, &window)?))
+    let near = relations.near(alloc, name, &window);
+    drop(window);
+    Ok(count(near?))
 }
 
 /// Whether few tuples of the name may hold where the conjunction does.

@@ -38,7 +38,9 @@ pub(crate) fn scanned<T: OfTuples, R: Relations>(
 {
     relations.formed();
     let columns = columns_window::<T>(alloc, window, &slots.list)?;
-    match relations.near(alloc, name, &columns)? {
+    let near = relations.near(alloc, name, &columns);
+    drop(columns);
+    match near? {
         Some(tuples) => in_slots(alloc, conjunctions::<T>(alloc, &tuples)?, slots),
         None => unreachable!(),
     }
@@ -70,7 +72,9 @@ pub(crate) fn first_scanned<T: OfTuples, R: Relations>(
 {
     relations.formed();
     let columns = columns_window::<T>(alloc, window, &slots.list)?;
-    match relations.near(alloc, name, &columns)? {
+    let near = relations.near(alloc, name, &columns);
+    drop(columns);
+    match near? {
         Some(mut tuples) => {
             let is_whole = tuples.len() <= count;
             tuples.truncate(count);
