@@ -110,7 +110,7 @@ fn pairs_inside<T: OfTuples>(
     pairs
 }
 
-/// Those pairs, by the index over the second list.
+/// The pairs of both lists that may hold somewhere together with the rows, found by the index over the second list.
 fn pairs_by<T: OfTuples>(
     alloc: Global,
     list: &GenRel<T>,
