@@ -5,7 +5,7 @@
 //! in which a node where the limits cannot hold is passed over with all that is below it.
 //!
 //! Where each reach has one range, the two halves of a list are those with earlier and with later middles. A node whose hull passes then
-//! has an entry that is found below it, but for one node on each level at most, so that few more nodes are looked at than are needed.
+//! has an entry that is found below it, but for one node on each level at most. That bounds how many nodes are looked at.
 //!
 //! A tree never changes. It is built over a list of entries, which are put in its order where they stand, and gives the list back for
 //! a larger tree.
