@@ -6,9 +6,10 @@ use Rattle.std.specs.Map.{lookup, remove_entry}
 use Rattle.std.specs.Ordering.{nat_cmp}
 use Rattle.std.specs.List.Sorted.{IsPermutation}
 use Rattle.std.proofs.lemmas.Bool.Decides.{nat_tests}
+use Rattle.std.proofs.lemmas.List.Elements.{All-filter}
 use Rattle.std.proofs.lemmas.List.Sorted.{Contains-permutation}
 use Rattle.ded_model.specs.Row.{Atom, tuple_holds}
-use Rattle.ded_model.proofs.Lists.{Every, Some, every-append}
+use Rattle.ded_model.proofs.Lists.{Every, Some, every-append, every_all, all_every}
 use Rattle.ded_model.proofs.Rows.{or_right}
 use Rattle.ded_hull.specs.declared.entry.Entry.{Entry}
 use Rattle.ded_hull.specs.declared.window.Window.{Window}
@@ -71,6 +72,10 @@ some_left P vs (e ∷ es) f (inr h) = by (is_some (lookup (is_at (nat_cmp e.id))
     by : (b : Bool) → Some P (of_keys vs es) → Some P (cond b (e ∷ of_keys vs es) (of_keys vs es))
     by true s = inr s
     by false s = s
+
+-- what is true of each entry is so of those
+pub every_of : (P : Entry → Type 0) (vs : List (ℕ × List Atom)) (es : List Entry) → Every P es → Every P (of_keys vs es)
+every_of P vs es h = all_every P (of_keys vs es) (All-filter (λ e. is_some (lookup (is_at (nat_cmp e.id)) vs)) P es (every_all P es h))
 
 pub pruned : (es fs : List Entry) (ts : List (ℕ × List Atom)) → IsPermutation (of_keys ts es) fs → IsIndex es ts → IsIndex fs ts
 pruned es fs ts p h = moved (of_keys ts es) fs ts p (each [] ts refl h)

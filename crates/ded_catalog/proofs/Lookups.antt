@@ -8,10 +8,11 @@ use Rattle.std.proofs.lemmas.Slice.Eq.{bytes_eq-Decides}
 use Rattle.ded_model.specs.Catalogue.{entry_name}
 use Rattle.ded_model.specs.Known.{KnownNames, entry_known, with_known, known_from, known_of}
 use Rattle.ded_model.specs.Entries.{entry_of}
+use Rattle.ded_catalog.specs.declared.stored.Relation.{Relation}
 use Rattle.ded_catalog.specs.declared.stored.Stored.{Stored}
 use Rattle.ded_catalog.specs.declared.stored.Stored.TheVariants.{View}
 use Rattle.ded_catalog.specs.declared.stored.Stored.TheVariants as stored
-use Rattle.ded_catalog.specs.State.{entry_form, entry_forms, stored_known, known_with}
+use Rattle.ded_catalog.specs.State.{entry_form, entry_forms, stored_known, known_with, relation_at}
 use Rattle.ded_catalog.specs.Conditions.{IsRight, AreKept, IsKept}
 
 -- ---- names
@@ -60,6 +61,23 @@ split n s (e ∷ es) h = by (bytes_eq n e.0) refl (split n s es)
           set = λ w. ap (λ c. cond c ((e.0, w) ∷ es) (e ∷ set_value (bytes_eq n) es w)) b ∙ ap (λ l. e ∷ l) (rest.set w);
           removed = ap (λ c. cond c es (e ∷ remove_entry (bytes_eq n) es)) b ∙ ap (λ l. e ∷ l) rest.removed;
         }
+
+-- what another value makes of a name that is there
+found_set : (n : List ℕ) (es : List (List ℕ × Stored)) (s w : Stored) → lookup (bytes_eq n) es ≡ Some s → lookup (bytes_eq n) (set_value (bytes_eq n) es w) ≡ Some w
+found_set n [] s w h = absurd (none-some s h)
+found_set n (e ∷ es) s w h = by (bytes_eq n e.0) refl (found_set n es s w)
+  where
+    by : (b : Bool) → bytes_eq n e.0 ≡ b → (lookup (bytes_eq n) es ≡ Some s → lookup (bytes_eq n) (set_value (bytes_eq n) es w) ≡ Some w) → lookup (bytes_eq n) (set_value (bytes_eq n) (e ∷ es) w) ≡ Some w
+    by true b next = ap (λ c. lookup (bytes_eq n) (cond c ((e.0, w) ∷ es) (e ∷ set_value (bytes_eq n) es w))) b ∙ ap (λ c. cond c (Some w) (lookup (bytes_eq n) es)) b
+    by false b next =
+        ap (λ c. lookup (bytes_eq n) (cond c ((e.0, w) ∷ es) (e ∷ set_value (bytes_eq n) es w))) b
+        ∙ ap (λ c. cond c (Some e.1) (lookup (bytes_eq n) (set_value (bytes_eq n) es w))) b
+        ∙ next (sym (ap (λ c. cond c (Some e.1) (lookup (bytes_eq n) es)) b) ∙ h)
+
+-- the relation that is found after a change is the other one
+pub relation_changed : (n : List ℕ) (es fs : List (List ℕ × Stored)) (old new r : Relation) → lookup (bytes_eq n) es ≡ Some (stored.Relation old) → fs ≡ set_value (bytes_eq n) es (stored.Relation new)
+    → relation_at (lookup (bytes_eq n) fs) ≡ Some r → new ≡ r
+relation_changed n es fs old new r was is h = same_Some new r (sym (ap (λ l. relation_at (lookup (bytes_eq n) l)) is ∙ ap relation_at (found_set n es (stored.Relation old) (stored.Relation new) was)) ∙ h)
 
 -- ---- entries
 

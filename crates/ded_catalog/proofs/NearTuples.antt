@@ -1,5 +1,5 @@
 -- The stored tuples in a window, one after another, and after a change.
-use Rattle.std.proofs.Common.{◌≡◌, ℕ, ◌+◌, ◌<◌, Bool, true, false, List, [], ◌∷◌, ◌++◌, length, get_or, take, Option, None, Some, inl, inr, refl, sym, ap, ◌∙◌, subst, append_assoc, append-nil}
+use Rattle.std.proofs.Common.{◌≡◌, ℕ, ◌+◌, ◌<◌, ◌≤◌, Bool, true, false, List, [], ◌∷◌, ◌++◌, length, get_or, take, Option, None, Some, inl, inr, refl, sym, ap, ◌∙◌, subst, append_assoc, append-nil, arith}
 use Rattle.std.specs.Prelude.{if◌then◌else◌}
 use Rattle.std.specs.BTreeMap.{is_at}
 use Rattle.std.specs.Map.{lookup}
@@ -28,6 +28,10 @@ adds_step w old new t before left all e a so_far rest n =
 
 pub adds_end : (w : Window) (old left all : List (ℕ × List Atom)) → left ≡ [] → ((rest : List (ℕ × List Atom)) → AreNear w rest left → AreNear w (old ++ rest) all) → AreNear w old all
 adds_end w old left all e so_far = subst (λ us. AreNear w us all) (append-nil old) (so_far [] (subst (AreNear w []) (sym e) refl))
+
+-- one step for each tuple that is no longer left
+pub counts_step : (t : ℕ × List Atom) (before left all : List (ℕ × List Atom)) (first old new : ℕ) → before ≡ t ∷ left → new ≡ old + 1 → old + length before ≤ first + length all → new + length left ≤ first + length all
+counts_step t before left all first old new e n h = let one : length before ≡ length left + 1 = ap length e ∙ omega arith in omega (arith, one, n, h)
 
 picked-append : (is js : List ℕ) (ts : List (ℕ × List Atom)) → picked (is ++ js) ts ≡ picked is ts ++ picked js ts
 picked-append [] js ts = refl

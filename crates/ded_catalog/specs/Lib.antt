@@ -4,6 +4,7 @@ pub mod Conditions
 pub mod Copies
 pub mod Ends
 pub mod Forms
+pub mod Lookups
 pub mod Mentions
 pub mod Nearby
 pub mod Relations

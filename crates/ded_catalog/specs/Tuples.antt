@@ -14,18 +14,19 @@ AreUpTo m (t ∷ ts) = (t.0 ≤ m) × AreUpTo m ts
 abbrev pub refusal_of : ℕ → Relation → Option Refusal
 refusal_of limit r = if nat_le limit (length r.tuples.entries) then Some Full else if nat_le 4294967295 r.inserts then Some Spent else None
 
--- nothing is changed
+-- the same heading, number of inserts and tuples; the reaches in the index may be others, or stand otherwise
 pub record IsSame (old new : Relation) : Type 0 where
   pub heading : new.heading ≡ old.heading
   pub inserts : new.inserts ≡ old.inserts
   pub tuples : new.tuples.entries ≡ old.tuples.entries
 
--- one insert more, whose tuple has the number k and stands at the end
+-- one insert more, whose tuple has the number k and stands at the end; at most 32 reaches stand in no tree
 pub record Pushes (old new : Relation) (t : List Atom) (k : ℕ) : Type 0 where
   pub heading : new.heading ≡ old.heading
   pub number : k ≡ old.inserts + 1
   pub inserts : new.inserts ≡ k
   pub tuples : new.tuples.entries ≡ old.tuples.entries ++ (k, t) ∷ []
+  pub settled : new.reaches.loose ≤ 32
 
 -- the tuple of the number k is gone
 pub record Removes (old new : Relation) (k : ℕ) : Type 0 where

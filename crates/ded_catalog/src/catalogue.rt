@@ -1,5 +1,5 @@
 //! Catalogues.
-ghost use Rattle.std.specs.Prelude.{◌≡◌, ◌==◌, ◌≤◌, true, false, None, [], length, is_some, IsOk, IfOk, IfErr, OnOk, OnErr};
+ghost use Rattle.std.specs.Prelude.{◌≡◌, ◌==◌, ◌≤◌, true, false, Some, None, [], length, is_some, IsOk, IfOk, IfErr, OnOk, OnErr};
 ghost use Rattle.std.specs.List.{list_any};
 
 mod names;
@@ -58,7 +58,10 @@ impl Catalogue {
     ghost use Rattle.ded_sorts.specs.Causes.{insert_refusal, is_relation_with};
     ghost use Rattle.ded_sorts.specs.Changes.{AddsEntry, Inserts, Deletes, DropsEntry};
     ghost use Rattle.ded_model.specs.Entries.{known, tuples_in, columns_in, entry_uses};
-    ghost use Rattle.ded_catalog.specs.State.{catalogue_of};
+    ghost use Rattle.std.specs.Map.{lookup};
+    ghost use Rattle.std.specs.Str.{bytes_eq};
+    ghost use Rattle.ded_catalog.specs.Relations.{Relation};
+    ghost use Rattle.ded_catalog.specs.State.{catalogue_of, relation_at};
 
     /// A catalogue without entries, whose relations may have `limit` tuples, 1 to 1,000,000. It does not allocate yet.
     ///
@@ -123,16 +126,19 @@ impl Catalogue {
         add(&mut self.names, name, stored)
     }
 
-    /// Inserts a tuple into the relation of the name, and gives the tuple's number.
+    /// Inserts a tuple into the relation of the name, and gives the tuple's number. At most 32 of the reaches in the relation's index stand
+    /// in no tree then.
     ///
     /// # Errors
     /// `Full` exactly where the relation has as many tuples as the limit allows, else `Spent` exactly where it has
-    /// accepted 4,294,967,295 inserts, else `Memory`. A refused insert changes nothing.
+    /// accepted 4,294,967,295 inserts, else `Memory`. A refused insert changes nothing, but after one that finds no memory any number of
+    /// the reaches may stand in no tree.
     pub fn insert(&mut self, name: &Name, t: Tuple) -> Result<u32, Refusal>
         requires relation { is_relation_with (known (catalogue_of self.old) name.now) ≡ true }
         requires over { IsTupleOver (columns_in (catalogue_of self.old) name.now) t }
         requires short { tuple_length t ≤ 63 }
         ensures ok { IfOk result (λ k. Inserts (catalogue_of self.old) (catalogue_of self.new) name.now t k) }
+        ensures settled { IfOk result (λ k. (r : Relation) → relation_at (lookup (bytes_eq name.now) self.new.names) ≡ Some r → r.reaches.loose ≤ 32) }
         ensures room { IfOk result (λ k. insert_refusal (catalogue_of self.old) name.now ≡ None) }
         ensures cause { IfErr result (λ r. r ≡ unwrap_or (insert_refusal (catalogue_of self.old) name.now) Memory) }
         ensures err { OnErr result (catalogue_of self.new ≡ catalogue_of self.old) }

@@ -28,7 +28,9 @@ impl Clone for Stored {
 }
 
 impl Clone for Relation {
-    ghost is_clone = { λ r s. s ≡ r };
+    ghost use Rattle.ded_catalog.specs.Tuples.{IsSame};
+
+    ghost is_clone = { IsSame };
 
     fn clone(&self) -> Result<Relation, AllocError> {
         let alloc = allocator_of(&self.heading);

@@ -3,10 +3,11 @@
 //! A row on one column gives an end of that column. Where a column has no end on one side after these, and a row binds it to other
 //! columns, its exact bounds over all rows of the tuple are taken, rounded outward. So a slanted region has ends too, and boxes cost
 //! no more than before.
-ghost use Rattle.std.specs.Prelude.{◌≡◌, IfOk};
+ghost use Rattle.std.specs.Prelude.{◌≡◌, length, IfOk};
 ghost use Rattle.ded_model.specs.declared.slot.Sort.TheVariants.{Rat};
 ghost use Rattle.ded_model.specs.Row.{tuple_holds};
 ghost use Rattle.ded_hull.specs.Reaches.{IsFloor, IsCeil};
+ghost use Rattle.ded_hull.specs.Segments.{AreOrdered};
 ghost use Rattle.ded_hull.specs.Tuples.{IsReachOf};
 ghost use Rattle.ded_catalog.specs.Ends.{IsRangeOf, Tightens};
 
@@ -19,16 +20,18 @@ use ded_model::tuple::{Atom, BothAtom, Tuple};
 use ded_theme::Theme;
 use ded_theory::{Both, Span, Theory};
 
-/// A reach of the first columns that contains the values of each point of the tuple.
+/// A reach of so many first columns that contains the values of each point of the tuple. No range in it ends before it begins.
 ///
 /// # Errors
 /// Out of memory.
 pub(crate) fn reach_of(tuple: &Tuple, width: usize) -> Result<Reach, NoMemory>
-    ensures { IfOk result (λ r. IsReachOf r (tuple_holds tuple.now)) }
+    ensures values { IfOk result (λ r. IsReachOf r (tuple_holds tuple.now)) }
+    ensures width { IfOk result (λ r. length r ≡ width) }
+    ensures ends { IfOk result (λ r. AreOrdered r) }
 {
     let mut reach = ded_hull::reach_of(*tuple.atoms.allocator(), tuple, width)?;
     tighten_all(&mut reach, tuple, width)?;
-    Ok(reach)
+    reach.in_order(width)
 }
 
 /// Narrows the ranges of the first columns to the values at points of the tuple.

@@ -1,5 +1,8 @@
 //! An index of the tuples of a relation.
-ghost use Rattle.std.specs.Prelude.{◌≡◌, [], IfOk, IfSome, OnOk, OnErr};
+ghost use Rattle.std.specs.Prelude.{◌≡◌, ◌≤◌, ◌+◌, true, [], length, is_some, IfOk, IfSome, OnOk, OnErr};
+ghost use Rattle.ded_hull.specs.Entries.{ids_in, most_steps};
+ghost use Rattle.ded_hull.specs.Segments.{AreSegments};
+ghost use Rattle.ded_catalog.specs.Lookups.{IsAlong};
 ghost use Rattle.ded_catalog.specs.Relations.{IsCopied, IsIndexed, IsUndone, IsPruned, Finds};
 
 use crate::ends::reach_of;
@@ -8,10 +11,12 @@ use crate::texts::Texts;
 use ded_hull::{Hulls, Window};
 use ded_model::memory::NoMemory;
 use ded_model::name::Heading;
+use ded_model::steps::Steps;
 use ded_model::tuple::Tuple;
 use ded_packed::Packed;
 use std::alloc::Global;
 use std::collections::BTreeMap;
+use std::sync::ledger::Ledger;
 
 /// How many tuples with a text are few.
 const FEW: usize = 64;
@@ -27,7 +32,7 @@ pub(crate) struct Index {
 impl Index {
     /// An index of no tuples; `hashing` is how their texts will be hashed.
     pub(crate) fn new(alloc: Global, hashing: NameHashing) -> Index
-        ensures hulls { result.hulls ≡ [] }
+        ensures hulls { result.hulls.entries ≡ [] }
         ensures texts { result.texts.set.keys ≡ [] }
     {
         Index {
@@ -99,18 +104,22 @@ impl Index {
     }
 
     /// The numbers of the tuples over the columns that may hold in the window, ascending. None where the index doesn't tell them
-    /// apart from the others.
+    /// apart from the others. Each node of a tree of reaches and each entry that is looked at is a step. Keys of texts aren't counted.
     ///
     /// # Errors
     /// Out of memory.
-    pub(crate) fn find(
+    pub(crate) fn find<L: Ledger>(
         &self,
         alloc: Global,
         heading: &Heading,
         window: &Window,
         count: usize,
+        steps: &mut Steps<L>,
     ) -> Result<Option<Vec<u32>>, NoMemory>
-        ensures { IfOk result (λ found. IfSome found (λ ids. Finds window.now heading.now self.now ids.items)) }
+        ensures found { IfOk result (λ found. IfSome found (λ ids. Finds window.now heading.now self.now ids.items)) }
+        ensures some { IsAlong window.now → IfOk result (λ found. is_some found ≡ true) }
+        ensures count { IsAlong window.now → IfOk result (λ found. IfSome found (λ ids. length ids.items ≤ length (ids_in window.now.limits.items self.now.hulls.entries))) }
+        ensures steps { IsAlong window.now → AreSegments self.now.hulls.entries → steps.new ≤ steps.old + most_steps window.now.limits.items self.now.hulls }
     {
         let most = if window.limits.is_empty() {
             FEW + count / 4
@@ -123,6 +132,6 @@ impl Index {
         if window.limits.is_empty() {
             return Ok(None);
         }
-        Ok(Some(self.hulls.find(alloc, &window.limits)?))
+        Ok(Some(self.hulls.look_up(alloc, &window.limits, steps)?))
     }
 }

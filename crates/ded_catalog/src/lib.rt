@@ -13,8 +13,9 @@
 //!
 //! Beside its tuples a relation keeps an index of their reaches, and of the texts that they fix in their columns. So the tuples that may
 //! hold in a window are looked up and lent, where it has limits or a text that few of them may have, and all others are passed over.
-//! Contracts don't see the index: they say that no tuple is lost that holds somewhere in the window. A region that is bound by slanted
-//! rows alone is kept by its exact bounds.
+//! Contracts see the entries of the reaches, and how many of them stand in no tree, but not the texts: they say that no tuple is lost
+//! that holds somewhere in the window, and how many nodes, entries and tuples a look-up in one column looks at. A region that is bound
+//! by slanted rows alone is kept by its exact bounds.
 //!
 //! It stands on `ded_sorts` for what is known of names and what changes them, on `ded_hull` and `ded_linear` for the reaches, on `lru` for the
 //! linked names, and on `indexmap`.

@@ -1,11 +1,12 @@
 //! Relations: their tuples, found by number.
-ghost use Rattle.std.specs.Prelude.{◌≡◌, ◌==◌, ◌+◌, ◌<◌, ◌^◌, ◌++◌, ◌∷◌, [], true, Some, None, IfOk, IfErr, OnOk, OnErr};
+ghost use Rattle.std.specs.Prelude.{◌≡◌, ◌==◌, ◌+◌, ◌<◌, ◌≤◌, ◌^◌, ◌++◌, ◌∷◌, [], true, Some, None, IfOk, IfErr, OnOk, OnErr};
 ghost use Rattle.std.specs.BTreeMap.{is_at};
 ghost use Rattle.std.specs.List.{list_any};
 ghost use Rattle.std.specs.Map.{lookup};
 ghost use Rattle.std.specs.Option.{unwrap_or};
 ghost use Rattle.std.specs.Ordering.{nat_cmp};
 ghost use Rattle.ded_model.specs.declared.command.Refusal.TheVariants.{Memory};
+ghost use Rattle.ded_catalog.specs.Lookups.{IsLookup, HasReaches, most_reads};
 ghost use Rattle.ded_catalog.specs.Nearby.{numbered, AreNear};
 ghost use Rattle.ded_catalog.specs.Relations.{IsIndexOf};
 ghost use Rattle.ded_catalog.specs.Tuples.{AreUpTo, refusal_of, IsSame, Pushes, Removes};
@@ -18,10 +19,12 @@ use ded_model::command::Refusal;
 use ded_model::limits;
 use ded_model::memory::NoMemory;
 use ded_model::name::Heading;
+use ded_model::steps::Steps;
 use ded_model::tuple::Tuple;
 use ded_packed::Packed;
 use std::alloc::{AllocError, Global};
 use std::collections::BTreeMap;
+use std::sync::ledger::Ledger;
 
 impl Relation {
     /// Why an insert is refused: the relation is full, or else it has accepted all inserts that have a number.
@@ -40,7 +43,7 @@ impl Relation {
     /// Takes one tuple more, and gives its number.
     ///
     /// # Errors
-    /// `Full` or `Spent` as [`Relation::refusal`] says, otherwise out of memory. Nothing is changed then.
+    /// `Full` or `Spent` as [`Relation::refusal`] says, otherwise out of memory. All but the index is as it was then.
     pub(crate) fn push(&mut self, limit: u32, tuple: Tuple) -> Result<u32, Refusal>
         requires { AreUpTo self.old.inserts self.old.tuples.entries }
         ensures ok { IfOk result (λ k. Pushes self.old self.new tuple k) }
@@ -106,36 +109,53 @@ impl Relation {
         packed.unpack(*self.heading.columns.allocator())
     }
 
-    /// The tuples that may hold in the window, with their numbers, in ascending order of these.
+    /// Each tuple has its reach in the index under its number, and where there is one column, all reaches there are segments. It does
+    /// nothing.
+    pub(crate) fn indexed(&self)
+        ensures { HasReaches self.now }
+    {
+        let _ = &self.index; // for the invariant
+    }
+
+    /// The tuples that may hold in the window, with their numbers, in ascending order of these. Each node of a tree of reaches, each entry
+    /// and each tuple that is looked at is a step, and so is each number that is found of no tuple. Keys of texts aren't counted.
     ///
     /// # Errors
     /// Out of memory.
-    pub(crate) fn near<'a>(
+    pub(crate) fn near<'a, L: Ledger>(
         &'a self,
         alloc: Global,
         window: &Window,
+        steps: &mut Steps<L>,
     ) -> Result<Vec<(u32, &'a Packed)>, NoMemory>
-        ensures { IfOk result (λ found. AreNear window.now (numbered found.items) self.now.tuples.entries) }
+        ensures found { IfOk result (λ found. AreNear window.now (numbered found.items) self.now.tuples.entries) }
+        ensures steps { IsLookup window.now self.now → steps.new ≤ steps.old + most_reads window.now self.now }
     {
         if window.limits.is_empty() && window.texts.is_empty() {
-            return listed(alloc, &self.tuples);
+            return listed(alloc, &self.tuples, steps);
         }
         let count = self.tuples.len(); // for the order of the numbers too
-        let Some(numbers) = self.index.find(alloc, &self.heading, window, count)? else {
-            return sifted(alloc, &self.tuples, &Sieve::new(alloc, window)?);
+        let Some(numbers) = self.index.find(alloc, &self.heading, window, count, steps)? else {
+            return sifted(alloc, &self.tuples, &Sieve::new(alloc, window)?, steps);
         };
         if numbers.len() <= 1 || window.limits.is_empty() {
             // whoever looks at them sees as soon whether they hold
-            return picked(alloc, &self.tuples, &numbers);
+            return picked(alloc, &self.tuples, &numbers, steps);
         }
-        looked_up(alloc, &self.tuples, &numbers, &Sieve::new(alloc, window)?)
+        looked_up(
+            alloc,
+            &self.tuples,
+            &numbers,
+            &Sieve::new(alloc, window)?,
+            steps,
+        )
     }
 }
 
 /// Puts the tuple, over the columns, under the number after the last one, and into the index.
 ///
 /// # Errors
-/// Out of memory; the tuples stay as they are then, and the index is one of them.
+/// Out of memory; the tuples stay as they are then, and the index is one of them, maybe with one reach more.
 fn push_next(
     tuples: &mut BTreeMap<u32, Packed>,
     index: &mut Index,
@@ -148,6 +168,7 @@ fn push_next(
     requires index { IsIndexOf heading.now index.old tuples.old.entries }
     ensures number { IfOk result (λ k. k ≡ last + 1) }
     ensures pushed { IfOk result (λ k. tuples.new.entries ≡ tuples.old.entries ++ (k, tuple.now) ∷ []) }
+    ensures settled { IfOk result (λ k. index.new.hulls.loose ≤ 32) }
     ensures unchanged { OnErr result (tuples.new.entries ≡ tuples.old.entries) }
     ensures index { IsIndexOf heading.now index.new tuples.new.entries }
 {

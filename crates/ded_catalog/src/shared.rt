@@ -62,7 +62,7 @@ impl SharedRelation {
     /// Takes one tuple more, and gives its number. Where others share the relation, a copy of it takes the tuple.
     ///
     /// # Errors
-    /// `Full` or `Spent` as [`Relation::refusal`] says, otherwise out of memory. Nothing is changed then.
+    /// `Full` or `Spent` as [`Relation::refusal`] says, otherwise out of memory. All but the index is as it was then.
     pub(crate) fn push(&mut self, limit: u32, tuple: Tuple) -> Result<u32, Refusal>
         requires { AreUpTo self.old.inserts self.old.tuples.entries }
         ensures ok { IfOk result (λ k. Pushes self.old self.new tuple k) }
@@ -82,7 +82,7 @@ impl SharedRelation {
     /// Takes the tuple of the number out of the relation. Where others share the relation, it is taken out of a copy.
     ///
     /// # Errors
-    /// Out of memory; nothing is changed then.
+    /// Out of memory; all but the index is as it was then.
     pub(crate) fn remove(&mut self, number: u64) -> Result<(), NoMemory>
         requires numbers { AreUpTo self.old.inserts self.old.tuples.entries }
         requires present { list_any (λ t. t.0 == number) self.old.tuples.entries ≡ true }

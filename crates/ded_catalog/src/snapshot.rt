@@ -5,7 +5,7 @@ ghost use Rattle.std.specs.Option.{option_map};
 
 use crate::catalogue::Catalogue;
 use crate::change::{Change, left_of, with_inserted};
-use crate::finding::listed;
+use crate::finding::all;
 use ded_hull::Window;
 use ded_model::goal::Goal;
 use ded_model::memory::NoMemory;
@@ -159,7 +159,7 @@ impl<'a> Snapshot<'a> {
         let Some(tuples) = catalogue.stored(name) else {
             return Ok(None);
         };
-        let list = listed(alloc, tuples)?;
+        let list = all(alloc, tuples)?;
         let left = left_of(alloc, &list, self.change.deleted(name))?;
         drop(list);
         let inserted = self.change.inserted(name);

@@ -16,8 +16,9 @@ use ded_packed::Packed;
 use std::collections::BTreeMap;
 use std::marker::Model;
 
-/// A relation: its heading, how many inserts it has accepted, its tuples by their numbers, packed, and an index of these. Contracts see all
-/// but the index, in which each tuple has its reach under its number, and the keys of its texts.
+/// A relation: its heading, how many inserts it has accepted, its tuples by their numbers, packed, and an index of these, in which each
+/// tuple has its reach under its number, and the keys of its texts. Contracts see all but the keys. Of the reaches they see the entries,
+/// and how many of them stand in no tree.
 #[derive(Drop)]
 pub(crate) struct Relation {
     pub(crate) heading: Heading,
@@ -31,7 +32,7 @@ impl Model for Relation {
 
     ghost Value = { Relation };
 
-    ghost view = { λ r. record { heading = r.heading; inserts = r.inserts; tuples = record { entries = r.tuples.entries } } };
+    ghost view = { λ r. record { heading = r.heading; inserts = r.inserts; tuples = record { entries = r.tuples.entries }; reaches = r.index.hulls } };
 
     ghost invariant = { λ r. IsIndexOf r.heading r.index r.tuples.entries };
 }
@@ -61,7 +62,7 @@ impl Stored {
     /// Inserts a tuple into the relation, and gives the tuple's number.
     ///
     /// # Errors
-    /// `Full` or `Spent` as [`Relation::refusal`] says, otherwise out of memory. Nothing is changed then.
+    /// `Full` or `Spent` as [`Relation::refusal`] says, otherwise out of memory. All but the index is as it was then.
     pub(crate) fn insert(&mut self, limit: u32, tuple: Tuple) -> Result<u32, Refusal>
         requires { AreRelations self.old self.old (λ old new. AreUpTo old.inserts old.tuples.entries) }
         ensures ok { IfOk result (λ k. AreRelations self.old self.new (λ old new. Pushes old new tuple k × (refusal_of limit old ≡ None))) }
@@ -76,7 +77,7 @@ impl Stored {
     /// Deletes the tuple of the number from the relation.
     ///
     /// # Errors
-    /// Out of memory; nothing is changed then.
+    /// Out of memory; all but the index is as it was then.
     pub(crate) fn delete(&mut self, number: u64) -> Result<(), NoMemory>
         requires { AreRelations self.old self.old (λ old new. AreUpTo old.inserts old.tuples.entries × (list_any (λ t. t.0 == number) old.tuples.entries ≡ true)) }
         ensures ok { IfOk result (λ _. AreRelations self.old self.new (λ old new. Removes old new number)) }

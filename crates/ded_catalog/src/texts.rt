@@ -4,7 +4,7 @@
 //! text there, and behind the code of the column alone those of the tuples that fix none. So the numbers of all tuples that may have
 //! a text in a column stand in two runs of keys. Nothing rests on the hash but that it is a function: texts that have one code are
 //! slow to find, and nothing is lost.
-ghost use Rattle.std.specs.Prelude.{◌≡◌, ◌%◌, ◌^◌, true, false, IfOk, IfSome, [], ◌∷◌};
+ghost use Rattle.std.specs.Prelude.{◌≡◌, ◌%◌, ◌^◌, true, false, IfOk, IfSome, is_none, [], ◌∷◌};
 ghost use Rattle.std.specs.BTreeSet.{contains};
 ghost use Rattle.std.specs.Ordering.{nat_cmp};
 ghost use Rattle.ded_catalog.specs.Texts.{is_text, text_in, code, key, IsThere, Keeps, IsGone, Grows, HasAll, AreWith};
@@ -99,7 +99,8 @@ impl Texts {
         asked: &[(usize, Name)],
         most: usize,
     ) -> Result<Option<Vec<u32>>, NoMemory>
-        ensures { IfOk result (λ found. IfSome found (λ ids. AreWith self.now.hashing heading.now self.now.set asked.now ids.items)) }
+        ensures found { IfOk result (λ found. IfSome found (λ ids. AreWith self.now.hashing heading.now self.now.set asked.now ids.items)) }
+        ensures none { asked.now ≡ [] → IfOk result (λ found. is_none found ≡ true) }
     {
         for i in 0..asked.len() {
             if let Some(found) = self.find_one(alloc, heading, &asked[i], most)? {

@@ -9,7 +9,7 @@ use Rattle.ded_num.proofs.Lengths.{within_length}
 use Rattle.ded_model.proofs.Lists.{Every, every-left, every-right}
 use Rattle.ded_hull.specs.declared.limit.Limit.{Limit}
 use Rattle.ded_hull.specs.declared.entry.Entry.{Entry}
-use Rattle.ded_hull.specs.Entries.{ids_in, most_nodes}
+use Rattle.ded_hull.specs.Entries.{ids_in, most_nodes, Hulls, most_steps}
 use Rattle.ded_hull.specs.Segments.{IsSegment, AreSegments}
 use Rattle.ded_hull.specs.Trees.{all_of, AreAlong, IsCost, IsCostOfAll, AreFalling, IsRoomFor}
 use Rattle.ded_hull.proofs.Found.{ids_in-append, taken_more}
@@ -100,10 +100,10 @@ doubled (t ∷ ts) h = subst (λ n. 2 ^ suc (length ts) ≤ n + 1) (sym (length-
 
 -- of one tree more
 pub cost_more : (ls : List Limit) (ts : List (List Entry)) (i : ℕ) (t : List Entry) (old before after : ℕ) → i < length ts → t ≡ get_or ts i t → IsCost ls t before after
-    → (AreAlong ls → AreSegments (all_of ts) → Every (λ t. 0 < length t) ts → (h : ℕ) → length (all_of ts) ≤ 2 ^ h → before ≤ old + (2 * ((length (ids_in ls (all_of (take i ts))) + i) * h) + i))
-    → AreAlong ls → AreSegments (all_of ts) → Every (λ t. 0 < length t) ts → (h : ℕ) → length (all_of ts) ≤ 2 ^ h → after ≤ old + (2 * ((length (ids_in ls (all_of (take (i + 1) ts))) + (i + 1)) * h) + (i + 1))
+    → (AreAlong ls → AreSegments (all_of ts) → Every (λ t. 0 < length t) ts → (h : ℕ) → length (all_of ts) ≤ 2 ^ h → before ≤ old + 9 * (2 * ((length (ids_in ls (all_of (take i ts))) + i) * h) + i))
+    → AreAlong ls → AreSegments (all_of ts) → Every (λ t. 0 < length t) ts → (h : ℕ) → length (all_of ts) ≤ 2 ^ h → after ≤ old + 9 * (2 * ((length (ids_in ls (all_of (take (i + 1) ts))) + (i + 1)) * h) + (i + 1))
 cost_more ls ts i t old before after inside is one former along segments some h few =
-    subst (λ k. after ≤ old + (2 * ((k + (i + 1)) * h) + (i + 1))) (sym counted) (sum (length (ids_in ls (all_of (take i ts)))) (length (ids_in ls t)) i h old before after (former along segments some h few) (one along own own_some h own_few))
+    subst (λ k. after ≤ old + 9 * (2 * ((k + (i + 1)) * h) + (i + 1))) (sym counted) (sum (length (ids_in ls (all_of (take i ts)))) (length (ids_in ls t)) i h old before after (former along segments some h few) (one along own own_some h own_few))
   where
     more : all_of (take (i + 1) ts) ≡ all_of (take i ts) ++ t
     more = tree_more ts i t inside is
@@ -129,12 +129,12 @@ cost_more ls ts i t old before after inside is one former along segments some h 
     own_few : length t ≤ 2 ^ h
     own_few = part (length (all_of (take i ts))) (length t) (length (all_of (drop (i + 1) ts))) (length (all_of ts)) (2 ^ h) lengths few
 
-    sum : (a b i h old before after : ℕ) → before ≤ old + (2 * ((a + i) * h) + i) → after ≤ before + (2 * ((b + 1) * h) + 1) → after ≤ old + (2 * ((a + b + (i + 1)) * h) + (i + 1))
+    sum : (a b i h old before after : ℕ) → before ≤ old + 9 * (2 * ((a + i) * h) + i) → after ≤ before + 9 * (2 * ((b + 1) * h) + 1) → after ≤ old + 9 * (2 * ((a + b + (i + 1)) * h) + (i + 1))
     sum a b i h old before after e f = omega arith
 
 -- of the first ones, no more than of all
 pub cost_whole : (ls : List Limit) (ts : List (List Entry)) (i old after : ℕ) → i ≤ length ts
-    → (AreAlong ls → AreSegments (all_of ts) → Every (λ t. 0 < length t) ts → (h : ℕ) → length (all_of ts) ≤ 2 ^ h → after ≤ old + (2 * ((length (ids_in ls (all_of (take i ts))) + i) * h) + i))
+    → (AreAlong ls → AreSegments (all_of ts) → Every (λ t. 0 < length t) ts → (h : ℕ) → length (all_of ts) ≤ 2 ^ h → after ≤ old + 9 * (2 * ((length (ids_in ls (all_of (take i ts))) + i) * h) + i))
     → IsCostOfAll ls ts old after
 cost_whole ls ts i old after inside c along segments some h few =
     wider (length (ids_in ls (all_of (take i ts)))) (length (ids_in ls (all_of ts))) i (length ts) h old after fewer inside (c along segments some h few)
@@ -152,10 +152,10 @@ cost_whole ls ts i old after inside c along segments some h few =
         add : (a b i m : ℕ) → a ≤ b → i ≤ m → a + i ≤ b + m
         add a b i m p q = omega arith
 
-    wider : (a b i m h old after : ℕ) → a ≤ b → i ≤ m → after ≤ old + (2 * ((a + i) * h) + i) → after ≤ old + (2 * ((b + m) * h) + m)
+    wider : (a b i m h old after : ℕ) → a ≤ b → i ≤ m → after ≤ old + 9 * (2 * ((a + i) * h) + i) → after ≤ old + 9 * (2 * ((b + m) * h) + m)
     wider a b i m h old after p q r = close ((a + i) * h) ((b + m) * h) i m old after (grown a b i m p q h) q r
       where
-        close : (x y i m old after : ℕ) → x ≤ y → i ≤ m → after ≤ old + (2 * x + i) → after ≤ old + (2 * y + m)
+        close : (x y i m old after : ℕ) → x ≤ y → i ≤ m → after ≤ old + 9 * (2 * x + i) → after ≤ old + 9 * (2 * y + m)
         close x y i m old after p q r = omega arith
 
 pow_some : (a : ℕ) → 1 ≤ 2 ^ a
@@ -177,9 +177,9 @@ pow_back (suc a) (suc b) h = more a b (pow_back a b (less a b h))
     more a b h = omega arith
 
 -- of trees that fall, and a list beside them
-pub few_nodes : (ls : List Limit) (ts : List (List Entry)) (tail view : List Entry) (old after : ℕ) → all_of ts ++ tail ≡ view → AreFalling ts → IsCostOfAll ls ts old after → AreAlong ls → AreSegments view → after ≤ old + most_nodes ls view
+pub few_nodes : (ls : List Limit) (ts : List (List Entry)) (tail view : List Entry) (old after : ℕ) → all_of ts ++ tail ≡ view → AreFalling ts → IsCostOfAll ls ts old after → AreAlong ls → AreSegments view → after ≤ old + 9 * most_nodes ls view
 few_nodes ls ts tail view old after is falling cost along segments =
-    subst (λ es. after ≤ old + most_nodes ls es) is
+    subst (λ es. after ≤ old + 9 * most_nodes ls es) is
     (enough (length (ids_in ls (all_of ts))) (length (ids_in ls (all_of ts ++ tail))) (length ts) d old after fewer few (cost along own (all_some ts falling) d (under (length (all_of ts)) (2 ^ d) here)))
   where
     d : ℕ
@@ -218,11 +218,21 @@ few_nodes ls ts tail view old after is falling cost along segments =
         add : (a b i m : ℕ) → a ≤ b → i ≤ m → a + i ≤ b + m
         add a b i m p q = omega arith
 
-    enough : (a b m d old after : ℕ) → a ≤ b → m ≤ d → after ≤ old + (2 * ((a + m) * d) + m) → after ≤ old + (2 * b + 2 * d + 1) * d
+    enough : (a b m d old after : ℕ) → a ≤ b → m ≤ d → after ≤ old + 9 * (2 * ((a + m) * d) + m) → after ≤ old + 9 * ((2 * b + 2 * d + 1) * d)
     enough a b m d old after p q r = close ((a + m) * d) b m d old after (grown a b m d p q d) q r
       where
-        close : (x b m d old after : ℕ) → x ≤ (b + d) * d → m ≤ d → after ≤ old + (2 * x + m) → after ≤ old + (2 * b + 2 * d + 1) * d
+        close : (x b m d old after : ℕ) → x ≤ (b + d) * d → m ≤ d → after ≤ old + 9 * (2 * x + m) → after ≤ old + 9 * ((2 * b + 2 * d + 1) * d)
         close x b m d old after p q r = omega arith
+
+-- and of the list beside them
+pub few_steps : (ls : List Limit) (ts : List (List Entry)) (tail : List Entry) (x : Hulls) (old middle after : ℕ) → record { entries = all_of ts ++ tail; loose = length tail } ≡ x → AreFalling ts → IsCostOfAll ls ts old middle → after ≤ middle + length tail
+    → AreAlong ls → AreSegments x.entries → after ≤ old + most_steps ls x
+few_steps ls ts tail x old middle after is falling cost rest along segments =
+    subst (λ n. after ≤ old + (9 * most_nodes ls x.entries + n)) (ap (λ (y : Hulls). y.loose) is)
+    (sum old middle after (most_nodes ls x.entries) (length tail) (few_nodes ls ts tail x.entries old middle (ap (λ (y : Hulls). y.entries) is) falling cost along segments) rest)
+  where
+    sum : (old middle after n b : ℕ) → middle ≤ old + 9 * n → after ≤ middle + b → after ≤ old + (9 * n + b)
+    sum old middle after n b h k = omega arith
 
 -- ---- how many trees stay
 

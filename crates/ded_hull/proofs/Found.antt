@@ -95,12 +95,12 @@ some_to ls (e ∷ es) i (inl k) = subst (λ b. Has (cond b (e.id ∷ ids_in ls e
 some_to ls (e ∷ es) i (inr k) = has_later (may_hold e.reach ls) e.id (ids_in ls es) i (some_to ls es i k)
 
 -- the numbers in order, each once
-pub answer : (ls : List Limit) (es view : List Entry) → es ≡ view → (found sorted ids : List ℕ) → found ≡ ids_in ls es → IsPermutation found sorted → IsSorted nat_cmp sorted → ids ≡ dedup eqb sorted → AreFound ls view ids
-answer ls es view v found sorted ids e p s is = record {
+pub answer : (ls : List Limit) (es : List Entry) (found sorted ids : List ℕ) → found ≡ ids_in ls es → IsPermutation found sorted → IsSorted nat_cmp sorted → ids ≡ dedup eqb sorted → AreFound ls es ids
+answer ls es found sorted ids e p s is = record {
   ascending = subst IsStrictlyIncreasing (sym is) (IsStrictlyIncreasing-dedup sorted s);
   exact = λ i. (
-    λ c. subst (Some (IsPassing ls i)) v (from i (subst (λ xs. Contains xs i) e (Contains-permutation sorted found i (IsPermutation-sym found sorted p) (Contains-from_dedup eqb sorted i (subst (λ xs. Contains xs i) is c))))),
-    λ h. subst (λ xs. Contains xs i) (sym is) (Contains-dedup_nat sorted i (Contains-permutation found sorted i p (subst (λ xs. Contains xs i) (sym e) (has_to (ids_in ls es) i (some_to ls es i (subst (Some (IsPassing ls i)) (sym v) h)))))),
+    λ c. from i (subst (λ xs. Contains xs i) e (Contains-permutation sorted found i (IsPermutation-sym found sorted p) (Contains-from_dedup eqb sorted i (subst (λ xs. Contains xs i) is c)))),
+    λ h. subst (λ xs. Contains xs i) (sym is) (Contains-dedup_nat sorted i (Contains-permutation found sorted i p (subst (λ xs. Contains xs i) (sym e) (has_to (ids_in ls es) i (some_to ls es i h))))),
   );
 }
   where

@@ -167,12 +167,12 @@ halved_narrow zero ns es l = subst AreNarrow (sym l.alone) (l.ends.one, tt)
 halved_narrow (suc h) ns es (inl l) = subst AreNarrow (sym l.alone) (l.ends.one, tt)
 halved_narrow (suc h) ns es (inr f) = subst AreNarrow (sym f.nodes) (f.ends.one, every-append (λ n. length n.hull ≡ 1) f.first f.second (halved_narrow h f.first f.left f.front) (halved_narrow h f.second f.right f.back))
 
-pub tree_cost : (ls : List Limit) (ns : List Node) (es : List Entry) (s t : ℕ) → IsBalanced ns es → (AreNarrow ns → t ≤ s + looked_at ls 0 ns) → IsCost ls es s t
+pub tree_cost : (ls : List Limit) (ns : List Node) (es : List Entry) (s t : ℕ) → IsBalanced ns es → (AreNarrow ns → t ≤ s + 9 * looked_at ls 0 ns) → IsCost ls es s t
 tree_cost ls ns es s t b c along segments some h few =
     let halved = b segments some h few in
     trans t s (looked_at ls 0 ns) (2 * ((length (ids_in ls es) + 1) * h) + 1) (c (halved_narrow h ns es halved)) (cost_any ls along h ns es halved segments)
   where
-    trans : (t s a b : ℕ) → t ≤ s + a → a ≤ b → t ≤ s + b
+    trans : (t s a b : ℕ) → t ≤ s + 9 * a → a ≤ b → t ≤ s + 9 * b
     trans t s a b h k = omega arith
 
 -- ---- hulls whose ends are ends of the entries

@@ -1,7 +1,7 @@
 -- Trees in lists: built of halves, and looked through.
-use Rattle.std.proofs.Common.{◌≡◌, ℕ, zero, suc, ◌+◌, ◌-◌, ◌<◌, ◌≤◌, true, false, true≢false, Option, Some, List, [], ◌∷◌, ◌++◌, take, drop, length, arith, refl, sym, ap, ap₂, ◌∙◌, subst, append_assoc, length-append}
+use Rattle.std.proofs.Common.{◌≡◌, ℕ, zero, suc, ◌+◌, ◌-◌, ◌<◌, ◌≤◌, true, false, true≢false, Option, Some, List, [], ◌∷◌, ◌++◌, take, drop, length, min, arith, refl, sym, ap, ap₂, ◌∙◌, subst, append_assoc, length-append}
 use Rattle.std.proofs.Math.Seq.{take-length}
-use Rattle.std.proofs.lemmas.List.{take-append-le, drop-append-le, take_all, take-append-drop, drop-drop, length-drop}
+use Rattle.std.proofs.lemmas.List.{take-append-le, drop-append-le, take_all, take-append-drop, drop-drop, length-drop, length-take}
 use Rattle.std.specs.Prelude.{is_some}
 use Rattle.std.specs.List.{slice_get}
 use Rattle.std.specs.Option.{unwrap_or}
@@ -46,6 +46,7 @@ root_longer : (n : Node) (ns ms : List Node) (xs ys : List Entry) → IsRoot n n
 root_longer n ns ms xs ys r = record {
   fits = longer n.below (length ns) (length ms) (length (ns ++ ms)) r.fits (length-append ns ms);
   inside = longer n.count (length xs) (length ys) (length (xs ++ ys)) r.inside (length-append xs ys);
+  few = r.few;
   covers = subst (Covers n.hull) (sym (take-append-le n.count xs ys r.inside)) r.covers;
   whole = ap (λ ks. owns n.below n.count + owned ks) (take-append-le n.below ns ms r.fits) ∙ r.whole;
 }
@@ -85,10 +86,14 @@ tree_joined n ns ms all xs ys es e f b k t u c = subst (λ zs. IsTree zs es) (sy
     sum : (o a c : ℕ) → o ≡ 0 → a ≡ c → o + a ≡ c
     sum o a c e h = omega arith
 
+    none_few : (o : ℕ) → o ≡ 0 → o ≤ 8
+    none_few o e = omega arith
+
     root : IsRoot n (ns ++ ms) es
     root = record {
       fits = le_of n.below (length (ns ++ ms)) count;
       inside = le_of n.count (length es) k;
+      few = none_few (owns n.below n.count) own;
       covers = subst (Covers n.hull) (sym (ap (λ j. take j es) k ∙ take-length es)) c;
       whole = ap (λ j. owns n.below n.count + owned (take j (ns ++ ms))) count ∙ ap (λ ks. owns n.below n.count + owned ks) (take-length (ns ++ ms)) ∙ sum (owns n.below n.count) (owned (ns ++ ms)) n.count own whole;
     }
@@ -178,6 +183,17 @@ module _ (ls : List Limit) (n : Node) (ns : List Node) (es : List Entry) (t : Is
       none : (b c : ℕ) → 0 < b → owns b c ≡ 0
       none zero c h = absurd (omega (arith, h))
       none (suc b) c h = refl
+
+-- few entries are the own ones of a node
+pub own_few : (n : Node) (ns : List Node) (es own : List Entry) → IsTree (n ∷ ns) es → n.below ≡ 0 → own ≡ take n.count es → (old new : ℕ) → new ≤ old + length own → new ≤ old + 8
+own_few n ns es own t b e old new h = few (length own) (length es) n.count (owns n.below n.count) old new (all n.below n.count b) (ap (λ (xs : List Entry). length xs) e ∙ length-take n.count es) t.0.few h
+  where
+    all : (b c : ℕ) → b ≡ 0 → owns b c ≡ c
+    all zero c e = refl
+    all (suc b) c e = absurd (omega (arith, e))
+
+    few : (l m c o old new : ℕ) → o ≡ c → l ≡ min c m → o ≤ 8 → new ≤ old + l → new ≤ old + 8
+    few l m c o old new e f h k = omega arith
 
 -- ---- hulls over halves
 

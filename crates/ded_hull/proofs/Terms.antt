@@ -1,5 +1,5 @@
 -- The values of a column of which a multiple and a constant stand to 0, and reaches narrowed to them.
-use Rattle.std.proofs.Common.{◌≡◌, ℕ, zero, suc, ◌+◌, ◌<◌, ◌≤◌, Bool, true, false, cond, Option, Some, None, List, [], ◌∷◌, ◌++◌, length, get_or, set, arith, refl, sym, ap, ◌∙◌, subst, add-one, take_at}
+use Rattle.std.proofs.Common.{◌≡◌, ℕ, zero, suc, ◌+◌, ◌<◌, ◌≤◌, Bool, true, false, cond, Option, Some, None, List, [], ◌∷◌, ◌++◌, length, get_or, set, arith, refl, sym, ap, ◌∙◌, subst, add-one, take_at, length-append}
 use Rattle.std.specs.Prelude.{ℤ, pos, ◌+ℤ◌, ◌-ℤ◌, ◌*ℤ◌, ◌≤ℤ◌, ◌<ℤ◌, int_lt, int_le, neg_ℤ}
 use Rattle.std.specs.Ordering.{int_eq}
 use Rattle.std.specs.Option.{IfSome}
@@ -10,11 +10,13 @@ use Rattle.ded_num.proofs.Ring.{parts, diff_same, ring}
 use Rattle.ded_model.specs.declared.row.RowOp.{RowOp}
 use Rattle.ded_model.specs.declared.row.RowOp.TheVariants.{Zero, AtMost, Below}
 use Rattle.ded_model.specs.Row.{sign_meets}
+use Rattle.ded_model.proofs.Lists.{every-append}
 use Rattle.ded_hull.specs.declared.reach.Range.{Range}
-use Rattle.ded_hull.specs.Codes.{fine}
+use Rattle.ded_hull.specs.Codes.{fine, is_up_to}
 use Rattle.ded_hull.specs.Reaches.{IsAbove, IsBelow, NotAbove, NotBelow, IsIn, Lies, everywhere, range_at, both_low, both_high, met, narrowed, all_values}
 use Rattle.ded_hull.specs.Limits.{Term, sum_of}
 use Rattle.ded_hull.specs.Tuples.{IsRangeOf}
+use Rattle.ded_hull.specs.Segments.{AreOrdered}
 use Rattle.ded_hull.proofs.Ends.{above_lower, below_higher}
 use Rattle.ded_hull.specs.Scaling.{le_unscale, not_negative, times_up}
 
@@ -198,6 +200,33 @@ narrowed_in_place old now p r own m e h f g =
 -- values that lie in what is narrowed
 pub lies_as : (old new : List Range) (p : ℕ) (r : Range) → new ≡ narrowed old p r → (v : ℕ → ℤ) (den : ℕ) → Lies old v den → IsIn r (v p) den → Lies new v den
 lies_as old new p r e v den l h = subst (λ (rs : List Range). Lies rs v den) (sym e) (lies_narrowed old p r v den l h)
+
+-- values in a reach and in one range more
+pub lies_more : (rs : List Range) (x : Range) (p : ℕ) (v : ℕ → ℤ) (den : ℕ) → length rs ≡ p → Lies rs v den → IsIn x (v p) den → Lies (rs ++ x ∷ []) v den
+lies_more [] x zero v den e l i zero = i
+lies_more [] x zero v den e l i (suc q) = record { low = tt; high = tt }
+lies_more [] x (suc p) v den e l i q = absurd (omega (arith, e))
+lies_more (r ∷ rs) x zero v den e l i q = absurd (omega (arith, e))
+lies_more (r ∷ rs) x (suc p) v den e l i zero = l zero
+lies_more (r ∷ rs) x (suc p) v den e l i (suc q) = lies_more rs x p (λ j. v (suc j)) den (omega (arith, e)) (λ j. l (suc j)) i q
+
+-- ---- ranges put in order
+
+-- of the first so many columns
+pub record AreInOrder (old : List Range) (p : ℕ) (rs : List Range) : Type 0 where
+  pub width : length rs ≡ p
+  pub ends : AreOrdered rs
+  pub lies : (v : ℕ → ℤ) (den : ℕ) → 0 < den → Lies old v den → Lies rs v den
+
+pub in_order_none : (old new : List Range) → new ≡ [] → AreInOrder old 0 new
+in_order_none old new e = subst (AreInOrder old 0) (sym e) (record { width = refl; ends = tt; lies = λ v den s l p. record { low = tt; high = tt } })
+
+pub in_order_more : (old now new : List Range) (p : ℕ) (r x : Range) → new ≡ now ++ x ∷ [] → r ≡ range_at old p → is_up_to x.low x.high ≡ true → ((num : ℤ) (den : ℕ) → 0 < den → IsIn r num den → IsIn x num den) → AreInOrder old p now → AreInOrder old (p + 1) new
+in_order_more old now new p r x e f k w h = subst (AreInOrder old (p + 1)) (sym e) (record {
+  width = length-append now (x ∷ []) ∙ ap (λ n. n + 1) h.width;
+  ends = every-append (λ (s : Range). is_up_to s.low s.high ≡ true) now (x ∷ []) h.ends (k, tt);
+  lies = λ v den s l. lies_more now x p v den h.width (h.lies v den s l) (w (v p) den s (subst (λ (s : Range). IsIn s (v p) den) (sym f) (l p)));
+})
 
 pub one_more : (now new : List Range) (n : ℕ) (r : Range) → now ≡ all_values n → r ≡ everywhere → new ≡ now ++ r ∷ [] → new ≡ all_values (n + 1)
 one_more now new n r e f g = g ∙ ap (λ (rs : List Range). rs ++ r ∷ []) e ∙ ap (λ (x : Range). all_values n ++ x ∷ []) f ∙ all_values-more n

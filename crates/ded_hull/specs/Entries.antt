@@ -40,6 +40,15 @@ IsComplete ls es ids = (v : ℕ → ℤ) (den : ℕ) → 0 < den → are_met v d
 abbrev pub most_nodes : List Limit → List Entry → ℕ
 most_nodes ls es = (2 * length (ids_in ls es) + 2 * length_of (pos (length es)) + 1) * length_of (pos (length es))
 
+-- the entries of an index, and how many of them stand in no tree
+pub record Hulls : Type 0 where
+  pub entries : List Entry
+  pub loose : ℕ
+
+-- how many nodes and entries a look-up may look at then: 9 for each of these nodes, and the entries that stand in no tree
+abbrev pub most_steps : List Limit → Hulls → ℕ
+most_steps ls x = 9 * most_nodes ls x.entries + x.loose
+
 -- the hull contains the reaches of all entries
 abbrev pub Covers : List Range → List Entry → Type 0
 Covers h es = Every (λ e. IsWithin e.reach h) es

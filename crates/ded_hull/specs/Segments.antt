@@ -20,6 +20,10 @@ pub record IsSegment (e : Entry) : Type 0 where
 abbrev pub AreSegments : List Entry → Type 0
 AreSegments es = Every IsSegment es
 
+-- no range ends before it begins
+abbrev pub AreOrdered : List Range → Type 0
+AreOrdered rs = Every (λ r. is_up_to r.low r.high ≡ true) rs
+
 -- ---- middles
 
 abbrev pub middle_between : Option ℤ → Option ℤ → ℤ

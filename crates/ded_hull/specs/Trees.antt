@@ -21,10 +21,11 @@ owned [] = 0
 owned (n ∷ ns) = owns n.below n.count + owned ns
 
 -- of a node with the nodes behind it and the entries from its first on: its hull contains the entries of it and of the nodes below
--- it, and these are as many as it says
+-- it, these are as many as it says, and few are its own
 pub record IsRoot (n : Node) (ns : List Node) (es : List Entry) : Type 0 where
   pub fits : n.below ≤ length ns
   pub inside : n.count ≤ length es
+  pub few : owns n.below n.count ≤ 8
   pub covers : Covers n.hull (take n.count es)
   pub whole : owns n.below n.count + owned (take n.below ns) ≡ n.count
 
@@ -112,15 +113,15 @@ pub record AreAlong (ls : List Limit) : Type 0 where
   pub some : 0 < den
   pub met : are_met values den ls ≡ true
 
--- with k entries found in a list that is halved h times, at most 2 (k + 1) h + 1 nodes
+-- with k entries found in a list that is halved h times, at most 2 (k + 1) h + 1 nodes, and 8 entries of each
 abbrev pub IsCost : List Limit → List Entry → ℕ → ℕ → Type 0
 IsCost ls es before after =
-    AreAlong ls → AreSegments es → 0 < length es → (h : ℕ) → length es ≤ 2 ^ h → after ≤ before + (2 * ((length (ids_in ls es) + 1) * h) + 1)
+    AreAlong ls → AreSegments es → 0 < length es → (h : ℕ) → length es ≤ 2 ^ h → after ≤ before + 9 * (2 * ((length (ids_in ls es) + 1) * h) + 1)
 
--- of several lists: 2 (k + m) h + m, with m lists
+-- of several lists: 2 (k + m) h + m nodes, with m lists
 abbrev pub IsCostOfAll : List Limit → List (List Entry) → ℕ → ℕ → Type 0
 IsCostOfAll ls ts before after =
-    AreAlong ls → AreSegments (all_of ts) → Every (λ t. 0 < length t) ts → (h : ℕ) → length (all_of ts) ≤ 2 ^ h → after ≤ before + (2 * ((length (ids_in ls (all_of ts)) + length ts) * h) + length ts)
+    AreAlong ls → AreSegments (all_of ts) → Every (λ t. 0 < length t) ts → (h : ℕ) → length (all_of ts) ≤ 2 ^ h → after ≤ before + 9 * (2 * ((length (ids_in ls (all_of ts)) + length ts) * h) + length ts)
 
 -- ---- lists of trees
 

@@ -1,5 +1,5 @@
 //! Entries, the hulls of lists of them, and how such lists are split.
-ghost use Rattle.std.specs.Prelude.{◌≡◌, ◌<◌, ◌≤◌, ◌%◌, ◌++◌, List, [], ◌∷◌, length, IfOk};
+ghost use Rattle.std.specs.Prelude.{◌≡◌, ◌<◌, ◌≤◌, ◌+◌, ◌%◌, ◌++◌, List, [], ◌∷◌, length, IfOk};
 ghost use Rattle.std.specs.List.Sorted.{IsPermutation};
 ghost use Rattle.ded_hull.specs.declared.entry.Entry.{Entry};
 ghost use Rattle.ded_hull.specs.Entries.{ids_in, of_keys, Covers};
@@ -8,9 +8,11 @@ ghost use Rattle.ded_hull.specs.Segments.{middle, middle_order, AreSegments, InO
 use crate::probe::Probe;
 use crate::reach::{Range, Reach};
 use ded_model::memory::NoMemory;
+use ded_model::steps::Steps;
 use std::alloc::Global;
 use std::cmp::Ordering;
 use std::collections::BTreeMap;
+use std::sync::ledger::Ledger;
 
 /// How many times a list that is sorted once is halved.
 const LEVELS: u32 = 2;
@@ -58,18 +60,21 @@ fn cover(hull: &mut Reach, entries: &[Entry])
     }
 }
 
-/// Adds the numbers of the entries in whose reaches the limits may hold.
+/// Adds the numbers of the entries in whose reaches the limits may hold. Each entry that is looked at is a step.
 ///
 /// # Errors
 /// Out of memory.
-pub(crate) fn push_passing(
+pub(crate) fn push_passing<L: Ledger>(
     entries: &[Entry],
     probe: &Probe,
     found: &mut Vec<u32>,
+    steps: &mut Steps<L>,
 ) -> Result<(), NoMemory>
-    ensures { IfOk result (λ _. found.new.items ≡ found.old.items ++ ids_in probe.now entries.now) }
+    ensures found { IfOk result (λ _. found.new.items ≡ found.old.items ++ ids_in probe.now entries.now) }
+    ensures steps { steps.new ≤ steps.old + length entries.now }
 {
     for i in 0..entries.len() {
+        steps.tick();
         push_if_passing(&entries[i], probe, found)?;
     }
     Ok(())

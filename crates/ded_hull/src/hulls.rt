@@ -4,7 +4,7 @@
 //! largest, and the new tree takes over the list. Where memory for a tree is wanting, its entries stay in the list, and none is lost.
 ghost use Rattle.std.specs.Prelude.{◌≡◌, ◌<◌, ◌≤◌, ◌+◌, ◌-◌, ◌^◌, ◌++◌, ◌∷◌, [], min, length, take, drop, IfOk, OnOk, OnErr};
 ghost use Rattle.std.specs.List.Sorted.{IsPermutation};
-ghost use Rattle.ded_hull.specs.Entries.{ids_in, of_keys, AreFound, IsComplete, most_nodes};
+ghost use Rattle.ded_hull.specs.Entries.{ids_in, of_keys, AreFound, IsComplete, most_steps};
 ghost use Rattle.ded_hull.specs.Segments.{AreSegments};
 ghost use Rattle.ded_hull.specs.Trees.{all_of, AreAlong, AreFalling, IsRoomFor, IsCostOfAll};
 
@@ -17,13 +17,13 @@ use ded_model::memory::NoMemory;
 use ded_model::steps::Steps;
 use std::alloc::Global;
 use std::collections::BTreeMap;
-use std::marker::{Brand, Model};
-use std::sync::ledger::{Blank, Ledger};
+use std::marker::Model;
+use std::sync::ledger::Ledger;
 
-/// How many new entries stand beside the trees, as long as there is memory for trees.
+/// How many new entries stand beside the trees before they become one.
 const FEW: usize = 32;
 
-/// Reaches under numbers. Contracts see the list of the entries.
+/// Reaches under numbers. Contracts see the list of the entries, and how many of them stand in no tree.
 ///
 /// New entries stand in a list. When it is full, they and those of all last trees that have less than twice as many become one tree. So
 /// each entry moves few times, and each tree has at least twice as many entries as the next one.
@@ -34,13 +34,13 @@ pub struct Hulls {
 }
 
 impl Model for Hulls {
-    ghost use Rattle.std.specs.Prelude.{List, ◌++◌};
-    ghost use Rattle.ded_hull.specs.declared.entry.Entry.{Entry};
+    ghost use Rattle.std.specs.Prelude.{◌++◌, length};
+    ghost use Rattle.ded_hull.specs.Entries.{Hulls};
     ghost use Rattle.ded_hull.specs.Trees.{all_of, AreFalling};
 
-    ghost Value = { List Entry };
+    ghost Value = { Hulls };
 
-    ghost view = { λ x. all_of x.trees.items ++ x.tail.items };
+    ghost view = { λ x. record { entries = all_of x.trees.items ++ x.tail.items; loose = length x.tail.items } };
 
     ghost invariant = { λ x. AreFalling x.trees.items };
 }
@@ -48,7 +48,7 @@ impl Model for Hulls {
 impl Hulls {
     /// No entries.
     pub fn new(alloc: Global) -> Hulls
-        ensures { result ≡ [] }
+        ensures { result ≡ record { entries = []; loose = 0 } }
     {
         Hulls {
             trees: Vec::new(alloc),
@@ -58,34 +58,34 @@ impl Hulls {
 
     /// How many entries there are, as far as they can be counted.
     pub fn count(&self) -> usize
-        ensures { result ≡ min (length self.now) (2 ^ 64 - 1) }
+        ensures { result ≡ min (length self.now.entries) (2 ^ 64 - 1) }
     {
         count_in(&self.trees).saturating_add(self.tail.len())
     }
 
-    /// Adds an entry.
+    /// Adds an entry. At most 32 entries stand in no tree then.
     ///
     /// # Errors
-    /// Out of memory; nothing has changed then.
+    /// Out of memory; the entries are the same then, maybe in another order, and any number of them may stand in no tree until one is
+    /// inserted.
     pub fn insert(&mut self, id: u32, reach: Reach) -> Result<(), NoMemory>
-        ensures inserted { IfOk result (λ _. IsPermutation (record { id = id; reach = reach } ∷ self.old) self.new) }
-        ensures unchanged { OnErr result (self.new ≡ self.old) }
+        ensures inserted { IfOk result (λ _. IsPermutation (record { id = id; reach = reach } ∷ self.old.entries) self.new.entries) }
+        ensures settled { IfOk result (λ _. self.new.loose ≤ 32) }
+        ensures kept { OnErr result (IsPermutation self.old.entries self.new.entries) }
     {
+        settle(&mut self.trees, &mut self.tail)?;
         self.tail.push(Entry { id, reach })?;
-        if FEW <= self.tail.len() {
-            // without memory for a tree the list grows on
-            let _ = settle(&mut self.trees, &mut self.tail);
-        }
         Ok(())
     }
 
-    /// Keeps the entries whose numbers are keys of the map, in another order.
+    /// Keeps the entries whose numbers are keys of the map, in another order. Where there is no memory for a tree of them, all stand in
+    /// none until one is inserted.
     ///
     /// # Errors
-    /// Out of memory; the entries are the same then.
+    /// Out of memory; the entries are the same then, and any number of them may stand in no tree.
     pub fn retain<V>(&mut self, present: &BTreeMap<u32, V>) -> Result<(), NoMemory>
-        ensures kept { OnOk result (IsPermutation (of_keys present.now.entries self.old) self.new) }
-        ensures unchanged { OnErr result (self.new ≡ self.old) }
+        ensures kept { OnOk result (IsPermutation (of_keys present.now.entries self.old.entries) self.new.entries) }
+        ensures unchanged { OnErr result (self.new.entries ≡ self.old.entries) }
     {
         gather(&mut self.trees, 0, &mut self.tail)?;
         keep_present(&mut self.tail, present);
@@ -95,12 +95,13 @@ impl Hulls {
         Ok(())
     }
 
-    /// The same entries, in another order.
+    /// The same entries, in another order, each in a tree.
     ///
     /// # Errors
     /// Out of memory.
     pub fn copy(&self, alloc: Global) -> Result<Hulls, NoMemory>
-        ensures { IfOk result (λ h. IsPermutation self.now h) }
+        ensures entries { IfOk result (λ h. IsPermutation self.now.entries h.entries) }
+        ensures settled { IfOk result (λ h. h.loose ≡ 0) }
     {
         let mut tail = Vec::with_capacity(alloc, self.count())?;
         copy_trees(&self.trees, &mut tail)?;
@@ -110,10 +111,10 @@ impl Hulls {
         Ok(Hulls { trees, tail })
     }
 
-    /// The numbers of the entries in whose reaches the limits may hold, ascending. Each node of a tree that is looked at is a step. With
-    /// k entries found of n that have one range each, with ends in order, and limits of one term at most that some values meet, these are
-    /// at most (2k + 2d + 1) d, where d is the count of binary digits of n. A node has at most 8 entries of its own. The
-    /// entries that stand in no tree, fewer than 32 as long as there is memory for trees, are looked at besides.
+    /// The numbers of the entries in whose reaches the limits may hold, ascending. Each node of a tree and each entry that is looked at
+    /// is a step. With k entries found of n that have one range each, with ends in order, and limits of one term at most that some values
+    /// meet, these are at most 9 (2k + 2d + 1) d, where d is the count of binary digits of n, and as many more as entries stand in no
+    /// tree.
     ///
     /// # Errors
     /// Out of memory.
@@ -123,48 +124,18 @@ impl Hulls {
         limits: &[Limit],
         steps: &mut Steps<L>,
     ) -> Result<Vec<u32>, NoMemory>
-        ensures found { IfOk result (λ ids. AreFound limits.now self.now ids.items) }
-        ensures complete { IfOk result (λ ids. IsComplete limits.now self.now ids.items) }
-        ensures steps { AreAlong limits.now → AreSegments self.now → steps.new ≤ steps.old + most_nodes limits.now self.now }
+        ensures found { IfOk result (λ ids. AreFound limits.now self.now.entries ids.items) }
+        ensures complete { IfOk result (λ ids. IsComplete limits.now self.now.entries ids.items) }
+        ensures count { IfOk result (λ ids. length ids.items ≤ length (ids_in limits.now self.now.entries)) }
+        ensures steps { AreAlong limits.now → AreSegments self.now.entries → steps.new ≤ steps.old + most_steps limits.now self.now }
     {
         let probe = Probe::new(alloc, limits)?;
         let mut found = Vec::new(alloc);
         find_in(&self.trees, &probe, &mut found, steps)?;
-        push_passing(&self.tail, &probe, &mut found)?;
+        push_passing(&self.tail, &probe, &mut found, steps)?;
         found.sort_unstable();
         found.dedup();
         Ok(found)
-    }
-
-    /// The numbers of the entries in whose reaches the limits may hold, ascending, without counting steps.
-    ///
-    /// # Errors
-    /// Out of memory.
-    pub fn find(&self, alloc: Global, limits: &[Limit]) -> Result<Vec<u32>, NoMemory>
-        ensures found { IfOk result (λ ids. AreFound limits.now self.now ids.items) }
-        ensures complete { IfOk result (λ ids. IsComplete limits.now self.now ids.items) }
-    {
-        self.find_over::<Brand>(alloc, limits, Blank::new(1))
-    }
-
-    /// The numbers of the entries in whose reaches the limits may hold, ascending, with the steps counted on a new ledger.
-    ///
-    /// # Errors
-    /// Out of memory.
-    fn find_over<L: Ledger>(
-        &self,
-        alloc: Global,
-        limits: &[Limit],
-        blank: Blank,
-    ) -> Result<Vec<u32>, NoMemory>
-        requires name { blank.name ≡ L.name }
-        requires parts { blank.parts ≡ L.parts }
-        requires some { 0 < L.parts }
-        ensures found { IfOk result (λ ids. AreFound limits.now self.now ids.items) }
-        ensures complete { IfOk result (λ ids. IsComplete limits.now self.now ids.items) }
-    {
-        let mut steps = Steps::<L>::new(blank);
-        self.look_up(alloc, limits, &mut steps)
     }
 }
 
@@ -211,14 +182,18 @@ fn copy_trees(trees: &[Tree], to: &mut Vec<Entry>) -> Result<(), NoMemory>
     Ok(())
 }
 
-/// Makes one tree of the list and of the last trees that aren't much larger.
+/// Makes one tree of the list and of the last trees that aren't much larger, where the list is full.
 ///
 /// # Errors
 /// Out of memory; the entries stay then too, some of them in the list.
 fn settle(trees: &mut Vec<Tree>, tail: &mut Vec<Entry>) -> Result<(), NoMemory>
     ensures entries { IsPermutation (all_of trees.old.items ++ tail.old.items) (all_of trees.new.items ++ tail.new.items) }
+    ensures room { OnOk result (length tail.new.items < 32) }
     ensures falling { AreFalling trees.old.items → AreFalling trees.new.items }
 {
+    if tail.len() < FEW {
+        return Ok(());
+    }
     let keep = kept(trees, tail.len());
     gather(trees, keep, tail)?;
     plant(trees, tail)
@@ -261,6 +236,7 @@ fn gather(trees: &mut Vec<Tree>, keep: usize, tail: &mut Vec<Entry>) -> Result<(
 /// Out of memory; the entries stay in the list then, in another order.
 fn plant(trees: &mut Vec<Tree>, tail: &mut Vec<Entry>) -> Result<(), NoMemory>
     ensures entries { IsPermutation (all_of trees.old.items ++ tail.old.items) (all_of trees.new.items ++ tail.new.items) }
+    ensures planted { OnOk result (tail.new.items ≡ []) }
     ensures falling { AreFalling trees.old.items → IsRoomFor (length tail.old.items) trees.old.items → AreFalling trees.new.items }
 {
     if tail.is_empty() {

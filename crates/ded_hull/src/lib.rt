@@ -2,8 +2,8 @@
 //!
 //! A [`Reach`] has for each column two ends between which the values lie, rounded outward. A [`Limit`] is a row over
 //! the columns, and [`may_hold`] is false only where no values in the reach meet all limits. [`Hulls`] keeps reaches under numbers, and
-//! [`Hulls::find`] gives exactly the numbers of those in which limits may hold, in ascending order. [`Hulls::look_up`] counts the nodes
-//! of trees that it looks at, with [`ded_model::steps::Steps`]: how many these are is bounded in one column.
+//! [`Hulls::look_up`] gives exactly the numbers of those in which limits may hold, in ascending order. It counts each node of a tree and
+//! each entry that it looks at, with [`ded_model::steps::Steps`]: how many these are is bounded in one column.
 //!
 //! What may hold in a reach may hold in each reach that contains it, so a tree whose hull doesn't pass is passed over and loses nothing.
 //! Entries stand in a few lists, each with a tree over it, and move to another when lists become one. None is taken out by itself:

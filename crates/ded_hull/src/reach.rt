@@ -1,9 +1,10 @@
 //! Reaches, and their ends from exact bounds.
-ghost use Rattle.std.specs.Prelude.{◌≡◌, ℕ, ℤ, ◌<◌, ◌<ℤ◌, ◌≤ℤ◌, ◌*ℤ◌, pos, neg_ℤ, [], ◌++◌, ◌∷◌, IfOk, OnErr, IfSome};
+ghost use Rattle.std.specs.Prelude.{◌≡◌, ℕ, ℤ, ◌<◌, ◌<ℤ◌, ◌≤ℤ◌, ◌*ℤ◌, pos, neg_ℤ, true, [], ◌++◌, ◌∷◌, length, IfOk, OnErr, IfSome};
 ghost use Rattle.ded_num.specs.Length.{IsShort};
 ghost use Rattle.ded_model.specs.declared.bound.Bound.TheVariants.{Included};
-ghost use Rattle.ded_hull.specs.Codes.{fine};
+ghost use Rattle.ded_hull.specs.Codes.{fine, is_up_to};
 ghost use Rattle.ded_hull.specs.Reaches.{IsFloor, IsCeil, IsWithin, lower_of, higher_of, joined, range_at, hull, IsIn, Lies, both_low, both_high, everywhere, met, narrowed, all_values};
+ghost use Rattle.ded_hull.specs.Segments.{AreOrdered};
 
 use crate::end::{End, FINE};
 use crate::number::directed;
@@ -106,6 +107,23 @@ impl Reach {
         narrow(self.ranges.as_mut_slice(), place, range);
     }
 
+    /// The reach of so many columns with the same values in which no range ends before it begins: one that does, in which no value lies,
+    /// ends where it begins.
+    ///
+    /// # Errors
+    /// Out of memory.
+    pub fn in_order(&self, width: usize) -> Result<Reach, NoMemory>
+        ensures width { IfOk result (λ r. length r ≡ width) }
+        ensures ends { IfOk result (λ r. AreOrdered r) }
+        ensures lies { IfOk result (λ r. (v : ℕ → ℤ) (den : ℕ) → 0 < den → Lies self.now v den → Lies r v den) }
+    {
+        let mut ranges = SmallVec::with_capacity(*self.ranges.allocator(), width)?;
+        for place in 0..width {
+            ranges.push(in_order(self.at(place)))?;
+        }
+        Ok(Reach { ranges })
+    }
+
     /// Widens it to the least reach, place by place, that contains the other too.
     pub fn widen(&mut self, other: &Reach)
         ensures value { self.new ≡ hull self.old other.now }
@@ -133,6 +151,21 @@ fn narrow(ranges: &mut [Range], place: usize, range: Range)
 {
     if place < ranges.len() {
         ranges[place] = met(ranges[place], range);
+    }
+}
+
+/// The range, or its low end alone where it ends before it begins, so that no value lies in it.
+fn in_order(range: Range) -> Range
+    ensures ends { is_up_to result.low result.high ≡ true }
+    ensures lies { (num : ℤ) (den : ℕ) → 0 < den → IsIn range num den → IsIn result num den }
+{
+    if range.low.is_up_to(range.high) {
+        range
+    } else {
+        Range {
+            low: range.low,
+            high: range.low,
+        }
     }
 }
 

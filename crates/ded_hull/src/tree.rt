@@ -9,7 +9,7 @@
 //!
 //! A tree never changes. It is built over a list of entries, which are put in its order where they stand, and gives the list back for
 //! a larger tree.
-ghost use Rattle.std.specs.Prelude.{◌≡◌, ◌<◌, ◌≤◌, ◌+◌, ◌%◌, ◌^◌, ◌++◌, ◌∷◌, [], ℕ, List, length, IfOk, OnOk, OnErr};
+ghost use Rattle.std.specs.Prelude.{◌≡◌, ◌<◌, ◌≤◌, ◌+◌, ◌*◌, ◌%◌, ◌^◌, ◌++◌, ◌∷◌, [], ℕ, List, length, IfOk, OnOk, OnErr};
 ghost use Rattle.std.specs.List.Sorted.{IsPermutation};
 ghost use Rattle.ded_hull.specs.declared.entry.Entry.{Entry};
 ghost use Rattle.ded_hull.specs.Entries.{ids_in, Covers};
@@ -81,7 +81,7 @@ impl Tree {
         self.entries.len()
     }
 
-    /// Adds the numbers of the entries in whose reaches the limits may hold. Each node that is looked at is a step.
+    /// Adds the numbers of the entries in whose reaches the limits may hold. Each node and each entry that is looked at is a step.
     ///
     /// # Errors
     /// Out of memory.
@@ -203,7 +203,7 @@ fn joined(
     Ok(nodes)
 }
 
-/// Adds the numbers of the entries of a tree in whose reaches the limits may hold. Each node that is looked at is a step.
+/// Adds the numbers of the entries of a tree in whose reaches the limits may hold. Each node and each entry that is looked at is a step.
 ///
 /// # Errors
 /// Out of memory.
@@ -216,31 +216,33 @@ pub(crate) fn visit_all<L: Ledger>(
 ) -> Result<(), NoMemory>
     requires { IsTree nodes.now entries.now }
     ensures found { IfOk result (λ _. found.new.items ≡ found.old.items ++ ids_in probe.now entries.now) }
-    ensures steps { AreNarrow nodes.now → steps.new ≤ steps.old + looked_at probe.now 0 nodes.now }
+    ensures steps { AreNarrow nodes.now → steps.new ≤ steps.old + 9 * looked_at probe.now 0 nodes.now }
 {
     let mut next = nodes;
     let mut rest = entries;
     while let Some((node, behind)) = next.split_first() {
         steps.tick();
-        (next, rest) = visit(node, behind, rest, probe, found)?;
+        (next, rest) = visit(node, behind, rest, probe, found, steps)?;
     }
     Ok(())
 }
 
 /// Adds the numbers of a node's own entries in whose reaches the limits may hold, and gives the nodes that come next with the entries
-/// from their first on. Behind the node stand the others of the tree, and its entries come first.
+/// from their first on. Behind the node stand the others of the tree, and its entries come first. Each entry that is looked at is a step.
 ///
 /// # Errors
 /// Out of memory.
-fn visit<'a>(
+fn visit<'a, L: Ledger>(
     node: &Node,
     behind: &'a [Node],
     entries: &'a [Entry],
     probe: &Probe,
     found: &mut Vec<u32>,
+    steps: &mut Steps<L>,
 ) -> Result<(&'a [Node], &'a [Entry]), NoMemory>
     requires { IsTree (node.now ∷ behind.now) entries.now }
-    ensures { IfOk result (λ next. IsStep probe.now node.now behind.now entries.now next.0.now next.1.now found.old.items found.new.items) }
+    ensures next { IfOk result (λ next. IsStep probe.now node.now behind.now entries.now next.0.now next.1.now found.old.items found.new.items) }
+    ensures steps { steps.new ≤ steps.old + 8 }
 {
     if !probe.may_pass(&node.hull) {
         return Ok((&behind[node.below..], &entries[node.count..]));
@@ -248,6 +250,6 @@ fn visit<'a>(
     if node.below > 0 {
         return Ok((behind, entries));
     }
-    push_passing(&entries[..node.count], probe, found)?;
+    push_passing(&entries[..node.count], probe, found, steps)?;
     Ok((behind, &entries[node.count..]))
 }

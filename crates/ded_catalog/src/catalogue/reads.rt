@@ -1,6 +1,8 @@
 //! What a catalogue is asked. Only look-ups in windows and copies allocate.
-ghost use Rattle.std.specs.Prelude.{◌≡◌, true, false, IfOk, IfSome, is_none, map};
+ghost use Rattle.std.specs.Prelude.{◌≡◌, ◌≤◌, ◌<◌, ◌+◌, true, false, Some, IfOk, IfSome, is_none, map};
+ghost use Rattle.std.specs.Map.{lookup};
 ghost use Rattle.std.specs.Option.{option_map};
+ghost use Rattle.std.specs.Str.{bytes_eq};
 
 use super::Catalogue;
 use crate::mentions::mentioned;
@@ -11,9 +13,12 @@ use ded_model::formula::Formula;
 use ded_model::goal::Goal;
 use ded_model::memory::NoMemory;
 use ded_model::name::{Heading, Name};
+use ded_model::steps::Steps;
 use ded_packed::Packed;
 use std::alloc::Global;
 use std::collections::BTreeMap;
+use std::marker::Brand;
+use std::sync::ledger::{Blank, Ledger};
 
 impl Catalogue {
     ghost use Rattle.ded_model.specs.Catalogue.{entry_name};
@@ -26,9 +31,11 @@ impl Catalogue {
     ghost use Rattle.ded_model.specs.Slotted.{goal_of};
     ghost use Rattle.ded_sorts.specs.Causes.{insert_refusal, is_relation_with};
     ghost use Rattle.ded_model.specs.Entries.{known, entry_of, relation_in, view_in};
+    ghost use Rattle.ded_catalog.specs.Lookups.{IsLookup, HasReaches, most_reads};
     ghost use Rattle.ded_catalog.specs.Mentions.{AreMentions};
     ghost use Rattle.ded_catalog.specs.Nearby.{numbered, AreFound};
-    ghost use Rattle.ded_catalog.specs.State.{catalogue_of};
+    ghost use Rattle.ded_catalog.specs.Relations.{Relation};
+    ghost use Rattle.ded_catalog.specs.State.{catalogue_of, relation_at};
 
     /// Every catalogue is well formed: each entry has a new name, the tuples of a relation are normal, over its columns
     /// and numbered in ascending order, and each view is accepted over the entries before it. It does nothing.
@@ -58,6 +65,32 @@ impl Catalogue {
     /// The tuples of a relation that may hold in the window, with their numbers, in ascending order of these. All that hold somewhere in
     /// it are among them. None exactly where the name is no relation.
     ///
+    /// Each node of a tree of reaches, each entry and each tuple that is looked at is a step, and so is each number that is found of no
+    /// tuple. Keys of texts aren't counted. Where the relation has one column, and the window no texts and some limits, each of one term at
+    /// most, that some values meet, the steps are at most 9 (2k + 2d + 1) d + k, and as many more as entries stand in no tree: k entries in
+    /// whose reaches the limits may hold, and d binary digits of how many entries there are.
+    ///
+    /// # Errors
+    /// Out of memory.
+    pub fn look_up<'a, L: Ledger>(
+        &'a self,
+        alloc: Global,
+        name: &Name,
+        window: &Window,
+        steps: &mut Steps<L>,
+    ) -> Result<Option<Vec<(u32, &'a Packed)>>, NoMemory>
+        ensures found { IfOk result (λ found. AreFound window.now (option_map (λ v. numbered v.items) found) (relation_in (entry_of (catalogue_of self.now).entries name.now))) }
+        ensures steps { (r : Relation) → relation_at (lookup (bytes_eq name.now) self.now.names) ≡ Some r → IsLookup window.now r → steps.new ≤ steps.old + most_reads window.now r }
+    {
+        match relation_of(&self.names, name) {
+            Some(relation) => Ok(Some(relation.near(alloc, window, steps)?)),
+            None => Ok(None),
+        }
+    }
+
+    /// The tuples of a relation that may hold in the window, with their numbers, in ascending order of these, without counting steps. All
+    /// that hold somewhere in it are among them. None exactly where the name is no relation.
+    ///
     /// # Errors
     /// Out of memory.
     pub fn near<'a>(
@@ -68,9 +101,36 @@ impl Catalogue {
     ) -> Result<Option<Vec<(u32, &'a Packed)>>, NoMemory>
         ensures { IfOk result (λ found. AreFound window.now (option_map (λ v. numbered v.items) found) (relation_in (entry_of (catalogue_of self.now).entries name.now))) }
     {
-        match relation_of(&self.names, name) {
-            Some(relation) => Ok(Some(relation.near(alloc, window)?)),
-            None => Ok(None),
+        self.near_over::<Brand>(alloc, name, window, Blank::new(1))
+    }
+
+    /// The tuples of a relation that may hold in the window, with their numbers, with the steps counted on a new ledger.
+    ///
+    /// # Errors
+    /// Out of memory.
+    fn near_over<'a, L: Ledger>(
+        &'a self,
+        alloc: Global,
+        name: &Name,
+        window: &Window,
+        blank: Blank,
+    ) -> Result<Option<Vec<(u32, &'a Packed)>>, NoMemory>
+        requires name { blank.name ≡ L.name }
+        requires parts { blank.parts ≡ L.parts }
+        requires some { 0 < L.parts }
+        ensures { IfOk result (λ found. AreFound window.now (option_map (λ v. numbered v.items) found) (relation_in (entry_of (catalogue_of self.now).entries name.now))) }
+    {
+        let mut steps = Steps::<L>::new(blank);
+        self.look_up(alloc, name, window, &mut steps)
+    }
+
+    /// Each tuple of a relation has an entry in its index, with its number and a reach that contains its points, and where the relation
+    /// has one column, all entries there are segments. It does nothing.
+    pub fn indexed(&self, name: &Name)
+        ensures { (r : Relation) → relation_at (lookup (bytes_eq name.now) self.now.names) ≡ Some r → HasReaches r }
+    {
+        if let Some(relation) = relation_of(&self.names, name) {
+            relation.indexed();
         }
     }
 

@@ -11,8 +11,8 @@ returns-clause-falling c = λ h.
     let old = c.args.trees.now.items in
     let new = c.gather.new.trees.items in
     let keep = c.kept-keep.result in
-    let count : c.len.result ≡ length c.args.tail.now.items = search rules in
+    let count : c.len-2.result ≡ length c.args.tail.now.items = search rules in
     let inside : keep ≤ length old = subst (λ ts. keep ≤ length ts) c.deref.ensures.value c.kept-keep.ensures.inside in
-    let room : IsRoomFor (length (all_of (drop keep old)) + c.len.result) (take keep old) = subst (λ ts. IsRoomFor (length (all_of (drop keep ts)) + c.len.result) (take keep ts)) c.deref.ensures.value c.kept-keep.ensures.room in
+    let room : IsRoomFor (length (all_of (drop keep old)) + c.len-2.result) (take keep old) = subst (λ ts. IsRoomFor (length (all_of (drop keep ts)) + c.len-2.result) (take keep ts)) c.deref.ensures.value c.kept-keep.ensures.room in
     c.plant.ensures.falling (falling_taken (length new) old new c.gather.ensures.first h)
-    (room_settled old new c.args.tail.now.items c.gather.new.tail.items keep c.len.result inside c.gather.ensures.first c.in_ok-gather.ensures.gathered c.gather.ensures.moved count room)
+    (room_settled old new c.args.tail.now.items c.gather.new.tail.items keep c.len-2.result inside c.gather.ensures.first c.in_ok-gather.ensures.gathered c.gather.ensures.moved count room)

@@ -1,12 +1,14 @@
-use Rattle.std.proofs.Common.{◌≡◌, true, None, ap, sym, ◌∙◌, subst}
+use Rattle.std.proofs.Common.{◌≡◌, ◌≤◌, true, None, ap, sym, ◌∙◌, subst}
 use Rattle.std.specs.Option.{unwrap_or}
 use Rattle.ded_model.specs.declared.command.Refusal.TheVariants.{Memory}
 use Rattle.ded_model.specs.Known.{IsTupleOver}
 use Rattle.ded_sorts.specs.Causes.{insert_refusal, is_relation_with}
 use Rattle.ded_sorts.specs.Changes.{Inserts}
 use Rattle.ded_model.specs.Entries.{known, columns_in}
+use Rattle.ded_catalog.specs.Relations.{Relation}
 use Rattle.ded_catalog.specs.State.{catalogue_of}
 use Rattle.ded_catalog.proofs.Calls.{numbers_there, refusal_there, kept-pushed, kept-same, inserts, same_catalogue}
+use Rattle.ded_catalog.proofs.Lookups.{relation_changed}
 use Rattle.ded_catalog.proofs.Results.{either, if_ok_by, if_err_by, on_err}
 use Rattle.ded_catalog.proofs.catalogue.Catalogue.insert.Goals as goal
 
@@ -26,6 +28,12 @@ returns-clause-ok c =
     if_ok_by c.insert_into.result _ _
     (λ k h. subst (λ t. Inserts (catalogue_of t) (catalogue_of (record { limit = c.self.inside.limit; names = c.insert_into.new.table.entries })) c.args.name.now c.args.t k) c.self.view_is
     (inserts c.self.inside.limit c.self.inside.names.entries c.args.name.now c.self.invariant h.old h.was _ h.new h.is c.args.t k h.so.0))
+    c.insert_into.ensures.ok
+
+pub returns-clause-settled : goal.returns-clause-settled
+returns-clause-settled c =
+    if_ok_by c.insert_into.result _ _
+    (λ k h r is. subst (λ (x : Relation). x.reaches.loose ≤ 32) (relation_changed c.args.name.now c.self.inside.names.entries _ h.old h.new r h.was h.is is) h.so.0.settled)
     c.insert_into.ensures.ok
 
 pub returns-clause-room : goal.returns-clause-room

@@ -10,16 +10,16 @@ use Rattle.ded_catalog.proofs.Picked.{picked_near}
 use Rattle.ded_catalog.proofs.Results.{if_ok_by}
 use Rattle.ded_catalog.proofs.stored.Relation.near.Goals as goal
 
-pub returns-then-is_empty-2 : goal.returns-then-is_empty-2
-returns-then-is_empty-2 c =
+pub returns-then-is_empty-2-clause-found : goal.returns-then-is_empty-2-clause-found
+returns-then-is_empty-2-clause-found g c =
     let w = c.args.window.now in
     let ts = c.args.self.now.tuples.entries in
     let same : c.self.inside.tuples.entries ≡ ts = ap (λ (r : Relation). r.tuples.entries) c.self.view_is in
     if_ok_by c.listed.result (λ v. numbered v.items ≡ c.self.inside.tuples.entries) _
-    (λ v e. subst (λ (us : List (ℕ × List Atom)). AreNear w us ts) (sym (e ∙ same)) (sublist_refl (λ t. IsMissed w t.1) ts)) c.listed.ensures
+    (λ v e. subst (λ (us : List (ℕ × List Atom)). AreNear w us ts) (sym (e ∙ same)) (sublist_refl (λ t. IsMissed w t.1) ts)) c.listed.ensures.list
 
-pub returns-then-len-le1 : goal.returns-then-len-le1
-returns-then-len-le1 c =
+pub returns-then-len-le1-clause-found : goal.returns-then-len-le1-clause-found
+returns-then-len-le1-clause-found g c =
     let w = c.args.window.now in
     let ts = c.self.inside.tuples.entries in
     let ids = c.in-Some.numbers.items in
@@ -29,10 +29,10 @@ returns-then-len-le1 c =
     (λ v e.
     subst (λ (us : List (ℕ × List Atom)). AreNear w (numbered v.items) us) (ap (λ (r : Relation). r.tuples.entries) c.self.view_is)
     (subst (λ (us : List (ℕ × List Atom)). AreNear w us ts) (sym (e ∙ ap (λ (is : List ℕ). picked is ts) c.deref.ensures.value)) picks))
-    c.picked.ensures
+    c.picked.ensures.found
 
-pub returns : goal.returns
-returns c =
+pub returns-clause-found : goal.returns-clause-found
+returns-clause-found g c =
     let w = c.args.window.now in
     let ts = c.self.inside.tuples.entries in
     let ids = c.in-Some.numbers.items in
@@ -44,4 +44,4 @@ returns c =
     let own : AreNear w (numbered v.items) (picked ids ts) =
     subst (λ (is : List ℕ). AreNear w (numbered v.items) (picked is ts)) c.deref-2.ensures.value (subst (λ (x : Window). AreNear x (numbered v.items) (picked c.deref-2.result.now ts)) same n) in
     subst (λ (us : List (ℕ × List Atom)). AreNear w (numbered v.items) us) (ap (λ (r : Relation). r.tuples.entries) c.self.view_is) (sublist_trans (λ t. IsMissed w t.1) (numbered v.items) (picked ids ts) ts own picks))
-    c.looked_up-2.ensures
+    c.looked_up-2.ensures.found

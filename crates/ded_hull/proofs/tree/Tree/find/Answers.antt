@@ -1,4 +1,4 @@
-use Rattle.std.proofs.Common.{subst, ◌≤◌, ◌+◌}
+use Rattle.std.proofs.Common.{subst, ◌≤◌, ◌+◌, ◌*◌}
 use Rattle.ded_hull.specs.Trees.{IsCost, AreNarrow, looked_at}
 use Rattle.ded_hull.proofs.Halved.{tree_cost}
 use Rattle.ded_hull.proofs.tree.Tree.find.Goals as goal
@@ -9,4 +9,4 @@ returns-clause-steps g c =
     let ns = c.self.inside.nodes.items in
     let s = c.args.steps.now in
     let t = c.visit_all.new.steps in
-    subst (λ es. IsCost ls es s t) c.self.view_is (tree_cost ls ns c.self.inside.entries.items s t c.self.invariant.1 (subst (λ ks. AreNarrow ks → t ≤ s + looked_at ls 0 ks) c.deref.ensures.value c.visit_all.ensures.steps))
+    subst (λ es. IsCost ls es s t) c.self.view_is (tree_cost ls ns c.self.inside.entries.items s t c.self.invariant.1 (subst (λ ks. AreNarrow ks → t ≤ s + 9 * looked_at ls 0 ks) c.deref.ensures.value c.visit_all.ensures.steps))
