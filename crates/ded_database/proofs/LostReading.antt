@@ -19,7 +19,7 @@ use Rattle.ded_model.proofs.Members.{In-left, In-right, In-split}
 use Rattle.ded_model.proofs.Rows.{or_left, or_right}
 use Rattle.ded_genrel.proofs.Items.{done_to, all-push}
 use Rattle.ded_algebra.specs.Evaluation.{HaveSorts}
-use Rattle.ded_eval.specs.Laws.{line_in_order}
+use Rattle.ded_atoms.specs.Laws.{line_in_order}
 use Rattle.ded_eval.specs.Scanning.{column_pairs}
 use Rattle.ded_eval.proofs.ColumnCoefs.{mapped_columns}
 use Rattle.ded_eval.proofs.Columns.{IsRead, read, read_sort, read_once}

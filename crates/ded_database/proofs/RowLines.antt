@@ -13,7 +13,7 @@ use Rattle.ded_model.proofs.Members.{In-left, In-right, In-split, or_split}
 use Rattle.ded_model.proofs.Rows.{or_left, or_right}
 use Rattle.ded_genrel.proofs.Items.{done_to}
 use Rattle.ded_genrel.proofs.Renamed.{mapped_lines-append}
-use Rattle.ded_eval.proofs.TuplesRead.{tuple_mentions-push, atoms_lines-append}
+use Rattle.ded_atoms.proofs.TuplesRead.{tuple_mentions-push, atoms_lines-append}
 use Rattle.ded_keep.proofs.Covered.{lines-push}
 use Rattle.ded_database.specs.Lost.{AreApartLines, AreLeftWithout}
 

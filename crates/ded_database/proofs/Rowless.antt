@@ -6,7 +6,7 @@ use Rattle.ded_model.specs.Lines.{In, IsSubset, atoms_lines, tuples_lines}
 use Rattle.ded_model.specs.Row.{Atom}
 use Rattle.ded_model.proofs.Members.{In-split}
 use Rattle.ded_genrel.proofs.Items.{done_to}
-use Rattle.ded_eval.proofs.TuplesRead.{atoms_lines-append}
+use Rattle.ded_atoms.proofs.TuplesRead.{atoms_lines-append}
 use Rattle.ded_keep.proofs.Covered.{lines-push}
 
 -- one text atom more

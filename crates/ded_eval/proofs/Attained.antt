@@ -31,7 +31,7 @@ use Rattle.ded_model.specs.declared.tuple.ThemeAtom.{ThemeAtom}
 use Rattle.ded_model.specs.declared.tuple.ThemeAtom.TheVariants.{EqText, NeText, EqSlot, NeSlot}
 use Rattle.ded_model.specs.Normal.{first_slot}
 use Rattle.ded_theory.specs.declared.answers.Verdict.TheVariants.{Inhabited}
-use Rattle.ded_eval.specs.Own.{last_slot}
+use Rattle.ded_atoms.specs.Own.{last_slot}
 use Rattle.ded_eval.specs.Finding.{IsFoundIn, HasValues, AreAlike, HoldsWithValues, IsAttained, IsConjVerdict}
 use Rattle.ded_eval.specs.Within.{is_rows, rows_hold, all_rows_hold}
 use Rattle.ded_eval.proofs.Evaluated.{every-push}

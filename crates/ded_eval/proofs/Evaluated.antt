@@ -19,7 +19,7 @@ use Rattle.ded_algebra.specs.Evaluation.{IsEvaluation, IsEvaluationWithin}
 use Rattle.ded_genrel.specs.Lists.{conjs_of, conjs_hold, conjs_mention, conjs_lines}
 use Rattle.ded_genrel.specs.Operations.{IsOperation, IsInhabitedPart}
 use Rattle.ded_genrel.proofs.Laws.{conjs_hold-append, conjs_mention-append, conjs_lines-append}
-use Rattle.ded_eval.specs.Reading.{IsConjunctionOf}
+use Rattle.ded_atoms.specs.Reading.{IsConjunctionOf}
 use Rattle.ded_eval.specs.Within.{IsBegun}
 
 -- ---- one part more
@@ -81,6 +81,15 @@ module _ {A : Type 0} (h : A → Point → Bool) (m : A → Slot → Bool) (l : 
   -- what is so everywhere is so inside
   pub everywhere_for : (c : Catalogue) (f : PlanForm) (xs : List (List A)) → IsEvaluation c f (conjs_hold h xs) (conjs_mention m xs) (conjs_lines l xs) → IsListFor c f xs
   everywhere_for c f xs a = record { holds = λ p i w. a.holds p i refl; slots = a.slots; lines = a.lines }
+
+  -- so is a list that holds alike and has nothing new
+  pub distinct_for : (c : Catalogue) (f : PlanForm) (xs out : List (List A)) → ((p : Point) → conjs_hold h out p ≡ conjs_hold h xs p)
+      → ((s : Slot) → conjs_mention m out s ≡ true → conjs_mention m xs s ≡ true) → IsSubset (conjs_lines l out) (conjs_lines l xs) → IsListFor c f xs → IsListFor c f out
+  distinct_for c f xs out e u z a = record {
+    holds = λ p i w. (λ x. (a.holds p i w).0 (sym (e p) ∙ x), λ x. e p ∙ (a.holds p i w).1 x);
+    slots = λ s x. a.slots s (u s x);
+    lines = subset_trans (conjs_lines l out) (conjs_lines l xs) (plan_lines (stored_measures c) f) z a.lines;
+  }
 
   -- ---- unions
 

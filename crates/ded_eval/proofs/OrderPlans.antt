@@ -18,9 +18,10 @@ use Rattle.ded_elimination.specs.LinearAtoms.{IsLinearAtom}
 use Rattle.ded_theory.specs.Both.{IsByKind}
 use Rattle.ded_order.specs.OrderRows.{IsOrderAtom}
 use Rattle.ded_algebra.specs.Evaluation.{IsAnyAtom, IsScannedFrom, IsScannable, IsEvaluable}
-use Rattle.ded_eval.specs.Laws.{IsOfRows}
-use Rattle.ded_eval.specs.Orders.{is_order_atom, are_orders, AreOrderRows, IsOrder, has_other, has_other_under, has_other_in}
-use Rattle.ded_eval.proofs.RowsRead.{evaluable_weaker}
+use Rattle.ded_atoms.specs.Laws.{IsOfRows}
+use Rattle.ded_atoms.specs.Orders.{is_order_atom, are_orders, IsOrder}
+use Rattle.ded_eval.specs.OrderPlans.{AreOrderRows, has_other, has_other_under, has_other_in}
+use Rattle.ded_eval.proofs.PlansRead.{evaluable_weaker}
 
 -- ---- atoms
 

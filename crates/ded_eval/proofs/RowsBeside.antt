@@ -13,7 +13,7 @@ use Rattle.ded_model.proofs.Members.{subset_append, or_split, In-left}
 use Rattle.ded_theory.specs.Conjunctions.{conj_mentions, conj_lines}
 use Rattle.ded_theory.proofs.Conjunctions.{conj_holds-append, conj_mentions-append}
 use Rattle.ded_genrel.proofs.Laws.{conj_lines-append}
-use Rattle.ded_eval.specs.Reading.{IsConjunctionOf}
+use Rattle.ded_atoms.specs.Reading.{IsConjunctionOf}
 use Rattle.ded_eval.specs.Within.{is_rows, rows_hold, all_rows_hold, AreRowsOf}
 use Rattle.ded_eval.proofs.Evaluated.{mentions-push, lines-push}
 

@@ -28,7 +28,7 @@ use Rattle.ded_genrel.proofs.Laws.{conjs_line_slots}
 use Rattle.ded_algebra.specs.Evaluation.{IsEvaluationWithin}
 use Rattle.ded_hull.specs.declared.window.Window.{Window}
 use Rattle.ded_hull.proofs.Near.{near_all, near_holds, near_lines}
-use Rattle.ded_eval.specs.Reading.{IsListOf}
+use Rattle.ded_atoms.specs.Reading.{IsListOf}
 use Rattle.ded_eval.specs.Scanning.{column_pairs}
 use Rattle.ded_eval.specs.Within.{IsWindowOf}
 use Rattle.ded_eval.proofs.Columns.{IsRead, read, read_sort, read_into, read_once}

@@ -26,7 +26,7 @@ use Rattle.ded_packed.specs.declared.lent.Lent.{Lent}
 use Rattle.ded_packed.specs.Lent.{tuple_of, lent}
 use Rattle.ded_hull.proofs.Near.{near_all}
 use Rattle.ded_eval.specs.Finding.{IsFoundIn}
-use Rattle.ded_eval.specs.Reading.{IsListOf}
+use Rattle.ded_atoms.specs.Reading.{IsListOf}
 use Rattle.ded_eval.specs.Scanning.{column_pairs}
 use Rattle.ded_eval.proofs.Columns.{IsRead, read, read_sort, read_once}
 use Rattle.ded_eval.proofs.ColumnPoints.{column_point, overs_one, columns_point}

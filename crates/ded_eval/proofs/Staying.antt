@@ -30,8 +30,8 @@ use Rattle.ded_row.proofs.Targets.{swap_law, AreFree, free_step, coef_at-with_co
 use Rattle.ded_genrel.specs.Lists.{conjs_hold, conjs_mention, conjs_lines}
 use Rattle.ded_genrel.specs.Operations.{IsRenaming}
 use Rattle.ded_genrel.proofs.Renamed.{point_fewer}
-use Rattle.ded_eval.specs.Laws.{line_in_order}
-use Rattle.ded_eval.specs.Reading.{IsListOf}
+use Rattle.ded_atoms.specs.Laws.{line_in_order}
+use Rattle.ded_atoms.specs.Reading.{IsListOf}
 use Rattle.ded_eval.specs.Scanning.{column_pairs}
 use Rattle.ded_eval.proofs.ColumnCoefs.{coefs_same}
 

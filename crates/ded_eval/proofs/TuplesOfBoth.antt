@@ -9,10 +9,10 @@ use Rattle.ded_model.specs.Lines.{IsSubset, atoms_lines}
 use Rattle.ded_theory.specs.Both.{by_kind}
 use Rattle.ded_theory.specs.Verdicts.{HoldsNowhere}
 use Rattle.ded_algebra.specs.Evaluation.{IsMet}
-use Rattle.ded_eval.specs.Kept.{IsReducedPart}
-use Rattle.ded_eval.proofs.Conjunctive.{tuple_holds-is}
-use Rattle.ded_eval.proofs.TupleParts.{part_slots, part_lines}
-use Rattle.ded_eval.proofs.TuplesRead.{atoms_lines-append}
+use Rattle.ded_atoms.specs.Kept.{IsReducedPart}
+use Rattle.ded_atoms.proofs.Conjunctive.{tuple_holds-is}
+use Rattle.ded_atoms.proofs.TupleParts.{part_slots, part_lines}
+use Rattle.ded_atoms.proofs.TuplesRead.{atoms_lines-append}
 
 both_hold : (t u : List Atom) (p : Point) → tuple_holds (t ++ u) p ≡ (tuple_holds t p && tuple_holds u p)
 unfolding tuple_holds

@@ -12,10 +12,10 @@ use Rattle.ded_model.proofs.Rows.{or_left, or_right}
 use Rattle.ded_model.proofs.Members.{subset_none, subset_append, subset_trans, or_split}
 use Rattle.ded_theory.specs.Both.{by_kind}
 use Rattle.ded_genrel.specs.Lists.{conjs_hold, conjs_mention, conjs_lines}
-use Rattle.ded_eval.proofs.Conjunctive.{tuple_holds-is, tuple_mentions-is, atoms_lines-is}
+use Rattle.ded_atoms.proofs.Conjunctive.{tuple_holds-is, tuple_mentions-is, atoms_lines-is}
 use Rattle.ded_algebra.specs.Evaluation.{IsEvaluationWithin}
-use Rattle.ded_eval.specs.Reading.{IsWrittenAs}
-use Rattle.ded_eval.proofs.TuplesRead.{tuples_hold-push, tuples_mention-push, tuples_lines-push}
+use Rattle.ded_eval.specs.Written.{IsWrittenAs}
+use Rattle.ded_atoms.proofs.TuplesRead.{tuples_hold-push, tuples_mention-push, tuples_lines-push}
 
 -- ---- one tuple more
 

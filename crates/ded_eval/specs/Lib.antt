@@ -2,10 +2,7 @@ pub mod Finding
 pub mod Given
 pub mod Inside
 pub mod Joining
-pub mod Kept
-pub mod Laws
-pub mod Orders
-pub mod Own
-pub mod Reading
+pub mod OrderPlans
 pub mod Scanning
 pub mod Within
+pub mod Written

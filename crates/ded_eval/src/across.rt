@@ -12,7 +12,7 @@ ghost use Rattle.ded_join.specs.Picks.{IsIndexOver};
 ghost use Rattle.ded_eval.specs.Inside.{IsInsidePart, IsMeetInside};
 
 use crate::beside::alone;
-use crate::reading::{AtomRef, OfTuples};
+use ded_atoms::{AtomRef, OfTuples};
 use ded_genrel::{GenRel, both_conjs};
 use ded_index::BoxIndex;
 use ded_join::{index_over, is_small, join_over, join_shorter};

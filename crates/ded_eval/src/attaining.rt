@@ -6,11 +6,10 @@ ghost use Rattle.ded_model.specs.Point.{Point, IsPoint, stands_in};
 ghost use Rattle.ded_model.specs.Row.{row_holds, theme_holds, atom_holds};
 ghost use Rattle.ded_theory.specs.declared.answers.Verdict.TheVariants.{Empty, Inhabited};
 ghost use Rattle.ded_eval.specs.Finding.{HasValues, AreAlike, IsMetVerdict, IsConjVerdict, IsListVerdict};
-ghost use Rattle.ded_eval.specs.Reading.{atom_of};
+ghost use Rattle.ded_atoms.specs.Reading.{atom_of};
 
 use crate::beside::put_behind;
-use crate::own_slots::{first_slot, last_slot};
-use crate::reading::{AtomRef, OfTuples};
+use ded_atoms::{AtomRef, OfTuples, first_slot, last_slot};
 use ded_genrel::GenRel;
 use ded_model::memory::NoMemory;
 use ded_model::row::Row;

@@ -12,7 +12,7 @@ ghost use Rattle.ded_algebra.specs.Evaluation.{IsScannable};
 ghost use Rattle.ded_eval.specs.Joining.{begun};
 ghost use Rattle.ded_eval.specs.Within.{is_rows, AreRowsOf, IsBegun};
 
-use crate::reading::{OfTuples, conjunction};
+use ded_atoms::{OfTuples, conjunction};
 use ded_genrel::{GenRel, both_conjs, copy_conj};
 use ded_model::memory::NoMemory;
 use ded_model::plan::Plan;

@@ -1,12 +1,12 @@
 //! The evaluation as tuples.
 ghost use Rattle.std.specs.Prelude.{◌≡◌, ◌∷◌, [], IfOk};
-ghost use Rattle.ded_eval.specs.Reading.{IsWrittenAs};
+ghost use Rattle.ded_eval.specs.Written.{IsWrittenAs};
 
-use crate::atoms::{eval, eval_within};
 use crate::finding::found;
 use crate::meeting::met;
-use crate::theories::Atoms;
+use crate::over_atoms::{eval, eval_within};
 use ded_algebra::{Evaluate, Relations};
+use ded_atoms::Atoms;
 use ded_genrel::GenRel;
 use ded_model::memory::{NoMemory, Refused};
 use ded_model::plan::Plan;

@@ -14,11 +14,11 @@ ghost use Rattle.ded_eval.specs.Finding.{IsFoundIn, IsFoundWith, AreAlike, IsPla
 use crate::attaining::{are_over, is_empty, is_inhabited, list_attained};
 use crate::beside::{alone, is_rows, put_behind, rows_of_parts};
 use crate::evaluation::rows;
-use crate::reading::OfTuples;
 use crate::scanning::{FirstTuples, first_scanned};
 use crate::tried::{Bound, is_closed, joins, others_than_rows, projects, with_slot};
 use crate::window::without_slot;
 use ded_algebra::Relations;
+use ded_atoms::OfTuples;
 use ded_genrel::{GenRel, both_conjs};
 use ded_model::memory::{NoMemory, Refused};
 use ded_model::name::Name;

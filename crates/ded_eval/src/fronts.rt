@@ -4,8 +4,8 @@ ghost use Rattle.ded_eval.specs.Joining.{place_of, IsPlace};
 
 use crate::beside::is_rows;
 use crate::lookups::near_count;
-use crate::reading::OfTuples;
 use ded_algebra::Relations;
+use ded_atoms::OfTuples;
 use ded_model::memory::NoMemory;
 use ded_model::plan::Plan;
 use std::alloc::Global;

@@ -1,9 +1,9 @@
 //! Which parts of a join are looked up for each conjunction of the parts before them.
 
 use crate::beside::is_rows;
-use crate::reading::OfTuples;
 use crate::window::columns_window;
 use ded_algebra::Relations;
+use ded_atoms::OfTuples;
 use ded_genrel::GenRel;
 use ded_hull::Window;
 use ded_model::memory::NoMemory;

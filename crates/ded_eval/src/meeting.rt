@@ -2,8 +2,7 @@
 ghost use Rattle.std.specs.Prelude.{IfOk};
 ghost use Rattle.ded_algebra.specs.Evaluation.{IsMet};
 
-use crate::reduction::reduce_answer;
-use crate::theories::Atoms;
+use ded_atoms::{Atoms, reduce_answer};
 use ded_genrel::both_conjs;
 use ded_model::memory::NoMemory;
 use ded_model::tuple::Tuple;

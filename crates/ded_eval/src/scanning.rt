@@ -1,5 +1,5 @@
 //! Scans: the tuples of a relation, its columns read into slots.
-ghost use Rattle.std.specs.Prelude.{◌≡◌, ◌+◌, true, [], IfOk};
+ghost use Rattle.std.specs.Prelude.{◌≡◌, true, [], IfOk};
 ghost use Rattle.ded_model.specs.declared.slot.Slot.{Slot};
 ghost use Rattle.ded_model.specs.Entries.{entry_of};
 ghost use Rattle.ded_model.specs.Logic.{atom};
@@ -12,15 +12,15 @@ ghost use Rattle.ded_algebra.specs.Evaluation.{IsScannedFrom, IsEvaluationWithin
 ghost use Rattle.ded_eval.specs.Finding.{IsFoundIn, IsWholeIn};
 ghost use Rattle.ded_eval.specs.Scanning.{column_pairs};
 
-use crate::reading::{OfTuples, conjunctions};
 use crate::window::columns_window;
 use ded_algebra::Relations;
+use ded_atoms::{OfTuples, conjunctions, following};
 use ded_genrel::GenRel;
 use ded_model::memory::NoMemory;
 use ded_model::name::Name;
 use ded_model::slot::{Slot, Slots};
 use ded_theory::Theory;
-use std::alloc::{AllocError, Global};
+use std::alloc::Global;
 
 /// The tuples of a name, its columns read into the slots: at least all that hold somewhere in the window.
 ///
@@ -137,14 +137,4 @@ pub fn column_pairs(alloc: Global, slots: &[Slot]) -> Result<Vec<(Slot, Slot)>, 
         number = following(number)?;
     }
     Ok(pairs)
-}
-
-/// The next number.
-///
-/// # Errors
-/// Out of memory, where the number is the greatest one and has no next.
-pub(crate) fn following(number: u32) -> Result<u32, NoMemory>
-    ensures { IfOk result (λ n. n ≡ number + 1) }
-{
-    number.checked_add(1).ok_or(AllocError)
 }

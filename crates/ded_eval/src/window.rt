@@ -6,10 +6,10 @@ ghost use Rattle.ded_model.specs.Point as point;
 ghost use Rattle.ded_model.specs.Row.{row_holds, theme_holds, atom_holds, atom_mentions};
 ghost use Rattle.ded_model.specs.Cell.{conj_holds};
 ghost use Rattle.ded_theory.specs.Conjunctions.{conj_mentions};
-ghost use Rattle.ded_eval.specs.Reading.{atom_of};
+ghost use Rattle.ded_atoms.specs.Reading.{atom_of};
 ghost use Rattle.ded_eval.specs.Within.{StandsAt, IsLimitOf, IsWindowOf};
 
-use crate::reading::{AtomRef, OfTuples};
+use ded_atoms::{AtomRef, OfTuples};
 use ded_hull::{Limit, Window};
 use ded_model::memory::NoMemory;
 use ded_model::name::Name;

@@ -3,7 +3,7 @@ use Rattle.std.proofs.Common.{◌≡◌, ℕ, Bool, true, ◌&&◌, List, [], ar
 use Rattle.std.specs.List.{AllByRecursion}
 use Rattle.std.proofs.lemmas.Bool.{false_from_ne_true}
 use Rattle.ded_cert.specs.Pairs.{IsLongCheck, IsWide, SomePair}
-use Rattle.ded_eval.specs.Orders.{AreOrderAtoms}
+use Rattle.ded_atoms.specs.Orders.{AreOrderAtoms}
 use Rattle.ded_lex.specs.Pieces.{Whole}
 use Rattle.ded_model.specs.declared.command.Language.TheVariants.{One}
 use Rattle.ded_model.specs.declared.command.Refusal.{Refusal}

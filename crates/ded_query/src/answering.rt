@@ -20,8 +20,9 @@ ghost use Rattle.ded_query.specs.Over.{over_relations};
 ghost use Rattle.ded_query.specs.Questions.{IsQuestion, IsAnswer};
 
 use crate::gathering::{evaluated_by, give_all};
+use ded_atoms::{holds_everywhere, reduced};
 use ded_catalog::Snapshot;
-use ded_eval::{Given, holds_everywhere, reduced};
+use ded_eval::Given;
 use ded_goals::laws;
 use ded_model::goal::Goal;
 use ded_model::limits;

@@ -3,7 +3,7 @@ ghost use Rattle.std.specs.Prelude.{◌≡◌, IfOk};
 ghost use Rattle.ded_query.specs.Columns.{slot_columns};
 ghost use Rattle.ded_query.specs.Windows.{IsOverSlots, IsAtColumns};
 
-use ded_eval::{Atoms, laws};
+use ded_atoms::{Atoms, laws};
 use ded_genrel::renamed_conj;
 use ded_model::memory::NoMemory;
 use ded_model::slot::{Slot, Slots};

@@ -14,8 +14,9 @@ ghost use Rattle.ded_query.specs.Closing.{closing};
 ghost use Rattle.ded_query.specs.Gathering.{IsGivenOf, IsGathered, IsFront};
 
 use crate::gathering::evaluated_whole;
+use ded_atoms::holds_everywhere;
 use ded_catalog::Snapshot;
-use ded_eval::{Given, everywhere, holds_everywhere, nowhere};
+use ded_eval::{Given, everywhere, nowhere};
 use ded_goals::laws;
 use ded_model::goal::Goal;
 use ded_model::memory::{NoMemory, Refused};

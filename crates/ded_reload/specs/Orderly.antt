@@ -7,7 +7,7 @@ use Rattle.ded_model.specs.Command.{CommandForm, ask, query, box_of}
 use Rattle.ded_model.specs.Entries.{tuples_in}
 use Rattle.ded_model.specs.Row.{Atom, atom_holds}
 use Rattle.ded_orderly.specs.Orderly.{IsOrderly, AreOrdered, reached_points}
-use Rattle.ded_eval.specs.Orders.{AreOrderAtoms}
+use Rattle.ded_atoms.specs.Orders.{AreOrderAtoms}
 
 -- the formula of the question is orderly, or the relation stores order rows alone
 abbrev pub IsOrderlyQuestion : CommandForm → Catalogue → Type 0

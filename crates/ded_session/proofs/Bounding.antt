@@ -14,9 +14,9 @@ use Rattle.ded_model.specs.Point.{Point}
 use Rattle.ded_model.specs.Row.{Atom, tuple_holds, tuples_hold}
 use Rattle.ded_model.specs.Width.{IsBoxNarrow}
 use Rattle.ded_box.specs.Extents.{IsBox}
-use Rattle.ded_eval.specs.Orders.{AreOrderAtoms}
-use Rattle.ded_eval.proofs.Extending.{extent_none, extent_more}
-use Rattle.ded_eval.proofs.WideTuples.{narrow_one, over_one}
+use Rattle.ded_atoms.specs.Orders.{AreOrderAtoms}
+use Rattle.ded_atoms.proofs.Extending.{extent_none, extent_more}
+use Rattle.ded_atoms.proofs.WideTuples.{narrow_one, over_one}
 use Rattle.ded_sorts.proofs.KnownEntries.{columns_there}
 use Rattle.ded_session.specs.Replies.{boxes}
 use Rattle.ded_session.specs.Steps.{Does, MayBeWide}

@@ -20,7 +20,7 @@ use Rattle.ded_cert.specs.Pairs.{pairs_of, AreEntriesOf, IsFirstMeeting, IsLongC
 use Rattle.ded_syntax.specs.Spelling.{Spells, IsHeader}
 use Rattle.ded_sorts.specs.Changes.{AddsEntry, DropsEntry, Inserts, Deletes}
 use Rattle.ded_sorts.specs.Checks.{forms_of}
-use Rattle.ded_eval.specs.Orders.{AreOrderAtoms}
+use Rattle.ded_atoms.specs.Orders.{AreOrderAtoms}
 use Rattle.ded_plan.specs.Plans.{IsPlanOf}
 use Rattle.ded_query.specs.Questions.{IsAnswer}
 use Rattle.ded_dump.specs.Entries.{dump_lines}

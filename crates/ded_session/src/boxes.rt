@@ -9,15 +9,15 @@ ghost use Rattle.ded_model.specs.Known.{IsTupleOver};
 ghost use Rattle.ded_model.specs.Row.{tuples_hold};
 ghost use Rattle.ded_model.specs.Width.{IsBoxNarrow};
 ghost use Rattle.ded_box.specs.Extents.{IsBox};
-ghost use Rattle.ded_eval.specs.Orders.{AreOrderAtoms};
+ghost use Rattle.ded_atoms.specs.Orders.{AreOrderAtoms};
 ghost use Rattle.ded_catalog.specs.State.{catalogue_of};
 ghost use Rattle.ded_sorts.specs.Causes.{is_relation_with};
 ghost use Rattle.ded_session.specs.Answered.{reply_form};
 ghost use Rattle.ded_session.specs.Steps.{Does, MayBeWide};
 
 use crate::reply::Reply;
+use ded_atoms::extended;
 use ded_catalog::Catalogue;
-use ded_eval::extended;
 use ded_model::bound::BoxReply;
 use ded_model::memory::Refused;
 use ded_model::name::{Heading, Name};

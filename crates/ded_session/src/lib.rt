@@ -9,7 +9,7 @@
 //! (`certificates`).
 //!
 //! It stands on `ded_syntax` for commands, on `ded_resolve` for commands by slots, on `ded_database` for the catalogue
-//! and the lists of kept views, on `ded_packed` for the tuples of the catalogue, on `ded_plan` for plans, on `ded_eval` for bounds,
+//! and the lists of kept views, on `ded_packed` for the tuples of the catalogue, on `ded_plan` for plans, on `ded_atoms` for bounds,
 //! on `ded_cert` for certificates and on `ded_model` for what formulas mean.
 #![tactic(auto)]
 

@@ -20,9 +20,9 @@ use Rattle.ded_theory.specs.Conjunctions.{IsWide}
 use Rattle.ded_theory.specs.Verdicts.{HoldsNowhere}
 use Rattle.ded_elimination.specs.LinearAtoms.{IsLinearAtom}
 use Rattle.ded_genrel.specs.Lists.{conjs_of, AreNormal, SomeConj}
-use Rattle.ded_eval.proofs.Conjunctive.{tuple_holds-is}
-use Rattle.ded_eval.proofs.Narrowness.{narrow_atoms}
-use Rattle.ded_eval.proofs.TuplesRead.{tuples_hold-push, tuples_mention-push, tuples_lines-push}
+use Rattle.ded_atoms.proofs.Conjunctive.{tuple_holds-is}
+use Rattle.ded_atoms.proofs.Narrowness.{narrow_atoms}
+use Rattle.ded_atoms.proofs.TuplesRead.{tuples_hold-push, tuples_mention-push, tuples_lines-push}
 use Rattle.ded_topology.specs.Closing.{IsClosed}
 use Rattle.ded_topology.specs.Weakening.{weakened}
 use Rattle.ded_topology.proofs.Weak.{weakened_is, sorted_atoms, weak_slots, weak_lines}

@@ -21,8 +21,9 @@ use Rattle.ded_genrel.specs.Lists.{AreNormal, conjs_hold, conjs_mention, conjs_l
 use Rattle.ded_genrel.specs.Operations.{IsOperation}
 use Rattle.ded_genrel.proofs.Laws.{conj_lines-append}
 use Rattle.ded_complement.specs.Pieces.{all_atoms}
-use Rattle.ded_eval.proofs.Conjunctive.{tuple_holds-is, tuple_mentions-is, atoms_lines-is}
-use Rattle.ded_eval.proofs.Narrowness.{narrow_atoms, all_of_each}
+use Rattle.ded_atoms.proofs.Conjunctive.{tuple_holds-is, tuple_mentions-is, atoms_lines-is}
+use Rattle.ded_atoms.proofs.Narrowness.{narrow_atoms}
+use Rattle.ded_eval.proofs.NarrowLists.{all_of_each}
 use Rattle.ded_topology.specs.Closing.{IsClosed}
 use Rattle.ded_topology.proofs.Closed.{closed_slots, closed_lines}
 

@@ -11,7 +11,7 @@ use Rattle.ded_model.specs.Near.{AreNear, IsNearPoint, IsClose, IsInside, IsClos
 use Rattle.ded_model.specs.Point.{slot, Point, IsPoint, number_at}
 use Rattle.ded_model.specs.Row.{Atom, tuples_hold}
 use Rattle.ded_model.specs.Value.{Argument}
-use Rattle.ded_eval.proofs.Conjunctive.{normal-is}
+use Rattle.ded_atoms.proofs.Conjunctive.{normal-is}
 use Rattle.ded_views.specs.Same.{AreByteArguments}
 use Rattle.ded_topology.specs.Names.{HoldsAsTuples, StandsForName}
 use Rattle.ded_topology.proofs.Arguments.{near_point, arguments_point, near_bytes, near_length, arguments_of, arguments_near, number_there, text_there}

@@ -12,7 +12,7 @@ use Rattle.ded_model.specs.Row.{Atom, tuple_mentions, tuples_hold, tuples_mentio
 use Rattle.ded_model.proofs.Members.{or_split}
 use Rattle.ded_model.proofs.Rows.{or_left, or_right}
 use Rattle.ded_model.proofs.Members.{subset_trans}
-use Rattle.ded_eval.specs.Reading.{IsWrittenAs}
+use Rattle.ded_eval.specs.Written.{IsWrittenAs}
 use Rattle.ded_topology.specs.Closing.{AreNormalPart}
 
 -- tuples over a heading mention its slots alone

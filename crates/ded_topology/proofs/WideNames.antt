@@ -25,8 +25,8 @@ use Rattle.ded_width.proofs.NameReaches.{stored_in_reach}
 use Rattle.ded_width.proofs.Reaches.{reach, some_power, from_within, narrow_with_less}
 use Rattle.ded_genrel.specs.Lists.{AreNormal, SomeConj}
 use Rattle.ded_complement.specs.Pieces.{all_atoms}
-use Rattle.ded_eval.proofs.Narrowness.{all_of_each}
-use Rattle.ded_eval.proofs.TuplesRead.{atoms_lines-append}
+use Rattle.ded_eval.proofs.NarrowLists.{all_of_each}
+use Rattle.ded_atoms.proofs.TuplesRead.{atoms_lines-append}
 use Rattle.ded_topology.proofs.Normals.{over_slots}
 use Rattle.ded_topology.proofs.Shortness.{atoms_short}
 use Rattle.ded_topology.proofs.SlotCounts.{slots_few}

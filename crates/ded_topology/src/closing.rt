@@ -14,7 +14,7 @@ ghost use Rattle.ded_genrel.specs.Lists.{SomeConj};
 ghost use Rattle.ded_topology.specs.Closing.{verdict_of, IsClosed};
 
 use crate::weakening::weakened;
-use ded_eval::Atoms;
+use ded_atoms::Atoms;
 use ded_genrel::GenRel;
 use ded_model::memory::Refused;
 use ded_model::tuple::Atom;

@@ -10,8 +10,8 @@ ghost use Rattle.ded_model.specs.Width.{IsNarrowList};
 ghost use Rattle.ded_complement.specs.Pieces.{all_atoms};
 
 use crate::closing::closed;
+use ded_atoms::Atoms;
 use ded_complement::complement;
-use ded_eval::Atoms;
 use ded_genrel::GenRel;
 use ded_model::memory::Refused;
 use std::alloc::Global;

@@ -15,7 +15,7 @@ ghost use Rattle.ded_topology.specs.Closing.{AreNormalPart};
 
 use crate::closing::closure;
 use crate::inner::interior;
-use ded_eval::{Atoms, reduced};
+use ded_atoms::{Atoms, reduced};
 use ded_genrel::{GenRel, copy_conj};
 use ded_model::memory::{NoMemory, Refused};
 use ded_model::tuple::{Tuple, Tuples};

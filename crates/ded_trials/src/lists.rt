@@ -1,7 +1,7 @@
 //! Operations on lists of conjunctions, whose results were worked out by hand.
 use crate::texts::{X, conj, is_written, list, read};
+use ded_atoms::Atoms;
 use ded_complement::{complement, minus};
-use ded_eval::Atoms;
 use ded_genrel::GenRel;
 use ded_join::join;
 use ded_model::memory::NoMemory;

@@ -7,7 +7,8 @@ ghost use Rattle.ded_model.specs.Point.{slot};
 
 use crate::joins::union;
 use crate::texts::{X, is_written, read};
-use ded_eval::{Atoms, Given, eval};
+use ded_atoms::Atoms;
+use ded_eval::{Given, eval};
 use ded_genrel::GenRel;
 use ded_model::memory::{NoMemory, Refused};
 use ded_model::plan::Plan;

@@ -3,7 +3,7 @@ ghost use Rattle.std.specs.Prelude.{IfOk};
 ghost use Rattle.ded_readback.specs.Plain.{IsPlainHeading};
 
 use crate::texts::{X, column, conj, list_of, read_over};
-use ded_eval::Atoms;
+use ded_atoms::Atoms;
 use ded_model::memory::NoMemory;
 use ded_model::name::Heading;
 use ded_model::slot::Sort;

@@ -1,6 +1,6 @@
 //! Verdicts on numbers that get too long: replies don't tell these apart from exact ones.
 use crate::texts::{X, conj, is_written, list, read};
-use ded_eval::Atoms;
+use ded_atoms::Atoms;
 use ded_genrel::GenRel;
 use ded_model::bound::Bound;
 use ded_model::memory::{NoMemory, Refused};

@@ -1,6 +1,6 @@
 use Rattle.std.proofs.Common.{◌≡◌, sym, subst}
 use Rattle.ded_model.specs.Row.{atom_holds}
-use Rattle.ded_eval.specs.Reading.{atom_of}
+use Rattle.ded_atoms.specs.Reading.{atom_of}
 use Rattle.ded_eval.proofs.Attained.{row_atom, theme_atom}
 use Rattle.ded_eval.proofs.attaining.is_over.Goals as goal
 

@@ -4,7 +4,7 @@ use Rattle.ded_model.specs.declared.plan.Plan.TheFolds.{fold-roll-Plan, fold_out
 use Rattle.ded_model.specs.declared.plan.Plan.TheViews.{the_lemmas}
 use Rattle.ded_model.specs.Logic.{every_of, some_atom}
 use Rattle.ded_model.specs.PlanForm.{plan_form, plan_forms}
-use Rattle.ded_eval.specs.Orders.{has_other_in}
+use Rattle.ded_eval.specs.OrderPlans.{has_other_in}
 use Rattle.ded_eval.proofs.deciding.+plan_has_other.Goals as goal
 
 pub plan_has_other-returns-in-Join : goal.plan_has_other-returns-in-Join

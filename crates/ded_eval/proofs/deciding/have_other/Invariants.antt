@@ -1,7 +1,7 @@
 use Rattle.std.proofs.Common.{◌≡◌, drop}
 use Rattle.std.specs.List.{list_any}
 use Rattle.ded_packed.specs.Lent.{lent}
-use Rattle.ded_eval.specs.Orders.{has_other}
+use Rattle.ded_eval.specs.OrderPlans.{has_other}
 use Rattle.ded_eval.proofs.deciding.have_other.Given as goal
 
 abbrev pub invariant-loop-tuple : goal.invariant-loop-tuple

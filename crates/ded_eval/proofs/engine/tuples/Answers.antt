@@ -5,10 +5,10 @@ use Rattle.std.proofs.lemmas.List.{map-id}
 use Rattle.ded_model.specs.Normal.{IsNormalTheme}
 use Rattle.ded_theory.specs.Both.{IsByKind}
 use Rattle.ded_elimination.specs.LinearAtoms.{IsLinearAtom}
-use Rattle.ded_eval.proofs.Conjunctive.{normal_or_true}
+use Rattle.ded_atoms.proofs.Conjunctive.{normal_or_true}
 use Rattle.ded_genrel.specs.Lists.{conjs_of}
 use Rattle.ded_genrel.proofs.Items.{normal-at, conjs_of-append}
-use Rattle.ded_eval.specs.Reading.{IsWrittenAs}
+use Rattle.ded_eval.specs.Written.{IsWrittenAs}
 use Rattle.ded_eval.proofs.TuplesWritten.{written_none, written_more}
 use Rattle.ded_eval.proofs.engine.tuples.Goals as goal
 

@@ -1,5 +1,5 @@
 use Rattle.ded_genrel.specs.Lists.{conjs_of}
-use Rattle.ded_eval.specs.Reading.{IsWrittenAs}
+use Rattle.ded_eval.specs.Written.{IsWrittenAs}
 use Rattle.ded_eval.proofs.engine.tuples.Given as goal
 
 abbrev pub invariant-loop-conj : goal.invariant-loop-conj

@@ -20,8 +20,7 @@ use Rattle.std.specs.List.{AllByRecursion}
 use Rattle.ded_genrel.specs.Lists.{conjs_of}
 use Rattle.ded_genrel.proofs.Items.{normal-at, conjs_to, conjs_done, all-append}
 use Rattle.ded_eval.specs.Joining.{begun, IsJoinedWith}
-use Rattle.ded_eval.proofs.Distinct.{distinct_for}
-use Rattle.ded_eval.proofs.Evaluated.{IsListFor, everywhere_for, no_conjunction, united_none, united_more, minus_for, minus_none, complement_for, implied_for}
+use Rattle.ded_eval.proofs.Evaluated.{IsListFor, everywhere_for, distinct_for, no_conjunction, united_none, united_more, minus_for, minus_none, complement_for, implied_for}
 use Rattle.ded_eval.proofs.InTurn.{in_turn, in_turn-length, place_inside, at_turn, first_hold, all_hold}
 use Rattle.ded_eval.proofs.Joined.{IsJoined, joined_begun, joined_rows, joined_more, joined_ends, joined_all, met_with, first_with, probed_none, probed_more}
 use Rattle.ded_eval.proofs.Parts.{part_atoms, part_clashes, part_mentions, part_lines, part_rows, parts_to, rest_atoms, two_items}

@@ -8,7 +8,7 @@ use Rattle.ded_model.specs.Row.{row_holds, theme_holds, row_mentions, theme_ment
 use Rattle.ded_elimination.specs.LinearAtoms.{IsLinearAtom}
 use Rattle.ded_theory.specs.Both.{by_kind, IsByKind}
 use Rattle.ded_theory.specs.Verdicts.{IsVerdict}
-use Rattle.ded_eval.proofs.Conjunctive.{normal-is, normal_or_true}
+use Rattle.ded_atoms.proofs.Conjunctive.{normal-is, normal_or_true}
 use Rattle.ded_eval.proofs.TuplesOfBoth.{met_nowhere, met}
 use Rattle.ded_eval.proofs.meeting.met.Goals as goal
 

@@ -1,7 +1,7 @@
 use Rattle.std.proofs.Common.{sym, ap, ◌∙◌}
 use Rattle.std.proofs.lemmas.Result.{IfOk-weaker}
 use Rattle.ded_model.specs.Row.{atom_holds}
-use Rattle.ded_eval.specs.Reading.{atom_of}
+use Rattle.ded_atoms.specs.Reading.{atom_of}
 use Rattle.ded_eval.proofs.window.ask.Goals as goal
 
 pub returns-in-Linear : goal.returns-in-Linear

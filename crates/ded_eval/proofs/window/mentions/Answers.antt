@@ -1,6 +1,6 @@
 use Rattle.std.proofs.Common.{sym, ap, ◌∙◌}
 use Rattle.ded_model.specs.Row.{atom_mentions}
-use Rattle.ded_eval.specs.Reading.{atom_of}
+use Rattle.ded_atoms.specs.Reading.{atom_of}
 use Rattle.ded_eval.proofs.window.mentions.Goals as goal
 
 pub returns-in-Linear : goal.returns-in-Linear

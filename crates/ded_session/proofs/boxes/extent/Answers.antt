@@ -4,7 +4,7 @@ use Rattle.ded_model.specs.Known.{IsTupleOver}
 use Rattle.ded_model.specs.Row.{Atom, tuple_holds}
 use Rattle.ded_model.specs.Width.{IsBoxNarrow}
 use Rattle.ded_box.specs.Extents.{IsBox}
-use Rattle.ded_eval.specs.Orders.{AreOrderAtoms}
+use Rattle.ded_atoms.specs.Orders.{AreOrderAtoms}
 use Rattle.ded_session.proofs.Bounding.{bounded_none, next_over, next_narrow, next_orders, next_bounded, bounded_all}
 use Rattle.ded_session.proofs.boxes.extent.Goals as goal
 

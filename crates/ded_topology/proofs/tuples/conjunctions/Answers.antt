@@ -3,7 +3,7 @@ use Rattle.std.specs.List.{AllByRecursion}
 use Rattle.ded_model.specs.Normal.{IsNormalTheme}
 use Rattle.ded_theory.specs.Both.{IsByKind}
 use Rattle.ded_elimination.specs.LinearAtoms.{IsLinearAtom}
-use Rattle.ded_eval.proofs.Conjunctive.{normal-is}
+use Rattle.ded_atoms.proofs.Conjunctive.{normal-is}
 use Rattle.ded_topology.proofs.tuples.conjunctions.Goals as goal
 
 pub push-requires : goal.push-requires

@@ -1,7 +1,7 @@
 use Rattle.std.proofs.Common.{true, subst}
 use Rattle.ded_model.specs.PlanForm.{plan_form}
 use Rattle.ded_eval.specs.Finding.{IsClosedVerdict}
-use Rattle.ded_eval.proofs.RowsRead.{evaluable_any}
+use Rattle.ded_eval.proofs.PlansRead.{evaluable_any}
 use Rattle.ded_eval.proofs.Shown.{found_everywhere, found_nowhere}
 use Rattle.ded_eval.proofs.TuplesWritten.{written_for}
 use Rattle.ded_eval.proofs.engine.EngineEvaluate.evaluate.Goals as goal

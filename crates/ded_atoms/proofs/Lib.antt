@@ -1,0 +1,15 @@
+pub mod Bounded
+pub mod Conjunctive
+pub mod DistinctLists
+pub mod Extending
+pub mod Narrowness
+pub mod Once
+pub mod OrderTuples
+pub mod OwnSlots
+pub mod Reducing
+pub mod RowsRead
+pub mod Sifted
+pub mod Slotless
+pub mod TupleParts
+pub mod TuplesRead
+pub mod WideTuples

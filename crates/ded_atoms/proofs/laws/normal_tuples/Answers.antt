@@ -1,0 +1,12 @@
+use Rattle.ded_atoms.proofs.Conjunctive.{normal-is, normal_or_true}
+use Rattle.ded_atoms.proofs.Narrowness.{narrow_is}
+use Rattle.ded_atoms.proofs.laws.normal_tuples.Goals as goal
+
+pub returns-clause-normal : goal.returns-clause-normal
+returns-clause-normal c = normal-is
+
+pub returns-clause-atoms : goal.returns-clause-atoms
+returns-clause-atoms c = normal_or_true
+
+pub returns-clause-narrow : goal.returns-clause-narrow
+returns-clause-narrow c = narrow_is

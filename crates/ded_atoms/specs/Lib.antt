@@ -1,0 +1,5 @@
+pub mod Kept
+pub mod Laws
+pub mod Orders
+pub mod Own
+pub mod Reading

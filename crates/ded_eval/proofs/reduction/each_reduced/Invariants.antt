@@ -1,5 +1,0 @@
-use Rattle.ded_eval.specs.Kept.{AreReducedParts}
-use Rattle.ded_eval.proofs.reduction.each_reduced.Given as goal
-
-abbrev pub invariant-loop-tuple : goal.invariant-loop-tuple
-invariant-loop-tuple l = AreReducedParts l.list.items l.yielded

@@ -1,6 +1,0 @@
-use Rattle.std.proofs.Common.{◌∙◌}
-use Rattle.ded_eval.proofs.RowsRead.{row_stands}
-use Rattle.ded_eval.proofs.rows.OrderOfRows.from_row.Goals as goal
-
-pub returns-clause-stands : goal.returns-clause-stands
-returns-clause-stands c = row_stands c.of.result c.args.row.now (c.of.ensures.value ∙ c.in_ok-copy.ensures)

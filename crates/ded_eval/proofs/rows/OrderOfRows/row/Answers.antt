@@ -1,6 +1,0 @@
-use Rattle.std.proofs.Common.{sym}
-use Rattle.ded_eval.proofs.RowsRead.{row_stands}
-use Rattle.ded_eval.proofs.rows.OrderOfRows.row.Goals as goal
-
-pub returns : goal.returns
-returns c = row_stands c.args.atom.now c.row.result.now (sym c.row.ensures.value)
