@@ -17,7 +17,7 @@ use std::marker::Model;
 /// A text that is written piece by piece. Contracts see its bytes. As a sink it takes each piece whole or runs out of memory, and
 /// its count of faults stands at the last value.
 #[derive(Drop)]
-pub(crate) struct Text {
+pub struct Text {
     bytes: Vec<u8>,
 }
 
@@ -31,7 +31,7 @@ impl Model for Text {
 
 impl Text {
     /// A text without bytes. It does not allocate.
-    pub(crate) fn new(alloc: Global) -> Text
+    pub fn new(alloc: Global) -> Text
         ensures { result ≡ [] }
     {
         Text {
@@ -40,7 +40,7 @@ impl Text {
     }
 
     /// The bytes that were put, as a line.
-    pub(crate) fn into_line(self) -> Name
+    pub fn into_line(self) -> Name
         ensures { result ≡ self }
     {
         Name { bytes: self.bytes }
@@ -50,7 +50,7 @@ impl Text {
     ///
     /// # Errors
     /// Out of memory.
-    pub(crate) fn put(&mut self, bytes: &[u8]) -> Result<(), NoMemory>
+    pub fn put(&mut self, bytes: &[u8]) -> Result<(), NoMemory>
         ensures { OnOk result (self.new ≡ self.old ++ bytes.now) }
     {
         self.bytes.extend_from_slice(bytes)?;
@@ -61,7 +61,7 @@ impl Text {
     ///
     /// # Errors
     /// Out of memory.
-    pub(crate) fn put_name(&mut self, name: &Name) -> Result<(), NoMemory>
+    pub fn put_name(&mut self, name: &Name) -> Result<(), NoMemory>
         ensures { OnOk result (self.new ≡ self.old ++ name.now) }
     {
         self.put(name.bytes.as_slice())
@@ -71,7 +71,7 @@ impl Text {
     ///
     /// # Errors
     /// Out of memory.
-    pub(crate) fn put_quoted(&mut self, text: &Name) -> Result<(), NoMemory>
+    pub fn put_quoted(&mut self, text: &Name) -> Result<(), NoMemory>
         ensures { OnOk result (self.new ≡ self.old ++ quoted text.now) }
     {
         told(print_quoted(text, self))
@@ -81,7 +81,7 @@ impl Text {
     ///
     /// # Errors
     /// Out of memory.
-    pub(crate) fn put_fraction(&mut self, value: Frac) -> Result<(), NoMemory>
+    pub fn put_fraction(&mut self, value: Frac) -> Result<(), NoMemory>
         ensures { OnOk result (self.new ≡ self.old ++ fraction_text value) }
     {
         told(print_fraction(value, self))
@@ -91,7 +91,7 @@ impl Text {
     ///
     /// # Errors
     /// Out of memory.
-    pub(crate) fn put_row(&mut self, heading: &Heading, row: &Row) -> Result<(), NoMemory>
+    pub fn put_row(&mut self, heading: &Heading, row: &Row) -> Result<(), NoMemory>
         ensures { OnOk result (self.new ≡ self.old ++ row_text (column_names heading.now) row.now) }
     {
         told(print_row(heading, row, self))
@@ -101,7 +101,7 @@ impl Text {
     ///
     /// # Errors
     /// Out of memory.
-    pub(crate) fn put_unlike(&mut self, heading: &Heading, row: &Row) -> Result<(), NoMemory>
+    pub fn put_unlike(&mut self, heading: &Heading, row: &Row) -> Result<(), NoMemory>
         ensures { OnOk result (self.new ≡ self.old ++ unlike_text (column_names heading.now) row.now) }
     {
         told(print_unlike(heading, row, self))
@@ -111,7 +111,7 @@ impl Text {
     ///
     /// # Errors
     /// Out of memory.
-    pub(crate) fn put_tuple(&mut self, heading: &Heading, tuple: &Tuple) -> Result<(), NoMemory>
+    pub fn put_tuple(&mut self, heading: &Heading, tuple: &Tuple) -> Result<(), NoMemory>
         ensures { OnOk result (self.new ≡ self.old ++ tuple_text (column_names heading.now) tuple.now) }
     {
         told(print_tuple(heading, tuple, self))

@@ -40,7 +40,7 @@ cut_piece : (language : Language) (c d : Catalogue) (reply : ReplyForm) (rest : 
 cut_piece language c d reply rest is same short =
     subst (λ (e : Catalogue). Step language c (pieces.Unfinished rest) reply e) (sym same) (subst (λ (r : ReplyForm). Step language c (pieces.Unfinished rest) r c) (sym is) (rest_step language c rest short))
 
-answers_step : (p : Piece) (m n : Standing) (reply : ReplyForm) → StepsPiece p m.language m.catalogue reply n.catalogue → GoesOnPiece m.language p n.language
+pub answers_step : (p : Piece) (m n : Standing) (reply : ReplyForm) → StepsPiece p m.language m.catalogue reply n.catalogue → GoesOnPiece m.language p n.language
     → (s : Statement) → StandsFor p s → MayReply m s reply n
 answers_step (piece.Whole bytes) m n reply step goes s is = subst (λ (t : Statement). MayReply m t reply n) (sym is) (record { step = step; goes_on = goes })
 answers_step piece.Long m n reply step goes s long = record {
