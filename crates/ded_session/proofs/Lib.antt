@@ -1,7 +1,7 @@
 mod Accepted
 mod AcceptedRuns
 mod Asking
-mod Bounding
+pub mod Bounding
 mod Carried
 mod Calls
 pub mod HeaderSteps
