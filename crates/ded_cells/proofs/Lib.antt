@@ -1,0 +1,4 @@
+pub mod Bounds
+pub mod Digits
+pub mod Loops
+pub mod Written

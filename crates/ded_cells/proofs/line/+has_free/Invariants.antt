@@ -1,0 +1,6 @@
+-- One coefficient less each time.
+use Rattle.std.proofs.Common.{length}
+use Rattle.ded_cells.proofs.line.+has_free.Given as goal
+
+abbrev pub decreases-has_free : goal.decreases-has_free
+decreases-has_free l = length l.coefs.now

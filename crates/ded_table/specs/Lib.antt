@@ -1,0 +1,4 @@
+pub mod Tabled
+pub mod Saying
+pub mod Following
+pub mod Wording
