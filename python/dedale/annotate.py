@@ -75,8 +75,8 @@ class Annotator:
             yield from self._guess(statement)
 
     def _guess(self, statement: Statement) -> Iterator[str]:
-        """What may be wrong with a statement that was refused. Behind the first quote that is missing the texts that follow begin
-        where texts should end, and say nothing."""
+        """What may be wrong with a statement that was refused. Behind the first quote that is missing texts begin where they
+        should end, so that nothing is said of further ones."""
         if statement.text.startswith(BYTE_ORDER_MARK):
             yield f"{self._place(statement)}: a byte order mark stands before this statement, and is no blank"
         line = statement.open_text_line

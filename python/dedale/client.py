@@ -27,7 +27,7 @@ class Dedale:
 
     def __init__(
         self,
-        program: str | None = None,
+        program: str | Path | None = None,
         words: Sequence[str] = (),
         journal: str | Path | None = None,
         seconds: float | None = None,
@@ -35,7 +35,7 @@ class Dedale:
         """Starts the program with these words, and has it run the journal, where there is one. Without `program` it is found as
         `find_program` says. `seconds` is the longest that the reply to a statement may take.
         Raises `NoProgram`, `Ended` where the program doesn't take the words, and `JournalError`."""
-        self._command = [find_program(program), *words]
+        self._command = [find_program(None if program is None else str(program)), *words]
         self._seconds = seconds
         self._process: Process | None = None
         self._relations = Relations()
@@ -69,7 +69,8 @@ class Dedale:
         return replies
 
     def ask(self, formula: str, seconds: float | None = None) -> bool:
-        """Whether the closed formula is true. Raises `Refused`, `ValueError` where it isn't one formula, and what `run` raises."""
+        """Whether the closed formula is true.
+        Raises `Refused`, `ValueError` where this isn't one statement, and what `run` raises."""
         return self._single(f"ask {formula}", Truth, seconds).holds
 
     def query(self, heading: str, formula: str, seconds: float | None = None) -> Answer:

@@ -140,10 +140,10 @@ def test_a_time_limit_leaves_what_was_accepted(db: Dedale) -> None:
     shown = db.show("T")
     started = time.monotonic()
     with pytest.raises(TimeLimit) as caught:
-        db.run(f"insert T {{ x = 9 }};\n\n query {LONG_QUESTION[0]} : {LONG_QUESTION[1]}; ask true;", seconds=0.4)
-    assert time.monotonic() - started < 5
+        db.run(f"insert T {{ x = 9 }};\n\n query {LONG_QUESTION[0]} : {LONG_QUESTION[1]}; ask true;", seconds=1)
+    assert time.monotonic() - started < 30
     assert caught.value.statement == f"query {LONG_QUESTION[0]} : {LONG_QUESTION[1]}"
-    assert (caught.value.line, caught.value.seconds, caught.value.replies) == (3, 0.4, (Number(5),))
+    assert (caught.value.line, caught.value.seconds, caught.value.replies) == (3, 1, (Number(5),))
     assert db.run("delete T 5;") == [Done()]
     assert db.show("T") == shown
     assert db.run("insert T { x = 7 }; drop U;") == [Number(6), Refused(9, "unknown", "drop U", 1)]
@@ -151,8 +151,8 @@ def test_a_time_limit_leaves_what_was_accepted(db: Dedale) -> None:
 
 
 def test_the_time_limit_of_all_statements() -> None:
-    with Dedale(seconds=0.3) as db:
-        db.run(STRIPS)
+    with Dedale(seconds=0.5) as db:
+        db.run(STRIPS, seconds=20)
         with pytest.raises(TimeLimit):
             db.query(*LONG_QUESTION)
         assert db.ask("Strip(0, 0, 0, 0)", seconds=20)
@@ -177,8 +177,8 @@ def test_the_first_statement_stays_the_first_after_a_restart(db: Dedale) -> None
 
 def test_an_interrupt_leaves_no_reply_behind(db: Dedale) -> None:
     db.run(STRIPS + "insert Strip { x = 1 };")
-    threading.Timer(0.3, signal.pthread_kill, (threading.main_thread().ident, signal.SIGINT)).start()
     with pytest.raises(KeyboardInterrupt):
+        threading.Timer(0.3, signal.pthread_kill, (threading.main_thread().ident, signal.SIGINT)).start()
         db.query(*LONG_QUESTION)
     assert db.run("ask 1 = 2; insert Strip { x = 2 };") == [Truth(False), Number(62)]
 
@@ -316,18 +316,18 @@ def test_what_was_returned_outlasts_a_kill(tmp_path: Path) -> None:
     with Dedale(journal=path) as db:
         db.run("relation T(n text, x);")
     returned = 0
-    for seconds in (0.25, 0.3, 0.35, 0.4):
+    for count in (1, 2, 10, 40):
         writer = subprocess.Popen([sys.executable, "-c", WRITER, str(path)], stdout=subprocess.PIPE, text=True)
         assert writer.stdout
-        returned = int(writer.stdout.readline())
-        time.sleep(seconds - 0.2)
+        for _ in range(count):
+            returned = int(writer.stdout.readline())
         writer.kill()
         returned = max([returned, *(int(line) for line in writer.stdout if line.endswith("\n"))])
         writer.wait()
         writer.stdout.close()
         with Dedale(journal=path) as db:
             assert len(db.show("T").tuples) >= returned
-    assert returned > 20
+    assert returned >= 53
 
 
 def test_errors_are_of_one_kind() -> None:
