@@ -1,4 +1,6 @@
 """What all tests stand on."""
+import signal
+
 import pytest
 from hypothesis import settings
 
@@ -6,6 +8,9 @@ from dedale.program import find_program
 
 settings.register_profile("fixed", derandomize=True, deadline=None, max_examples=100)
 settings.load_profile("fixed")
+
+# a shell has what it runs in the background ignore interrupts, and its children inherit that
+signal.signal(signal.SIGINT, signal.default_int_handler)
 
 
 @pytest.fixture(scope="session")
