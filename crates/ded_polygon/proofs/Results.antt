@@ -1,0 +1,84 @@
+-- What the vertices of the half planes of rows are to the rows.
+use Rattle.std.proofs.Common.{◌≡◌, ◌≢◌, ℕ, ◌+◌, ◌<◌, ◌≤◌, Bool, true, false, cond, List, length, ◌⊎◌, inl, inr, refl, sym, ap, ◌∙◌, subst, arith, nat_eq}
+use Rattle.std.specs.Prelude.{ℤ, pos, ◌<ℤ◌}
+use Rattle.std.proofs.lemmas.Int.{ints}
+use Rattle.std.proofs.lemmas.Bool.Decides.{nat_tests}
+use Rattle.ded_model.specs.declared.slot.Slot.{Slot}
+use Rattle.ded_model.specs.Constraint.{LinearConstraint}
+use Rattle.ded_model.specs.Point.{Point, same_slot}
+use Rattle.ded_polygon.specs.Plane.{HalfPlane, Spot, In, IsSameSpot, level, turn}
+use Rattle.ded_polygon.specs.Vertices.{IsVertex, IsEdge, IsEnclosed}
+use Rattle.ded_polygon.specs.Lists.{spot_in, AreAllVertices, after, AreJoined}
+use Rattle.ded_polygon.specs.Closures.{MentionOnly, IsCornerPoint, IsTight, AreBounded, point_at, StandsAt}
+use Rattle.ded_polygon.specs.Rows.{half_planes}
+use Rattle.ded_polygon.specs.Corners.{AreCorners, ShareBorder, GoAround}
+use Rattle.ded_polygon.proofs.Sameness.{same_sym}
+use Rattle.ded_polygon.proofs.Edges.{to_the_left}
+use Rattle.ded_polygon.proofs.RowLevels.{spot_of}
+use Rattle.ded_polygon.proofs.RowPlanes.{plane_of}
+use Rattle.ded_polygon.proofs.RowVertices.{enclosed, vertex_of, corner_point_of, row_on_border, spot_back}
+
+-- the place after one of the places
+after_below : (n k : ℕ) → k < n → after n k < n
+after_below n k h = by_test (nat_eq (k + 1) n) refl
+  where
+    by_test : (b : Bool) → nat_eq (k + 1) n ≡ b → cond b 0 (k + 1) < n
+    by_test true e = omega arith
+    by_test false e = let g : (k + 1 ≡ n) → ⊥ = grind (arith, nat_tests) in omega (arith, g)
+
+-- one of two orders
+apart : (j k : ℕ) → j ≢ k → (j < k) ⊎ (k < j)
+apart j k h = grind (arith, h)
+
+module _ (x y : Slot) (differ : same_slot x y ≡ false) (rows : List LinearConstraint) (only : MentionOnly x y rows) (cs : List Spot)
+    (are : AreAllVertices (half_planes x y rows) cs) where
+  positive : (k : ℕ) → k < length cs → pos 0 <ℤ (spot_in cs k).den
+  positive k h = (are.vertices.vertex k h).positive
+
+  -- the spot of the point of a corner
+  here : (k : ℕ) → k < length cs → spot_of x y (point_at x y (spot_in cs k)) ≡ spot_in cs k
+  here k h = spot_back x y differ (spot_in cs k) (positive k h)
+
+  pub are_corners : AreCorners x y rows cs
+  are_corners = record {
+    positive = positive;
+    sound = λ k h. corner_point_of x y differ rows only (point_at x y (spot_in cs k)) (subst (IsVertex (half_planes x y rows)) (sym (here k h)) (are.vertices.vertex k h));
+    complete = λ p h c. (let w = are.all (spot_of x y p) (vertex_of x y differ rows only p h c) in (w.0, w.1, record { at_x = w.2.x; at_y = w.2.y }));
+    once = are.vertices.differ;
+  }
+
+  -- different places have different corners
+  other : (j k : ℕ) → j < length cs → k < length cs → j ≢ k → IsSameSpot (spot_in cs j) (spot_in cs k) → ⊥
+  other j k lj lk ne s =
+      elim (apart j k ne) [
+        | inl l ↦ are.vertices.differ j k l lk s
+        | inr l ↦ are.vertices.differ k j l lj (same_sym _ _ s)
+      ]
+
+  module _ (joined : AreJoined (half_planes x y rows) cs) where
+    share : 1 < length cs → (k : ℕ) → k < length cs → ShareBorder x y rows (spot_in cs k) (spot_in cs (after (length cs) k))
+    share more k h =
+        let e = joined more k h in
+        let o = plane_of x y rows e.side e.side_in in
+        record {
+          row = o.row;
+          row_in = o.row_in;
+          at_first = row_on_border x y differ rows only (point_at x y (spot_in cs k)) e.side o (ap (level e.side) (here k h) ∙ e.begins);
+          at_second = row_on_border x y differ rows only (point_at x y (spot_in cs (after (length cs) k))) e.side o (ap (level e.side) (here (after (length cs) k) (after_below (length cs) k h)) ∙ e.ends);
+        }
+
+    pub go_around : GoAround x y rows cs
+    go_around = record {
+      neighbours = share;
+      left = λ k j lk lj nk na.
+          (let more : 1 < length cs = (elim (apart j k nk) [ inl l ↦ omega arith | inr l ↦ omega arith ]) in
+          let la = after_below (length cs) k lk in
+          to_the_left (half_planes x y rows) (spot_in cs k) (spot_in cs (after (length cs) k)) (spot_in cs j) (joined more k lk)
+          (are.vertices.vertex k lk) (are.vertices.vertex (after (length cs) k) la) (are.vertices.vertex j lj)
+          (λ s. other j k lj lk nk (same_sym _ _ s)) (λ s. other j (after (length cs) k) lj la na (same_sym _ _ s)));
+    }
+
+-- where the rows are bounded
+pub bounded_around : (x y : Slot) → same_slot x y ≡ false → (rows : List LinearConstraint) → MentionOnly x y rows → (cs : List Spot) → AreAllVertices (half_planes x y rows) cs
+    → (IsEnclosed (half_planes x y rows) → AreJoined (half_planes x y rows) cs) → AreBounded x y rows → GoAround x y rows cs
+bounded_around x y differ rows only cs are joined bounded = go_around x y differ rows only cs are (joined (enclosed x y rows bounded))

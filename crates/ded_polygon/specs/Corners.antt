@@ -1,0 +1,28 @@
+-- The corners of rows over two slots, as a list.
+use Rattle.std.specs.Prelude.{◌≡◌, ◌≢◌, ℕ, ◌<◌, pos, ◌<ℤ◌, List, length}
+use Rattle.ded_model.specs.declared.slot.Slot.{Slot}
+use Rattle.ded_model.specs.Constraint.{LinearConstraint}
+use Rattle.ded_model.specs.Point.{Point}
+use Rattle.ded_polygon.specs.Plane.{Spot, In, turn}
+use Rattle.ded_polygon.specs.Lists.{spot_in, after, AreDifferent}
+use Rattle.ded_polygon.specs.Closures.{IsCornerPoint, IsTight, point_at, StandsAt}
+
+-- the spots of the list are exactly the corners of the rows, each once
+pub record AreCorners (x y : Slot) (rows : List LinearConstraint) (cs : List Spot) : Type 0 where
+  pub positive : (k : ℕ) → k < length cs → pos 0 <ℤ (spot_in cs k).den
+  pub sound : (k : ℕ) → k < length cs → IsCornerPoint x y rows (point_at x y (spot_in cs k))
+  pub complete : (p : Point) → 0 < p.den → IsCornerPoint x y rows p → (k : ℕ) × (k < length cs) × StandsAt x y p (spot_in cs k)
+  pub once : AreDifferent cs
+
+-- some row is an equality at both spots
+pub record ShareBorder (x y : Slot) (rows : List LinearConstraint) (c d : Spot) : Type 0 where
+  pub row : LinearConstraint
+  pub row_in : In row rows
+  pub at_first : IsTight row (point_at x y c)
+  pub at_second : IsTight row (point_at x y d)
+
+-- the list goes around counterclockwise: each of two corners or more shares a border with the next, the last with the first,
+-- and each other corner is strictly to the left of the way from it to the next
+pub record GoAround (x y : Slot) (rows : List LinearConstraint) (cs : List Spot) : Type 0 where
+  pub neighbours : 1 < length cs → (k : ℕ) → k < length cs → ShareBorder x y rows (spot_in cs k) (spot_in cs (after (length cs) k))
+  pub left : (k j : ℕ) → k < length cs → j < length cs → j ≢ k → j ≢ after (length cs) k → pos 0 <ℤ turn (spot_in cs k) (spot_in cs (after (length cs) k)) (spot_in cs j)

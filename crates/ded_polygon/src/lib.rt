@@ -1,0 +1,35 @@
+//! The corners of a conjunction of rows over two slots, as pictures need them.
+//!
+//! [`corners`] gives exactly the points of the closure at which two rows that are not parallel are equalities, each once; the closure
+//! is where each row with `<` read as `<=` holds. Where the rows are bounded, that is, where each direction leads out of one of them,
+//! the corners go around counterclockwise: each shares a row that is an equality with the next, and all others lie strictly to the left
+//! of the way between them. Three corners or more are those of a polygon then, two the ends of a segment, and one is a point.
+//! [`cut`] adds the four rows of a [`Window`], which bound any rows (the law [`windows`]).
+//!
+//! All of it is exact: a row whose numbers are beyond 2 ^ 31 and 2 ^ 62 is refused as too wide before anything is computed, and within
+//! them no product is longer than 127 binary digits. What lies in the closure is not told by corners alone: rows that hold nowhere may
+//! have some, and an unbounded conjunction may have none. A verdict tells that.
+//!
+//! The crate stands on [`ded_num`] and on the rows of [`ded_model`]. Each row is a half plane, an equality two. A vertex is where two
+//! borders cross inside of all half planes; an edge leads from it along the border that turns furthest to the right, to the first half
+//! plane that this leaves. No two edges end at one vertex, and edges that lead around pass each vertex, since one that they do not
+//! pass would lie in a triangle of others: so following the edges puts the vertices in order (`proofs/Leaving`, `Edges`, `Around`).
+#![tactic(auto)]
+
+mod arranging;
+mod corner;
+mod laws;
+mod number;
+mod polygon;
+mod reading;
+mod side;
+#[cfg(test)]
+mod tests;
+mod vertices;
+mod window;
+
+pub use corner::Corner;
+pub use laws::windows;
+pub use polygon::{corners, cut};
+pub use reading::mention_only;
+pub use window::Window;
