@@ -1,9 +1,9 @@
 -- Edges that lead around, back to the first vertex, pass each vertex: one that they do not pass lies to the left of all of
 -- them, hence in one of the triangles from the first vertex over an edge, and would be a mixture of that triangle's corners.
-use Rattle.std.proofs.Common.{◌≡◌, ℕ, zero, suc, ◌<◌, ◌≤◌, List, [], ◌∷◌, refl, ap, ◌∙◌, sym, arith}
-use Rattle.std.specs.Prelude.{ℤ, pos, ◌+ℤ◌, ◌*ℤ◌, ◌<ℤ◌, ◌≤ℤ◌}
+use Rattle.std.proofs.Common.{◌≡◌, ℕ, zero, suc, ◌<◌, ◌≤◌, List, refl, ap, ◌∙◌, sym, arith}
+use Rattle.std.specs.Prelude.{pos, ◌*ℤ◌, ◌<ℤ◌, ◌≤ℤ◌}
 use Rattle.std.proofs.lemmas.Int.{ints, by_lt_z}
-use Rattle.ded_polygon.specs.Plane.{HalfPlane, Spot, In, IsSameSpot, level, turn}
+use Rattle.ded_polygon.specs.Plane.{HalfPlane, Spot, IsSameSpot, level, turn}
 use Rattle.ded_polygon.specs.Vertices.{LiesIn, IsVertex, IsEdge}
 use Rattle.ded_polygon.proofs.Signs.{times_none, above_most, least_most, unscale_zero}
 use Rattle.ded_polygon.proofs.Identities.{levels, turn_back}

@@ -1,11 +1,10 @@
 -- Vertices that are arranged: as far as each leads to the next by an edge, some vertex behind is the one to go on with, and
 -- where all are arranged, the last leads to the first.
-use Rattle.std.proofs.Common.{◌≡◌, ℕ, zero, suc, ◌<◌, ◌≤◌, List, ◌⊎◌, inl, inr, refl, ap, ◌∙◌, sym, subst, arith}
-use Rattle.std.specs.Prelude.{ℤ, pos, ◌+ℤ◌, ◌*ℤ◌, ◌<ℤ◌, ◌≤ℤ◌}
-use Rattle.ded_polygon.specs.Plane.{HalfPlane, Spot, In, IsSameSpot}
-use Rattle.ded_polygon.specs.Vertices.{LiesIn, IsVertex, IsEdge, IsEnclosed}
-use Rattle.ded_polygon.proofs.Leaving.{Leaves, leaves}
-use Rattle.ded_polygon.proofs.Edges.{ends_differ, one_before, edge_same}
+use Rattle.std.proofs.Common.{◌≡◌, ℕ, zero, suc, ◌<◌, ◌≤◌, List, ◌⊎◌, inl, inr, refl, sym, subst, arith}
+use Rattle.ded_polygon.specs.Plane.{HalfPlane, Spot, IsSameSpot}
+use Rattle.ded_polygon.specs.Vertices.{IsVertex, IsEdge, IsEnclosed}
+use Rattle.ded_polygon.proofs.Leaving.{leaves}
+use Rattle.ded_polygon.proofs.Edges.{one_before, edge_same}
 use Rattle.ded_polygon.proofs.Around.{none_past}
 
 -- n different vertices, and all of them

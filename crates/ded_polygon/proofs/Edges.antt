@@ -4,9 +4,9 @@ use Rattle.std.proofs.Common.{◌≡◌, List, [], ◌∷◌, ◌⊎◌, inl, in
 use Rattle.std.specs.Prelude.{ℤ, pos, ◌+ℤ◌, ◌-ℤ◌, ◌*ℤ◌, ◌<ℤ◌, ◌≤ℤ◌}
 use Rattle.std.proofs.lemmas.Int.{ints, by_lt_z}
 use Rattle.ded_polygon.specs.Plane.{HalfPlane, Spot, In, IsSameSpot, level, bend, crossing, turn}
-use Rattle.ded_polygon.specs.Vertices.{LiesIn, IsVertex, IsEdge}
-use Rattle.ded_polygon.proofs.Polynomials.{nought, var, plus, minus, times, identity}
-use Rattle.ded_polygon.proofs.Signs.{mul_swap, none_times, times_none, above_above, above_below, below_below, above_most, least_most, most_most, unscale_zero, unscale_most, unscale_above}
+use Rattle.ded_polygon.specs.Vertices.{IsVertex, IsEdge}
+use Rattle.ded_polygon.proofs.Polynomials.{nought, var, minus, times, identity}
+use Rattle.ded_polygon.proofs.Signs.{mul_swap, none_times, above_above, above_below, below_below, above_most, most_most, unscale_zero, unscale_most, unscale_above}
 use Rattle.ded_polygon.proofs.Identities.{cramer, bends, bend_swap, turn_on_border, turn_swap}
 use Rattle.ded_polygon.proofs.Sameness.{same_by, same_sym, zero_same, below_same}
 

@@ -1,16 +1,15 @@
 -- Vertices that are found one after another: once each two borders were looked at, all of them.
 use Rattle.std.proofs.Common.{◌≡◌, ℕ, ◌+◌, ◌<◌, ◌≤◌, List, [], ◌∷◌, ◌++◌, length, get_or, length-append, below_more, ◌⊎◌, inl, inr, refl, ap, ◌∙◌, sym, subst, arith}
-use Rattle.std.specs.Prelude.{ℤ, pos, ◌<ℤ◌, ◌≤ℤ◌}
+use Rattle.std.specs.Prelude.{pos, ◌<ℤ◌}
 use Rattle.std.proofs.lemmas.Int.{ints}
 use Rattle.std.proofs.Math.ListN.{get_or-append}
 use Rattle.std.proofs.Math.Seq.{get_or-append_seam}
 use Rattle.ded_polygon.specs.Plane.{HalfPlane, Spot, In, IsSameSpot, level, bend, crossing}
 use Rattle.ded_polygon.specs.Vertices.{LiesIn, IsVertex}
 use Rattle.ded_polygon.specs.Lists.{origin, spot_in, side_in, whole_plane, AreVertices, AreAllVertices, Has, HasCrossing, Grows}
-use Rattle.ded_polygon.proofs.Identities.{crossing_on_first, crossing_on_second}
+use Rattle.ded_polygon.proofs.Identities.{crossing_den, crossing_on_first, crossing_on_second}
 use Rattle.ded_polygon.proofs.Sameness.{same_by, same_sym, zero_same, most_same}
 use Rattle.ded_polygon.proofs.Places.{place_in, read_as}
-use Rattle.ded_polygon.proofs.Leaving.{crossing_den}
 
 -- a crossing that lies in all half planes is a vertex
 pub crossing_vertex : (ss : List HalfPlane) (s t : HalfPlane) → In s ss → In t ss → pos 0 <ℤ bend s t → LiesIn ss (crossing s t) → IsVertex ss (crossing s t)
@@ -26,14 +25,7 @@ crossing_vertex ss s t i j above lies = record {
   crossed = above;
 }
 
--- no vertices
-pub no_vertices : (ss : List HalfPlane) → AreVertices ss []
-no_vertices ss = record { vertex = λ k h. absurd (omega arith); differ = λ j k l h. absurd (omega arith) }
-
--- nothing more
-pub grows_none : (ss : List HalfPlane) (ps : List Spot) → AreVertices ss ps → Grows ss ps ps
-grows_none ss ps are = record { vertices = are; keeps = λ p h. h }
-
+-- and then more
 pub grows_then : (ss : List HalfPlane) (ps qs rs : List Spot) → Grows ss ps qs → Grows ss qs rs → Grows ss ps rs
 grows_then ss ps qs rs a b = record { vertices = b.vertices; keeps = λ p h. b.keeps p (a.keeps p h) }
 
@@ -51,9 +43,6 @@ module _ (ps : List Spot) (p : Spot) where
 
   new : spot_in (ps ++ p ∷ []) (length ps) ≡ p
   new = get_or-append_seam ps p [] origin
-
-  pub has_new : Has (ps ++ p ∷ []) p
-  has_new = (length ps, omega (arith, long), subst (IsSameSpot p) (sym new) (record { x = refl; y = refl }))
 
   placed : (k : ℕ) → k < length (ps ++ p ∷ []) → (k < length ps) ⊎ (k ≡ length ps)
   placed k h = let e = long in grind arith

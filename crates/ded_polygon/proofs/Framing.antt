@@ -1,22 +1,20 @@
 -- The rows of a window: their half planes, and that they are bounded.
-use Rattle.std.proofs.Common.{◌≡◌, Bool, true, false, cond, ◌||◌, List, [], ◌∷◌, ◌++◌, ◌⊎◌, inl, inr, refl, sym, ap, ap₂, ◌∙◌, subst, true≢false, append_assoc, append-nil, ℕ, ◌+◌, ◌<◌, ◌^◌, length, get_or, take, to_z, of_z, arith}
-use Rattle.std.specs.Prelude.{ℤ, pos, ◌+ℤ◌, ◌-ℤ◌, ◌*ℤ◌, ◌<ℤ◌, ◌≤ℤ◌, unsigned_abs}
+use Rattle.std.proofs.Common.{◌≡◌, Bool, true, false, cond, ◌||◌, List, [], ◌∷◌, ◌++◌, inl, inr, refl, sym, ap, ap₂, ◌∙◌, subst, true≢false, append_assoc, append-nil, ℕ, ◌+◌, ◌<◌, ◌^◌, length, get_or, take, to_z, of_z, arith}
+use Rattle.std.specs.Prelude.{ℤ, pos, ◌+ℤ◌, ◌-ℤ◌, ◌*ℤ◌, ◌<ℤ◌, unsigned_abs}
 use lib.IntN.{neg_ℤ}
 use Rattle.std.proofs.lemmas.Int.{ints, by_lt_z}
 use Rattle.ded_num.proofs.Ring.{parts, ring, ring_pos, diff_same}
 use Rattle.ded_model.specs.declared.slot.Slot.{Slot}
-use Rattle.ded_model.specs.declared.row.RowOp.{RowOp}
 use Rattle.ded_model.specs.Constraint.{LinearConstraint}
 use Rattle.ded_model.specs.Coefs.{coef_at}
 use Rattle.ded_model.specs.Point.{same_slot}
-use Rattle.ded_model.specs.declared.row.RowOp.TheVariants.{AtMost}
 use Rattle.ded_model.specs.Row.{row_mentions}
 use Rattle.ded_model.proofs.Points.{same_slot_is, same_slot_refl}
 use Rattle.ded_polygon.specs.Plane.{HalfPlane, In}
 use Rattle.ded_polygon.specs.Closures.{MentionOnly, growth, IsLeft, AreBounded}
 use Rattle.ded_polygon.specs.Rows.{half_plane, by_op, half_planes}
 use Rattle.ded_polygon.specs.Windows.{Frame, IsFrame, end_row, window_rows, window_planes}
-use Rattle.ded_polygon.proofs.RowPlanes.{in_left, in_right, in_either}
+use Rattle.ded_polygon.proofs.RowPlanes.{in_right, in_either}
 use Rattle.ded_polygon.proofs.Signs.{above_above}
 use Rattle.ded_polygon.proofs.Short.{read}
 use Rattle.std.specs.Int.{w128}

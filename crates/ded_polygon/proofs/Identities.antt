@@ -1,5 +1,5 @@
 -- Identities of levels, bends, crossings and turns.
-use Rattle.std.proofs.Common.{◌≡◌, ℕ, ◌+◌, List, [], ◌∷◌, refl, ap, ◌∙◌, arith}
+use Rattle.std.proofs.Common.{◌≡◌, ℕ, ◌+◌, [], ◌∷◌, refl, ap, ◌∙◌, arith}
 use Rattle.std.specs.Prelude.{ℤ, pos, ◌+ℤ◌, ◌-ℤ◌, ◌*ℤ◌}
 use Rattle.std.proofs.lemmas.Int.{ints}
 use Rattle.ded_polygon.specs.Plane.{HalfPlane, Spot, level, bend, crossing, turn}
@@ -42,6 +42,11 @@ cramer r s t p =
     (times (at_crossing 0 3 6) (var 11))
     (plus (plus (times (level_of 0 9) (bend_of 3 6)) (times (level_of 3 9) (bend_of 6 0))) (times (level_of 6 9) (bend_of 0 3)))
     refl
+
+-- the denominator of a crossing is the bend
+pub crossing_den : (s t : HalfPlane) → (crossing s t).den ≡ bend s t
+unfolding crossing bend
+crossing_den s t = refl
 
 -- the spot that is on the borders of s and t is where they cross
 pub crossing_at_x : (s t : HalfPlane) (p : Spot) → p.x *ℤ bend s t +ℤ s.b *ℤ level t p ≡ p.den *ℤ (crossing s t).x +ℤ t.b *ℤ level s p

@@ -1,13 +1,13 @@
 -- From each vertex an edge leads to a vertex, where there is another spot and each direction leads out of some half plane:
 -- along the utmost border through the vertex, as far as to the nearest half plane that this leads out of.
-use Rattle.std.proofs.Common.{◌≡◌, List, [], ◌∷◌, refl, ap, ◌∙◌, sym, arith}
+use Rattle.std.proofs.Common.{◌≡◌, List, [], ◌∷◌, refl, ap, ◌∙◌, arith}
 use Rattle.std.specs.Prelude.{ℤ, pos, ◌+ℤ◌, ◌-ℤ◌, ◌*ℤ◌, ◌<ℤ◌, ◌≤ℤ◌}
 use Rattle.std.proofs.lemmas.Int.{ints, by_lt_z}
-use Rattle.ded_polygon.specs.Plane.{HalfPlane, Spot, In, IsSameSpot, level, bend, crossing}
+use Rattle.ded_polygon.specs.Plane.{HalfPlane, Spot, IsSameSpot, level, bend, crossing}
 use Rattle.ded_polygon.specs.Vertices.{LiesIn, IsVertex, IsEdge, IsEnclosed}
 use Rattle.ded_polygon.proofs.Polynomials.{nought, var, minus, times, identity}
 use Rattle.ded_polygon.proofs.Signs.{mul_swap, none_times, most_most, above_most, unscale_most}
-use Rattle.ded_polygon.proofs.Identities.{cramer, crossing_on_first, crossing_on_second, bend_swap}
+use Rattle.ded_polygon.proofs.Identities.{cramer, crossing_den, crossing_on_first, crossing_on_second, bend_swap}
 use Rattle.ded_polygon.proofs.Utmost.{Utmost, utmost_of}
 use Rattle.ded_polygon.proofs.Nearest.{Nearest, nearest_of}
 
@@ -15,11 +15,6 @@ pub record Leaves (ss : List HalfPlane) (p : Spot) : Type 0 where
   pub to : Spot
   pub vertex : IsVertex ss to
   pub edge : IsEdge ss p to
-
--- the denominator of a crossing is the bend
-pub crossing_den : (s t : HalfPlane) → (crossing s t).den ≡ bend s t
-unfolding crossing bend
-crossing_den s t = refl
 
 -- the crossing with the nearest half plane lies in all of them
 crossing_inside : (s t w : HalfPlane) (p : Spot) → pos 0 <ℤ p.den → level s p ≡ pos 0 → pos 0 <ℤ bend s t → level t p ≤ℤ pos 0 → level w p ≤ℤ pos 0

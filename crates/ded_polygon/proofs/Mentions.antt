@@ -1,5 +1,5 @@
 -- Rows that mention two slots alone, by a test of their coefficients.
-use Rattle.std.proofs.Common.{◌≡◌, ℕ, ◌<◌, ◌≤◌, length, get_or, Bool, true, false, ◌||◌, ◌&&◌, List, [], ◌∷◌, ◌⊎◌, inl, inr, refl, sym, ap, ◌∙◌, subst, true≢false, arith}
+use Rattle.std.proofs.Common.{◌≡◌, ℕ, ◌<◌, ◌≤◌, length, get_or, Bool, true, false, ◌||◌, ◌&&◌, List, [], ◌∷◌, ◌⊎◌, inl, inr, refl, sym, subst, true≢false, arith}
 use Rattle.std.specs.Prelude.{ℤ}
 use Rattle.std.specs.List.{list_all, list_any}
 use Rattle.ded_model.specs.declared.slot.Slot.{Slot}
@@ -7,7 +7,6 @@ use Rattle.ded_model.specs.Constraint.{LinearConstraint}
 use Rattle.ded_model.specs.Point.{same_slot}
 use Rattle.ded_model.specs.Row.{row_mentions}
 use Rattle.ded_model.proofs.Points.{same_slot_is, same_slot_refl, and_left, and_right}
-use Rattle.ded_polygon.specs.Plane.{In}
 use Rattle.ded_polygon.specs.Closures.{MentionsOnly, MentionOnly}
 use Rattle.ded_polygon.proofs.Places.{place_in}
 

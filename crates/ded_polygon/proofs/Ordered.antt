@@ -1,11 +1,11 @@
 -- The steps of arranging a list of vertices.
-use Rattle.std.proofs.Common.{◌≡◌, ℕ, zero, suc, ◌+◌, ◌-◌, ◌<◌, ◌≤◌, Bool, true, false, cond, List, length, get_or, ◌⊎◌, inl, inr, refl, ap, ◌∙◌, sym, subst, true≢false, arith, nat_eq}
+use Rattle.std.proofs.Common.{◌≡◌, ℕ, suc, ◌+◌, ◌-◌, ◌<◌, ◌≤◌, Bool, true, false, cond, List, length, ◌⊎◌, inl, inr, refl, ap, ◌∙◌, sym, subst, arith, nat_eq}
 use Rattle.std.specs.Prelude.{swap}
 use Rattle.std.proofs.lemmas.Bool.Decides.{nat_tests}
 use Rattle.std.proofs.lemmas.List.Edits.{Swapped, swapped_from_swap, length-swap}
-use Rattle.ded_polygon.specs.Plane.{HalfPlane, Spot, IsSameSpot}
-use Rattle.ded_polygon.specs.Vertices.{IsVertex, IsEdge, IsEnclosed}
-use Rattle.ded_polygon.specs.Lists.{origin, spot_in, AreVertices, AreAllVertices, Has, after, AreJoined}
+use Rattle.ded_polygon.specs.Plane.{HalfPlane, Spot}
+use Rattle.ded_polygon.specs.Vertices.{IsEdge, IsEnclosed}
+use Rattle.ded_polygon.specs.Lists.{origin, spot_in, AreAllVertices, AreJoined}
 use Rattle.ded_polygon.proofs.Arranged.{AreAll, goes_on, comes_back}
 use Rattle.ded_polygon.proofs.Swapping.{all_swapped, edge_stays, edge_comes}
 

@@ -1,22 +1,21 @@
 -- What the vertices of the half planes of rows are to the rows.
-use Rattle.std.proofs.Common.{◌≡◌, ◌≢◌, ℕ, ◌+◌, ◌<◌, ◌≤◌, Bool, true, false, cond, List, length, ◌⊎◌, inl, inr, refl, sym, ap, ◌∙◌, subst, arith, nat_eq}
-use Rattle.std.specs.Prelude.{ℤ, pos, ◌<ℤ◌}
-use Rattle.std.proofs.lemmas.Int.{ints}
+use Rattle.std.proofs.Common.{◌≡◌, ◌≢◌, ℕ, ◌+◌, ◌<◌, Bool, true, false, cond, List, length, ◌⊎◌, inl, inr, refl, sym, ap, ◌∙◌, subst, arith, nat_eq}
+use Rattle.std.specs.Prelude.{pos, ◌<ℤ◌}
 use Rattle.std.proofs.lemmas.Bool.Decides.{nat_tests}
 use Rattle.ded_model.specs.declared.slot.Slot.{Slot}
 use Rattle.ded_model.specs.Constraint.{LinearConstraint}
-use Rattle.ded_model.specs.Point.{Point, same_slot}
-use Rattle.ded_polygon.specs.Plane.{HalfPlane, Spot, In, IsSameSpot, level, turn}
-use Rattle.ded_polygon.specs.Vertices.{IsVertex, IsEdge, IsEnclosed}
+use Rattle.ded_model.specs.Point.{same_slot}
+use Rattle.ded_polygon.specs.Plane.{Spot, IsSameSpot, level}
+use Rattle.ded_polygon.specs.Vertices.{IsVertex, IsEnclosed}
 use Rattle.ded_polygon.specs.Lists.{spot_in, AreAllVertices, after, AreJoined}
-use Rattle.ded_polygon.specs.Closures.{MentionOnly, IsCornerPoint, IsTight, AreBounded, point_at, StandsAt}
+use Rattle.ded_polygon.specs.Closures.{MentionOnly, AreBounded, point_at}
 use Rattle.ded_polygon.specs.Rows.{half_planes}
 use Rattle.ded_polygon.specs.Corners.{AreCorners, ShareBorder, GoAround}
 use Rattle.ded_polygon.proofs.Sameness.{same_sym}
 use Rattle.ded_polygon.proofs.Edges.{to_the_left}
 use Rattle.ded_polygon.proofs.RowLevels.{spot_of}
 use Rattle.ded_polygon.proofs.RowPlanes.{plane_of}
-use Rattle.ded_polygon.proofs.RowVertices.{enclosed, vertex_of, corner_point_of, row_on_border, spot_back}
+use Rattle.ded_polygon.proofs.RowVertices.{enclosed, vertex_of, corner_point_of, level_tight, spot_back}
 
 -- the place after one of the places
 after_below : (n k : ℕ) → k < n → after n k < n
@@ -63,8 +62,8 @@ module _ (x y : Slot) (differ : same_slot x y ≡ false) (rows : List LinearCons
         record {
           row = o.row;
           row_in = o.row_in;
-          at_first = row_on_border x y differ rows only (point_at x y (spot_in cs k)) e.side o (ap (level e.side) (here k h) ∙ e.begins);
-          at_second = row_on_border x y differ rows only (point_at x y (spot_in cs (after (length cs) k))) e.side o (ap (level e.side) (here (after (length cs) k) (after_below (length cs) k h)) ∙ e.ends);
+          at_first = level_tight x y differ rows only (point_at x y (spot_in cs k)) e.side o (ap (level e.side) (here k h) ∙ e.begins);
+          at_second = level_tight x y differ rows only (point_at x y (spot_in cs (after (length cs) k))) e.side o (ap (level e.side) (here (after (length cs) k) (after_below (length cs) k h)) ∙ e.ends);
         }
 
     pub go_around : GoAround x y rows cs

@@ -1,16 +1,15 @@
 -- A row over two slots at a point: its sum is the level of its half plane there.
-use Rattle.std.proofs.Common.{◌≡◌, Bool, true, false, cond, ◌||◌, ◌&&◌, List, [], ◌∷◌, ◌⊎◌, inl, inr, refl, sym, ap, ◌∙◌, true≢false, arith}
+use Rattle.std.proofs.Common.{◌≡◌, Bool, true, false, cond, ◌||◌, List, [], ◌∷◌, ◌⊎◌, inl, inr, refl, sym, ap, ◌∙◌, true≢false, arith}
 use Rattle.std.specs.Prelude.{ℤ, pos, ◌+ℤ◌, ◌*ℤ◌}
 use Rattle.std.specs.List.{list_any}
-use Rattle.std.proofs.lemmas.Int.{ints}
-use Rattle.ded_num.proofs.Ring.{parts, ring, ring_pos, diff_same}
+use Rattle.ded_num.proofs.Ring.{parts, ring_pos, diff_same}
 use Rattle.ded_model.specs.declared.slot.Slot.{Slot}
 use Rattle.ded_model.specs.Constraint.{LinearConstraint}
 use Rattle.ded_model.specs.Coefs.{coef_at}
 use Rattle.ded_model.specs.Point.{Point, slot, number_at, same_slot}
 use Rattle.ded_model.specs.Row.{sum_at, row_at, row_mentions}
 use Rattle.ded_model.proofs.Points.{same_slot_is, same_slot_refl}
-use Rattle.ded_polygon.specs.Plane.{HalfPlane, Spot, level}
+use Rattle.ded_polygon.specs.Plane.{Spot, level}
 use Rattle.ded_polygon.specs.Closures.{MentionsOnly}
 use Rattle.ded_polygon.specs.Rows.{half_plane}
 

@@ -1,6 +1,6 @@
 -- Corners of rows over two slots are the vertices of their half planes, and where the rows are bounded, the half planes
 -- enclose what lies in them.
-use Rattle.std.proofs.Common.{◌≡◌, ℕ, ◌+◌, ◌<◌, Bool, true, false, true≢false, cond, List, [], ◌∷◌, ◌⊎◌, inl, inr, refl, sym, ap, ap₂, ◌∙◌, subst, arith}
+use Rattle.std.proofs.Common.{◌≡◌, ◌<◌, Bool, true, false, true≢false, cond, List, ◌⊎◌, inl, inr, refl, sym, ap, ap₂, ◌∙◌, subst, arith}
 use Rattle.std.specs.Prelude.{ℤ, pos, negsuc, ◌+ℤ◌, ◌-ℤ◌, ◌*ℤ◌, ◌<ℤ◌, ◌≤ℤ◌, unsigned_abs}
 use lib.IntN.{neg_ℤ}
 use Rattle.std.proofs.lemmas.Int.{ints, by_lt_z}
@@ -10,8 +10,8 @@ use Rattle.ded_model.specs.declared.row.RowOp.{RowOp}
 use Rattle.ded_model.specs.declared.row.RowOp.TheVariants.{Zero, AtMost, Below}
 use Rattle.ded_model.specs.Constraint.{LinearConstraint}
 use Rattle.ded_model.specs.Coefs.{coef_at}
-use Rattle.ded_model.specs.Point.{Point, Value, slot, number, absent, as_number, number_at, same_slot}
-use Rattle.ded_model.specs.Row.{row_at, row_holds, sign_meets}
+use Rattle.ded_model.specs.Point.{Point, number, absent, as_number, number_at, same_slot}
+use Rattle.ded_model.specs.Row.{row_at, row_holds}
 use Rattle.ded_model.proofs.Core.{Meets}
 use Rattle.ded_model.proofs.Eliminating.{meets-decides}
 use Rattle.ded_model.proofs.Points.{same_slot_refl}
@@ -89,7 +89,7 @@ module _ (x y : Slot) (differ : same_slot x y ≡ false) (rows : List LinearCons
   tight_level : (r : LinearConstraint) → In r rows → IsTight r p → level (half_plane x y r) (spot_of x y p) ≡ pos 0
   tight_level r i t = sym (row_level x y p differ r (only r i)) ∙ t
 
-  level_tight : (w : HalfPlane) (o : IsOf x y rows w) → level w (spot_of x y p) ≡ pos 0 → IsTight o.row p
+  pub level_tight : (w : HalfPlane) (o : IsOf x y rows w) → level w (spot_of x y p) ≡ pos 0 → IsTight o.row p
   level_tight w o h = row_level x y p differ o.row (only o.row o.row_in) ∙ by_side (same_border o.row.op (half_plane x y o.row) w o.is)
     where
       by_side : (w ≡ half_plane x y o.row) ⊎ (w ≡ opposite (half_plane x y o.row)) → level (half_plane x y o.row) (spot_of x y p) ≡ pos 0
@@ -165,10 +165,6 @@ module _ (x y : Slot) (differ : same_slot x y ≡ false) (rows : List LinearCons
         at_second = level_tight v.second b v.on_second;
         apart = crossed_apart v.first v.second a b v.crossed;
       }
-
-  -- a half plane's border that runs through the spot is that of a row
-  pub row_on_border : (s : HalfPlane) (o : IsOf x y rows s) → level s (spot_of x y p) ≡ pos 0 → IsTight o.row p
-  row_on_border s o h = level_tight s o h
 
 -- ---- the point of a spot
 magnitude : (z : ℤ) → pos 0 <ℤ z → pos (unsigned_abs z) ≡ z

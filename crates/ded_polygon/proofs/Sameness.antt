@@ -1,9 +1,9 @@
 -- Spots that are the same point: on the same borders, and with levels of the same sign.
-use Rattle.std.proofs.Common.{◌≡◌, List, [], ◌∷◌, refl, ap, ◌∙◌, sym, arith}
+use Rattle.std.proofs.Common.{◌≡◌, [], ◌∷◌, refl, ap, ◌∙◌, sym, arith}
 use Rattle.std.specs.Prelude.{ℤ, pos, ◌+ℤ◌, ◌*ℤ◌, ◌<ℤ◌, ◌≤ℤ◌}
 use Rattle.std.proofs.lemmas.Int.{ints}
 use Rattle.ded_polygon.specs.Plane.{HalfPlane, Spot, IsSameSpot, level, bend, crossing}
-use Rattle.ded_polygon.proofs.Polynomials.{nought, var, minus, times, identity}
+use Rattle.ded_polygon.proofs.Polynomials.{var, times, identity}
 use Rattle.ded_polygon.proofs.Signs.{mul_swap, none_times, times_none, above_below, above_most, unscale_zero, unscale_most, unscale_below, cancel}
 use Rattle.ded_polygon.proofs.Identities.{crossing_at_x, crossing_at_y, level_spread}
 

@@ -1,6 +1,6 @@
 -- What a look through the half planes tells of all of them.
-use Rattle.std.proofs.Common.{◌≡◌, ℕ, ◌<◌, ◌≤◌, List, length, get_or, subst, sym, arith}
-use Rattle.std.specs.Prelude.{ℤ, pos, ◌<ℤ◌, ◌≤ℤ◌}
+use Rattle.std.proofs.Common.{◌≡◌, ℕ, ◌<◌, ◌≤◌, List, length, subst, sym, arith}
+use Rattle.std.specs.Prelude.{pos, ◌<ℤ◌, ◌≤ℤ◌}
 use Rattle.ded_polygon.specs.Plane.{HalfPlane, Spot, In, level, bend}
 use Rattle.ded_polygon.specs.Vertices.{LiesIn, IsStop, IsEdge}
 use Rattle.ded_polygon.specs.Lists.{side_in, whole_plane}

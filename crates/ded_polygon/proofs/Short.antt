@@ -1,12 +1,12 @@
 -- How long levels, bends and crossings of short half planes are, and what the program reads of them.
 use Rattle.std.proofs.Common.{◌≡◌, false, true≢false, ℕ, zero, suc, ◌+◌, ◌*◌, ◌<◌, ◌≤◌, ◌^◌, refl, sym, ap, ap₂, ◌∙◌, SFits, arith, to_z, of_z}
 use Rattle.std.specs.Prelude.{ℤ, pos, negsuc, ◌+ℤ◌, ◌-ℤ◌, ◌*ℤ◌, ◌<ℤ◌, unsigned_abs, int_le}
-use lib.IntN.{neg_ℤ}
 use Rattle.std.specs.Int.{w128}
 use Rattle.std.proofs.lemmas.Int.{ints, to_z-of_z, unsigned_abs-mul}
 use Rattle.std.proofs.lemmas.Nat.{mul-lt}
 use Rattle.ded_num.specs.Length.{IsShort, IsWithin}
 use Rattle.ded_polygon.specs.Plane.{HalfPlane, Spot, level, bend, crossing}
+use Rattle.ded_polygon.proofs.Identities.{crossing_den}
 use Rattle.ded_polygon.specs.Ranges.{IsShortSide, IsShortSpot}
 
 -- what is short fits
@@ -65,12 +65,6 @@ module _ (s : HalfPlane) (p : Spot) (hs : IsShortSide s) (hp : IsShortSpot p) wh
   at_den = product_below s.c p.den (2 ^ 62) (2 ^ 63) hs.c hp.den
 
   -- as they are read
-  pub first_product : IsShort (to_z w128 (of_z w128 s.a) *ℤ to_z w128 (of_z w128 p.x))
-  first_product = rw (read s.a short_a, read p.x short_x) (let h = at_x in omega arith)
-
-  pub second_product : IsShort (to_z w128 (of_z w128 s.b) *ℤ to_z w128 (of_z w128 p.y))
-  second_product = rw (read s.b short_b, read p.y short_y) (let h = at_y in omega arith)
-
   pub third_product : IsShort (to_z w128 (of_z w128 s.c) *ℤ to_z w128 (of_z w128 p.den))
   third_product = rw (read s.c short_c, read p.den short_den) (let h = at_den in omega arith)
 
@@ -163,12 +157,6 @@ module _ (s t : HalfPlane) (hs : IsShortSide s) (ht : IsShortSide t) where
       read z (rw e (let h = bend_within in omega arith)) ∙ e
 
   -- the numerators of a crossing
-  pub first_x : IsShort (to_z w128 (of_z w128 s.b) *ℤ to_z w128 (of_z w128 t.c))
-  first_x = cross_left s.b t.c s.c t.b (2 ^ 31) (2 ^ 62) hs.b ht.c hs.c ht.b (omega arith) (a_short s.b hs.b) (c_short t.c ht.c) (c_short s.c hs.c) (a_short t.b ht.b)
-
-  pub second_x : IsShort (to_z w128 (of_z w128 s.c) *ℤ to_z w128 (of_z w128 t.b))
-  second_x = cross_right s.b t.c s.c t.b (2 ^ 31) (2 ^ 62) hs.b ht.c hs.c ht.b (omega arith) (a_short s.b hs.b) (c_short t.c ht.c) (c_short s.c hs.c) (a_short t.b ht.b)
-
   pub numerator_x : IsShort (to_z w128 (of_z w128 s.b) *ℤ to_z w128 (of_z w128 t.c) -ℤ to_z w128 (of_z w128 s.c) *ℤ to_z w128 (of_z w128 t.b))
   numerator_x = cross_whole s.b t.c s.c t.b (2 ^ 31) (2 ^ 62) hs.b ht.c hs.c ht.b (omega arith) (a_short s.b hs.b) (c_short t.c ht.c) (c_short s.c hs.c) (a_short t.b ht.b)
 
@@ -201,20 +189,16 @@ module _ (s t : HalfPlane) (hs : IsShortSide s) (ht : IsShortSide t) where
       let e = cross_is s.c t.a s.a t.c (2 ^ 62) (2 ^ 31) hs.c ht.a hs.a ht.c (omega arith) (c_short s.c hs.c) (a_short t.a ht.a) (a_short s.a hs.a) (c_short t.c ht.c) z h in
       read z (rw e (let h = y_within in omega arith)) ∙ e
 
-  crossing_den : (crossing s t).den ≡ bend s t
-  unfolding crossing bend
-  crossing_den = refl
-
   pub den_is : (d : ℤ) → d ≡ bend s t → to_z w128 (of_z w128 d) ≡ (crossing s t).den
-  den_is d h = read d (rw h (let h = bend_within in omega arith)) ∙ h ∙ sym crossing_den
+  den_is d h = read d (rw h (let h = bend_within in omega arith)) ∙ h ∙ sym (crossing_den s t)
 
   -- the crossing as it is read
   pub short_crossing : (x y d : ℤ) → x ≡ (crossing s t).x → y ≡ (crossing s t).y → d ≡ (crossing s t).den → pos 0 <ℤ bend s t → IsShortSpot (record { x = x; y = y; den = d })
   short_crossing x y d ex ey ed h = record {
     x = rw ex x_within;
     y = rw ey y_within;
-    den = rw (ed, crossing_den) bend_within;
-    positive = rw (ed, crossing_den) h;
+    den = rw (ed, crossing_den s t) bend_within;
+    positive = rw (ed, crossing_den s t) h;
   }
 
   pub crossing_is : (x y d : ℤ) → x ≡ (crossing s t).x → y ≡ (crossing s t).y → d ≡ (crossing s t).den → ◌≡◌ {A = Spot} (record { x = x; y = y; den = d }) (crossing s t)

@@ -1,11 +1,11 @@
 -- Of the half planes on whose borders a spot lies, the one whose border, gone along with the half plane to the left, leads
 -- out of none of the others, if another spot lies in all of them. Seen from the spot, it is the rightmost border of what all of them have.
-use Rattle.std.proofs.Common.{◌≡◌, List, [], ◌∷◌, ◌⊎◌, inl, inr, refl, ap, subst, ◌∙◌, sym, arith}
-use Rattle.std.specs.Prelude.{ℤ, pos, ◌+ℤ◌, ◌-ℤ◌, ◌*ℤ◌, ◌<ℤ◌, ◌≤ℤ◌}
+use Rattle.std.proofs.Common.{◌≡◌, List, [], ◌∷◌, inl, inr, refl, ap, subst, ◌∙◌, sym, arith}
+use Rattle.std.specs.Prelude.{ℤ, pos, ◌+ℤ◌, ◌*ℤ◌, ◌<ℤ◌, ◌≤ℤ◌}
 use Rattle.std.proofs.lemmas.Int.{ints, by_lt_z}
 use Rattle.ded_polygon.specs.Plane.{HalfPlane, Spot, In, IsSameSpot, level, bend, crossing}
 use Rattle.ded_polygon.specs.Vertices.{LiesIn, IsVertex}
-use Rattle.ded_polygon.proofs.Signs.{mul_swap, none_times, times_none, most_most, least_most, above_most, unscale_zero, unscale_under}
+use Rattle.ded_polygon.proofs.Signs.{mul_swap, none_times, times_none, least_most, above_most, unscale_zero, unscale_under}
 use Rattle.ded_polygon.proofs.Identities.{cramer, bend_swap, bend_self}
 use Rattle.ded_polygon.proofs.Sameness.{same_by}
 

@@ -1,5 +1,5 @@
 -- The corners of rows over two slots, as a list.
-use Rattle.std.specs.Prelude.{◌≡◌, ◌≢◌, ℕ, ◌<◌, pos, ◌<ℤ◌, List, length}
+use Rattle.std.specs.Prelude.{◌≢◌, ℕ, ◌<◌, pos, ◌<ℤ◌, List, length}
 use Rattle.ded_model.specs.declared.slot.Slot.{Slot}
 use Rattle.ded_model.specs.Constraint.{LinearConstraint}
 use Rattle.ded_model.specs.Point.{Point}

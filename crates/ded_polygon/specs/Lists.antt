@@ -1,7 +1,7 @@
 -- Lists of spots that are found one after another and then arranged.
-use Rattle.std.specs.Prelude.{◌≡◌, ℕ, ◌+◌, ◌<◌, pos, ◌<ℤ◌, List, length, get_or, nat_eq, if◌then◌else◌}
-use Rattle.ded_polygon.specs.Plane.{HalfPlane, Spot, In, IsSameSpot, level, bend, crossing}
-use Rattle.ded_polygon.specs.Vertices.{LiesIn, IsVertex, IsEdge, IsEnclosed}
+use Rattle.std.specs.Prelude.{ℕ, ◌+◌, ◌<◌, pos, ◌<ℤ◌, List, length, get_or, nat_eq, if◌then◌else◌}
+use Rattle.ded_polygon.specs.Plane.{HalfPlane, Spot, IsSameSpot, bend, crossing}
+use Rattle.ded_polygon.specs.Vertices.{LiesIn, IsVertex, IsEdge}
 
 -- what a place behind the end of a list is read as
 abbrev pub origin : Spot

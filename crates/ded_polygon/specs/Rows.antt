@@ -1,5 +1,5 @@
 -- Rows over two slots as half planes: an equality is two of them.
-use Rattle.std.specs.Prelude.{ℤ, List, [], ◌∷◌, ◌++◌}
+use Rattle.std.specs.Prelude.{List, [], ◌∷◌, ◌++◌}
 use lib.IntN.{neg_ℤ}
 use Rattle.ded_model.specs.declared.slot.Slot.{Slot}
 use Rattle.ded_model.specs.declared.row.RowOp.{RowOp}

@@ -1,5 +1,5 @@
 -- Vertices and edges of the points that lie in some half planes.
-use Rattle.std.specs.Prelude.{◌≡◌, ◌⊎◌, ℤ, pos, ◌<ℤ◌, ◌≤ℤ◌, List}
+use Rattle.std.specs.Prelude.{◌≡◌, pos, ◌<ℤ◌, ◌≤ℤ◌, List}
 use Rattle.ded_polygon.specs.Plane.{HalfPlane, Spot, In, level, bend}
 
 -- the spot lies in each of the half planes

@@ -1,5 +1,5 @@
 -- Windows, and the rows that say that a point is in one.
-use Rattle.std.specs.Prelude.{ℤ, pos, ◌<ℤ◌, List, [], ◌∷◌, ◌++◌}
+use Rattle.std.specs.Prelude.{ℤ, pos, ◌<ℤ◌, List, [], ◌∷◌}
 use lib.IntN.{neg_ℤ}
 use Rattle.ded_model.specs.declared.slot.Slot.{Slot}
 use Rattle.ded_model.specs.declared.row.RowOp.TheVariants.{AtMost}

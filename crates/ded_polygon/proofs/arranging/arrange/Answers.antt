@@ -1,4 +1,4 @@
-use Rattle.std.proofs.Common.{ℕ, ◌<◌, ◌≤◌, ◌-◌, length, ◌∙◌, ap, sym, subst, arith}
+use Rattle.std.proofs.Common.{ℕ, ◌<◌, ◌≤◌, ◌-◌, length, ◌∙◌, ap, subst, arith}
 use Rattle.std.proofs.lemmas.List.Edits.{length-swap}
 use Rattle.ded_polygon.specs.Vertices.{IsEdge}
 use Rattle.ded_polygon.specs.Lists.{spot_in}

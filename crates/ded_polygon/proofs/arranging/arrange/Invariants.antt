@@ -1,4 +1,4 @@
-use Rattle.std.proofs.Common.{◌≡◌, ◌≤◌, length}
+use Rattle.std.proofs.Common.{◌≡◌, length}
 use Rattle.ded_polygon.specs.Lists.{AreAllVertices}
 use Rattle.ded_polygon.proofs.Ordered.{LeadTo}
 use Rattle.ded_polygon.proofs.arranging.arrange.Given as goal

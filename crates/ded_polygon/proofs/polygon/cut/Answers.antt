@@ -1,8 +1,7 @@
-use Rattle.std.proofs.Common.{◌≡◌, List, ◌++◌, ◌∙◌, ap, sym, subst}
+use Rattle.std.proofs.Common.{List, ◌++◌, ◌∙◌, ap, sym, subst}
 use Rattle.ded_polygon.specs.Plane.{HalfPlane}
 use Rattle.ded_polygon.specs.Lists.{AreAllVertices, AreJoined}
 use Rattle.ded_polygon.specs.Vertices.{IsEnclosed}
-use Rattle.ded_polygon.specs.Rows.{half_planes}
 use Rattle.ded_polygon.specs.Windows.{window_rows, window_planes}
 use Rattle.ded_polygon.proofs.Results.{are_corners, bounded_around}
 use Rattle.ded_polygon.proofs.Framing.{planes_cut, cut_mentions, cut_bounded}

@@ -1,4 +1,4 @@
-use Rattle.std.proofs.Common.{◌≡◌, ◌||◌, List, ◌∙◌, ap, sym}
+use Rattle.std.proofs.Common.{◌||◌, List, ◌∙◌, ap, sym}
 use Rattle.std.specs.Prelude.{ℤ}
 use Rattle.std.specs.List.{list_all}
 use Rattle.ded_model.specs.declared.slot.Slot.{Slot}
