@@ -1,0 +1,11 @@
+-- At the end all characters were put.
+use Rattle.std.proofs.Common.{◌++◌, flat_map, sym, ap, ◌∙◌, map-id}
+use Rattle.std.proofs.lemmas.Iterator.{YieldsList-from_chars}
+use Rattle.std.proofs.lemmas.Iterator.Consumers.{YieldsList-end}
+use Rattle.ded_svg.specs.Escaping.{character_text}
+use Rattle.ded_svg.proofs.escape.put_characters.Goals as goal
+
+pub returns : goal.returns
+returns c =
+    let end = YieldsList-end (YieldsList-from_chars c.args.characters.now c.utf8.characters cc) c.loop-c.yielded _ c.loop-c.yielded_by _ _ c.in-None.is c.next.ensures.steps in
+    c.loop-c.invariant ∙ ap (λ l. c.args.text.now ++ flat_map character_text l) (sym (map-id c.loop-c.yielded) ∙ end.0)
