@@ -71,13 +71,13 @@ pub fn run<S: Source, K: Sink>(
         Err(WordFault::Bad) => return Status::BadWords,
         Err(WordFault::Memory) => return Status::NoMemory,
     };
-    if options.size.is_some() {
-        return Status::BadWords;
-    }
     let setup = Setup {
         limit: options.limit,
         input_limit: limits::INPUT_BYTES,
         keys,
     };
-    serve(alloc, &setup, source, sink)
+    match options.size {
+        Some(_) => Status::BadWords,
+        None => serve(alloc, &setup, source, sink),
+    }
 }
