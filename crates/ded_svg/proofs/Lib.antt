@@ -1,2 +1,4 @@
 pub mod Characters
 pub mod Coordinates
+pub mod Loops
+pub mod Puts

@@ -1,2 +1,5 @@
 pub mod Coordinates
 pub mod Escaping
+pub mod Markup
+pub mod Palette
+pub mod Pictures
