@@ -135,6 +135,12 @@ unfolding turn
 turn_back p q r =
     identity (p.x ∷ p.y ∷ p.den ∷ q.x ∷ q.y ∷ q.den ∷ r.x ∷ r.y ∷ r.den ∷ []) (plus (turn_of 3 0 6) (turn_of 0 3 6)) nought refl
 
+-- the turn begun at the second spot
+pub turn_round : (p q r : Spot) → turn q r p ≡ turn p q r
+unfolding turn
+turn_round p q r =
+    identity (p.x ∷ p.y ∷ p.den ∷ q.x ∷ q.y ∷ q.den ∷ r.x ∷ r.y ∷ r.den ∷ []) (turn_of 3 6 0) (turn_of 0 3 6) refl
+
 -- the level of r by those of three spots
 pub levels : (t : HalfPlane) (p q w r : Spot)
     → turn q w r *ℤ level t p +ℤ turn w p r *ℤ level t q +ℤ turn p q r *ℤ level t w ≡ turn p q w *ℤ level t r

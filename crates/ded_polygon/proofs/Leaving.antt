@@ -17,7 +17,7 @@ pub record Leaves (ss : List HalfPlane) (p : Spot) : Type 0 where
   pub edge : IsEdge ss p to
 
 -- the crossing with the nearest half plane lies in all of them
-crossing_inside : (s t w : HalfPlane) (p : Spot) → pos 0 <ℤ p.den → level s p ≡ pos 0 → pos 0 <ℤ bend s t → level t p ≤ℤ pos 0 → level w p ≤ℤ pos 0
+pub crossing_inside : (s t w : HalfPlane) (p : Spot) → pos 0 <ℤ p.den → level s p ≡ pos 0 → pos 0 <ℤ bend s t → level t p ≤ℤ pos 0 → level w p ≤ℤ pos 0
     → (pos 0 <ℤ bend s w → (level w p *ℤ bend s t -ℤ bend s w *ℤ level t p) ≤ℤ pos 0) → level w (crossing s t) ≤ℤ pos 0
 crossing_inside s t w p positive on above lt lw h =
     let gap : (level w p *ℤ bend s t -ℤ bend s w *ℤ level t p) ≤ℤ pos 0 =

@@ -20,3 +20,4 @@ pub mod RowVertices
 pub mod Results
 pub mod Framing
 pub mod Mentions
+pub mod Outline

@@ -10,12 +10,8 @@ use Rattle.ded_model.specs.Point.{Point, slot, number_at, same_slot}
 use Rattle.ded_model.specs.Row.{sum_at, row_at, row_mentions}
 use Rattle.ded_model.proofs.Points.{same_slot_is, same_slot_refl}
 use Rattle.ded_polygon.specs.Plane.{Spot, level}
-use Rattle.ded_polygon.specs.Closures.{MentionsOnly}
+use Rattle.ded_polygon.specs.Closures.{MentionsOnly, spot_of}
 use Rattle.ded_polygon.specs.Rows.{half_plane}
-
--- the spot of a point, by its numbers at two slots
-abbrev pub spot_of : Slot → Slot → Point → Spot
-spot_of x y p = record { x = number_at p (slot x); y = number_at p (slot y); den = pos p.den }
 
 or_more : (a b : Bool) → b ≡ true → (a || b) ≡ true
 or_more true b h = refl

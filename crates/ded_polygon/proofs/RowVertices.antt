@@ -17,10 +17,10 @@ use Rattle.ded_model.proofs.Eliminating.{meets-decides}
 use Rattle.ded_model.proofs.Points.{same_slot_refl}
 use Rattle.ded_polygon.specs.Plane.{HalfPlane, Spot, In, level, bend}
 use Rattle.ded_polygon.specs.Vertices.{LiesIn, IsVertex, IsEnclosed}
-use Rattle.ded_polygon.specs.Closures.{weakened, holds_weakly, MentionOnly, AreParallel, IsTight, IsCornerPoint, growth, IsLeft, AreBounded, point_at}
+use Rattle.ded_polygon.specs.Closures.{weakened, holds_weakly, MentionOnly, AreParallel, IsTight, IsCornerPoint, growth, IsLeft, AreBounded, spot_of, point_at}
 use Rattle.ded_polygon.specs.Rows.{half_plane, opposite, by_op, half_planes}
 use Rattle.ded_polygon.proofs.Identities.{bend_swap}
-use Rattle.ded_polygon.proofs.RowLevels.{spot_of, row_level}
+use Rattle.ded_polygon.proofs.RowLevels.{row_level}
 use Rattle.ded_polygon.proofs.RowPlanes.{level_opposite, bend_opposite_left, bend_opposite_right, in_planes, plane_in, IsOf, plane_of, same_border}
 
 -- ---- one row
@@ -82,7 +82,7 @@ module _ (x y : Slot) (differ : same_slot x y ≡ false) (rows : List LinearCons
       let w = plane_of x y rows s i in
       lies_by w.row.op (half_plane x y w.row) (spot_of x y p) (weak_meets w.row w.row_in (h w.row w.row_in)) s w.is
 
-  lies_closure : LiesIn (half_planes x y rows) (spot_of x y p) → (r : LinearConstraint) → In r rows → holds_weakly r p ≡ true
+  pub lies_closure : LiesIn (half_planes x y rows) (spot_of x y p) → (r : LinearConstraint) → In r rows → holds_weakly r p ≡ true
   lies_closure l r i = meets_weakly r i (meets_by r.op (half_plane x y r) (spot_of x y p) (λ s j. l s (in_planes x y rows r s i j)))
 
   -- a row that is an equality is on the border

@@ -66,6 +66,12 @@ unscale_above k z p h =
     let q : neg_ℤ z <ℤ pos 0 = meets_unscale Below k (neg_ℤ z) p (omega (arith, ints)) in
     omega (arith, ints)
 
+pub unscale_least : (k z : ℤ) → pos 0 <ℤ k → pos 0 ≤ℤ (k *ℤ z) → pos 0 ≤ℤ z
+unscale_least k z p h =
+    let f = times_neg k z in
+    let q : neg_ℤ z ≤ℤ pos 0 = meets_unscale AtMost k (neg_ℤ z) p (omega (arith, ints)) in
+    omega (arith, ints)
+
 -- a factor below 0 turns the sign
 pub unscale_under : (k z : ℤ) → k <ℤ pos 0 → pos 0 ≤ℤ (k *ℤ z) → z ≤ℤ pos 0
 unscale_under k z p h =

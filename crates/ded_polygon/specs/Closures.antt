@@ -20,6 +20,10 @@ weakened Below = AtMost
 abbrev pub holds_weakly : LinearConstraint → Point → Bool
 holds_weakly r p = row_holds (record { coefs = r.coefs; constant = r.constant; op = weakened r.op }) p
 
+-- the point is in the closure of the rows: each with `<` read as `<=` holds there
+abbrev pub IsInClosure : List LinearConstraint → Point → Type 0
+IsInClosure rows p = (r : LinearConstraint) → In r rows → holds_weakly r p ≡ true
+
 -- the row mentions no other slot than x and y
 abbrev pub MentionsOnly : Slot → Slot → LinearConstraint → Type 0
 MentionsOnly x y r = (s : Slot) → row_mentions r s ≡ true → (same_slot s x ≡ true) ⊎ (same_slot s y ≡ true)
@@ -36,9 +40,9 @@ AreParallel x y r q = coef_at r.coefs x *ℤ coef_at q.coefs y ≡ coef_at r.coe
 abbrev pub IsTight : LinearConstraint → Point → Type 0
 IsTight r p = row_at r p ≡ pos 0
 
--- the point satisfies each row with `<` read as `<=`, and two rows that are not parallel are equalities there
+-- the point is in the closure of the rows, and two rows that are not parallel are equalities there
 pub record IsCornerPoint (x y : Slot) (rows : List LinearConstraint) (p : Point) : Type 0 where
-  pub closure : (r : LinearConstraint) → In r rows → holds_weakly r p ≡ true
+  pub closure : IsInClosure rows p
   pub first : LinearConstraint
   pub first_in : In first rows
   pub at_first : IsTight first p
@@ -74,6 +78,10 @@ AreInRange x y rows = (r : LinearConstraint) → In r rows → IsInRange x y r
 -- the point of a spot, with its coordinates at x and y
 abbrev pub point_at : Slot → Slot → Spot → Point
 point_at x y c = record { den = unsigned_abs c.den; coords = (slot x, number c.x) ∷ (slot y, number c.y) ∷ [] }
+
+-- the spot of a point, by its coordinates at x and y
+abbrev pub spot_of : Slot → Slot → Point → Spot
+spot_of x y p = record { x = number_at p (slot x); y = number_at p (slot y); den = pos p.den }
 
 -- the point has the coordinates of the spot at x and y
 pub record StandsAt (x y : Slot) (p : Point) (c : Spot) : Type 0 where

@@ -1,11 +1,11 @@
 -- The corners of rows over two slots, as a list.
-use Rattle.std.specs.Prelude.{◌≢◌, ℕ, ◌<◌, pos, ◌<ℤ◌, List, length}
+use Rattle.std.specs.Prelude.{◌≡◌, ◌≢◌, ℕ, ◌<◌, pos, ◌<ℤ◌, ◌≤ℤ◌, List, length}
 use Rattle.ded_model.specs.declared.slot.Slot.{Slot}
 use Rattle.ded_model.specs.Constraint.{LinearConstraint}
 use Rattle.ded_model.specs.Point.{Point}
 use Rattle.ded_polygon.specs.Plane.{Spot, In, turn}
 use Rattle.ded_polygon.specs.Lists.{spot_in, after, AreDifferent}
-use Rattle.ded_polygon.specs.Closures.{IsCornerPoint, IsTight, point_at, StandsAt}
+use Rattle.ded_polygon.specs.Closures.{IsInClosure, IsCornerPoint, IsTight, spot_of, point_at, StandsAt}
 
 -- the spots of the list are exactly the corners of the rows, each once
 pub record AreCorners (x y : Slot) (rows : List LinearConstraint) (cs : List Spot) : Type 0 where
@@ -26,3 +26,13 @@ pub record ShareBorder (x y : Slot) (rows : List LinearConstraint) (c d : Spot) 
 pub record GoAround (x y : Slot) (rows : List LinearConstraint) (cs : List Spot) : Type 0 where
   pub neighbours : 1 < length cs → (k : ℕ) → k < length cs → ShareBorder x y rows (spot_in cs k) (spot_in cs (after (length cs) k))
   pub left : (k j : ℕ) → k < length cs → j < length cs → j ≢ k → j ≢ after (length cs) k → pos 0 <ℤ turn (spot_in cs k) (spot_in cs (after (length cs) k)) (spot_in cs j)
+
+-- what the corners tell of the closure: without a corner nothing is in it, with one alone that one; what is in it lies to the left
+-- of each way from a corner to the next or on it, and where there are three corners or more, nothing else does
+pub record IsOutline (x y : Slot) (rows : List LinearConstraint) (cs : List Spot) : Type 0 where
+  pub none : length cs ≡ 0 → (p : Point) → 0 < p.den → IsInClosure rows p → ⊥
+  pub one : length cs ≡ 1 → (p : Point) → 0 < p.den → IsInClosure rows p → StandsAt x y p (spot_in cs 0)
+  pub inside : 1 < length cs → (p : Point) → 0 < p.den → IsInClosure rows p → (k : ℕ) → k < length cs
+      → pos 0 ≤ℤ turn (spot_in cs k) (spot_in cs (after (length cs) k)) (spot_of x y p)
+  pub outside : 2 < length cs → (p : Point) → 0 < p.den
+      → ((k : ℕ) → k < length cs → pos 0 ≤ℤ turn (spot_in cs k) (spot_in cs (after (length cs) k)) (spot_of x y p)) → IsInClosure rows p

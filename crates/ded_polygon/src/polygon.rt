@@ -3,7 +3,7 @@ ghost use Rattle.std.specs.Prelude.{◌≡◌, ◌++◌, pos, ◌<ℤ◌, false,
 ghost use Rattle.ded_model.specs.declared.memory.Refused.TheVariants.{Wide};
 ghost use Rattle.ded_model.specs.Point.{same_slot};
 ghost use Rattle.ded_polygon.specs.Closures.{MentionOnly, AreBounded, AreInRange};
-ghost use Rattle.ded_polygon.specs.Corners.{AreCorners, GoAround};
+ghost use Rattle.ded_polygon.specs.Corners.{AreCorners, GoAround, IsOutline};
 ghost use Rattle.ded_polygon.specs.Lists.{AreAllVertices, AreJoined};
 ghost use Rattle.ded_polygon.specs.Vertices.{IsEnclosed};
 ghost use Rattle.ded_polygon.specs.Windows.{window_rows, window_planes};
@@ -32,6 +32,7 @@ pub fn corners(alloc: Global, rows: &[Row], x: Slot, y: Slot) -> Result<Vec<Corn
     requires only { MentionOnly x y rows.now }
     ensures corners { IfOk result (λ cs. AreCorners x y rows.now cs.items) }
     ensures around { AreBounded x y rows.now → IfOk result (λ cs. GoAround x y rows.now cs.items) }
+    ensures outline { AreBounded x y rows.now → IfOk result (λ cs. IsOutline x y rows.now cs.items) }
     ensures wide { IsErrOf result Wide → AreInRange x y rows.now → ⊥ }
 {
     let sides = sides(alloc, rows, x, y)?;
@@ -53,6 +54,7 @@ pub fn cut(
     requires only { MentionOnly x y rows.now }
     ensures corners { IfOk result (λ cs. AreCorners x y (rows.now ++ window_rows x y window) cs.items) }
     ensures around { IfOk result (λ cs. GoAround x y (rows.now ++ window_rows x y window) cs.items) }
+    ensures outline { IfOk result (λ cs. IsOutline x y (rows.now ++ window_rows x y window) cs.items) }
     ensures wide { IsErrOf result Wide → AreInRange x y rows.now → ⊥ }
 {
     let mut sides = sides(alloc, rows, x, y)?;
