@@ -60,7 +60,7 @@ solved a ud x d tu b rd tr c h1 h2 h3 =
         (times (minus nought (var 1)) (minus (times (var 3) (var 4)) (times (var 0) (var 2))))
         refl
 
-along : (s t w : HalfPlane) (u r : Spot) → level s u ≡ pos 0 → level s r ≡ pos 0 → level w r ≡ pos 0
+pub along : (s t w : HalfPlane) (u r : Spot) → level s u ≡ pos 0 → level s r ≡ pos 0 → level w r ≡ pos 0
     → level w u *ℤ (bend s t *ℤ r.den) ≡ bend s w *ℤ (level t u *ℤ r.den -ℤ level t r *ℤ u.den)
 along s t w u r su sr wr =
     let e = cramer w s t u in

@@ -21,3 +21,4 @@ pub mod Results
 pub mod Framing
 pub mod Mentions
 pub mod Outline
+pub mod Segment

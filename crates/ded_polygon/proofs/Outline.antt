@@ -1,17 +1,17 @@
 -- What lies in all half planes is what the edges around it have to their left: a spot to the left of all edges, or on them, is in
 -- one of the triangles from the first vertex over an edge, and a mixture of that triangle's corners. Where something lies in
 -- all half planes, and each direction leads out of one, there is a vertex, and where there is one alone, nothing else.
-use Rattle.std.proofs.Common.{◌≡◌, ℕ, zero, suc, ◌<◌, ◌≤◌, List, [], ◌∷◌, ◌⊎◌, inl, inr, refl, ap, ◌∙◌, sym, arith}
+use Rattle.std.proofs.Common.{◌≡◌, ℕ, zero, suc, ◌<◌, ◌≤◌, List, [], ◌∷◌, ◌⊎◌, inl, inr, refl, ap, sym, arith}
 use Rattle.std.specs.Prelude.{ℤ, pos, ◌+ℤ◌, ◌-ℤ◌, ◌*ℤ◌, ◌<ℤ◌, ◌≤ℤ◌}
 use Rattle.std.proofs.lemmas.Int.{ints, by_lt_z}
 use Rattle.ded_polygon.specs.Plane.{HalfPlane, Spot, In, IsSameSpot, level, bend, crossing, turn}
 use Rattle.ded_polygon.specs.Vertices.{LiesIn, IsVertex, IsEdge, IsEnclosed}
 use Rattle.ded_polygon.proofs.Polynomials.{nought, var, plus, minus, times, identity}
-use Rattle.ded_polygon.proofs.Signs.{mul_swap, most_most, above_most, least_most, unscale_most, unscale_least}
-use Rattle.ded_polygon.proofs.Identities.{levels, turn_back, turn_round, turn_on_border, crossing_den, crossing_on_first, crossing_on_second}
+use Rattle.ded_polygon.proofs.Signs.{mul_swap, most_most, least_most, unscale_most, unscale_least}
+use Rattle.ded_polygon.proofs.Identities.{levels, turn_back, turn_round, turn_on_border, crossing_den, crossing_on_second}
 use Rattle.ded_polygon.proofs.Utmost.{proper_second}
-use Rattle.ded_polygon.proofs.Nearest.{Nearest, nearest_of}
-use Rattle.ded_polygon.proofs.Leaving.{Leaves, leaves, crossing_inside}
+use Rattle.ded_polygon.proofs.Nearest.{nearest_of}
+use Rattle.ded_polygon.proofs.Leaving.{leaves, crossing_inside}
 use Rattle.ded_polygon.proofs.Finding.{crossing_vertex}
 use Rattle.ded_polygon.proofs.Edges.{to_the_left, ends_differ, edge_same}
 

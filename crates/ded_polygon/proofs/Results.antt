@@ -9,12 +9,13 @@ use Rattle.ded_model.specs.Point.{Point, same_slot}
 use Rattle.ded_polygon.specs.Plane.{HalfPlane, Spot, IsSameSpot, level, turn}
 use Rattle.ded_polygon.specs.Vertices.{LiesIn, IsVertex, IsEdge, IsEnclosed}
 use Rattle.ded_polygon.specs.Lists.{spot_in, AreAllVertices, after, AreJoined}
-use Rattle.ded_polygon.specs.Closures.{MentionOnly, AreBounded, IsInClosure, spot_of, point_at, StandsAt}
+use Rattle.ded_polygon.specs.Closures.{MentionOnly, AreBounded, IsInClosure, spot_of, point_at}
 use Rattle.ded_polygon.specs.Rows.{half_planes}
 use Rattle.ded_polygon.specs.Corners.{AreCorners, ShareBorder, GoAround, IsOutline}
 use Rattle.ded_polygon.proofs.Sameness.{same_sym}
 use Rattle.ded_polygon.proofs.Edges.{to_the_left}
 use Rattle.ded_polygon.proofs.Outline.{inside_left, left_inside, some_vertex, alone}
+use Rattle.ded_polygon.proofs.Segment.{between_x, between_y}
 use Rattle.ded_polygon.proofs.RowPlanes.{plane_of}
 use Rattle.ded_polygon.proofs.RowVertices.{enclosed, closure_lies, lies_closure, vertex_of, corner_point_of, level_tight, spot_back}
 
@@ -132,6 +133,15 @@ module _ (x y : Slot) (differ : same_slot x y ≡ false) (rows : List LinearCons
           record { at_x = sym s.x; at_y = sym s.y });
       inside = λ more p h c k l.
           inside_left ss (spot_in cs k) (spot_in cs (after (length cs) k)) (spot_of x y p) (joined more k l) (positive (after (length cs) k) (after_below (length cs) k l)) (lies p c);
+      between = λ e p h c.
+          (let first : 0 < length cs = omega (arith, e) in
+          let second : 1 < length cs = omega (arith, e) in
+          let there : IsEdge ss (spot_in cs 0) (spot_in cs 1) = subst (λ i. IsEdge ss (spot_in cs 0) (spot_in cs i)) (next_is 0 1 e (omega arith)) (joined (omega (arith, e)) 0 first) in
+          let back : IsEdge ss (spot_in cs 1) (spot_in cs 0) = subst (λ i. IsEdge ss (spot_in cs 1) (spot_in cs i)) (last_is 1 e) (joined (omega (arith, e)) 1 second) in
+          record {
+            at_x = between_x ss (spot_in cs 0) (spot_in cs 1) (spot_of x y p) there back (positive 0 first) (positive 1 second) (omega (arith, ints)) (lies p c);
+            at_y = between_y ss (spot_in cs 0) (spot_in cs 1) (spot_of x y p) there back (positive 0 first) (positive 1 second) (omega (arith, ints)) (lies p c);
+          });
       outside = λ more p h left. polygon (length cs - 3) (length cs - 1) (omega arith) (omega arith) p h left;
     }
       where

@@ -9,7 +9,7 @@ use Rattle.ded_model.specs.Coefs.{coef_at}
 use Rattle.ded_model.specs.Point.{Point, slot, number_at, same_slot}
 use Rattle.ded_model.specs.Row.{sum_at, row_at, row_mentions}
 use Rattle.ded_model.proofs.Points.{same_slot_is, same_slot_refl}
-use Rattle.ded_polygon.specs.Plane.{Spot, level}
+use Rattle.ded_polygon.specs.Plane.{level}
 use Rattle.ded_polygon.specs.Closures.{MentionsOnly, spot_of}
 use Rattle.ded_polygon.specs.Rows.{half_plane}
 

@@ -4,7 +4,7 @@
 //! is where each row with `<` read as `<=` holds. Where the rows are bounded, that is, where each direction leads out of one of them,
 //! the corners go around counterclockwise: each shares a row that is an equality with the next, and all others lie strictly to the left
 //! of the way between them. The closure is then exactly what lies to the left of all these ways or on them, where there are three
-//! corners or more; one corner is all of it, and where there is none, it is empty.
+//! corners or more; it lies on the way between two, is one alone, and where there is no corner, it is empty.
 //! [`cut`] adds the four rows of a [`Window`], which bound any rows (the law [`windows`]).
 //!
 //! All of it is exact: a row whose numbers are beyond 2 ^ 31 and 2 ^ 62 is refused as too wide before anything is computed, and within
