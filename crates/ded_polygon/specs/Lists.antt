@@ -3,10 +3,11 @@ use Rattle.std.specs.Prelude.{ℕ, ◌+◌, ◌<◌, pos, ◌<ℤ◌, List, leng
 use Rattle.ded_polygon.specs.Plane.{HalfPlane, Spot, IsSameSpot, bend, crossing}
 use Rattle.ded_polygon.specs.Vertices.{LiesIn, IsVertex, IsEdge}
 
--- what a place behind the end of a list is read as
+-- what a place behind the end of a list of spots is read as
 abbrev pub origin : Spot
 origin = record { x = pos 0; y = pos 0; den = pos 1 }
 
+-- and behind that of a list of half planes
 abbrev pub whole_plane : HalfPlane
 whole_plane = record { a = pos 0; b = pos 0; c = pos 0 }
 
