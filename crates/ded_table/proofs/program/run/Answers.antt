@@ -18,7 +18,7 @@ pub serve-requires-clause-high : goal.serve-requires-clause-high
 serve-requires-clause-high g c = limit_high _ _ c.in-Ok.ensures.accepted
 
 pub returns-in-Some-clause-bad_words : goal.returns-in-Some-clause-bad_words
-returns-in-Some-clause-bad_words g c = λ is. inr (_, same_words _ _ _ _ c.deref.ensures.value c.in-Ok.ensures.accepted, subst (λ (o : Option ℕ). IsSome o) (sym c.in-Some.is) tt)
+returns-in-Some-clause-bad_words g c = λ is. inr (_, same_words _ _ _ _ c.deref.ensures.value c.in-Ok.ensures.accepted, subst (λ (o : Option ℕ). IsSome o) (sym c.in-Some.is) refl)
 
 pub returns-in-None-clause-done : goal.returns-in-None-clause-done
 returns-in-None-clause-done g c = λ is. (_, same_words _ _ _ _ c.deref.ensures.value c.in-Ok.ensures.accepted, (c.in-None.is, c.serve.ensures.done is))
