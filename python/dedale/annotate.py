@@ -7,7 +7,7 @@ from typing import BinaryIO, Iterator, Sequence
 
 from dedale.headings import Relations
 from dedale.reading import is_counted, is_refusal, is_span
-from dedale.statements import Statement, split
+from dedale.statements import Statement, shortened, split
 
 FAULTS = 1
 UNREADABLE = 2
@@ -94,7 +94,7 @@ class Annotator:
             raise Mismatch(f"{self._place(statement)}: no reply: {statement.shortened()}")
         yield line
         if not self._fits(line, statement):
-            raise Mismatch(f"{self._place(statement)}: {line}: this is no reply to: {statement.shortened()}")
+            raise Mismatch(f"{self._place(statement)}: {shortened(line)}: this is no reply to: {statement.shortened()}")
         if is_counted(line):
             yield from self._until_end(statement)
         if is_span(line):
@@ -161,5 +161,5 @@ def _parser() -> argparse.ArgumentParser:
 
 
 def _lines(stream: BinaryIO) -> Iterator[str]:
-    """The lines of a stream without their line feeds."""
-    return (line.removesuffix(b"\n").decode("utf-8", "surrogateescape") for line in stream)
+    """The lines of a stream without their line feeds, and without the carriage returns that other systems put before these."""
+    return (line.removesuffix(b"\n").removesuffix(b"\r").decode("utf-8", "surrogateescape") for line in stream)

@@ -6,6 +6,7 @@ from typing import Callable
 from dedale.errors import NoReply
 from dedale.polyhedra import Bound, Row, Sign, Span
 from dedale.replies import Answer, Apart, Certificate, Done, Dump, Meet, Number, Plan, Refused, Reply, Spans, Stored, Truth
+from dedale.statements import shortened
 from dedale.tuples import Constraint, GeneralizedTuple, Heading, TextPair, TextValue
 
 ReadLine = Callable[[], str]
@@ -67,7 +68,7 @@ def read_spans(lines: list[str]) -> Spans:
     found = [_matched(_SPAN, line) for line in lines]
     spans = Spans({one[1]: Span(_bound(one[3], one[2] == "("), _bound(one[4], one[5] == ")")) for one in found})
     if spans.printed() != "".join(line + "\n" for line in lines):
-        raise NoReply(f"no bounds of columns: {', '.join(lines)}")
+        raise NoReply(f"no bounds of columns: {shortened(', '.join(lines))}")
     return spans
 
 
@@ -77,7 +78,7 @@ def read_tuple(text: str, columns: Heading) -> GeneralizedTuple:
     parts = _CONSTRAINT.findall(body) if body else []
     found = GeneralizedTuple(columns, tuple(_read_constraint(part) for part in parts))
     if found.printed() != text:
-        raise NoReply(f"no tuple: {text}")
+        raise NoReply(f"no tuple: {shortened(text)}")
     return found
 
 
@@ -136,5 +137,5 @@ def _bound(text: str, is_open: bool) -> Bound | None:
 def _matched(pattern: re.Pattern[str], text: str) -> re.Match[str]:
     found = pattern.fullmatch(text)
     if not found:
-        raise NoReply(f"no reply of Dedale: {text}")
+        raise NoReply(f"no reply of Dedale: {shortened(text)}")
     return found

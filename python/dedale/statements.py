@@ -57,8 +57,11 @@ class Statement:
 
     @property
     def may_become_change(self) -> bool:
-        """Whether it changes something where it is accepted, or may do so once more bytes follow."""
-        return self.is_change or any(word.encode().startswith(self.text) for word in CHANGING_WORDS)
+        """Whether it may be accepted and change something once more bytes follow. No text of a statement that is accepted goes on
+        over the end of a line."""
+        texts = (found[0] for found in _TEXT_OR_COMMENT.finditer(self.text) if found[0].startswith(b"'"))
+        begins_so = self.is_change or any(word.encode().startswith(self.text) for word in CHANGING_WORDS)
+        return begins_so and not any(b"\n" in text for text in texts)
 
     @property
     def open_text_line(self) -> int | None:

@@ -102,6 +102,7 @@ def test_without_words_only_refusals_are_told() -> None:
         ("query (x) : x = 1;", "answer 1\n{ x = 1 }\n", "s:1: the reply has no end: query (x) : x = 1"),
         ("relation T(x, y);box T;ask true;", "ok\nx in (0, 1)\nyes\n", "s:1: the bounds of y are missing: box T"),
         ("ask true", "yes\n", "s:1: yes: this is no reply to: ask true"),
+        ("ask true;", "\x1b[2J" + "z" * 999 + "\n", f"s:1: \\x1b[2J{'z' * 80}...: this is no reply to: ask true"),
     ],
 )
 def test_replies_that_are_not_those_to_the_script(script: str, replies: str, told: str) -> None:

@@ -283,6 +283,15 @@ def test_a_file_that_is_no_journal_stays_as_it_is(tmp_path: Path) -> None:
         Dedale(journal=tmp_path / "none" / "journal")
 
 
+def test_nothing_of_a_journal_is_lost_behind_a_missing_quote(tmp_path: Path) -> None:
+    path = tmp_path / "journal"
+    script = "relation T(n text); -- it's\ninsert T { n = 'a };\ninsert T { n = 'b' };\n"
+    path.write_text(script)
+    with pytest.raises(JournalError, match="journal:2: this is no journal: insert T { n = 'a }; insert T"):
+        Dedale(journal=path)
+    assert path.read_text() == script
+
+
 def test_a_full_disk(db: Dedale, tmp_path: Path, monkeypatch: pytest.MonkeyPatch) -> None:
     path = tmp_path / "journal"
     with Dedale(journal=path) as db:

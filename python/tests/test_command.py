@@ -48,6 +48,7 @@ def test_annotate(tmp_path: Path) -> None:
     told = f"{script}:2: refused 14 sort: ask 'a\\xff' = 1\n"
     assert tool("annotate", str(script), stdin=replies) == (1, told, "")
     assert tool("annotate", "--all", str(script), stdin=replies) == (1, f"{script}:1: yes: ask true\n{told}", "")
+    assert tool("annotate", str(script), stdin=replies.replace(b"\n", b"\r\n")) == (1, told, "")
     assert tool("annotate", str(script), stdin=b"yes\nno\n") == (0, "", "")
     assert tool("annotate", str(script), stdin=b"yes\n") == (1, "", f"{script}:2: no reply: ask 'a\\xff' = 1\n")
     none = tmp_path / "none"

@@ -83,6 +83,12 @@ def test_no_reply(line: str) -> None:
         read_reply(line, lambda: "end", HEADING)
 
 
+def test_what_is_no_reply_is_told_on_one_short_line() -> None:
+    with pytest.raises(NoReply) as caught:
+        read_reply("\x1b[2J\udcff" + "z" * 999, lambda: "end", HEADING)
+    assert str(caught.value) == f"no reply of Dedale: \\x1b[2J\\udcff{'z' * 74}..."
+
+
 @pytest.mark.parametrize("lines", [["x in [1, 2"], ["x in [a, 2]"], ["x in [1/0, 2]"], ["empty", "empty"], ["yes"], []])
 def test_no_spans(lines: list[str]) -> None:
     with pytest.raises(NoReply):

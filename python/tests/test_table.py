@@ -10,11 +10,12 @@ from typing import Iterator
 import pytest
 
 from dedale.headings import Relations
+from dedale.process import check_program
 from dedale.reading import is_counted, is_refusal, read_reply
 from dedale.replies import Answer, Stored
 from dedale.statements import Statement, split
 from dedale.tuples import GeneralizedTuple, Heading
-from tests.scripts import ROOT
+from tests.scripts import ROOT, Script, repository_scripts, script_name
 from tests.table_lines import possible_lines, titles
 from tests.table_scripts import random_script
 
@@ -77,13 +78,15 @@ class Exchange:
 
 @pytest.fixture(scope="session")
 def table_program() -> str:
-    """The program that writes tables: the one that `DEDALE_TABLE` names, or that of the clone."""
-    return os.environ.get("DEDALE_TABLE") or str(ROOT / "dedale_table")
+    """The program that writes tables: the one that `DEDALE_TABLE` names, or that of the clone. The first run builds it."""
+    found = os.environ.get("DEDALE_TABLE") or str(ROOT / "dedale_table")
+    check_program([found])
+    return found
 
 
-def run(program: str, script: bytes) -> tuple[int, bytes]:
+def run(program: str, script: bytes, words: tuple[str, ...] = ()) -> tuple[int, bytes]:
     """The status of the program, which writes nothing to standard error, and its replies to a script."""
-    ended = subprocess.run([program], input=script, capture_output=True, check=False)
+    ended = subprocess.run([program, *words], input=script, capture_output=True, check=False)
     assert ended.stderr == b""
     return ended.returncode, ended.stdout
 
@@ -139,6 +142,7 @@ def tuples_of(plain: Exchange) -> Iterator[tuple[str, GeneralizedTuple]]:
 @pytest.fixture(scope="module")
 def compared(program: str, table_program: str) -> list[tuple[Exchange, Exchange]]:
     """The replies of both programs to random scripts, statement by statement."""
+    check_program([program])
     return [pair for seed in SEEDS for pair in compare(program, table_program, random_script(Random(seed), STATEMENTS))]
 
 
@@ -153,6 +157,14 @@ def compare(program: str, table_program: str, script: bytes) -> Iterator[tuple[E
 def test_tables_are_what_the_package_computes(compared: list[tuple[Exchange, Exchange]]) -> None:
     for plain, table in compared:
         check(plain, table)
+
+
+@pytest.mark.parametrize("one", repository_scripts(), ids=script_name)
+def test_tables_of_the_scripts_of_the_repository(table_program: str, one: Script) -> None:
+    _, tables = run(table_program, one.script, one.words)
+    plain = exchanges(one.script, one.replies, is_table=False)
+    for without, table in zip(plain, exchanges(one.script, tables, is_table=True), strict=True):
+        check(without, table)
 
 
 @pytest.mark.parametrize("pattern", KINDS)

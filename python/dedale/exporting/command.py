@@ -44,6 +44,8 @@ def _output(words: Words, script: bytes) -> tuple[str, list[Problem]]:
     with Dedale(words.program, limit, seconds=words.seconds) as db:
         results = run(db, script)
     check_columns(results.found, words.columns or ())
+    if not results.found and not results.refusals:
+        _tell(words, f"{words.script_name}: no query and no show is answered, so there is nothing to write")
     text, problems = _written(words, results.found, scale)
     return text, sorted(results.refusals + problems, key=lambda problem: problem.line)
 
@@ -61,5 +63,9 @@ def _written(words: Words, results: list[Result], scale: int) -> tuple[str, list
 
 
 def _fail(words: Words, text: str, status: int) -> int:
-    print(f"dedale-tools {words.command}: {text}", file=sys.stderr)
+    _tell(words, text)
     return status
+
+
+def _tell(words: Words, text: str) -> None:
+    print(f"dedale-tools {words.command}: {text}", file=sys.stderr)

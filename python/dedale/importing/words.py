@@ -87,7 +87,7 @@ def _import_parser() -> argparse.ArgumentParser:
 
 
 def _read_import(words: Sequence[str]) -> ImportWords:
-    given = _import_parser().parse_args(words)
+    given = _import_parser().parse_intermixed_args(words)
     relation = check_name(given.relation, "the relation")
     if not given.columns and not given.geojson:
         raise BadWords("no column is given: name those to import, and last that with the geometry as WKT, if there is one")

@@ -135,8 +135,23 @@ def test_columns_that_no_answer_has(program: str) -> None:
         run = run_tools(program, *words, "--columns", "x,z", script=SQUARES + "show A;")
         assert (run.status, run.out) == (1, "")
         assert run.err == f"dedale-tools {words[0]}: standard input: no answer has a rational column z\n"
-    run = run_tools(program, "export", "--format", "csv", "--columns", "z", script=SQUARES)
-    assert (run.status, run.out, run.err) == (0, "", "")
+    assert run_tools(program, "export", "--format", "csv", "--columns", "z", script=SQUARES).status == 0
+
+
+def test_a_script_without_an_answer(program: str) -> None:
+    for words, written in ((("area",), "area\n"), (("export", "--format", "csv"), ""), (("export", "--format", "wkt"), "wkt\n")):
+        run = run_tools(program, *words, script=SQUARES)
+        assert (run.status, run.out) == (0, written)
+        assert run.err == f"dedale-tools {words[0]}: standard input: no query and no show is answered, so there is nothing to write\n"
+
+
+def test_an_answer_without_a_tuple_has_its_columns(program: str) -> None:
+    script = LAND + "query (n text, x, y) : Land(n, x, y) and x > 99;"
+    for words, written in (
+        (("area",), "n,area\n"), (("export", "--format", "csv"), "n,x,y\n"), (("export", "--format", "wkt"), "n,wkt\n"),
+    ):
+        run = run_tools(program, *words, script=script)
+        assert (run.status, run.out, run.err) == (0, written, "")
 
 
 @pytest.mark.parametrize("name", ["no-such-program", "/dev/null", "/"])

@@ -66,6 +66,13 @@ def test_the_geometry_may_stand_anywhere() -> None:
     assert outcome.inserts() == ["insert City { name = 'a', x = 10000, y = 10000 };"]
 
 
+def test_words_stand_in_any_order() -> None:
+    table = "n,w\na,POINT (1 2)\nb,POINT (1 x)\n"
+    expected = imported(table, "Land", "n", "w", "--digits", "2", "--skip")
+    assert len(expected.inserts()) == 1
+    assert imported(table, "--digits", "2", "Land", "--skip", "n", "w") == expected
+
+
 def test_columns_are_renamed() -> None:
     outcome = imported("the name,x,wkt\na,b,POINT (1 1)\n", "C", "the name", "x", "wkt", "--rename", "the name=n", "--rename", "x=east")
     assert outcome.script.splitlines()[1:] == [
