@@ -1,12 +1,11 @@
 -- Replies as tables, and that the tuples of a reply are over its columns.
-use Rattle.std.proofs.Common.{◌≡◌, ℕ, Bool, true, false, Option, Some, None, List, [], ◌∷◌, refl, sym, subst, true≢false, inl, inr}
+use Rattle.std.proofs.Common.{◌≡◌, ℕ, true, false, Option, Some, None, List, refl, sym, subst, true≢false, inl, inr}
 use Rattle.std.specs.List.{AllByRecursion}
 use Rattle.ded_dialogue.specs.Replies.{Said}
 use Rattle.ded_dialogue.specs.Runs.{StandsFor}
 use Rattle.ded_lex.specs.Pieces.{Statement, Whole}
 use Rattle.ded_model.specs.declared.command.Language.{Language}
-use Rattle.ded_model.specs.declared.command.Refusal.{Refusal}
-use Rattle.ded_model.specs.declared.command.Refusal.TheVariants.{LongStatement, Unfinished, Memory}
+use Rattle.ded_model.specs.declared.command.Refusal.TheVariants.{Memory}
 use Rattle.ded_model.specs.declared.name.Column.{Column}
 use Rattle.ded_model.specs.Catalogue.{Catalogue, Entry, tuples_of}
 use Rattle.ded_model.specs.Catalogue as entry
@@ -14,7 +13,7 @@ use Rattle.ded_model.specs.Command.{CommandForm, header, relation, insert, delet
 use Rattle.ded_model.specs.Entries.{entry_of, relation_in, stored_in, tuples_in, columns_in}
 use Rattle.ded_model.specs.Known.{IsTupleOver, IsWellFormed}
 use Rattle.ded_model.specs.Row.{Atom}
-use Rattle.ded_run.specs.OneSession.{MayReply, Standing, said_of}
+use Rattle.ded_run.specs.OneSession.{Standing, said_of}
 use Rattle.ded_run.proofs.Steps.{answers_step}
 use Rattle.ded_session.specs.declared.session.Piece.{Piece}
 use Rattle.ded_session.specs.declared.session.Piece.TheVariants as piece

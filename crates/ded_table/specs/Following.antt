@@ -1,5 +1,5 @@
 -- Behind a statement that was answered each further one may get a reply.
-use Rattle.std.proofs.Common.{◌≡◌, refl, inr}
+use Rattle.std.proofs.Common.{refl, inr}
 use Rattle.ded_dialogue.specs.Replies.{Said}
 use Rattle.ded_dialogue.specs.Runs.{SomeAnswer}
 use Rattle.ded_lex.specs.Pieces.{Statement}

@@ -1,5 +1,5 @@
 use Rattle.std.proofs.Common.{◌≡◌, refl, sym, ap, subst, rules, inl, inr}
-use Rattle.std.specs.Prelude.{Err, Some, IsSome, ℕ}
+use Rattle.std.specs.Prelude.{Err, IsSome, ℕ}
 use Rattle.std.specs.declared.option.Option.{Option}
 use Rattle.ded_run.specs.declared.words.WordFault.TheVariants.{Bad}
 use Rattle.ded_run.specs.declared.words.WordFault.{WordFault}
