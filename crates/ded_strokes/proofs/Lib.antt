@@ -1,0 +1,5 @@
+pub mod Soon
+pub mod Unions
+pub mod Between
+pub mod Growths
+pub mod RowLimits

@@ -1,0 +1,22 @@
+//! How the sides of pieces of one colour are drawn.
+//!
+//! A piece is a conjunction of rows over two slots; what is coloured are the points of any of the pieces. Between two spots of a side that
+//! no border parts, [`stroke_between`] tells how the side is drawn: not at all where the pieces go on across it, else solid where its points are in
+//! the pieces and dashed where they are not. It holds of each point between the spots. [`Piece::holds_near`] tells whether the points as
+//! near as one likes in a direction are in a piece.
+//!
+//! All of it is exact: no point between is computed, as its level has the sign of that at one of the two spots.
+#![tactic(auto)]
+
+mod direction;
+mod limit;
+mod number;
+mod piece;
+mod stretch;
+#[cfg(test)]
+mod tests;
+
+pub use direction::Direction;
+pub use limit::Limit;
+pub use piece::Piece;
+pub use stretch::{Stroke, stroke_between};

@@ -1,0 +1,164 @@
+//! Limits: half planes with or without their border, or borders alone.
+ghost use Rattle.std.specs.Prelude.{◌≡◌, ◌↔◌, IsTrue, MatchOption};
+ghost use Rattle.ded_num.specs.Length.{IsWithin};
+ghost use Rattle.ded_model.specs.Row.{sign_meets};
+ghost use Rattle.ded_polygon.specs.Plane.{level};
+ghost use Rattle.ded_polygon.specs.Ranges.{IsShortSide};
+ghost use Rattle.ded_polygon.specs.Closures.{IsInRange};
+ghost use Rattle.ded_strokes.specs.Bounds.{limit_of};
+ghost use Rattle.ded_strokes.specs.Near.{outward, growth, limit_soon, soon};
+ghost use Rattle.ded_strokes.specs.Strokes.{parts_levels, first_level, level_between};
+
+use crate::direction::{Direction, is_coefficient};
+use crate::number::{product, sum};
+use ded_model::row::{Row, RowOp};
+use ded_model::slot::Slot;
+use ded_polygon::Corner;
+use std::marker::Model;
+
+/// The points at which `a * x + b * y + c` is 0, at most 0, or below 0. The coefficients are below 2 ^ 31 in size, the constant is
+/// below 2 ^ 62.
+#[derive(Clone, Copy, Debug)]
+pub struct Limit {
+    a: i128,
+    b: i128,
+    c: i128,
+    op: RowOp,
+}
+
+impl Model for Limit {
+    ghost use Rattle.ded_strokes.specs.Bounds.{Limit};
+
+    ghost Value = { Limit };
+
+    ghost use Rattle.ded_polygon.specs.Ranges.{IsShortSide};
+
+    ghost view = { λ b. record { plane = record { a = b.a; b = b.b; c = b.c }; op = b.op } };
+
+    ghost inverse = { λ b. record { a = b.plane.a; b = b.plane.b; c = b.plane.c; op = b.op } };
+
+    ghost invariant = { λ b. IsShortSide (record { a = b.a; b = b.b; c = b.c }) };
+}
+
+impl Limit {
+    /// The limit of a row over two slots. None where a number is beyond the exact range.
+    pub fn new(row: &Row, x: Slot, y: Slot) -> Option<Limit>
+        ensures { MatchOption result (IsInRange x y row.now → ⊥) (λ b. b ≡ limit_of x y row.now) }
+    {
+        short_limit(row.coefs.at(x), row.coefs.at(y), row.constant, row.op)
+    }
+
+    /// The direction straight out.
+    pub fn outward(self) -> Direction
+        ensures { result ≡ outward self.plane }
+    {
+        Direction {
+            u: self.a,
+            v: self.b,
+        }
+    }
+
+    /// The left side at the corner, over its denominator.
+    fn level(self, corner: Corner) -> i128
+        ensures { result ≡ level self.plane corner }
+    {
+        sum(
+            sum(product(self.a, corner.x), product(self.b, corner.y)),
+            product(self.c, corner.den),
+        )
+    }
+
+    /// How fast the left side grows in the direction.
+    fn growth(self, direction: Direction) -> i128
+        ensures { result ≡ growth self.plane direction }
+    {
+        sum(product(self.a, direction.u), product(self.b, direction.v))
+    }
+
+    /// Whether the limit holds soon after the corner.
+    pub(crate) fn holds_soon(self, corner: Corner, direction: Direction) -> bool
+        ensures { result ≡ limit_soon self corner direction }
+    {
+        soon(self.op, self.level(corner), self.growth(direction))
+    }
+
+    /// Whether the border is crossed between the corners.
+    pub(crate) fn parts(self, from: Corner, to: Corner) -> bool
+        ensures { result ≡ parts_levels (level self.plane from) (level self.plane to) }
+    {
+        parts_levels(self.level(from), self.level(to))
+    }
+
+    /// A number with the sign of the left side at each point between the corners, if the border is not crossed there.
+    fn level_between(self, from: Corner, to: Corner) -> i128
+        ensures { result ≡ level_between self from to }
+    {
+        first_level(self.level(from), self.level(to))
+    }
+
+    /// Whether the limit holds between the corners, if the border is not crossed there.
+    pub(crate) fn holds_between(self, from: Corner, to: Corner) -> bool
+        ensures { result ≡ sign_meets self.op (level_between self from to) }
+    {
+        self.op.meets_zero(self.level_between(from, to))
+    }
+
+    /// Whether the limit holds soon after each point between the corners, if the border is not crossed there.
+    pub(crate) fn holds_soon_between(self, from: Corner, to: Corner, direction: Direction) -> bool
+        ensures { result ≡ soon self.op (level_between self from to) (growth self.plane direction) }
+    {
+        soon(
+            self.op,
+            self.level_between(from, to),
+            self.growth(direction),
+        )
+    }
+}
+
+/// The limit of these numbers. None where one is beyond the exact range.
+fn short_limit(a: i128, b: i128, c: i128, op: RowOp) -> Option<Limit>
+    ensures { MatchOption result (IsShortSide (record { a = a; b = b; c = c }) → ⊥) (λ s. s ≡ record { plane = record { a = a; b = b; c = c }; op = op }) }
+{
+    if !is_coefficient(a) {
+        return None;
+    }
+    if !is_coefficient(b) {
+        return None;
+    }
+    if !is_constant(c) {
+        return None;
+    }
+    Some(Limit { a, b, c, op })
+}
+
+/// Whether the number is below 2 ^ 62 in size.
+fn is_constant(c: i128) -> bool
+    ensures { IsTrue result ↔ IsWithin 62 c }
+{
+    c.unsigned_abs() < 1 << 62
+}
+
+/// Whether a level that has the sign of the first number and grows by the second one is soon as the op says.
+fn soon(op: RowOp, level: i128, growth: i128) -> bool
+    ensures { result ≡ soon op level growth }
+{
+    match op {
+        RowOp::Zero => level == 0 && growth == 0,
+        RowOp::AtMost => level < 0 || (level == 0 && growth <= 0),
+        RowOp::Below => level < 0 || (level == 0 && growth < 0),
+    }
+}
+
+/// Whether the one is below 0 and the other above it.
+fn parts_levels(first: i128, second: i128) -> bool
+    ensures { result ≡ parts_levels first second }
+{
+    (first < 0 && 0 < second) || (0 < first && second < 0)
+}
+
+/// The first one, or the second one where the first one is 0.
+fn first_level(first: i128, second: i128) -> i128
+    ensures { result ≡ first_level first second }
+{
+    if first == 0 { second } else { first }
+}

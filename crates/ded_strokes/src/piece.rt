@@ -1,0 +1,114 @@
+//! Pieces: conjunctions over two slots, as limits.
+ghost use Rattle.std.specs.Prelude.{◌≡◌, ◌↔◌, IsTrue, IfOk, IsErrOf, List, false};
+ghost use Rattle.std.specs.List.{list_all, list_any};
+ghost use Rattle.ded_model.specs.declared.memory.Refused.TheVariants.{Wide};
+ghost use Rattle.ded_model.specs.Point.{Point, same_slot};
+ghost use Rattle.ded_model.specs.Constraint.{LinearConstraint};
+ghost use Rattle.ded_model.specs.Row.{sign_meets};
+ghost use Rattle.ded_polygon.specs.Plane.{level};
+ghost use Rattle.ded_polygon.specs.Closures.{AreInRange, MentionOnly};
+ghost use Rattle.ded_strokes.specs.Bounds.{piece_holds, limits_of, rows_hold, spot_at};
+ghost use Rattle.ded_strokes.specs.Near.{Near, piece_soon, growth, soon};
+ghost use Rattle.ded_strokes.specs.Strokes.{parts_levels, level_between};
+
+use crate::direction::Direction;
+use crate::limit::Limit;
+use ded_model::memory::Refused;
+use ded_model::row::Row;
+use ded_model::slot::Slot;
+use ded_polygon::Corner;
+use std::alloc::Global;
+use std::marker::Model;
+
+/// A conjunction over two slots. Contracts see the list of its limits.
+#[derive(Drop)]
+pub struct Piece {
+    limits: Vec<Limit>,
+}
+
+impl Model for Piece {
+    ghost use Rattle.std.specs.Prelude.{List};
+    ghost use Rattle.ded_strokes.specs.Bounds.{Limit};
+
+    ghost Value = { List Limit };
+
+    ghost view = { λ p. p.limits.items };
+}
+
+impl Piece {
+    /// The piece of rows over two slots, with one limit for each row.
+    ///
+    /// # Errors
+    /// `Wide` only where a number of a row is beyond the exact range; otherwise out of memory.
+    pub fn new(alloc: Global, rows: &[Row], x: Slot, y: Slot) -> Result<Piece, Refused>
+        ensures limits { IfOk result (λ p. p ≡ limits_of x y rows.now) }
+        ensures wide { IsErrOf result Wide → AreInRange x y rows.now → ⊥ }
+    {
+        let mut limits = Vec::new(alloc);
+        for row in rows {
+            let Some(limit) = Limit::new(row, x, y) else {
+                return Err(Refused::Wide);
+            };
+            limits.push(limit)?;
+        }
+        Ok(Piece { limits })
+    }
+
+    /// The limits, one for each row.
+    pub fn limits(&self) -> &[Limit]
+        ensures { result.now ≡ self.now }
+    {
+        self.limits.as_slice()
+    }
+
+    /// Whether the points as near as one likes in the direction are in the piece: whether there is a positive number so that each point
+    /// that is a positive number up to that times the direction off the corner is in it.
+    pub fn holds_near(&self, corner: Corner, direction: Direction) -> bool
+        ensures { IsTrue result ↔ Near (piece_holds self.now) corner direction }
+    {
+        let _ = &corner.den; // for its invariant
+        self.holds_soon(corner, direction)
+    }
+
+    /// Whether the levels at the corner, and where these are 0 their growths, are as the limits say.
+    fn holds_soon(&self, corner: Corner, direction: Direction) -> bool
+        ensures { result ≡ piece_soon self.now corner direction }
+    {
+        self.limits()
+            .iter()
+            .all(|limit| limit.holds_soon(corner, direction))
+    }
+
+    /// Whether a border is crossed between the corners.
+    pub(crate) fn is_parted(&self, from: Corner, to: Corner) -> bool
+        ensures { result ≡ list_any (λ b. parts_levels (level b.plane from) (level b.plane to)) self.now }
+    {
+        self.limits().iter().any(|limit| limit.parts(from, to))
+    }
+
+    /// Whether the piece holds between the corners, if no border is crossed there.
+    pub(crate) fn holds_between(&self, from: Corner, to: Corner) -> bool
+        ensures { result ≡ list_all (λ b. sign_meets b.op (level_between b from to)) self.now }
+    {
+        self.limits()
+            .iter()
+            .all(|limit| limit.holds_between(from, to))
+    }
+
+    /// Whether the piece holds soon after each point between the corners, if no border is crossed there.
+    pub(crate) fn holds_soon_between(&self, from: Corner, to: Corner, direction: Direction) -> bool
+        ensures { result ≡ list_all (λ b. soon b.op (level_between b from to) (growth b.plane direction)) self.now }
+    {
+        self.limits()
+            .iter()
+            .all(|limit| limit.holds_soon_between(from, to, direction))
+    }
+}
+
+/// The rows of a piece hold at a point exactly where its limits do at the spot of the point.
+pub fn rows_are_limits(x: Slot, y: Slot)
+    requires { same_slot x y ≡ false }
+    ensures { (rows : List LinearConstraint) → MentionOnly x y rows → (p : Point) → rows_hold rows p ≡ piece_holds (limits_of x y rows) (spot_at x y p) }
+{
+    let _ = x.is_same(y);
+}
