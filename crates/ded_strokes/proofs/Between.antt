@@ -18,7 +18,7 @@ use Rattle.ded_strokes.proofs.Soon.{SameSign, both_below, both_none, both_above,
 use Rattle.ded_strokes.proofs.Unions.{near_of, of_near, union_settles}
 
 -- ---- levels between
-level_is : (s : HalfPlane) (p q : Spot) (i j : ℕ) → level s (between p q i j) ≡ pos i *ℤ level s p +ℤ pos j *ℤ level s q
+pub level_is : (s : HalfPlane) (p q : Spot) (i j : ℕ) → level s (between p q i j) ≡ pos i *ℤ level s p +ℤ pos j *ℤ level s q
 unfolding level between
 level_is s p q i j = law s.a s.b s.c p.x p.y p.den q.x q.y q.den (pos i) (pos j)
   where
@@ -41,7 +41,7 @@ between_positive p q i j hp hq hi hj =
     omega (arith, ints)
 
 -- ---- signs between
-above_least : (a b : ℤ) → pos 0 <ℤ a → pos 0 ≤ℤ b → pos 0 ≤ℤ (a *ℤ b)
+pub above_least : (a b : ℤ) → pos 0 <ℤ a → pos 0 ≤ℤ b → pos 0 ≤ℤ (a *ℤ b)
 above_least a b p q =
     by_lt_z (pos 0) b
     (λ h. (let e = above_above a b p h in omega (arith, ints)))
@@ -67,10 +67,10 @@ or_true : (a b : Bool) → b ≡ true → (a || b) ≡ true
 or_true true b h = refl
 or_true false b h = h
 
-parted_up : (z y : ℤ) → z <ℤ pos 0 → pos 0 <ℤ y → parts_levels z y ≡ true
+pub parted_up : (z y : ℤ) → z <ℤ pos 0 → pos 0 <ℤ y → parts_levels z y ≡ true
 parted_up z y h k = ap₂ (λ a b. (a && b) || (int_lt (pos 0) z && int_lt y (pos 0))) (lt_below z h) (above_test y k)
 
-parted_down : (z y : ℤ) → pos 0 <ℤ z → y <ℤ pos 0 → parts_levels z y ≡ true
+pub parted_down : (z y : ℤ) → pos 0 <ℤ z → y <ℤ pos 0 → parts_levels z y ≡ true
 parted_down z y h k = or_true (int_lt z (pos 0) && int_lt (pos 0) y) (int_lt (pos 0) z && int_lt y (pos 0)) (ap₂ (λ a b. a && b) (above_test z h) (lt_below y k))
 
 module _ (i j : ℕ) (hi : 0 < i) (hj : 0 < j) where

@@ -3,3 +3,4 @@ pub mod Unions
 pub mod Between
 pub mod Growths
 pub mod RowLimits
+pub mod Cuts

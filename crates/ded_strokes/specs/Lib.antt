@@ -1,3 +1,4 @@
 pub mod Bounds
 pub mod Near
 pub mod Strokes
+pub mod Cuts

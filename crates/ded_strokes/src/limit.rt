@@ -1,16 +1,17 @@
 //! Limits: half planes with or without their border, or borders alone.
-ghost use Rattle.std.specs.Prelude.{◌≡◌, ◌↔◌, IsTrue, MatchOption};
+ghost use Rattle.std.specs.Prelude.{◌≡◌, ◌↔◌, pos, ◌<ℤ◌, ◌≤ℤ◌, true, IsTrue, MatchOption};
 ghost use Rattle.ded_num.specs.Length.{IsWithin};
 ghost use Rattle.ded_model.specs.Row.{sign_meets};
-ghost use Rattle.ded_polygon.specs.Plane.{level};
+ghost use Rattle.ded_polygon.specs.Plane.{level, bend, crossing};
 ghost use Rattle.ded_polygon.specs.Ranges.{IsShortSide};
 ghost use Rattle.ded_polygon.specs.Closures.{IsInRange};
 ghost use Rattle.ded_strokes.specs.Bounds.{limit_of};
 ghost use Rattle.ded_strokes.specs.Near.{outward, growth, limit_soon, soon};
+ghost use Rattle.ded_strokes.specs.Cuts.{IsCut};
 ghost use Rattle.ded_strokes.specs.Strokes.{parts_levels, first_level, level_between};
 
 use crate::direction::{Direction, is_coefficient};
-use crate::number::{product, sum};
+use crate::number::{cross, product, sum};
 use ded_model::row::{Row, RowOp};
 use ded_model::slot::Slot;
 use ded_polygon::Corner;
@@ -87,6 +88,51 @@ impl Limit {
         ensures { result ≡ parts_levels (level self.plane from) (level self.plane to) }
     {
         parts_levels(self.level(from), self.level(to))
+    }
+
+    /// Above 0 where the way along the border, with the inside to its left, leads out of the other half plane.
+    fn bend(self, other: Limit) -> i128
+        ensures { result ≡ bend self.plane other.plane }
+    {
+        cross(self.a, other.b, self.b, other.a)
+    }
+
+    /// Where the borders cross, if the way along the first one leads out of the other half plane there.
+    fn crossing(self, other: Limit) -> Option<Corner>
+        ensures { MatchOption result (bend self.plane other.plane ≤ℤ pos 0) (λ c. (c ≡ crossing self.plane other.plane) × (pos 0 <ℤ bend self.plane other.plane)) }
+    {
+        let den = self.bend(other);
+        if den <= 0 {
+            return None;
+        }
+        Some(Corner {
+            x: cross(self.b, other.c, self.c, other.b),
+            y: cross(self.c, other.a, self.a, other.c),
+            den,
+        })
+    }
+
+    /// Where the border of another limit crosses this border between two corners of it: a corner on both, strictly between the two, and a
+    /// border that is not crossed between the two is not crossed between one of them and that corner. None only where the border of the
+    /// other limit is not crossed between the corners, or the two borders are parallel.
+    pub fn cut(self, other: Limit, from: Corner, to: Corner) -> Option<Corner>
+        requires from { level self.plane from ≡ pos 0 }
+        requires to { level self.plane to ≡ pos 0 }
+        ensures { MatchOption result
+            (parts_levels (level other.plane from) (level other.plane to) ≡ true → bend self.plane other.plane ≡ pos 0)
+            (λ c. IsCut self other from to c) }
+    {
+        let _ = (from.den, to.den); // for their invariants
+        if !other.parts(from, to) {
+            return None;
+        }
+        if let Some(corner) = self.crossing(other) {
+            return Some(corner);
+        }
+        if let Some(corner) = other.crossing(self) {
+            return Some(corner);
+        }
+        None
     }
 
     /// A number with the sign of the left side at each point between the corners, if the border is not crossed there.
