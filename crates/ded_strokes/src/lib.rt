@@ -19,5 +19,5 @@ mod tests;
 
 pub use direction::Direction;
 pub use limit::Limit;
-pub use piece::Piece;
+pub use piece::{Piece, rows_are_limits};
 pub use stretch::{Stroke, stroke_between};
