@@ -112,6 +112,13 @@ impl Limit {
         })
     }
 
+    /// Whether the corner is on the border.
+    pub fn touches(self, corner: Corner) -> bool
+        ensures { IsTrue result ↔ (level self.plane corner ≡ pos 0) }
+    {
+        self.level(corner) == 0
+    }
+
     /// Where the border of another limit crosses this border between two corners of it: a corner on both, strictly between the two, and a
     /// border that is not crossed between the two is not crossed between one of them and that corner. None only where the border of the
     /// other limit is not crossed between the corners, or the two borders are parallel.

@@ -215,6 +215,30 @@ fn near_a_corner(rt: HostRuntime) -> Result<(), Fail> {
     Ok(())
 }
 
+/// Whether the right side of the square is cut by the lower side of the square over it, in the middle.
+fn is_cut_in_the_middle(alloc: Global) -> Result<bool, Refused> {
+    let square = piece_of(alloc, SQUARE)?;
+    let over = piece_of(alloc, OVER)?;
+    let (Some(right), Some(lower)) = (square.limits().get(1), over.limits().get(2)) else {
+        return Ok(false);
+    };
+    let low = corner_at(Place::Low);
+    let high = corner_at(Place::High);
+    if !right.touches(low) || !right.touches(high) {
+        return Ok(false);
+    }
+    let Some(corner) = right.cut(*lower, low, high) else {
+        return Ok(false);
+    };
+    Ok(corner.x == 2 * corner.den && corner.y == corner.den)
+}
+
+#[test]
+fn cut_in_the_middle(rt: HostRuntime) -> Result<(), Fail> {
+    assert!(rt; is_cut_in_the_middle(rt.alloc())?);
+    Ok(())
+}
+
 #[test]
 fn one_more_is_too_wide(rt: HostRuntime) -> Result<(), Fail> {
     let long = piece_of(rt.alloc(), &[(0x8000_0000, 0, 0, ZERO)]);
