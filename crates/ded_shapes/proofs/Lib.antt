@@ -1,3 +1,5 @@
 pub mod Others
 pub mod Without
 pub mod Tuples
+pub mod Cornered
+pub mod WindowCorners

@@ -1,1 +1,2 @@
 pub mod Projections
+pub mod Shapes
