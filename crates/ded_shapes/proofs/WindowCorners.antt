@@ -13,13 +13,12 @@ use Rattle.ded_model.proofs.Eliminating.{meets-decides}
 use Rattle.ded_model.proofs.Points.{and_left, and_right}
 use Rattle.ded_polygon.specs.Plane.{Spot}
 use Rattle.ded_polygon.specs.Vertices.{IsVertex}
-use Rattle.ded_polygon.specs.Closures.{weakened, holds_weakly, MentionOnly, point_at}
+use Rattle.ded_polygon.specs.Closures.{weakened, holds_weakly, MentionOnly, point_at, spot_of}
 use Rattle.ded_polygon.specs.Corners.{AreCorners}
 use Rattle.ded_polygon.specs.Lists.{spot_in}
 use Rattle.ded_polygon.specs.Rows.{half_planes}
 use Rattle.ded_polygon.specs.Windows.{Frame, IsFrame, window_rows}
 use Rattle.ded_polygon.proofs.Framing.{cut_mentions, cut_bounded}
-use Rattle.ded_polygon.proofs.RowLevels.{spot_of}
 use Rattle.ded_polygon.proofs.RowPlanes.{in_either}
 use Rattle.ded_polygon.proofs.RowVertices.{enclosed, closure_lies, corner_point_of, spot_back}
 use Rattle.ded_shapes.specs.Projections.{AreProjected}
