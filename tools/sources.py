@@ -1,0 +1,1 @@
+../docs/sources.py
