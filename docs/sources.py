@@ -1,7 +1,7 @@
 """What the scripts beside this file read of the crates: their order, what each makes public, and the definitions of their specs."""
 import os
 import re
-from collections.abc import Callable, Iterator
+from collections.abc import Iterator
 from dataclasses import dataclass
 
 ROOT = os.path.dirname(os.path.dirname(os.path.abspath(__file__)))
