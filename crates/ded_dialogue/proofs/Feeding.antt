@@ -13,7 +13,7 @@ use Rattle.ded_lex.proofs.Cuts.{goes_on, has_statements, statements_on}
 use Rattle.ded_dialogue.specs.declared.dialogue.Dialogue.{Dialogue}
 use Rattle.ded_dialogue.specs.Replies.{Said, text_of, texts, some_refusal}
 use Rattle.ded_dialogue.specs.Runs.{Answers, Steps}
-use Rattle.ded_dialogue.specs.Outcome.{Concluded, WholesAnswered, Interrupted}
+use Rattle.ded_dialogue.specs.Outcome.{ConcludedIn, WholesAnswered, Interrupted}
 use Rattle.ded_dialogue.specs.Streams.{SoFar, IsBehind, Stopped, Streaming, Streamed, Grows, Breaks, GrowsBehind, BreaksBehind, IsFresh, spoken}
 use Rattle.ded_dialogue.specs.Waiting.{WritesBehind}
 use Rattle.ded_dialogue.proofs.Steps.{GoesOn, SomeSteps, some_steps}
@@ -250,32 +250,38 @@ module _ {M : Type 0} (R : Answers M) (start : M) (silent left : ℕ) where
         (s.goes [] [] m refl))
 
     -- the tail is blank
-    pub ends_blank : w ≡ [] → IsBlank tail → Concluded R start silent taken h0 h1 refused
-    ends_blank none blank = record {
-      replies = s.replies;
-      last = m;
-      run = record {
-        statements = map Whole s.pieces;
-        cut = record { pieces = s.pieces; rest = tail; cut = s.cut; are = inl (blank, refl) };
-        steps = steps_here;
-      };
-      written = all_sent h0 h1 (texts (drop silent s.replies)) (subst (λ (l : List ℕ). Sent h0 h1 (texts (drop silent s.replies)) l) none s.written);
-      refuses = s.refuses;
-    }
+    pub ends_blank : w ≡ [] → IsBlank tail → ConcludedIn R start silent taken h0 h1 refused m
+    ends_blank none blank = (
+      record {
+        replies = s.replies;
+        last = m;
+        run = record {
+          statements = map Whole s.pieces;
+          cut = record { pieces = s.pieces; rest = tail; cut = s.cut; are = inl (blank, refl) };
+          steps = steps_here;
+        };
+        written = all_sent h0 h1 (texts (drop silent s.replies)) (subst (λ (l : List ℕ). Sent h0 h1 (texts (drop silent s.replies)) l) none s.written);
+        refuses = s.refuses;
+      },
+      refl,
+    )
 
     -- the tail is a statement that no ; ends, and its reply
-    pub ends_rest : (n : M) (now : Bool) (h2 : Option (List ℕ)) (reply : Said) → (IsBlank tail → ⊥) → R m (pieces.Unfinished tail) reply n → now ≡ refused || reply.refuses → Sent h1 h2 (w ++ spoken left reply) [] → Concluded R start silent taken h0 h2 now
-    ends_rest n now h2 reply full step is write = record {
-      replies = s.replies ++ reply ∷ [];
-      last = n;
-      run = record {
-        statements = map Whole s.pieces ++ pieces.Unfinished tail ∷ [];
-        cut = record { pieces = s.pieces; rest = tail; cut = s.cut; are = inr (full, refl) };
-        steps = s.goes (pieces.Unfinished tail ∷ []) (reply ∷ []) n (n, step, refl);
-      };
-      written = all_sent h0 h2 (texts (drop silent (s.replies ++ reply ∷ []))) (writes_more h0 h1 h2 silent left s.replies reply w [] s.counts s.written write);
-      refuses = refuses_more s.replies reply refused now s.refuses is;
-    }
+    pub ends_rest : (n : M) (now : Bool) (h2 : Option (List ℕ)) (reply : Said) → (IsBlank tail → ⊥) → R m (pieces.Unfinished tail) reply n → now ≡ refused || reply.refuses → Sent h1 h2 (w ++ spoken left reply) [] → ConcludedIn R start silent taken h0 h2 now n
+    ends_rest n now h2 reply full step is write = (
+      record {
+        replies = s.replies ++ reply ∷ [];
+        last = n;
+        run = record {
+          statements = map Whole s.pieces ++ pieces.Unfinished tail ∷ [];
+          cut = record { pieces = s.pieces; rest = tail; cut = s.cut; are = inr (full, refl) };
+          steps = s.goes (pieces.Unfinished tail ∷ []) (reply ∷ []) n (n, step, refl);
+        };
+        written = all_sent h0 h2 (texts (drop silent (s.replies ++ reply ∷ []))) (writes_more h0 h1 h2 silent left s.replies reply w [] s.counts s.written write);
+        refuses = refuses_more s.replies reply refused now s.refuses is;
+      },
+      refl,
+    )
 
     -- the sink failed at that reply
     pub rest_stops : (n : M) (h2 : Option (List ℕ)) (reply : Said) (unwritten : List ℕ) → (IsBlank tail → ⊥) → R m (pieces.Unfinished tail) reply n → Sent h1 h2 (w ++ spoken left reply) unwritten → Interrupted R start silent taken h0 h2

@@ -6,7 +6,7 @@ use Rattle.std.proofs.lemmas.List.{append-nil, length-take-le, take-take, take-a
 use Rattle.std.proofs.Math.Seq.{take-append-add}
 use Rattle.ded_dialogue.specs.declared.dialogue.Dialogue.{Dialogue}
 use Rattle.ded_dialogue.specs.Runs.{Answers}
-use Rattle.ded_dialogue.specs.Outcome.{Answered, Concluded, WholesAnswered, Unread, Overlong, Interrupted, Broken}
+use Rattle.ded_dialogue.specs.Outcome.{AnsweredIn, ConcludedIn, WholesAnswered, Unread, Overlong, Interrupted, Broken}
 use Rattle.ded_dialogue.specs.Streams.{IsFresh, Streamed, Grows, Breaks, Reading}
 use Rattle.ded_dialogue.proofs.Feeding.{fresh_streams, wholes_answered}
 
@@ -80,16 +80,20 @@ module _ {A M : Type 0} (R : Answers M) (state : A → M) where
     }
 
     -- the input ended, and its last statement is answered
-    pub all_answered : (s2 h2 : Option (List ℕ)) (refused : Bool) (bytes : List ℕ) (n : ℕ) → n ≡ 0 → Consumes s1 s2 (take n bytes) → IsAtEnd s2
-        → ((taken : List ℕ) → Streamed R state start 0 d taken h0 h1 → Concluded R start 0 taken h0 h2 refused)
-        → Answered R start input_limit s0 s2 h0 h2 refused
-    all_answered s2 h2 refused bytes n none takes end conclude = record {
-      taken = r.taken;
-      takes = nothing_more s0 s1 s2 r.taken bytes n r.takes none takes;
-      read = end;
-      within = omega (arith, r.counts);
-      concluded = conclude r.taken r.streamed;
-    }
+    pub all_answered : (s2 h2 : Option (List ℕ)) (refused : Bool) (last : M) (bytes : List ℕ) (n : ℕ) → n ≡ 0 → Consumes s1 s2 (take n bytes) → IsAtEnd s2
+        → ((taken : List ℕ) → Streamed R state start 0 d taken h0 h1 → ConcludedIn R start 0 taken h0 h2 refused last)
+        → AnsweredIn R start input_limit s0 s2 h0 h2 refused last
+    all_answered s2 h2 refused last bytes n none takes end conclude =
+        let c = conclude r.taken r.streamed in (
+          record {
+            taken = r.taken;
+            takes = nothing_more s0 s1 s2 r.taken bytes n r.takes none takes;
+            read = end;
+            within = omega (arith, r.counts);
+            concluded = c.0;
+          },
+          c.1,
+        )
 
     -- or the sink failed at its reply
     pub breaks_at_end : (s2 h2 : Option (List ℕ)) (bytes : List ℕ) (n : ℕ) → n ≡ 0 → Consumes s1 s2 (take n bytes)

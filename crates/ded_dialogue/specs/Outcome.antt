@@ -14,6 +14,10 @@ pub record Concluded {M : Type 0} (R : Answers M) (start : M) (silent : ℕ) (by
   pub written : Appends contents now (texts (drop silent replies))
   pub refuses : some_refusal replies ≡ refused
 
+-- The same, and the last reply leaves that state.
+abbrev pub ConcludedIn : {M : Type 0} → Answers M → M → ℕ → List ℕ → Option (List ℕ) → Option (List ℕ) → Bool → M → Type 0
+ConcludedIn R start silent bytes contents now refused last = (c : Concluded R start silent bytes contents now refused) × (c.last ≡ last)
+
 -- Some bytes were taken, which are the whole input and at most so many, and the texts of the replies were written, one for each
 -- statement.
 pub record Answered {M : Type 0} (R : Answers M) (start : M) (input_limit : ℕ) (input left contents now : Option (List ℕ)) (refused : Bool) : Type 0 where
@@ -22,6 +26,10 @@ pub record Answered {M : Type 0} (R : Answers M) (start : M) (input_limit : ℕ)
   pub read : IsAtEnd left
   pub within : length taken ≤ input_limit
   pub concluded : Concluded R start 0 taken contents now refused
+
+-- The same, and the last reply leaves that state.
+abbrev pub AnsweredIn : {M : Type 0} → Answers M → M → ℕ → Option (List ℕ) → Option (List ℕ) → Option (List ℕ) → Option (List ℕ) → Bool → M → Type 0
+AnsweredIn R start input_limit input left contents now refused last = (a : Answered R start input_limit input left contents now refused) × (a.concluded.last ≡ last)
 
 -- The texts of the replies to the whole pieces of these bytes were written, and nothing else.
 pub record WholesAnswered {M : Type 0} (R : Answers M) (start : M) (bytes : List ℕ) (contents now : Option (List ℕ)) : Type 0 where

@@ -45,6 +45,13 @@ impl<A: Drop> Dialogue<A> {
 impl<A> Dialogue<A> {
     ghost use Rattle.std.specs.Prelude.{◌≡◌};
 
+    /// The machine, as the statements that were answered left it.
+    pub fn into_machine(self) -> A
+        ensures { result ≡ self.machine }
+    {
+        self.machine
+    }
+
     /// Whether some reply so far is a refusal.
     pub fn refused(&self) -> bool
         ensures { result ≡ self.now.refused }
@@ -56,7 +63,7 @@ impl<A> Dialogue<A> {
 impl<A: Answering> Dialogue<A> {
     ghost use Rattle.std.specs.Prelude.{◌≡◌, ◌∷◌, [], List, ℕ, Option, IfOk, OnErr};
     ghost use Rattle.ded_io.specs.Causes.{HasCause};
-    ghost use Rattle.ded_dialogue.specs.Outcome.{Concluded, Interrupted};
+    ghost use Rattle.ded_dialogue.specs.Outcome.{ConcludedIn, Interrupted};
     ghost use Rattle.ded_dialogue.specs.Streams.{Streamed, Grows, Breaks, GrowsBehind, BreaksBehind};
 
     /// Takes the next byte, and answers the statement that ends there, where one does.
@@ -118,7 +125,7 @@ impl<A: Answering> Dialogue<A> {
     pub fn finish<K: Sink>(&mut self, sink: &mut K) -> Result<(), Failed>
         ensures concluded { IfOk result (λ _. (start : A.State) (silent : ℕ) (taken : List ℕ) (contents : Option (List ℕ)) →
             Streamed A.answers A.state start silent self.old taken contents (K.contents sink.old) →
-            Concluded A.answers start silent taken contents (K.contents sink.new) self.new.refused) }
+            ConcludedIn A.answers start silent taken contents (K.contents sink.new) self.new.refused (A.state self.new.machine)) }
         ensures stopped { OnErr result ((start : A.State) (silent : ℕ) (taken : List ℕ) (contents : Option (List ℕ)) →
             Streamed A.answers A.state start silent self.old taken contents (K.contents sink.old) →
             Interrupted A.answers start silent taken contents (K.contents sink.new)) }

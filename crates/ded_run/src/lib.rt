@@ -5,7 +5,8 @@
 //! in order, each by the rules of `ded_session` (`specs/Outcome.antt`). Where a device fails, or the script is too long,
 //! the contract says what stands written. [`Status::exit_number`] is the program's exit status. [`make`] runs a script
 //! that is made (`specs/Made.antt`), and writes the replies to its questions alone. [`run`] has `clap` read the words of
-//! the command line first (`specs/Words.antt`), as [`options_in`] does for other programs. [`write_reply`] writes one reply
+//! the command line first (`specs/Words.antt`), as [`options_in`] does for other programs; [`has_dashes`], [`limit_of`] and [`number_of`] read
+//! parts of words. [`write_reply`] writes one reply
 //! (`specs/Texts.antt`).
 //!
 //! It stands on `ded_dialogue` for the loop, on `ded_session` for replies, on `ded_print` for their texts, and on
@@ -22,4 +23,4 @@ mod words;
 pub use ded_dialogue::Status;
 pub use program::{Setup, make, run, serve};
 pub use reply::write_reply;
-pub use words::{Options, WordFault, Words, options_in};
+pub use words::{Options, WordFault, Words, has_dashes, limit_of, number_of, options_in};

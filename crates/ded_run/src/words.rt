@@ -81,7 +81,7 @@ pub fn options_in(alloc: Global, words: &[String]) -> Result<Options, WordFault>
 }
 
 /// Whether some word is `--`.
-fn has_dashes(words: &[String]) -> bool
+pub fn has_dashes(words: &[String]) -> bool
     ensures { result ≡ has_dashes (map string_bytes words.now) }
 {
     for word in words {
@@ -128,7 +128,7 @@ fn values_in<'a>(alloc: Global, words: &'a [String]) -> Result<Values<'a>, WordF
 }
 
 /// The limit that the value gives, or the default one where there is no value; none where the value isn't one.
-fn limit_of(value: Option<&str>) -> Option<u32>
+pub fn limit_of(value: Option<&str>) -> Option<u32>
     ensures { MatchOption result
         ((limit : ℕ) → LimitValue (option_map (λ t. t.now) value.entry) limit → ⊥)
         (λ limit. LimitValue (option_map (λ t. t.now) value.entry) limit) }
@@ -152,7 +152,7 @@ fn size_of(value: Option<&str>) -> Option<Option<u32>>
 }
 
 /// The number of 1 to 7 digits, from 1 to the greatest; none where the value is no such number.
-fn number_of(value: &str, greatest: u32) -> Option<u32>
+pub fn number_of(value: &str, greatest: u32) -> Option<u32>
     ensures { MatchOption result
         ((number : ℕ) → IsNumber greatest value.now number → ⊥)
         (λ number. IsNumber greatest value.now number) }

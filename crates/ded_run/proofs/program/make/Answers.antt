@@ -9,13 +9,13 @@ pub returns-clause-done : goal.returns-clause-done
 returns-clause-done g c = λ is.
     is_made _ _ _ _ _ (sym (setup_many c.args.size)) _
     (concluded _ _ c.new-session.ensures _ _ _ (made_script c.args.size) _
-    (c.conclude.ensures.done is _ _ (made_script c.args.size) _ (c.in_default-feed_script.ensures.grows.on _ _ [] _ (fresh_streams _ _ _ _ _ _ c.in-Ok.ensures))))
+    ((c.conclude.ensures.done is _ _ (made_script c.args.size) _ (c.in_default-feed_script.ensures.grows.on _ _ [] _ (fresh_streams _ _ _ _ _ _ c.in-Ok.ensures))).0))
 
 pub returns-clause-done_with_refusals : goal.returns-clause-done_with_refusals
 returns-clause-done_with_refusals g c = λ is.
     is_made _ _ _ _ _ (sym (setup_many c.args.size)) _
     (concluded _ _ c.new-session.ensures _ _ _ (made_script c.args.size) _
-    (c.conclude.ensures.done_with_refusals is _ _ (made_script c.args.size) _ (c.in_default-feed_script.ensures.grows.on _ _ [] _ (fresh_streams _ _ _ _ _ _ c.in-Ok.ensures))))
+    ((c.conclude.ensures.done_with_refusals is _ _ (made_script c.args.size) _ (c.in_default-feed_script.ensures.grows.on _ _ [] _ (fresh_streams _ _ _ _ _ _ c.in-Ok.ensures))).0))
 
 pub returns-clause-broken : goal.returns-clause-broken
 returns-clause-broken g c = λ is.
