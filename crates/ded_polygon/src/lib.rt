@@ -24,8 +24,6 @@ mod number;
 mod polygon;
 mod reading;
 mod side;
-#[cfg(test)]
-mod tests;
 mod vertices;
 mod window;
 

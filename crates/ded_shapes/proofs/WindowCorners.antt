@@ -12,17 +12,16 @@ use Rattle.ded_model.specs.Cell.{conj_holds}
 use Rattle.ded_model.proofs.Eliminating.{meets-decides}
 use Rattle.ded_model.proofs.Points.{and_left, and_right}
 use Rattle.ded_polygon.specs.Plane.{Spot}
-use Rattle.ded_polygon.specs.Vertices.{IsVertex}
-use Rattle.ded_polygon.specs.Closures.{weakened, holds_weakly, MentionOnly, point_at, spot_of}
+use Rattle.ded_polygon.specs.Vertices.{LiesIn, IsVertex}
+use Rattle.ded_polygon.specs.Closures.{IsInClosure, weakened, holds_weakly, MentionOnly, point_at, spot_of}
 use Rattle.ded_polygon.specs.Corners.{AreCorners}
 use Rattle.ded_polygon.specs.Lists.{spot_in}
 use Rattle.ded_polygon.specs.Rows.{half_planes}
-use Rattle.ded_polygon.specs.Windows.{Frame, IsFrame, window_rows}
-use Rattle.ded_polygon.proofs.Framing.{cut_mentions, cut_bounded}
-use Rattle.ded_polygon.proofs.RowPlanes.{in_either}
+use Rattle.ded_polygon.specs.Windows.{Frame, IsFrame, window_rows, window_planes}
+use Rattle.ded_polygon.proofs.Framing.{cut_mentions, cut_bounded, planes_of_window, window_mentions}
+use Rattle.ded_polygon.proofs.RowPlanes.{in_right, in_either}
 use Rattle.ded_polygon.proofs.RowVertices.{enclosed, closure_lies, corner_point_of, spot_back}
 use Rattle.ded_shapes.specs.Projections.{AreProjected}
-use Rattle.ded_shapes.specs.Shapes.{IsInClosure}
 use Rattle.ded_shapes.proofs.Cornered.{some_vertex}
 use Rattle.ded_shapes.proofs.Without.{same_self}
 
@@ -76,3 +75,13 @@ module _ (x y : Slot) (differ : same_slot x y ≡ false) where
 pub corner_inside : (x y : Slot) (rows : List LinearConstraint) (cs : List Spot) → AreCorners x y rows cs → 0 < length cs → (p : Point) × IsPoint p × IsInClosure rows p
 corner_inside x y rows cs are h =
     (point_at x y (spot_in cs 0), record { positive = size (spot_in cs 0) (are.positive 0 h); bytes = (tt, (tt, tt)) }, (are.sound 0 h).closure)
+
+-- corners of rows within a window lie in its half planes
+pub corner_within : (x y : Slot) → same_slot x y ≡ false → (rows : List LinearConstraint) (w : Frame) (cs : List Spot) → AreCorners x y (rows ++ window_rows x y w) cs
+    → (k : ℕ) → k < length cs → LiesIn (window_planes w) (spot_in cs k)
+corner_within x y differ rows w cs are k h =
+    let c = spot_in cs k in
+    let inside : IsInClosure (window_rows x y w) (point_at x y c) = λ r i. (are.sound k h).closure r (in_right r rows (window_rows x y w) i) in
+    subst (λ ss. LiesIn ss c) (planes_of_window x y differ w)
+    (subst (LiesIn (half_planes x y (window_rows x y w))) (spot_back x y differ c (are.positive k h))
+    (closure_lies x y differ (window_rows x y w) (window_mentions x y w) (point_at x y c) inside))

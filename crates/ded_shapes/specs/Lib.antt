@@ -1,2 +1,1 @@
 pub mod Projections
-pub mod Shapes

@@ -4,8 +4,8 @@
 //! values of all other columns make the tuple hold. Their ops stay, so that a drawing can tell sides that belong to the tuple from
 //! sides that don't.
 //!
-//! [`drawn`] gives the shape of such rows within a window, by exact corners: nothing, a point, a segment or a polygon. The law [`shapes`]
-//! says that nothing that the window has is left out: a tuple that holds somewhere within it has a corner.
+//! The law [`shapes`] says that by its corners within a window nothing of a tuple is left out that the window has: one that holds
+//! somewhere within it has a corner.
 //!
 //! It stands on `ded_polygon` for corners, on `ded_linear` and `ded_theme` for eliminations and verdicts, and on `ded_atoms` for
 //! tuples as conjunctions.
@@ -14,8 +14,6 @@
 mod laws;
 mod parts;
 mod projecting;
-mod shaping;
 
 pub use laws::shapes;
 pub use projecting::{Projection, projected};
-pub use shaping::{Shape, drawn};

@@ -54,7 +54,7 @@ first_is z y h = rw h refl
 second_is : (z y : ℤ) → z ≡ pos 0 → first_level z y ≡ y
 second_is z y h = rw h refl
 
-above_test : (y : ℤ) → pos 0 <ℤ y → int_lt (pos 0) y ≡ true
+pub above_test : (y : ℤ) → pos 0 <ℤ y → int_lt (pos 0) y ≡ true
 above_test (pos zero) k = absurd (omega (arith, ints))
 above_test (pos (suc n)) k = grind (arith, nat_tests)
 above_test (negsuc n) k = absurd (omega (arith, ints))
@@ -113,7 +113,7 @@ module _ (i j : ℕ) (hi : 0 < i) (hj : 0 < j) where
       sum_above b k = let m = above_above (pos i) z pi b in let n = above_least (pos j) y pj k in omega (arith, ints)
 
   module _ (p q : Spot) where
-    limit_sign : (b : Limit) → parts_levels (level b.plane p) (level b.plane q) ≡ false → SameSign (level b.plane (between p q i j)) (level_between b p q)
+    pub limit_sign : (b : Limit) → parts_levels (level b.plane p) (level b.plane q) ≡ false → SameSign (level b.plane (between p q i j)) (level_between b p q)
     limit_sign b h = subst (λ z. SameSign z (level_between b p q)) (sym (level_is b.plane p q i j)) (sign_is (level b.plane p) (level b.plane q) h)
 
     -- the tests are the same

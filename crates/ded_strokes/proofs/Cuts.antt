@@ -29,7 +29,7 @@ below_true (pos n) h = absurd (true≢false (sym h ∙ not_below n))
     not_below n = grind (arith, nat_tests)
 below_true (negsuc n) h = omega (arith, ints)
 
-above_true : (z : ℤ) → int_lt (pos 0) z ≡ true → pos 0 <ℤ z
+pub above_true : (z : ℤ) → int_lt (pos 0) z ≡ true → pos 0 <ℤ z
 above_true (pos zero) h = absurd (true≢false (sym h))
 above_true (pos (suc n)) h = omega (arith, ints)
 above_true (negsuc n) h = absurd (true≢false (sym h))

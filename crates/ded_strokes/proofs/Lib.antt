@@ -4,3 +4,7 @@ pub mod Between
 pub mod Growths
 pub mod RowLimits
 pub mod Cuts
+pub mod Borders
+pub mod Idle
+pub mod Matching
+pub mod Stretched

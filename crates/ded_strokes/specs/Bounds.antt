@@ -3,6 +3,7 @@ use Rattle.std.specs.Prelude.{pos, Bool, List, map}
 use Rattle.std.specs.List.{list_all, list_any}
 use Rattle.ded_model.specs.declared.slot.Slot.{Slot}
 use Rattle.ded_model.specs.declared.row.RowOp.{RowOp}
+use Rattle.ded_model.specs.declared.row.RowOp.TheVariants.{AtMost}
 use Rattle.ded_model.specs.Constraint.{LinearConstraint}
 use Rattle.ded_model.specs.Point.{Point, slot, number_at}
 use Rattle.ded_model.specs.Row.{sign_meets, row_holds}
@@ -41,3 +42,7 @@ rows_hold rows p = list_all (λ r. row_holds r p) rows
 -- the spot of a point, by its numbers at two slots
 abbrev pub spot_at : Slot → Slot → Point → Spot
 spot_at x y p = record { x = number_at p (slot x); y = number_at p (slot y); den = pos p.den }
+
+-- half planes with their borders
+abbrev pub closed_limits : List HalfPlane → List Limit
+closed_limits ss = map (λ s. record { plane = s; op = AtMost }) ss

@@ -2,3 +2,4 @@ pub mod Bounds
 pub mod Near
 pub mod Strokes
 pub mod Cuts
+pub mod Stretches

@@ -9,12 +9,17 @@ ghost use Rattle.ded_strokes.specs.Bounds.{limit_of};
 ghost use Rattle.ded_strokes.specs.Near.{outward, growth, limit_soon, soon};
 ghost use Rattle.ded_strokes.specs.Cuts.{IsCut};
 ghost use Rattle.ded_strokes.specs.Strokes.{parts_levels, first_level, level_between};
+ghost use Rattle.ded_strokes.specs.Stretches.{IsProper, is_off, keeps_off};
+ghost use Rattle.ded_model.specs.declared.row.RowOp.TheVariants.{AtMost};
+ghost use Rattle.ded_polygon.specs.Rows.{opposite};
+ghost use Rattle.ded_polygon.specs.Windows.{window_planes};
+ghost use Rattle.ded_strokes.specs.Bounds.{closed_limits};
 
 use crate::direction::{Direction, is_coefficient};
 use crate::number::{cross, product, sum};
 use ded_model::row::{Row, RowOp};
 use ded_model::slot::Slot;
-use ded_polygon::Corner;
+use ded_polygon::{Corner, Window};
 use std::marker::Model;
 
 /// The points at which `a * x + b * y + c` is 0, at most 0, or below 0. The coefficients are below 2 ^ 31 in size, the constant is
@@ -47,6 +52,42 @@ impl Limit {
         ensures { MatchOption result (IsInRange x y row.now → ⊥) (λ b. b ≡ limit_of x y row.now) }
     {
         short_limit(row.coefs.at(x), row.coefs.at(y), row.constant, row.op)
+    }
+
+    /// How the left side is compared with 0.
+    pub fn op(self) -> RowOp
+        ensures { result ≡ self.op }
+    {
+        self.op
+    }
+
+    /// Whether a coefficient is not 0, so that the border is a line.
+    pub fn is_proper(self) -> bool
+        ensures { IsTrue result ↔ IsProper self.plane }
+    {
+        self.a != 0 || self.b != 0
+    }
+
+    /// The half plane with its border.
+    pub fn closed(self) -> Limit
+        ensures { result ≡ record { plane = self.plane; op = AtMost } }
+    {
+        Limit {
+            op: RowOp::AtMost,
+            ..self
+        }
+    }
+
+    /// The limit with the half plane on the other side of the border.
+    pub fn opposite(self) -> Limit
+        ensures { result ≡ record { plane = opposite self.plane; op = self.op } }
+    {
+        Limit {
+            a: -self.a,
+            b: -self.b,
+            c: -self.c,
+            op: self.op,
+        }
     }
 
     /// The direction straight out.
@@ -90,8 +131,8 @@ impl Limit {
         parts_levels(self.level(from), self.level(to))
     }
 
-    /// Above 0 where the way along the border, with the inside to its left, leads out of the other half plane.
-    fn bend(self, other: Limit) -> i128
+    /// Above 0 where the way along the border, with the inside to its left, leads out of the other half plane, and 0 where both run alike.
+    pub fn bend(self, other: Limit) -> i128
         ensures { result ≡ bend self.plane other.plane }
     {
         cross(self.a, other.b, self.b, other.a)
@@ -149,6 +190,13 @@ impl Limit {
         first_level(self.level(from), self.level(to))
     }
 
+    /// Whether at each point between the corners the level is beyond what the limit allows, and not on the border.
+    pub(crate) fn keeps_off(self, from: Corner, to: Corner) -> bool
+        ensures { result ≡ keeps_off self.op (level self.plane from) (level self.plane to) }
+    {
+        !self.parts(from, to) && is_off(self.op, self.level_between(from, to))
+    }
+
     /// Whether the limit holds between the corners, if the border is not crossed there.
     pub(crate) fn holds_between(self, from: Corner, to: Corner) -> bool
         ensures { result ≡ sign_meets self.op (level_between self from to) }
@@ -165,6 +213,31 @@ impl Limit {
             self.level_between(from, to),
             self.growth(direction),
         )
+    }
+}
+
+/// The half planes of the window with their borders: left, right, below and above.
+pub fn window_limits(window: Window) -> [Limit; 4]
+    ensures { result ≡ closed_limits (window_planes window) }
+{
+    [
+        at_most(-window.den, 0, window.left),
+        at_most(window.den, 0, -window.right),
+        at_most(0, -window.den, window.bottom),
+        at_most(0, window.den, -window.top),
+    ]
+}
+
+/// The half plane of these numbers with its border.
+fn at_most(a: i128, b: i128, c: i128) -> Limit
+    requires { IsShortSide (record { a = a; b = b; c = c }) }
+    ensures { result ≡ record { plane = record { a = a; b = b; c = c }; op = AtMost } }
+{
+    Limit {
+        a,
+        b,
+        c,
+        op: RowOp::AtMost,
     }
 }
 
@@ -199,6 +272,16 @@ fn soon(op: RowOp, level: i128, growth: i128) -> bool
         RowOp::Zero => level == 0 && growth == 0,
         RowOp::AtMost => level < 0 || (level == 0 && growth <= 0),
         RowOp::Below => level < 0 || (level == 0 && growth < 0),
+    }
+}
+
+/// Whether a level with the sign of this number is out of reach of the op, even on the border.
+fn is_off(op: RowOp, level: i128) -> bool
+    ensures { result ≡ is_off op level }
+{
+    match op {
+        RowOp::Zero => level != 0,
+        RowOp::AtMost | RowOp::Below => 0 < level,
     }
 }
 

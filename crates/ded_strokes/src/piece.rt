@@ -10,10 +10,11 @@ ghost use Rattle.ded_polygon.specs.Closures.{AreInRange, MentionOnly};
 ghost use Rattle.ded_strokes.specs.Bounds.{piece_holds, limits_of, rows_hold, spot_at};
 ghost use Rattle.ded_strokes.specs.Near.{Near, piece_soon, growth, soon};
 ghost use Rattle.ded_strokes.specs.Strokes.{parts_levels, level_between};
+ghost use Rattle.ded_strokes.specs.Stretches.{misses};
 
 use crate::direction::Direction;
 use crate::limit::Limit;
-use ded_model::memory::Refused;
+use ded_model::memory::{NoMemory, Refused};
 use ded_model::row::Row;
 use ded_model::slot::Slot;
 use ded_polygon::Corner;
@@ -54,6 +55,17 @@ impl Piece {
         Ok(Piece { limits })
     }
 
+    /// An equal piece.
+    ///
+    /// # Errors
+    /// Out of memory.
+    pub fn copy(&self, alloc: Global) -> Result<Piece, NoMemory>
+        ensures { IfOk result (λ p. p ≡ self.now) }
+    {
+        let limits = Vec::from_slice(alloc, self.limits())?;
+        Ok(Piece { limits })
+    }
+
     /// The limits, one for each row.
     pub fn limits(&self) -> &[Limit]
         ensures { result.now ≡ self.now }
@@ -84,6 +96,13 @@ impl Piece {
         ensures { result ≡ list_any (λ b. parts_levels (level b.plane from) (level b.plane to)) self.now }
     {
         self.limits().iter().any(|limit| limit.parts(from, to))
+    }
+
+    /// Whether one limit alone tells that neither a point between the corners nor what is near it is in the piece.
+    pub(crate) fn misses(&self, from: Corner, to: Corner) -> bool
+        ensures { result ≡ misses from to self.now }
+    {
+        self.limits().iter().any(|limit| limit.keeps_off(from, to))
     }
 
     /// Whether the piece holds between the corners, if no border is crossed there.

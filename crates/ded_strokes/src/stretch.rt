@@ -35,7 +35,7 @@ pub fn stroke_between(
 }
 
 /// The same, where no border is crossed between the corners.
-fn told(pieces: &[Piece], from: Corner, to: Corner, across: Direction) -> Stroke
+pub(crate) fn told(pieces: &[Piece], from: Corner, to: Corner, across: Direction) -> Stroke
     requires { is_parted pieces.now from to ≡ false }
     ensures { HaveStroke pieces.now across from to result }
 {

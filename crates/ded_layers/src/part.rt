@@ -1,0 +1,10 @@
+//! Parts of a layer.
+use ded_polygon::Corner;
+use ded_strokes::Piece;
+
+/// A piece, and the corners of its shape within a window, counterclockwise.
+#[derive(Drop)]
+pub struct Part {
+    pub piece: Piece,
+    pub corners: Vec<Corner>,
+}
