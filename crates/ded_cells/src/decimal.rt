@@ -19,7 +19,7 @@ const DIGITS: u32 = 9;
 ///
 /// # Errors
 /// Out of memory.
-pub(crate) fn put_value(text: &mut Text, value: Frac) -> Result<(), NoMemory>
+pub fn put_value(text: &mut Text, value: Frac) -> Result<(), NoMemory>
     ensures { OnOk result (text.new ≡ text.old ++ value_text value) }
 {
     let by = gcd(value.num, value.den);
@@ -102,7 +102,7 @@ fn digit(value: u128) -> u8
 ///
 /// # Errors
 /// Out of memory.
-pub(crate) fn put_number(text: &mut Text, number: u128) -> Result<(), NoMemory>
+pub fn put_number(text: &mut Text, number: u128) -> Result<(), NoMemory>
     ensures { OnOk result (text.new ≡ text.old ++ number_text number) }
 {
     let mut buffer = Buffer::new();

@@ -17,5 +17,6 @@ mod span;
 mod table;
 mod theme;
 
+pub use decimal::{put_number, put_value};
 pub use extent::{Extent, extent_of};
 pub use table::{answer_table, stored_table};

@@ -1,0 +1,3 @@
+pub mod Axes
+pub mod Figure
+pub mod Sights

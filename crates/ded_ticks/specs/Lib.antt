@@ -1,0 +1,4 @@
+pub mod Labels
+pub mod Scales
+pub mod Steps
+pub mod Ticks
