@@ -1,0 +1,6 @@
+mod Gathered
+mod Heard
+mod Parsing
+mod Accepting
+mod Cutting
+mod Pictures

@@ -1,0 +1,2 @@
+mod Sighted
+mod Told

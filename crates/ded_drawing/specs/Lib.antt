@@ -1,0 +1,3 @@
+pub mod Sightings
+pub mod Descriptions
+pub mod Drawings
