@@ -1,9 +1,10 @@
-"""The countries of the world, imported, confirmed by the program, and compared with Shapely. No part of the tests, since it
+"""The countries of the world, imported, confirmed by the program, drawn, and compared with Shapely. No part of the tests, since it
 takes minutes and fetches the map: Natural Earth 1:110m, in Debian's `r-cran-spdata`.
 
     cd python && /usr/bin/python3 -m tests.importing.world_check
 
 Its status is 0 where all is as it should be."""
+import os
 import subprocess
 import sys
 import tempfile
@@ -22,6 +23,7 @@ from dedale.importing.wkt import read_wkt
 from dedale.program import find_program
 from tests.importing.polygons import Polygon, shapely_of
 from tests.importing.running import Outcome, imported
+from tests.scripts import ROOT
 
 PACKAGE = "r-cran-spdata"
 DIGITS = 4
@@ -83,6 +85,18 @@ def is_confirmed(outcome: Outcome) -> bool:
     return report(f"confirmed in {seconds:.0f} s", counts == {"yes": 350, "no": 0} and not others, f"{counts} {others[:3]}")
 
 
+def is_drawn(outcome: Outcome) -> bool:
+    """A picture shows each tuple."""
+    script = outcome.script.split("\n-- line")[0] + "\nshow Land;\n"
+    tuples = sum(line.startswith("insert Land ") for line in outcome.inserts())
+    start = time.monotonic()
+    program = os.environ.get("DEDALE_DRAW") or str(ROOT / "dedale_draw")
+    done = subprocess.run([program], input=script.encode("utf-8"), stdout=subprocess.PIPE, check=False)
+    seconds = time.monotonic() - start
+    counted = f"<desc>tuples drawn: {tuples}\n".encode() in done.stdout
+    return report(f"drawn in {seconds:.1f} s", done.returncode == 0 and counted, f"{tuples} tuples, {len(done.stdout)} bytes")
+
+
 def has_areas(countries: dict[str, list[Polygon]]) -> bool:
     """Areas differ from those of Shapely by at most one part in 10^9."""
     worst = 0.0
@@ -128,7 +142,7 @@ def main() -> int:
     countries = good_countries(content)
     results = [
         report("countries", len(countries) == 175, len(countries)),
-        imports(outcome), has_areas(countries), has_neighbours(outcome, countries), is_confirmed(outcome),
+        imports(outcome), has_areas(countries), has_neighbours(outcome, countries), is_confirmed(outcome), is_drawn(outcome),
     ]
     return 0 if all(results) else 1
 
