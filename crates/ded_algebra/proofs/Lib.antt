@@ -11,3 +11,9 @@ pub mod Compiled
 pub mod ArgumentRows
 pub mod Apart
 pub mod Gathered
+pub mod Names
+pub mod Taken
+pub mod Columns
+pub mod ColumnCoefs
+pub mod ColumnPoints
+pub mod Pairs

@@ -42,7 +42,7 @@ one-holds : (a : Atom) (p : Point) → IsTrue (atom_holds a p) ↔ IsTrue (tuple
 unfolding tuple_holds
 one-holds a p = (λ h. rw h refl, λ h. and_left (atom_holds a p) true h)
 
-none-holds : (p : Point) → IsTrue (tuple_holds [] p)
+pub none-holds : (p : Point) → IsTrue (tuple_holds [] p)
 unfolding tuple_holds
 none-holds p = refl
 

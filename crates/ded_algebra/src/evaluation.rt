@@ -61,12 +61,7 @@ pub trait Evaluate {
     ///
     /// # Errors
     /// `Wide` only where the plan clashes over the given relations, otherwise out of memory.
-    fn evaluate<R: Relations>(
-        &self,
-        alloc: Global,
-        plan: &Plan,
-        relations: &R,
-    ) -> Result<Tuples, Refused>
+    fn evaluate<R: Relations>(alloc: Global, plan: &Plan, relations: &R) -> Result<Tuples, Refused>
         requires { IsEvaluable IsAnyAtom (R.catalogue relations.now) (plan_form plan.now) }
         ensures is { IfOk result (λ ts. IsEvaluation (R.catalogue relations.now) (plan_form plan.now) (tuples_hold ts) (tuples_mention ts) (tuples_lines ts)) }
         ensures wide { IsErrOf result Wide → plan_clashes (stored_measures (R.catalogue relations.now)) (plan_form plan.now) ≡ true };
@@ -77,7 +72,6 @@ pub trait Evaluate {
     /// # Errors
     /// As [`Evaluate::evaluate`].
     fn evaluate_within<R: Relations>(
-        &self,
         alloc: Global,
         plan: &Plan,
         relations: &R,
@@ -92,6 +86,6 @@ pub trait Evaluate {
     ///
     /// # Errors
     /// Out of memory.
-    fn meet(&self, alloc: Global, first: &Tuple, second: &Tuple) -> Result<Option<Tuple>, NoMemory>
+    fn meet(alloc: Global, first: &Tuple, second: &Tuple) -> Result<Option<Tuple>, NoMemory>
         ensures { IfOk result (IsMet first.now second.now) };
 }

@@ -4,8 +4,11 @@
 //! a row that ties it to its value and a projection that takes it away. What else a goal has becomes a join, a union, a complement
 //! or a projection.
 //!
-//! It stands on `ded_model`, which says what goals and plans mean, on `ded_row` for the rows of arguments, and on `ded_tuple` for
-//! the tuples that a plan is evaluated over. Over every
+//! [`Relations`] is what a plan is evaluated over, of which [`Given`] is a list by name, and [`Evaluate`] is what evaluates it. The tuples
+//! of a scan are over columns, each of which is read into a slot ([`column_pairs`]); of a closed plan comes [`everywhere`] or [`nowhere`].
+//!
+//! It stands on `ded_model`, which says what goals and plans mean, on `ded_row` for the rows of arguments, on `ded_tuple` and `ded_packed`
+//! for the tuples that a plan is evaluated over, and on `ded_hull` for windows of these. Over every
 //! catalogue the plan holds exactly where the goal does, with lines, lengths and a rank of at most the goal's; so what can be
 //! said of the widths of a formula holds of the work that its plan asks for.
 #![tactic(auto)]
@@ -13,7 +16,13 @@
 mod arguments;
 mod compiling;
 mod evaluation;
+mod given;
+mod pairing;
 mod scanning;
+mod trivial;
 
 pub use compiling::compile;
 pub use evaluation::{Evaluate, Relations};
+pub use given::{Given, GivenRelation};
+pub use pairing::column_pairs;
+pub use trivial::{everywhere, nowhere};

@@ -12,4 +12,5 @@ pub mod Sifted
 pub mod Slotless
 pub mod TupleParts
 pub mod TuplesRead
+pub mod TuplesWritten
 pub mod WideTuples

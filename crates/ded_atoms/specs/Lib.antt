@@ -3,3 +3,4 @@ pub mod Laws
 pub mod Orders
 pub mod Own
 pub mod Reading
+pub mod Written

@@ -6,8 +6,8 @@
 //! narrow.
 //!
 //! [`OfTuples`] is any theory whose atoms stand for rows and text atoms. [`conjunction`] and [`conjunctions`] read tuples as
-//! conjunctions of it, [`distinct`] keeps of equal conjunctions the first one, and [`tuple_atoms`] gives order rows back as the atoms
-//! of tuples.
+//! conjunctions of it, [`distinct`] keeps of equal conjunctions the first one, [`tuples`] writes conjunctions of `Atoms` as normal
+//! tuples, and [`tuple_atoms`] gives order rows back as the atoms of tuples.
 //!
 //! [`reduced`] drops of normal tuples those that hold nowhere, of equal tuples all but the first one, and of each tuple the atoms
 //! that its others imply. What is left holds at the same points, is in normal form, and has no new slots or lines; each tuple that is
@@ -34,6 +34,7 @@ mod reduction;
 mod repeated;
 mod rows;
 mod theories;
+mod writing;
 
 pub use closed::holds_everywhere;
 pub use extents::extended;
@@ -45,3 +46,4 @@ pub use reduction::{reduce_answer, reduced};
 pub use repeated::distinct;
 pub use rows::OfRows;
 pub use theories::{Atoms, OrderAtoms};
+pub use writing::tuples;

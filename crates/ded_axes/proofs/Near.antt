@@ -11,18 +11,7 @@ use Rattle.ded_polygon.specs.Windows.{Frame, IsFrame, window_planes}
 use Rattle.ded_svg.specs.Coordinates.{nearest}
 use Rattle.ded_axes.specs.Places.{rise, clamped, portion, place, offset_x, offset_y, extent_x, extent_y, IsNearPortion}
 use Rattle.ded_axes.proofs.Sizes.{above}
-
--- twice so many times d is within d of twice m
-record Rounds (m d q : ℕ) : Type 0 where
-  above : 2 * (q * d) ≤ 2 * m + d
-  below : 2 * m ≤ 2 * (q * d) + d
-
-nearest_rounds : (m d : ℕ) → 0 < d → Rounds m d (nearest m d)
-nearest_rounds m d some = by (nat_le d (2 * (m % d))) refl
-  where
-    by : (b : Bool) → nat_le d (2 * (m % d)) ≡ b → Rounds m d (if b then (m / d + 1) else (m / d))
-    by true e = let all = div-add-mod m d in let less = mod-lt m some in let up = leb-true d (2 * (m % d)) e in record { above = omega (arith, all, less, up); below = omega (arith, all, less, up) }
-    by false e = let all = div-add-mod m d in let less = mod-lt m some in let down = leb-false d (2 * (m % d)) e in record { above = omega (arith, all, less, down); below = omega (arith, all, less, down) }
+use Rattle.ded_svg.proofs.Coordinates.{nearest_rounds}
 
 apart : (a b k : ℕ) → 2 * a ≤ 2 * b + k → 2 * b ≤ 2 * a + k → 2 * unsigned_abs (pos a -ℤ pos b) ≤ k
 apart a b k h i = omega (arith, ints, h, i)

@@ -23,8 +23,8 @@ use Rattle.ded_model.proofs.Members.{In-right, In-split}
 use Rattle.ded_genrel.proofs.Items.{all-append}
 use Rattle.ded_algebra.specs.Evaluation.{AreGiven, IsEvaluation}
 use Rattle.ded_plan.specs.Planned.{IsPlanned}
-use Rattle.ded_eval.specs.declared.given.GivenRelation.{GivenRelation}
-use Rattle.ded_eval.specs.Given.{given_catalogue}
+use Rattle.ded_algebra.specs.declared.given.GivenRelation.{GivenRelation}
+use Rattle.ded_algebra.specs.Given.{given_catalogue}
 use Rattle.ded_views.specs.Reaching.{reaches}
 use Rattle.ded_views.proofs.Changing.{inserted, inserted_lines}
 use Rattle.ded_views.proofs.Placing.{none_measured}
@@ -35,11 +35,10 @@ use Rattle.ded_keep.specs.Behind.{IsPutBehind}
 use Rattle.ded_keep.proofs.AloneMeanings.{added_alone}
 use Rattle.ded_keep.proofs.Appended.{extended_behind, kept_after}
 use Rattle.ded_query.specs.Gathering.{IsViewOf}
-use Rattle.ded_query.proofs.GivenNames.{no_entry, shaped, lines_from, clash_from}
+use Rattle.ded_query.proofs.GivenNames.{no_entry, shaped, lines_from, clash_from, same_name}
 use Rattle.ded_database.specs.Changes.{IsInsert}
 use Rattle.ded_database.proofs.ListsStaying.{HasOthers}
 use Rattle.ded_database.proofs.Beside.{IsGivenBeside, same_goal, relation_after, entry_after, columns_before, same_beside}
-use Rattle.ded_database.proofs.Under.{same_name}
 
 -- ---- the tuple among those of the relation
 

@@ -21,9 +21,9 @@ use Rattle.ded_algebra.specs.Evaluation.{HaveSorts, IsScannedFrom, IsScannable, 
 use Rattle.ded_plan.specs.Planned.{IsPlanned}
 use Rattle.ded_plan.specs.Plans.{IsScanOf}
 use Rattle.ded_plan.proofs.PlansOfFormulas.{plan_scans}
-use Rattle.ded_eval.specs.declared.given.GivenRelation.{GivenRelation}
-use Rattle.ded_eval.specs.Given.{given_entry, given_catalogue, has_name, without_name}
-use Rattle.ded_eval.proofs.Taken.{all_left}
+use Rattle.ded_algebra.specs.declared.given.GivenRelation.{GivenRelation}
+use Rattle.ded_algebra.specs.Given.{given_entry, given_catalogue, has_name, without_name}
+use Rattle.ded_algebra.proofs.Taken.{all_left}
 use Rattle.ded_views.specs.Reaching.{reaches}
 use Rattle.ded_views.proofs.Named.{of_named, all_named, some_named}
 use Rattle.ded_views.proofs.Changing.{entry_there, same_entry}
@@ -38,12 +38,12 @@ use Rattle.ded_query.specs.Over.{over_relations}
 use Rattle.ded_model.proofs.Made.{plain_base}
 use Rattle.ded_query.proofs.Entries.{named_columns, relation_heading}
 use Rattle.ded_query.proofs.Evaluable.{all_with, any_atoms, scannable, scans_same}
-use Rattle.ded_query.proofs.GivenNames.{shaped}
+use Rattle.ded_query.proofs.GivenNames.{shaped, same_name}
 use Rattle.ded_query.proofs.Standing.{over_right, still_there, hidden_gone}
 use Rattle.ded_query.proofs.Names.{scanned_used, used_known}
 use Rattle.ded_database.specs.Held.{IsHeld}
 use Rattle.ded_database.proofs.ListsStaying.{HasOthers, same_meaning_after}
-use Rattle.ded_database.proofs.Under.{same_name, all_left_over, other_left, unnamed, nameless, named_each, gone_name}
+use Rattle.ded_database.proofs.Under.{all_left_over, other_left, unnamed, nameless, named_each, gone_name}
 use Rattle.ded_model.proofs.Bools.{bytes_eq-refl}
 
 -- ---- lists without the relation

@@ -14,21 +14,22 @@ use Rattle.ded_model.specs.Measure.{measures, goal_lines}
 use Rattle.ded_model.proofs.Members.{or_split}
 use Rattle.ded_sorts.specs.Causes.{is_view_with}
 use Rattle.ded_sorts.proofs.KnownEntries.{columns_there, view_there}
-use Rattle.ded_eval.specs.declared.given.GivenRelation.{GivenRelation}
+use Rattle.ded_algebra.specs.declared.given.GivenRelation.{GivenRelation}
 use Rattle.ded_algebra.specs.Evaluation.{given_tuples}
-use Rattle.ded_eval.specs.Given.{given_entry, given_catalogue, given_under, has_name}
+use Rattle.ded_algebra.specs.Given.{given_entry, given_catalogue, given_under, has_name}
 use Rattle.ded_query.proofs.Arguments.{byte_arguments, arguments_long}
 use Rattle.ded_model.proofs.Made.{plain_base}
-use Rattle.ded_eval.proofs.Taken.{none_under}
+use Rattle.ded_algebra.proofs.Taken.{none_under}
 use Rattle.ded_views.proofs.Views.{view_means, plain_there}
 use Rattle.ded_database.specs.declared.mark.Mark.{Mark}
 use Rattle.ded_database.specs.Held.{IsHeld, IsListOf, held_under, is_marked}
 use Rattle.ded_database.specs.Upkeep.{IsTightView}
 use Rattle.ded_database.proofs.Renewal.{tight_clash}
-use Rattle.ded_database.proofs.Under.{same_name, named_each, under_named, other_more, own_more, nameless, unnamed}
+use Rattle.ded_database.proofs.Under.{named_each, under_named, other_more, own_more, nameless, unnamed}
 use Rattle.ded_database.specs.Keeping.{IsMarkedWith, IsListedWith}
 use Rattle.ded_model.proofs.Bools.{bytes_eq-refl}
-use Rattle.ded_eval.proofs.Names.{tuples-unnumbered}
+use Rattle.ded_algebra.proofs.Names.{tuples-unnumbered}
+use Rattle.ded_query.proofs.GivenNames.{same_name}
 
 -- what is held of a view holds exactly where the view's formula does
 pub list_of : (c : Catalogue) → IsWellFormed c → (r : GivenRelation) → IsHeld c r → IsListOf c r.name r.tuples

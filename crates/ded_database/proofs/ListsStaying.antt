@@ -14,7 +14,7 @@ use Rattle.ded_model.specs.Made.{base}
 use Rattle.ded_model.specs.Uses.{MeansAlike, goal_uses}
 use Rattle.ded_model.proofs.Alike.{GoalHolds-alike}
 use Rattle.ded_sorts.specs.Changes.{ChangesEntry}
-use Rattle.ded_eval.specs.declared.given.GivenRelation.{GivenRelation}
+use Rattle.ded_algebra.specs.declared.given.GivenRelation.{GivenRelation}
 use Rattle.ded_views.specs.Reaching.{reaches}
 use Rattle.ded_views.specs.Unaffected.{AreUnaffected}
 use Rattle.ded_views.proofs.Changing.{changed}

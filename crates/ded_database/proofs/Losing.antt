@@ -24,8 +24,8 @@ use Rattle.ded_model.proofs.Members.{In-left, In-split, or_split}
 use Rattle.ded_model.proofs.Rows.{or_left, or_right}
 use Rattle.ded_algebra.specs.Evaluation.{IsEvaluable, IsAnyAtom}
 use Rattle.ded_plan.specs.Planned.{IsPlanned}
-use Rattle.ded_eval.specs.declared.given.GivenRelation.{GivenRelation}
-use Rattle.ded_eval.specs.Given.{given_catalogue, has_name, without_name}
+use Rattle.ded_algebra.specs.declared.given.GivenRelation.{GivenRelation}
+use Rattle.ded_algebra.specs.Given.{given_catalogue, has_name, without_name}
 use Rattle.ded_views.specs.Reaching.{reaches}
 use Rattle.ded_views.proofs.Atoms.{all_weaker}
 use Rattle.ded_views.proofs.Named.{of_named}
@@ -37,12 +37,12 @@ use Rattle.ded_keep.specs.Remaining.{IsRemaining}
 use Rattle.ded_query.specs.Gathering.{IsGivenOf, IsViewGoal, IsViewOf}
 use Rattle.ded_query.specs.Over.{over_relations}
 use Rattle.ded_query.proofs.Evaluable.{evaluable, scanned_same}
-use Rattle.ded_query.proofs.GivenNames.{shaped, given_lines}
+use Rattle.ded_query.proofs.GivenNames.{shaped, given_lines, same_name}
 use Rattle.ded_query.proofs.Standing.{over_right, still_there, stored_there}
 use Rattle.ded_database.specs.Changes.{IsDelete}
 use Rattle.ded_database.specs.Lasting.{HasLinesBut, IsViewBut}
 use Rattle.ded_database.proofs.ListsStaying.{HasOthers}
-use Rattle.ded_database.proofs.Under.{all_left_over, same_name}
+use Rattle.ded_database.proofs.Under.{all_left_over}
 use Rattle.ded_database.proofs.Beside.{IsGivenBeside, other_has, same_goal, relation_before, relation_after, entry_after, scans, columns_are, same_beside}
 
 -- what follows of two facts of a result

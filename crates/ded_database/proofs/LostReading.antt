@@ -20,9 +20,9 @@ use Rattle.ded_model.proofs.Rows.{or_left, or_right}
 use Rattle.ded_genrel.proofs.Items.{done_to, all-push}
 use Rattle.ded_algebra.specs.Evaluation.{HaveSorts}
 use Rattle.ded_atoms.specs.Laws.{line_in_order}
-use Rattle.ded_eval.specs.Scanning.{column_pairs}
-use Rattle.ded_eval.proofs.ColumnCoefs.{mapped_columns}
-use Rattle.ded_eval.proofs.Columns.{IsRead, read, read_sort, read_once}
+use Rattle.ded_algebra.specs.Columns.{column_pairs}
+use Rattle.ded_algebra.proofs.ColumnCoefs.{mapped_columns}
+use Rattle.ded_algebra.proofs.Columns.{IsRead, read, read_sort, read_once}
 use Rattle.ded_database.specs.Lost.{AreOwnSlots, AreReadAmong, AreOverColumns, AddsRead}
 use Rattle.ded_database.proofs.LosingLines.{read_more}
 

@@ -2,11 +2,11 @@
 use Rattle.std.proofs.Common.{◌≡◌, ℕ, zero, suc, Bool, true, false, not, ◌||◌, ◌&&◌, cond, List, [], ◌∷◌, refl, sym, ◌∙◌, subst, true≢false, bytes_eq}
 use Rattle.std.specs.List.{insert, AllByRecursion}
 use Rattle.std.proofs.lemmas.Bool.{or_from, or_parts}
-use Rattle.ded_eval.proofs.Names.{other_way}
+use Rattle.ded_algebra.proofs.Names.{other_way}
 use Rattle.ded_database.specs.declared.mark.Mark.{Mark}
 use Rattle.ded_database.specs.Held.{is_marked, AreMarkedApart}
-use Rattle.ded_database.proofs.Under.{same_name}
 use Rattle.ded_database.specs.Keeping.{without_mark}
+use Rattle.ded_query.proofs.GivenNames.{same_name}
 
 -- ---- one more, wherever it stands
 

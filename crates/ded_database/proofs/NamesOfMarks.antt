@@ -6,7 +6,7 @@ use Rattle.std.proofs.lemmas.Slice.Eq.{bytes_eq-Decides}
 use Rattle.ded_model.specs.Catalogue.{Catalogue}
 use Rattle.ded_model.proofs.Members.{or_split}
 use Rattle.ded_model.proofs.Rows.{or_left, or_right}
-use Rattle.ded_eval.proofs.Names.{other_way}
+use Rattle.ded_algebra.proofs.Names.{other_way}
 use Rattle.ded_database.specs.declared.mark.Mark.{Mark}
 use Rattle.ded_views.specs.Reaching.{reaches}
 use Rattle.ded_database.specs.Held.{is_marked, AreMarkedApart}

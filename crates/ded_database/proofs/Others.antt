@@ -4,9 +4,7 @@ use Rattle.std.specs.List.{list_any}
 use Rattle.std.proofs.Math.Bool.{or-false}
 use Rattle.std.proofs.lemmas.List.Folds.{list_any-append}
 use Rattle.std.proofs.lemmas.Slice.Eq.{bytes_eq-Decides}
-
-any_more : (n x : List ℕ) (xs : List (List ℕ)) → list_any (bytes_eq n) (xs ++ x ∷ []) ≡ (list_any (bytes_eq n) xs || bytes_eq n x)
-any_more n x xs = list_any-append (bytes_eq n) xs (x ∷ []) ∙ ap (λ b. list_any (bytes_eq n) xs || b) (or-false (bytes_eq n x))
+use Rattle.ded_plan.proofs.ScannedNames.{any_more}
 
 -- one that isn't the name is added
 pub one_added : (n x m : List ℕ) (xs ys : List (List ℕ)) → bytes_eq x m ≡ false → list_any (bytes_eq n) ys ≡ (list_any (bytes_eq n) xs && not (bytes_eq n m))

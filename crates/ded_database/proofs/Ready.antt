@@ -7,8 +7,8 @@ use Rattle.std.proofs.lemmas.Option.{same_Some}
 use Rattle.ded_model.specs.Row.{Atom}
 use Rattle.ded_model.specs.Catalogue.{Catalogue}
 use Rattle.ded_genrel.proofs.Items.{all_weaker}
-use Rattle.ded_eval.specs.declared.given.GivenRelation.{GivenRelation}
-use Rattle.ded_eval.specs.Given.{has_name}
+use Rattle.ded_algebra.specs.declared.given.GivenRelation.{GivenRelation}
+use Rattle.ded_algebra.specs.Given.{has_name}
 use Rattle.ded_database.specs.declared.mark.Mark.{Mark}
 use Rattle.ded_database.specs.Marks.{IsMark, IsOnceIn}
 use Rattle.ded_views.specs.Reaching.{reaches}

@@ -5,15 +5,16 @@ use Rattle.std.specs.Option.{option_map}
 use Rattle.std.proofs.lemmas.Bool.{false_from_ne_true, or_parts}
 use Rattle.ded_model.specs.Catalogue.{Catalogue}
 use Rattle.ded_genrel.proofs.Items.{all-push}
-use Rattle.ded_eval.specs.declared.given.GivenRelation.{GivenRelation}
-use Rattle.ded_eval.specs.Given.{given_under, without_name}
+use Rattle.ded_algebra.specs.declared.given.GivenRelation.{GivenRelation}
+use Rattle.ded_algebra.specs.Given.{given_under, without_name}
 use Rattle.ded_database.specs.declared.mark.Mark.{Mark}
 use Rattle.ded_views.specs.Reaching.{reaches}
 use Rattle.ded_database.specs.Held.{IsHeld, held_under, is_marked}
 use Rattle.ded_database.specs.Renewed.{AreLeft, AreTaken, with_taken}
 use Rattle.ded_database.proofs.NamesOfMarks.{marked_more, marked_before, marked_other}
-use Rattle.ded_database.proofs.Under.{same_name, other_left, own_left, all_left_over, has_left, other_more, own_more, unheld, under_named}
+use Rattle.ded_database.proofs.Under.{other_left, own_left, all_left_over, has_left, other_more, own_more, unheld, under_named}
 use Rattle.ded_model.proofs.Bools.{bytes_eq-refl}
+use Rattle.ded_query.proofs.GivenNames.{same_name}
 
 -- a name that reaches the relation isn't one that doesn't
 pub other_reach : (c : Catalogue) (n v m : List ℕ) → reaches c v n ≡ false → reaches c m n ≡ true → bytes_eq v m ≡ false

@@ -12,9 +12,9 @@ use Rattle.ded_model.specs.Form.{Form}
 use Rattle.ded_model.specs.Known.{IsWellFormed}
 use Rattle.ded_model.specs.Measure.{Measure, measures, IsTight}
 use Rattle.ded_genrel.proofs.Items.{all-push}
-use Rattle.ded_eval.specs.declared.given.GivenRelation.{GivenRelation}
-use Rattle.ded_eval.specs.Given.{without_name, has_name}
-use Rattle.ded_eval.proofs.Taken.{none_under}
+use Rattle.ded_algebra.specs.declared.given.GivenRelation.{GivenRelation}
+use Rattle.ded_algebra.specs.Given.{without_name, has_name}
+use Rattle.ded_algebra.proofs.Taken.{none_under}
 use Rattle.ded_database.specs.declared.mark.Mark.{Mark}
 use Rattle.ded_database.specs.Marks.{IsOnceIn}
 use Rattle.ded_views.specs.Reaching.{reaches}
@@ -25,9 +25,10 @@ use Rattle.ded_database.specs.Renewed.{IsRenewed, AreRenewed}
 use Rattle.ded_database.specs.Upkeep.{IsTightView, IsLonger}
 use Rattle.ded_database.proofs.NamesOfMarks.{marked_more, marked_before, marked_other}
 use Rattle.ded_database.proofs.Removal.{other_reach}
-use Rattle.ded_database.proofs.Under.{same_name, other_left, all_left_over, other_more, own_more, unnamed}
+use Rattle.ded_database.proofs.Under.{other_left, all_left_over, other_more, own_more, unnamed}
 use Rattle.ded_query.proofs.Gathered.{front_none, front_more}
 use Rattle.ded_model.proofs.Bools.{bytes_eq-refl}
+use Rattle.ded_query.proofs.GivenNames.{same_name}
 
 -- ---- the front
 

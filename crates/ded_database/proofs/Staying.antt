@@ -8,8 +8,8 @@ use Rattle.ded_model.specs.Entries.{entry_of, entry_uses}
 use Rattle.ded_model.specs.Known.{IsWellFormed}
 use Rattle.ded_sorts.specs.Changes.{AddsEntry, DropsEntry}
 use Rattle.ded_genrel.proofs.Items.{all_weaker}
-use Rattle.ded_eval.specs.declared.given.GivenRelation.{GivenRelation}
-use Rattle.ded_eval.specs.Given.{has_name, without_name}
+use Rattle.ded_algebra.specs.declared.given.GivenRelation.{GivenRelation}
+use Rattle.ded_algebra.specs.Given.{has_name, without_name}
 use Rattle.ded_views.specs.Unaffected.{AreUnaffected}
 use Rattle.ded_views.proofs.Changing.{added, dropped}
 use Rattle.ded_database.specs.declared.mark.Mark.{Mark}
@@ -17,9 +17,10 @@ use Rattle.ded_database.specs.Marks.{IsMark}
 use Rattle.ded_database.proofs.MarksOfViews.{untouched_marks}
 use Rattle.ded_database.specs.Held.{IsHeld, IsUpheld, is_marked}
 use Rattle.ded_database.proofs.ListsStaying.{all_stay}
-use Rattle.ded_database.proofs.Under.{same_name, all_left_over, each_named, all_both, gone_name}
+use Rattle.ded_database.proofs.Under.{all_left_over, each_named, all_both, gone_name}
 use Rattle.ded_database.specs.Keeping.{without_mark}
 use Rattle.ded_database.proofs.Marking.{all_without, others_without, marked_without, apart_without}
+use Rattle.ded_query.proofs.GivenNames.{same_name}
 
 -- of two facts of all marks the one that follows
 both_marks : (P Q R : Mark → Type 0) (ms : List Mark) → ((m : Mark) → P m → Q m → R m) → AllByRecursion P ms → AllByRecursion Q ms → AllByRecursion R ms

@@ -8,14 +8,12 @@ use Rattle.std.proofs.lemmas.Slice.Eq.{bytes_eq-Decides}
 use Rattle.ded_model.specs.Row.{Atom}
 use Rattle.ded_model.proofs.Rows.{or_left, or_right}
 use Rattle.ded_model.proofs.Members.{or_split}
-use Rattle.ded_eval.specs.declared.given.GivenRelation.{GivenRelation}
-use Rattle.ded_eval.specs.Given.{has_name, given_under, without_name}
-use Rattle.ded_eval.proofs.Taken.{none_under}
+use Rattle.ded_algebra.specs.declared.given.GivenRelation.{GivenRelation}
+use Rattle.ded_algebra.specs.Given.{has_name, given_under, without_name}
+use Rattle.ded_algebra.proofs.Taken.{none_under}
 use Rattle.ded_database.specs.Held.{held_under}
 use Rattle.ded_model.proofs.Bools.{bytes_eq-refl}
-
-pub same_name : (n m : List ℕ) → bytes_eq n m ≡ true → m ≡ n
-same_name n m e = sym ((bytes_eq-Decides n m).0 e)
+use Rattle.ded_query.proofs.GivenNames.{same_name}
 
 -- ---- one less
 

@@ -17,7 +17,7 @@ use Rattle.ded_database.specs.Marks.{mark_reaches, IsMark}
 use Rattle.ded_database.specs.Upkeep.{IsTightView}
 use Rattle.ded_database.proofs.Renewal.{tight_clash}
 use Rattle.ded_database.proofs.ListsStaying.{HasOthers}
-use Rattle.ded_database.proofs.Under.{same_name}
+use Rattle.ded_query.proofs.GivenNames.{same_name}
 
 -- a marked view isn't a relation
 pub mark_other : (c : Catalogue) (n : List ℕ) (m : Mark) → IsWellFormed c → is_relation_with (known c n) ≡ true → IsMark c m → bytes_eq m.name n ≡ false

@@ -3,7 +3,7 @@ use Rattle.std.specs.Prelude.{◌≡◌, ℕ, true, false, not, ◌||◌, is_som
 use Rattle.std.specs.List.{filter}
 use Rattle.std.specs.Str.{bytes_eq}
 use Rattle.ded_model.specs.Catalogue.{Catalogue}
-use Rattle.ded_eval.specs.declared.given.GivenRelation.{GivenRelation}
+use Rattle.ded_algebra.specs.declared.given.GivenRelation.{GivenRelation}
 use Rattle.ded_database.specs.declared.mark.Mark.{Mark}
 use Rattle.ded_database.specs.Held.{held_under, is_marked}
 use Rattle.ded_database.specs.Upkeep.{IsTightView}

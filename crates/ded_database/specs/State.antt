@@ -3,7 +3,7 @@ use Rattle.std.specs.Prelude.{ℕ, Bool, List}
 use Rattle.ded_model.specs.Catalogue.{Catalogue}
 use Rattle.ded_model.specs.Known.{IsWellFormed}
 use Rattle.ded_catalog.specs.State.{Table, catalogue_of}
-use Rattle.ded_eval.specs.declared.given.GivenRelation.{GivenRelation}
+use Rattle.ded_algebra.specs.declared.given.GivenRelation.{GivenRelation}
 use Rattle.ded_database.specs.declared.mark.Mark.{Mark}
 use Rattle.ded_database.specs.Held.{is_marked, IsUpheld}
 

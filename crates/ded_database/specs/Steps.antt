@@ -1,7 +1,7 @@
 -- What becomes of marks and lists.
 use Rattle.std.specs.Prelude.{◌≡◌, ℕ, not, ◌&&◌, List}
 use Rattle.std.specs.Str.{bytes_eq}
-use Rattle.ded_eval.specs.Given.{without_name}
+use Rattle.ded_algebra.specs.Given.{without_name}
 use Rattle.ded_database.specs.Keeping.{IsMarkedWith, IsListedWith}
 use Rattle.ded_database.specs.State.{State, catalogue_at, is_kept}
 

@@ -7,7 +7,7 @@ use Rattle.ded_model.specs.Entries.{entry_of}
 use Rattle.ded_model.specs.Form.{Form}
 use Rattle.ded_model.specs.Measure.{IsTight}
 use Rattle.ded_model.specs.Row.{Atom}
-use Rattle.ded_eval.specs.declared.given.GivenRelation.{GivenRelation}
+use Rattle.ded_algebra.specs.declared.given.GivenRelation.{GivenRelation}
 use Rattle.ded_database.specs.declared.mark.Mark.{Mark}
 use Rattle.ded_database.specs.Marks.{IsOnceIn}
 use Rattle.ded_views.specs.Reaching.{reaches}

@@ -10,8 +10,8 @@ use crate::keeping::{drop_kept, keep_view};
 use crate::laws;
 use crate::mark::Mark;
 use crate::upkeep::bring_up_to_date;
+use ded_algebra::{Evaluate, Given};
 use ded_catalog::{Catalogue, Snapshot};
-use ded_eval::Given;
 use ded_model::command::Refusal;
 use ded_model::formula::Formula;
 use ded_model::goal::Goal;
@@ -202,7 +202,7 @@ impl Database {
     /// # Errors
     /// `Full` exactly where the relation has as many tuples as the limit allows, else `Spent` exactly where it has accepted 4,294,967,295
     /// inserts; nothing is changed then. Else `Memory`: the catalogue is as before, and lists of views that reach the relation may be gone.
-    pub fn insert(&mut self, name: &Name, tuple: Tuple) -> Result<u32, Refusal>
+    pub fn insert<E: Evaluate>(&mut self, name: &Name, tuple: Tuple) -> Result<u32, Refusal>
         requires relation { is_relation_with (known (catalogue_at self.old) name.now) ≡ true }
         requires over { IsTupleOver (columns_in (catalogue_at self.old) name.now) tuple }
         requires short { tuple_length tuple ≤ 63 }
@@ -228,7 +228,7 @@ impl Database {
             name,
             step: Step::Inserted(&tuple),
         };
-        let Ok(count) = bring_up_to_date(
+        let Ok(count) = bring_up_to_date::<E>(
             self.alloc,
             &change,
             &self.marks,
@@ -252,7 +252,7 @@ impl Database {
     ///
     /// # Errors
     /// Out of memory: the catalogue is as before, and lists of views that reach the relation may be gone.
-    pub fn delete(&mut self, name: &Name, number: u64) -> Result<(), NoMemory>
+    pub fn delete<E: Evaluate>(&mut self, name: &Name, number: u64) -> Result<(), NoMemory>
         requires { list_any (λ t. t.0 == number) (tuples_in (catalogue_at self.old) name.now) ≡ true }
         ensures ok { OnOk result (Deletes (catalogue_at self.old) (catalogue_at self.new) name.now number) }
         ensures err { OnErr result ((catalogue_at self.new) ≡ (catalogue_at self.old)) }
@@ -269,7 +269,7 @@ impl Database {
             name,
             step: Step::Deleted(told_tuple(&self.catalogue, name, number)),
         };
-        let count = bring_up_to_date(
+        let count = bring_up_to_date::<E>(
             self.alloc,
             &change,
             &self.marks,
@@ -291,13 +291,13 @@ impl Database {
     ///
     /// # Errors
     /// Out of memory; nothing is changed then.
-    pub fn keep(&mut self, name: &Name) -> Result<(), NoMemory>
+    pub fn keep<E: Evaluate>(&mut self, name: &Name) -> Result<(), NoMemory>
         requires { is_view_with (known (catalogue_at self.old) name.now) ≡ true }
         ensures catalogue { (catalogue_at self.new) ≡ (catalogue_at self.old) }
         ensures ok { OnOk result (Marks self.old self.new name.now) }
         ensures err { OnErr result (KeepsLists self.old self.new) }
     {
-        keep_view(
+        keep_view::<E>(
             self.alloc,
             &self.catalogue,
             &mut self.marks,
@@ -310,7 +310,7 @@ impl Database {
     ///
     /// # Errors
     /// `Wide` only where the formula isn't tight, otherwise out of memory.
-    pub fn is_true(&mut self, goal: &Goal) -> Result<bool, Refused>
+    pub fn is_true<E: Evaluate>(&mut self, goal: &Goal) -> Result<bool, Refused>
         requires question { (f : Form) × IsQuestion (catalogue_at self.old) [] (goal_form goal.now) f }
         ensures truth { (f : Form) → IsQuestion (catalogue_at self.old) [] (goal_form goal.now) f
             → IfOk result (λ b. IsTrue b ↔ IsTruth (catalogue_at self.old) f) }
@@ -319,7 +319,7 @@ impl Database {
         ensures same { self.new ≡ self.old }
     {
         let snapshot = Snapshot::present(&self.catalogue);
-        is_true(self.alloc, &snapshot, goal, &mut self.held)
+        is_true::<E>(self.alloc, &snapshot, goal, &mut self.held)
     }
 
     /// Normal tuples over the heading that hold exactly where a formula does, given as its goal. Each narrow one has nothing superfluous. Of
@@ -327,7 +327,7 @@ impl Database {
     ///
     /// # Errors
     /// `Wide` only where the formula isn't tight, otherwise out of memory.
-    pub fn answer(&mut self, heading: &Heading, goal: &Goal) -> Result<Tuples, Refused>
+    pub fn answer<E: Evaluate>(&mut self, heading: &Heading, goal: &Goal) -> Result<Tuples, Refused>
         requires question { (f : Form) × IsQuestion (catalogue_at self.old) heading.now (goal_form goal.now) f }
         ensures is { (f : Form) → IsQuestion (catalogue_at self.old) heading.now (goal_form goal.now) f
             → IfOk result (λ ts. IsAnswer (catalogue_at self.old) heading.now f ts) }
@@ -336,6 +336,6 @@ impl Database {
         ensures same { self.new ≡ self.old }
     {
         let snapshot = Snapshot::present(&self.catalogue);
-        answer(self.alloc, &snapshot, heading, goal, &mut self.held)
+        answer::<E>(self.alloc, &snapshot, heading, goal, &mut self.held)
     }
 }

@@ -15,9 +15,8 @@ ghost use Rattle.ded_database.specs.Upkeep.{IsLonger};
 use crate::change::Change;
 use crate::laws;
 use crate::mark::Mark;
-use ded_algebra::Relations;
+use ded_algebra::{Evaluate, Given, Relations};
 use ded_atoms::reduced;
-use ded_eval::{Engine, Given};
 use ded_keep::{add_tuple, put_behind};
 use ded_model::memory::{NoMemory, Refused};
 use ded_model::name::Name;
@@ -32,7 +31,7 @@ use std::alloc::Global;
 ///
 /// # Errors
 /// `Wide` only where the view clashes over the catalogue as it will be, otherwise out of memory. The list is lost then.
-pub(crate) fn extended(
+pub(crate) fn extended<E: Evaluate>(
     alloc: Global,
     change: &Change<'_, '_>,
     tuple: &Tuple,
@@ -51,14 +50,14 @@ pub(crate) fn extended(
     ensures wide { IsErrOf result Wide → (measures (after change.now) mark.now.name).clash ≡ true }
 {
     let count = held.count();
-    let extended = extended_over(alloc, change, tuple, mark, list, held);
+    let extended = extended_over::<E>(alloc, change, tuple, mark, list, held);
     held.keep_first(count);
     extended
 }
 
 /// The list of a view after a tuple is inserted that only adds to it, as [`extended`] gives it. Other views that the plan
 /// scans are given behind what is held, and stay there. Other relations are read where they stand.
-fn extended_over(
+fn extended_over<E: Evaluate>(
     alloc: Global,
     change: &Change<'_, '_>,
     tuple: &Tuple,
@@ -78,7 +77,7 @@ fn extended_over(
 {
     laws::nothing_beside();
     let names = other_names(alloc, &mark.plan, change.name)?;
-    give_names(alloc, change.snapshot, &names, held)?;
+    give_names::<E>(alloc, change.snapshot, &names, held)?;
     // The others don't reach the relation, so nothing of it is given. This says so.
     let _ = held.take(change.name);
     let Some(heading) = change.snapshot.heading(change.name) else {
@@ -93,9 +92,8 @@ fn extended_over(
         hidden: Some(change.name),
     };
     others.formed();
-    let added = add_tuple(
+    let added = add_tuple::<E, _>(
         alloc,
-        &Engine {},
         &mark.plan,
         change.name,
         heading,
@@ -105,7 +103,7 @@ fn extended_over(
     )?;
     let more = reduced(alloc, added)?;
     let mut list = list.list;
-    put_behind(alloc, &Engine {}, &mut list, more)?;
+    put_behind::<E>(alloc, &mut list, more)?;
     Ok(Tuples { list })
 }
 

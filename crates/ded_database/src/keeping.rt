@@ -3,7 +3,7 @@ ghost use Rattle.std.specs.Prelude.{◌≡◌, ◌≤◌, ◌⊎◌, true, lengt
 ghost use Rattle.std.specs.List.{AllByRecursion};
 ghost use Rattle.ded_model.specs.Entries.{known};
 ghost use Rattle.ded_catalog.specs.State.{catalogue_of};
-ghost use Rattle.ded_eval.specs.Given.{has_name, without_name};
+ghost use Rattle.ded_algebra.specs.Given.{has_name, without_name};
 ghost use Rattle.ded_database.specs.Marks.{IsMark};
 ghost use Rattle.ded_query.specs.Gathering.{IsFront};
 ghost use Rattle.ded_sorts.specs.Causes.{is_view_with};
@@ -11,8 +11,8 @@ ghost use Rattle.ded_database.specs.Held.{is_marked, AreMarkedApart, IsHeld, IsU
 ghost use Rattle.ded_database.specs.Keeping.{IsMarkedWith, IsListedWith, without_mark};
 
 use crate::mark::{Mark, mark_of};
+use ded_algebra::{Evaluate, Given};
 use ded_catalog::{Catalogue, Snapshot};
-use ded_eval::Given;
 use ded_model::memory::{NoMemory, Refused};
 use ded_model::name::Name;
 use ded_query::{held_view, view_tuples};
@@ -22,7 +22,7 @@ use std::alloc::{AllocError, Global};
 ///
 /// # Errors
 /// Out of memory; nothing is changed then.
-pub(crate) fn keep_view(
+pub(crate) fn keep_view<E: Evaluate>(
     alloc: Global,
     catalogue: &Catalogue,
     marks: &mut Vec<Mark>,
@@ -38,7 +38,7 @@ pub(crate) fn keep_view(
     ensures unlisted { OnErr result (held.new ≡ held.old) }
 {
     let count = held.count();
-    hold(alloc, catalogue, held, name)?;
+    hold::<E>(alloc, catalogue, held, name)?;
     match mark(alloc, catalogue, marks, name) {
         Ok(()) => Ok(()),
         Err(error) => {
@@ -52,7 +52,12 @@ pub(crate) fn keep_view(
 ///
 /// # Errors
 /// Out of memory; nothing is changed then.
-fn hold(alloc: Global, catalogue: &Catalogue, held: &mut Given, name: &Name) -> Result<(), NoMemory>
+fn hold<E: Evaluate>(
+    alloc: Global,
+    catalogue: &Catalogue,
+    held: &mut Given,
+    name: &Name,
+) -> Result<(), NoMemory>
     requires view { is_view_with (known (catalogue_of catalogue.now) name.now) ≡ true }
     requires held { AllByRecursion (IsHeld (catalogue_of catalogue.now)) held.old }
     ensures right { AllByRecursion (IsHeld (catalogue_of catalogue.now)) held.new }
@@ -66,7 +71,7 @@ fn hold(alloc: Global, catalogue: &Catalogue, held: &mut Given, name: &Name) -> 
     }
     catalogue.formed();
     let snapshot = Snapshot::present(catalogue);
-    match view_tuples(alloc, &snapshot, name, held) {
+    match view_tuples::<E>(alloc, &snapshot, name, held) {
         Ok(tuples) => held.add(held_view(&snapshot, name, tuples)?),
         Err(Refused::Wide) => Ok(()),
         Err(Refused::Memory) => Err(AllocError),

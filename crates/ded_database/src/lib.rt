@@ -16,8 +16,9 @@
 //! memory, the catalogue stays as it was, and the lists of these views may be dropped.
 //!
 //! It stands on `ded_row` for the lines of rows, on `ded_catalog` for catalogues and snapshots of them, on `ded_keep` for lists that
-//! follow one tuple, on `ded_query` for the answers of views, on `ded_eval` for the lists that are held, on `ded_atoms` for reduced
-//! tuples, on `ded_plan` for plans and the names of goals, and on `ded_views` for what a name reaches and what a change leaves alone.
+//! follow one tuple, on `ded_query` for the answers of views, on `ded_algebra` for the lists that are held, on `ded_atoms` for reduced
+//! tuples, on `ded_plan` for plans and the names of goals, and on `ded_views` for what a name reaches and what a change leaves alone. What
+//! evaluates plans is a type that the caller names.
 #![tactic(auto)]
 
 mod arguments;

@@ -11,7 +11,7 @@ use crate::change::Change;
 use crate::laws;
 use crate::lines::add_lines;
 use crate::mark::Mark;
-use ded_eval::column_pairs;
+use ded_algebra::column_pairs;
 use ded_model::goal::Places;
 use ded_model::memory::NoMemory;
 use ded_model::name::Heading;

@@ -3,7 +3,7 @@ ghost use Rattle.std.specs.Prelude.{◌≡◌, true, false, is_some, None, IfOk,
 ghost use Rattle.std.specs.List.{AllByRecursion};
 ghost use Rattle.ded_model.specs.declared.memory.Refused.TheVariants.{Wide};
 ghost use Rattle.ded_model.specs.Measure.{measures};
-ghost use Rattle.ded_eval.specs.Given.{has_name, without_name};
+ghost use Rattle.ded_algebra.specs.Given.{has_name, without_name};
 ghost use Rattle.ded_database.specs.Marks.{mark_adds, IsMark};
 ghost use Rattle.ded_query.specs.Gathering.{IsFront, IsViewOf};
 ghost use Rattle.ded_views.specs.Reaching.{reaches};
@@ -17,7 +17,7 @@ use crate::extending::extended;
 use crate::laws;
 use crate::mark::Mark;
 use crate::shortening::list_without;
-use ded_eval::{Given, GivenRelation};
+use ded_algebra::{Evaluate, Given, GivenRelation};
 use ded_model::memory::{NoMemory, Refused};
 use ded_model::tuple::Tuples;
 use ded_query::{held_view, planned_view};
@@ -28,7 +28,7 @@ use std::alloc::{AllocError, Global};
 ///
 /// # Errors
 /// Out of memory. Some lists may be made then.
-pub(crate) fn renew_all(
+pub(crate) fn renew_all<E: Evaluate>(
     alloc: Global,
     change: &Change<'_, '_>,
     marks: &[Mark],
@@ -49,7 +49,7 @@ pub(crate) fn renew_all(
     laws::marks_reach();
     for mark in marks {
         if mark.reaches(change.name) {
-            renew(alloc, change, mark, stale, held, added)?;
+            renew::<E>(alloc, change, mark, stale, held, added)?;
         }
     }
     Ok(())
@@ -59,7 +59,7 @@ pub(crate) fn renew_all(
 ///
 /// # Errors
 /// Out of memory; what is held is as before then.
-fn renew(
+fn renew<E: Evaluate>(
     alloc: Global,
     change: &Change<'_, '_>,
     mark: &Mark,
@@ -79,7 +79,7 @@ fn renew(
 {
     laws::conjunctive_views();
     let list = stale.take(&mark.name);
-    match new_list(alloc, change, mark, list, held, added) {
+    match new_list::<E>(alloc, change, mark, list, held, added) {
         Ok(tuples) => held.add(held_view(change.snapshot, &mark.name, tuples)?),
         Err(Refused::Wide) => Ok(()),
         Err(Refused::Memory) => Err(AllocError),
@@ -91,7 +91,7 @@ fn renew(
 ///
 /// # Errors
 /// `Wide` only where the view clashes over the catalogue as it will be, otherwise out of memory.
-fn new_list(
+fn new_list<E: Evaluate>(
     alloc: Global,
     change: &Change<'_, '_>,
     mark: &Mark,
@@ -111,9 +111,9 @@ fn new_list(
 {
     match list {
         Some(list) if mark.adds(change.name) => {
-            followed(alloc, change, mark, list.tuples, held, added)
+            followed::<E>(alloc, change, mark, list.tuples, held, added)
         }
-        _ => anew(alloc, change, mark, held),
+        _ => anew::<E>(alloc, change, mark, held),
     }
 }
 
@@ -122,7 +122,7 @@ fn new_list(
 ///
 /// # Errors
 /// `Wide` only where the view clashes over the catalogue as it will be, otherwise out of memory. The list is lost then.
-fn followed(
+fn followed<E: Evaluate>(
     alloc: Global,
     change: &Change<'_, '_>,
     mark: &Mark,
@@ -143,16 +143,16 @@ fn followed(
 {
     match change.step {
         Step::Inserted(tuple) => {
-            let tuples = extended(alloc, change, tuple, mark, list, held)?;
+            let tuples = extended::<E>(alloc, change, tuple, mark, list, held)?;
             *added = added.saturating_add(1);
             Ok(tuples)
         }
         Step::Deleted(told) => match told {
             Some(gone) => {
                 let gone = gone.unpack(alloc)?;
-                list_without(alloc, change, &gone, mark, list, held)
+                list_without::<E>(alloc, change, &gone, mark, list, held)
             }
-            None => anew(alloc, change, mark, held),
+            None => anew::<E>(alloc, change, mark, held),
         },
     }
 }
@@ -161,7 +161,7 @@ fn followed(
 ///
 /// # Errors
 /// `Wide` only where the view clashes over the catalogue as it will be, otherwise out of memory.
-pub(crate) fn anew(
+pub(crate) fn anew<E: Evaluate>(
     alloc: Global,
     change: &Change<'_, '_>,
     mark: &Mark,
@@ -174,5 +174,5 @@ pub(crate) fn anew(
     ensures held { held.new ≡ held.old }
     ensures wide { IsErrOf result Wide → (measures (after change.now) mark.now.name).clash ≡ true }
 {
-    planned_view(alloc, change.snapshot, &mark.name, &mark.plan, held)
+    planned_view::<E>(alloc, change.snapshot, &mark.name, &mark.plan, held)
 }

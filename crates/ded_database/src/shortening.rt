@@ -18,8 +18,7 @@ use crate::lost::lost_lines;
 use crate::mark::Mark;
 use crate::renewing::anew;
 use crate::unshared::unshared;
-use ded_algebra::Relations;
-use ded_eval::{Engine, Given};
+use ded_algebra::{Evaluate, Given, Relations};
 use ded_keep::remove_tuple;
 use ded_model::memory::{NoMemory, Refused};
 use ded_model::row::Row;
@@ -34,7 +33,7 @@ use std::alloc::Global;
 ///
 /// # Errors
 /// `Wide` only where the view clashes over the catalogue as it will be, otherwise out of memory. The list is lost then.
-pub(crate) fn list_without(
+pub(crate) fn list_without<E: Evaluate>(
     alloc: Global,
     change: &Change<'_, '_>,
     gone: &Tuple,
@@ -53,11 +52,11 @@ pub(crate) fn list_without(
     ensures wide { IsErrOf result Wide → (measures (after change.now) mark.now.name).clash ≡ true }
 {
     let Some(lost) = losable(alloc, change, gone, mark, &list.list)? else {
-        return anew(alloc, change, mark, held);
+        return anew::<E>(alloc, change, mark, held);
     };
-    match shortened(alloc, change, gone, mark, list, held) {
-        Ok(tuples) => settled(alloc, change, gone, mark, &lost, tuples, held),
-        Err(Refused::Wide) => anew(alloc, change, mark, held),
+    match shortened::<E>(alloc, change, gone, mark, list, held) {
+        Ok(tuples) => settled::<E>(alloc, change, gone, mark, &lost, tuples, held),
+        Err(Refused::Wide) => anew::<E>(alloc, change, mark, held),
         Err(Refused::Memory) => Err(Refused::Memory),
     }
 }
@@ -89,7 +88,7 @@ fn losable(
 ///
 /// # Errors
 /// `Wide` only where the view clashes over the catalogue as it will be, otherwise out of memory. The list is lost then.
-fn settled(
+fn settled<E: Evaluate>(
     alloc: Global,
     change: &Change<'_, '_>,
     gone: &Tuple,
@@ -112,7 +111,7 @@ fn settled(
     if !have_any(&tuples.list, lost)? || have_none_lost(alloc, change, gone, mark, &tuples.list)? {
         return Ok(tuples);
     }
-    anew(alloc, change, mark, held)
+    anew::<E>(alloc, change, mark, held)
 }
 
 /// Whether the tuples are found to have none of the lines that the view loses: lines of the deleted tuple that others of the relation
@@ -170,7 +169,7 @@ fn has_row(tuple: &Tuple) -> bool
 ///
 /// # Errors
 /// `Wide` where a plan is too wide, otherwise out of memory. The list is lost then.
-fn shortened(
+fn shortened<E: Evaluate>(
     alloc: Global,
     change: &Change<'_, '_>,
     gone: &Tuple,
@@ -187,14 +186,14 @@ fn shortened(
     ensures held { held.new ≡ held.old }
 {
     let count = held.count();
-    let shortened = shortened_over(alloc, change, gone, mark, list, held);
+    let shortened = shortened_over::<E>(alloc, change, gone, mark, list, held);
     held.keep_first(count);
     shortened
 }
 
 /// The list of a view after a tuple is deleted that only took part once, as [`shortened`] gives it. Views that the plan scans are
 /// given behind what is held, and stay there. Relations are read where they stand.
-fn shortened_over(
+fn shortened_over<E: Evaluate>(
     alloc: Global,
     change: &Change<'_, '_>,
     gone: &Tuple,
@@ -212,7 +211,7 @@ fn shortened_over(
 {
     laws::nothing_beside();
     let names = scanned_names(alloc, &mark.plan)?;
-    give_names(alloc, change.snapshot, &names, held)?;
+    give_names::<E>(alloc, change.snapshot, &names, held)?;
     // The others don't reach the relation, so nothing of it is given. This says so.
     let _ = held.take(change.name);
     let Some(heading) = change.snapshot.heading(change.name) else {
@@ -229,9 +228,8 @@ fn shortened_over(
         hidden: None,
     };
     others.formed();
-    remove_tuple(
+    remove_tuple::<E, _, _>(
         alloc,
-        &Engine {},
         &mark.plan,
         change.name,
         heading,

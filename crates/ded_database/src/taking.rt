@@ -3,7 +3,7 @@ ghost use Rattle.std.specs.Prelude.{◌≡◌, true, false, [], OnOk};
 ghost use Rattle.std.specs.List.{AllByRecursion};
 ghost use Rattle.ded_model.specs.Entries.{known};
 ghost use Rattle.ded_catalog.specs.State.{catalogue_of};
-ghost use Rattle.ded_eval.specs.Given.{given_under, has_name, without_name};
+ghost use Rattle.ded_algebra.specs.Given.{given_under, has_name, without_name};
 ghost use Rattle.ded_database.specs.Marks.{IsMark};
 ghost use Rattle.ded_sorts.specs.Causes.{is_relation_with};
 ghost use Rattle.ded_database.specs.Held.{IsHeld, AreMarkedApart};
@@ -11,8 +11,8 @@ ghost use Rattle.ded_database.specs.Renewed.{AreLeft, AreTaken, with_taken};
 
 use crate::laws;
 use crate::mark::Mark;
+use ded_algebra::Given;
 use ded_catalog::Catalogue;
-use ded_eval::Given;
 use ded_model::memory::NoMemory;
 use ded_model::name::Name;
 

@@ -8,7 +8,7 @@ use crate::change::Change;
 use crate::mark::Mark;
 use crate::renewing::renew_all;
 use crate::taking::take_stale;
-use ded_eval::Given;
+use ded_algebra::{Evaluate, Given};
 use ded_model::memory::NoMemory;
 use std::alloc::{AllocError, Global};
 
@@ -17,7 +17,7 @@ use std::alloc::{AllocError, Global};
 ///
 /// # Errors
 /// Out of memory. What is left is right over the catalogue before, and has the lists that the change doesn't concern.
-pub(crate) fn bring_up_to_date(
+pub(crate) fn bring_up_to_date<E: Evaluate>(
     alloc: Global,
     change: &Change<'_, '_>,
     marks: &[Mark],
@@ -34,7 +34,7 @@ pub(crate) fn bring_up_to_date(
     let mut stale = Given::new(alloc);
     take_stale(change.catalogue, marks, change.name, held, &mut stale)?;
     let count = held.count();
-    match renew_all(alloc, change, marks, &mut stale, held, added) {
+    match renew_all::<E>(alloc, change, marks, &mut stale, held, added) {
         Ok(()) => Ok(count),
         Err(AllocError) => {
             held.keep_first(count);

@@ -1,10 +1,9 @@
 -- Which replies an input may get, where it is known which a statement may get.
 use Rattle.std.specs.Prelude.{◌≡◌, ◌<◌, ◌≤◌, ℕ, List, [], ◌∷◌, length}
-use Rattle.ded_lex.specs.Pieces.{Statement, Whole, AreStatements}
+use Rattle.ded_lex.specs.declared.piece.Piece.{Piece}
+use Rattle.ded_lex.specs.declared.piece.Piece.TheVariants as piece
+use Rattle.ded_lex.specs.Pieces.{Statement, Whole, AreStatements, statement_bytes}
 use Rattle.ded_lex.specs.Pieces as pieces
-use Rattle.ded_session.specs.Causes.{statement_bytes}
-use Rattle.ded_session.specs.declared.session.Piece.{Piece}
-use Rattle.ded_session.specs.declared.session.Piece.TheVariants as piece
 use Rattle.ded_dialogue.specs.Replies.{Said}
 
 -- what may be answered: the state before, a statement, its reply, and the state behind it

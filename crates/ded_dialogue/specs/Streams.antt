@@ -2,9 +2,9 @@
 use Rattle.std.specs.Prelude.{◌≡◌, ◌+◌, ◌⊎◌, ℕ, List, [], ◌++◌, Bool, false, ◌||◌, ◌-◌, zero, suc, Option, Result, length, drop, map}
 use Rattle.std.specs.Io.KnownBytes.{Consumes}
 use Rattle.ded_io.specs.Devices.{Sent}
+use Rattle.ded_lex.specs.declared.piece.Piece.{Piece}
 use Rattle.ded_lex.specs.Pieces.{Statement, Whole, IsCut}
 use Rattle.ded_lex.specs.Splits.{Since}
-use Rattle.ded_session.specs.declared.session.Piece.{Piece}
 use Rattle.ded_dialogue.specs.declared.dialogue.Dialogue.{Dialogue}
 use Rattle.ded_dialogue.specs.Outcome.{Interrupted}
 use Rattle.ded_dialogue.specs.Replies.{Said, texts, some_refusal}

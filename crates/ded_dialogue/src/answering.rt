@@ -3,12 +3,12 @@ ghost use Rattle.std.specs.Prelude.{◌≡◌};
 ghost use Rattle.ded_io.specs.Causes.{HasCause};
 ghost use Rattle.ded_io.specs.Devices.{AddsAll};
 ghost use Rattle.ded_lex.specs.Pieces.{Statement};
-ghost use Rattle.ded_session.specs.Pieces.{IsShortPiece};
+ghost use Rattle.ded_lex.specs.Pieces.{IsShortPiece};
 ghost use Rattle.ded_dialogue.specs.Replies.{Said};
 ghost use Rattle.ded_dialogue.specs.Runs.{SomeAnswer, StandsFor};
 
 use ded_io::{Failed, Sink};
-use ded_session::Piece;
+use ded_lex::Piece;
 
 /// What answers statements one after another, and may change with each.
 pub trait Answering {

@@ -1,15 +1,14 @@
 //! A script's statements, answered as their last bytes come.
 ghost use Rattle.std.specs.Prelude.{◌≡◌, []};
 ghost use Rattle.ded_io.specs.Causes.{HasCause};
-ghost use Rattle.ded_session.specs.Pieces.{IsShortPiece};
+ghost use Rattle.ded_lex.specs.Pieces.{IsShortPiece};
 ghost use Rattle.ded_dialogue.specs.Streams.{IsReplied};
 
 use crate::answering::Answering;
 use crate::pending::{Pending, put};
 use ded_io::{Failed, Sink};
-use ded_lex::{Fed, Rest, Splitter};
+use ded_lex::{Fed, Piece, Rest, Splitter};
 use ded_model::memory::NoMemory;
-use ded_session::Piece;
 use std::alloc::Global;
 
 /// The statement that is coming in, the machine that answers it when it ends, whether some reply so far is a refusal,

@@ -11,8 +11,7 @@
 //! said of the texts of replies; `specs/Forms.antt` has what a machine with replies of its own says of these, and
 //! `proofs/Hearing.antt` carries a run over to them.
 //!
-//! It stands on `ded_lex` for statements, on `ded_session` for what a piece is, and on `ded_io` for the source and the
-//! sink.
+//! It stands on `ded_lex` for statements and pieces, and on `ded_io` for the source and the sink.
 #![tactic(auto)]
 
 mod answering;

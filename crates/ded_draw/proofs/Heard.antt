@@ -2,11 +2,11 @@
 use Rattle.std.proofs.Common.{◌≡◌, Bool, false, [], ◌++◌, true≢false, sym, ap, ◌∙◌}
 use Rattle.std.specs.Prelude.{Result, Ok, Err, OnOk, is_err}
 use Rattle.ded_dialogue.specs.Runs.{StandsFor}
+use Rattle.ded_lex.specs.declared.piece.Piece.{Piece}
 use Rattle.ded_lex.specs.Pieces.{Statement}
 use Rattle.ded_run.proofs.Steps.{answers_step}
 use Rattle.ded_session.specs.Pieces.{StepsPiece, GoesOnPiece}
 use Rattle.ded_session.specs.Replies.{ReplyForm, is_refusal}
-use Rattle.ded_session.specs.declared.session.Piece.{Piece}
 use Rattle.ded_draw.specs.Gathering.{Gathered, MayGather, told_of}
 
 pub heard : (p : Piece) (m n : Gathered) (reply : ReplyForm) (refuses : Bool) → StepsPiece p m.standing.language m.standing.catalogue reply n.standing.catalogue → GoesOnPiece m.standing.language p n.standing.language

@@ -7,8 +7,9 @@ ghost use Rattle.ded_draw.specs.Standing.{gathered_in};
 
 use ded_dialogue::Answering;
 use ded_io::{Failed, Sink};
+use ded_lex::Piece;
 use ded_model::memory::NoMemory;
-use ded_session::{Piece, Reply, Session};
+use ded_session::{Reply, Session};
 use std::alloc::Global;
 
 /// One session, which gathers what its replies tell.

@@ -1,8 +1,8 @@
 -- The lines of a picture's description.
 use Rattle.std.specs.Prelude.{ℕ, ◌+◌, ◌==◌, Bool, false, List, [], ◌∷◌, ◌++◌, is_none, codes, if◌then◌else◌}
 use Rattle.ded_print.specs.Numbers.{number_text}
-use Rattle.ded_run.specs.Texts.{text_of}
 use Rattle.ded_session.specs.Replies.{ReplyForm, tuples, stored}
+use Rattle.ded_session.specs.Texts.{text_of}
 use Rattle.ded_figures.specs.Axes.{axes_of}
 use Rattle.ded_figures.specs.declared.axes.Look.{Look}
 

@@ -1,7 +1,7 @@
 //! The description of a picture: how much is drawn, and what is told besides.
 ghost use Rattle.std.specs.Prelude.{◌≡◌, ◌++◌, [], map, IfOk, OnOk};
-ghost use Rattle.ded_run.specs.Texts.{text_of};
 ghost use Rattle.ded_session.specs.Answered.{reply_form};
+ghost use Rattle.ded_session.specs.Texts.{text_of};
 ghost use Rattle.ded_drawing.specs.Descriptions.{counted_text, description, is_unseen, lines_from, lines_of, lines_told, unseen_in};
 
 use ded_cells::put_number;
@@ -10,8 +10,7 @@ use ded_figures::{Look, axes_of};
 use ded_io::Failed;
 use ded_model::memory::NoMemory;
 use ded_model::name::Name;
-use ded_run::write_reply;
-use ded_session::Reply;
+use ded_session::{Reply, write_reply};
 use std::alloc::{AllocError, Global};
 
 /// The lines of the description: how many tuples are drawn, how many are too long to be drawn, how many answers lack the columns, and the

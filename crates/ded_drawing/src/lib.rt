@@ -6,7 +6,7 @@
 //! to be drawn is counted in the description, and only such a one. `specs/Drawings.antt` says which picture it is.
 //!
 //! It stands on `ded_figures` and `ded_picture` for what is drawn of tuples, on `ded_axes` and `ded_ticks` for the borders, on `ded_svg`
-//! for pictures as data, on `ded_session` and `ded_run` for replies and their texts, and on `ded_dump` for texts in memory.
+//! for pictures as data, on `ded_session` for replies and their texts, and on `ded_dump` for texts in memory.
 #![tactic(auto)]
 
 mod description;

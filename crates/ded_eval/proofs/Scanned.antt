@@ -29,11 +29,11 @@ use Rattle.ded_algebra.specs.Evaluation.{IsEvaluationWithin}
 use Rattle.ded_hull.specs.declared.window.Window.{Window}
 use Rattle.ded_hull.proofs.Near.{near_all, near_holds, near_lines}
 use Rattle.ded_atoms.specs.Reading.{IsListOf}
-use Rattle.ded_eval.specs.Scanning.{column_pairs}
+use Rattle.ded_algebra.specs.Columns.{column_pairs}
 use Rattle.ded_eval.specs.Within.{IsWindowOf}
-use Rattle.ded_eval.proofs.Columns.{IsRead, read, read_sort, read_into, read_once}
-use Rattle.ded_eval.proofs.ColumnCoefs.{mapped_columns}
-use Rattle.ded_eval.proofs.ColumnPoints.{column_point, column_point_is, overs_one, columns_point}
+use Rattle.ded_algebra.proofs.Columns.{IsRead, read, read_sort, read_into, read_once}
+use Rattle.ded_algebra.proofs.ColumnCoefs.{mapped_columns}
+use Rattle.ded_algebra.proofs.ColumnPoints.{column_point, column_point_is, overs_one, columns_point}
 use Rattle.ded_eval.proofs.Found.{IsLent, lent_normal}
 use Rattle.ded_eval.proofs.Staying.{tuples_in_order}
 use Rattle.ded_eval.proofs.Windowed.{columns_within}

@@ -27,9 +27,9 @@ use Rattle.ded_packed.specs.Lent.{tuple_of, lent}
 use Rattle.ded_hull.proofs.Near.{near_all}
 use Rattle.ded_eval.specs.Finding.{IsFoundIn}
 use Rattle.ded_atoms.specs.Reading.{IsListOf}
-use Rattle.ded_eval.specs.Scanning.{column_pairs}
-use Rattle.ded_eval.proofs.Columns.{IsRead, read, read_sort, read_once}
-use Rattle.ded_eval.proofs.ColumnPoints.{column_point, overs_one, columns_point}
+use Rattle.ded_algebra.specs.Columns.{column_pairs}
+use Rattle.ded_algebra.proofs.Columns.{IsRead, read, read_sort, read_once}
+use Rattle.ded_algebra.proofs.ColumnPoints.{column_point, overs_one, columns_point}
 use Rattle.ded_eval.proofs.Found.{IsFound, IsLent}
 use Rattle.ded_eval.proofs.Scanned.{over_columns}
 

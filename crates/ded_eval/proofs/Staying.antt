@@ -32,8 +32,8 @@ use Rattle.ded_genrel.specs.Operations.{IsRenaming}
 use Rattle.ded_genrel.proofs.Renamed.{point_fewer}
 use Rattle.ded_atoms.specs.Laws.{line_in_order}
 use Rattle.ded_atoms.specs.Reading.{IsListOf}
-use Rattle.ded_eval.specs.Scanning.{column_pairs}
-use Rattle.ded_eval.proofs.ColumnCoefs.{coefs_same}
+use Rattle.ded_algebra.specs.Columns.{column_pairs}
+use Rattle.ded_algebra.proofs.ColumnCoefs.{coefs_same}
 
 -- ---- pairs that rename no slot
 

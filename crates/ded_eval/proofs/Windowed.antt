@@ -18,8 +18,8 @@ use Rattle.ded_hull.specs.declared.window.Window.{Window}
 use Rattle.ded_hull.specs.Limits.{sum_of, is_met, are_met}
 use Rattle.ded_hull.specs.Windows.{column_value, column_text, is_text_met, is_within}
 use Rattle.ded_eval.specs.Within.{StandsAt, AreTermsOf, IsLimitOf, IsAskedRow, IsAskedText, IsWindowOf}
-use Rattle.ded_eval.proofs.Columns.{IsRead}
-use Rattle.ded_eval.proofs.ColumnPoints.{column_point, number_there, text_there, same_number, same_text, overs_one}
+use Rattle.ded_algebra.proofs.Columns.{IsRead}
+use Rattle.ded_algebra.proofs.ColumnPoints.{column_point, number_there, text_there, same_number, same_text, overs_one}
 
 -- the column of the place is read into the slot that stands there
 read_at : (k i : ℕ) (h : List Column) (ss : List Slot) (u : Slot) → HaveSorts h ss → StandsAt ss i u → IsRead k h ss (record { number = k + i; sort = u.sort }) u

@@ -13,7 +13,7 @@
 //!
 //! [`eval`] evaluates over rows and text atoms. Only where that gives up the plan is looked through, with all tuples of the names that
 //! it scans: if all rows are order rows, it is evaluated once more by the theory of dense order, which decides them whatever their
-//! numbers. [`Engine`] gives what comes out as normal tuples ([`tuples`]), and tries a closed plan before it evaluates it.
+//! numbers. [`Engine`] gives what comes out as normal tuples, and tries a closed plan before it evaluates it.
 //!
 //! By its [`laws`] the lists of conjunctions of rows and text atoms that an operation takes are wide only where all their atoms together
 //! aren't narrow.
@@ -31,7 +31,6 @@ mod engine;
 mod evaluation;
 mod finding;
 mod fronts;
-mod given;
 pub mod laws;
 mod lookups;
 mod meeting;
@@ -41,8 +40,6 @@ mod slots;
 mod tried;
 mod window;
 
-pub use engine::{Engine, everywhere, nowhere, tuples};
+pub use engine::Engine;
 pub use evaluation::{evaluate_counted, evaluate_within};
-pub use given::{Given, GivenRelation};
 pub use over_atoms::{eval, eval_counted};
-pub use scanning::column_pairs;

@@ -10,11 +10,11 @@ ghost use Rattle.ded_genrel.specs.Operations.{IsRenaming};
 ghost use Rattle.ded_model.specs.Cell.{conj_holds};
 ghost use Rattle.ded_algebra.specs.Evaluation.{IsScannedFrom, IsEvaluationWithin};
 ghost use Rattle.ded_eval.specs.Finding.{IsFoundIn, IsWholeIn};
-ghost use Rattle.ded_eval.specs.Scanning.{column_pairs};
+ghost use Rattle.ded_algebra.specs.Columns.{column_pairs};
 
 use crate::window::columns_window;
-use ded_algebra::Relations;
-use ded_atoms::{OfTuples, conjunctions, following};
+use ded_algebra::{Relations, column_pairs};
+use ded_atoms::{OfTuples, conjunctions};
 use ded_genrel::GenRel;
 use ded_model::memory::NoMemory;
 use ded_model::name::Name;
@@ -117,24 +117,4 @@ fn are_columns(slots: &[Slot]) -> bool
         number = next;
     }
     true
-}
-
-/// Each column, by number from 0, with the slot that it is read into.
-///
-/// # Errors
-/// Out of memory, also where a column would have no number.
-pub fn column_pairs(alloc: Global, slots: &[Slot]) -> Result<Vec<(Slot, Slot)>, NoMemory>
-    ensures { IfOk result (λ v. v.items ≡ column_pairs 0 slots.now) }
-{
-    let mut pairs = Vec::with_capacity(alloc, slots.len())?;
-    let mut number = 0;
-    for slot in slots {
-        let column = Slot {
-            number,
-            sort: slot.sort,
-        };
-        pairs.push((column, *slot))?;
-        number = following(number)?;
-    }
-    Ok(pairs)
 }

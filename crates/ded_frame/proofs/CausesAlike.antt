@@ -12,7 +12,7 @@ use Rattle.ded_model.specs.Form.{Form, FormAtom, speaks_of}
 use Rattle.ded_model.specs.Known.{columns_with, has_unbound, has_missorted, scope_of}
 use Rattle.ded_model.specs.Logic.{Logics, every_of, some_below}
 use Rattle.ded_sorts.specs.Causes.{names_unknown, takes_name, is_view_with, is_relation_with, names_other_kind, formula_in, lengths_differ, headings_differ, has_wrong_arity, has_unbound_name, is_rational_inequality, has_wrong_sort, drops_used, deletes_none, inserts_into_full, inserts_into_spent, is_too_high, has_cause}
-use Rattle.ded_frame.proofs.KnownAlike.{unknown_alike, arity_alike, sorts_alike, level_alike}
+use Rattle.ded_session.proofs.KnownAlike.{unknown_alike, arity_alike, sorts_alike, level_alike}
 use Rattle.ded_frame.proofs.NamesAlike.{Covers, AreAlike}
 
 module _ (c d : Catalogue) (names : List ℕ → Bool) (s : AreAlike c d names) where

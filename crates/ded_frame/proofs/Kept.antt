@@ -1,7 +1,6 @@
 -- A statement changes nothing of the names that its command doesn't change.
 use Rattle.std.proofs.Common.{◌≡◌, ℕ, Bool, true, false, not, ◌||◌, List, [], ◌∷◌, ◌++◌, Some, None, refl, sym, ap, ◌∙◌, subst, true≢false, bytes_eq}
 use Rattle.std.proofs.lemmas.Bool.{not-true, false_from_ne_true}
-use Rattle.std.proofs.lemmas.Slice.Eq.{bytes_eq-Decides}
 use Rattle.ded_lex.specs.Pieces.{Whole}
 use Rattle.ded_model.specs.declared.command.Language.TheVariants.{One}
 use Rattle.ded_model.specs.declared.command.Refusal.TheVariants.{Taken}
@@ -11,7 +10,7 @@ use Rattle.ded_model.specs.Command.{CommandForm, header, relation, insert, delet
 use Rattle.ded_model.specs.Entries.{entry_of}
 use Rattle.ded_model.specs.Form.{speaks_of}
 use Rattle.ded_model.specs.Known.{IsWellFormed}
-use Rattle.ded_model.proofs.Bools.{or_false_left, or_false_right, bytes_eq-refl}
+use Rattle.ded_model.proofs.Bools.{or_false_left, or_false_right}
 use Rattle.ded_session.specs.Replies.{ReplyForm, done, number, truth, tuples, stored, boxes, steps, script, apart, meeting, refused}
 use Rattle.ded_session.specs.Steps.{Does, Accepted, Step}
 use Rattle.ded_sorts.specs.Causes.{takes_name}
@@ -23,10 +22,7 @@ use Rattle.ded_frame.specs.Agreeing.{Agree}
 use Rattle.ded_frame.specs.Touching.{uses_name, changes}
 use Rattle.ded_frame.proofs.Doing.{no_entry}
 use Rattle.ded_frame.proofs.Replaced.{added, changed, dropped, agree_beside, agree_itself}
-
--- names that differ do so in whichever order they are compared
-apart_names : (m k : List ℕ) → bytes_eq m k ≡ false → bytes_eq k m ≡ false
-apart_names m k h = false_from_ne_true (bytes_eq k m) (λ e. true≢false (sym (ap (bytes_eq m) ((bytes_eq-Decides k m).0 e) ∙ bytes_eq-refl m) ∙ h))
+use Rattle.ded_algebra.proofs.Names.{other_way}
 
 module _ (c e : Catalogue) (w : IsWellFormed c) where
   same : (among : List ℕ → Bool) → e ≡ c → Agree c e among
@@ -36,13 +32,13 @@ module _ (c e : Catalogue) (w : IsWellFormed c) where
   adds : (x : Entry) (changed_name : List ℕ → Bool) → entry_of c.entries (entry_name x) ≡ None → AddsEntry c e x
       → ((k : List ℕ) → not (changed_name k) ≡ true → (bytes_eq (entry_name x) k ≡ false) × (uses_name (Some x) k ≡ false)) → Agree c e (λ k. not (changed_name k))
   adds x changed_name new a other = agree_beside c e (entry_name x) (Some x) changed_name (added c e x new a)
-      (λ k h. (apart_names (entry_name x) k (other k h).0, (other k h).1 ∙ ap (λ o. uses_name o k) (sym new)))
+      (λ k h. (other_way (entry_name x) k (other k h).0, (other k h).1 ∙ ap (λ o. uses_name o k) (sym new)))
 
   -- a relation with other tuples
   alters : (n : List ℕ) (old new : Entry) → entry_name new ≡ n → ((k : List ℕ) → uses_name (Some new) k ≡ uses_name (Some old) k) → ChangesEntry c e n old new
       → Agree c e (λ k. not (bytes_eq n k))
   alters n old new named uses x = agree_beside c e n (Some new) (bytes_eq n) (changed c e n old new w named x)
-      (λ k h. (apart_names n k (not-true (bytes_eq n k) h), uses k ∙ ap (λ o. uses_name o k) (sym (entry_there c x.before x.after old n w x.was x.named))))
+      (λ k h. (other_way n k (not-true (bytes_eq n k) h), uses k ∙ ap (λ o. uses_name o k) (sym (entry_there c x.before x.after old n w x.was x.named))))
 
   kept : (x : CommandForm) (reply : ReplyForm) → takes_name c x ≡ false → Does x c reply e → Agree c e (λ n. not (changes c x reply n))
   kept header done new k = same _ k
@@ -51,7 +47,7 @@ module _ (c e : Catalogue) (w : IsWellFormed c) where
   kept (insert m fs) (number i) new k = alters m _ (entry.relation m k.columns i (k.present ++ (i, _) ∷ [])) refl (λ j. refl) k.changes
   kept (delete m i) done new k = alters m _ (entry.relation m k.columns k.inserts (k.before ++ k.after)) refl (λ j. refl) k.changes
   kept (drop m) done new k = agree_beside c e m None (λ j. bytes_eq m j || uses_name (entry_of c.entries m) j) (dropped c e m w k)
-      (λ j o. let none = not-true (bytes_eq m j || uses_name (entry_of c.entries m) j) o in (apart_names m j (or_false_left _ _ none), sym (or_false_right (bytes_eq m j) _ none)))
+      (λ j o. let none = not-true (bytes_eq m j || uses_name (entry_of c.entries m) j) o in (other_way m j (or_false_left _ _ none), sym (or_false_right (bytes_eq m j) _ none)))
   kept (view m h f) done new k = adds (entry.view m h f) (λ j. bytes_eq m j || speaks_of j f) (no_entry c w m new) k
       (λ j o. let none = not-true (bytes_eq m j || speaks_of j f) o in (or_false_left _ _ none, or_false_right (bytes_eq m j) _ none))
   kept (keep n) done new k = same _ k

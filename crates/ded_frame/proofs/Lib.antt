@@ -1,4 +1,3 @@
-pub mod KnownAlike
 pub mod Reach
 pub mod Orders
 pub mod Replaced
@@ -11,7 +10,4 @@ pub mod Applying
 pub mod Doing
 pub mod Replying
 pub mod Kept
-pub mod Making
-pub mod InsertedTuples
-pub mod Formed
-pub mod FormedSteps
+pub mod OneCatalogue

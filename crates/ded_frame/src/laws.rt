@@ -1,6 +1,7 @@
 //! Laws of what statements depend on and what they change. Each is the contract of a function that does nothing.
 ghost use Rattle.std.specs.Prelude.{◌≡◌, ◌&&◌, ℕ, Bool, true, false, not, List};
-ghost use Rattle.ded_lex.specs.Pieces.{Whole};
+ghost use Rattle.ded_lex.specs.Pieces.{Statement, Whole};
+ghost use Rattle.ded_model.specs.declared.command.Language.{Language};
 ghost use Rattle.ded_model.specs.declared.command.Language.TheVariants.{One};
 ghost use Rattle.ded_model.specs.Catalogue.{Catalogue};
 ghost use Rattle.ded_model.specs.Command.{CommandForm};
@@ -35,13 +36,6 @@ pub fn changed_names()
 
 /// A statement that is accepted makes one catalogue of a well formed one, whatever its reply.
 pub fn one_catalogue()
-    ensures { (c d e : Catalogue) (bytes : List ℕ) (reply other : ReplyForm) → IsWellFormed c → Step One c (Whole bytes) reply d → Step One c (Whole bytes) other e
-        → is_refusal reply ≡ false → is_refusal other ≡ false → d ≡ e }
+    ensures { (language : Language) (c d e : Catalogue) (s : Statement) (reply other : ReplyForm) → IsWellFormed c → Step language c s reply d
+        → Step language c s other e → is_refusal reply ≡ false → is_refusal other ≡ false → d ≡ e }
 {}
-
-/// A statement makes a well formed catalogue of one.
-pub fn formed_catalogues()
-    ensures { (c d : Catalogue) (bytes : List ℕ) (reply : ReplyForm) → IsWellFormed c → Step One c (Whole bytes) reply d → IsWellFormed d }
-{
-    ded_goals::laws::normal_goals();
-}

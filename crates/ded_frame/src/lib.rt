@@ -4,8 +4,7 @@
 //! catalogues agree on names. [`laws`] say that a statement may get the same reply over each catalogue that agrees on the
 //! names that it touches, and that it leaves all other names as they are.
 //!
-//! It stands on `ded_session` for what statements do, on `ded_views` for what names reach, and on `ded_reload` for the
-//! texts of tuples that statements insert.
+//! It stands on `ded_session` for what statements do, and on `ded_views` for what names reach.
 #![tactic(auto)]
 
 pub mod laws;

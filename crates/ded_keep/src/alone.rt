@@ -69,7 +69,6 @@ impl<'a, R: Relations> Relations for Alone<'a, R> {
 /// `Wide` only where the plan clashes so, otherwise out of memory.
 pub(crate) fn tuples_alone<E: Evaluate, R: Relations>(
     alloc: Global,
-    engine: &E,
     plan: &Plan,
     changed: &Name,
     heading: &Heading,
@@ -89,5 +88,5 @@ pub(crate) fn tuples_alone<E: Evaluate, R: Relations>(
         tuples: &tuples,
         others,
     };
-    engine.evaluate(alloc, plan, &relations)
+    E::evaluate(alloc, plan, &relations)
 }

@@ -16,14 +16,13 @@ use std::alloc::Global;
 /// Out of memory.
 pub fn put_behind<E: Evaluate>(
     alloc: Global,
-    engine: &E,
     list: &mut Vec<Tuple>,
     more: Tuples,
 ) -> Result<(), NoMemory>
     ensures { OnOk result (IsPutBehind list.old.items more list.new.items) }
 {
     for tuple in more.list {
-        if !is_covered(alloc, engine, &tuple, list)? {
+        if !is_covered::<E>(alloc, &tuple, list)? {
             list.push(tuple)?;
         }
     }
@@ -35,34 +34,24 @@ const ENDS: usize = 64;
 
 /// Whether the tuple is found to be within one of the list. Of a long list those at its ends are looked at, so the cost doesn't grow
 /// with the list.
-fn is_covered<E: Evaluate>(
-    alloc: Global,
-    engine: &E,
-    tuple: &Tuple,
-    list: &[Tuple],
-) -> Result<bool, NoMemory>
+fn is_covered<E: Evaluate>(alloc: Global, tuple: &Tuple, list: &[Tuple]) -> Result<bool, NoMemory>
     ensures { IfOk result (λ b. b ≡ true → IsCovered tuple.now list.now) }
 {
     if list.len() < 2 * ENDS {
-        return is_among(alloc, engine, tuple, list);
+        return is_among::<E>(alloc, tuple, list);
     }
-    if is_among(alloc, engine, tuple, &list[..ENDS])? {
+    if is_among::<E>(alloc, tuple, &list[..ENDS])? {
         return Ok(true);
     }
-    is_among(alloc, engine, tuple, &list[list.len() - ENDS..])
+    is_among::<E>(alloc, tuple, &list[list.len() - ENDS..])
 }
 
 /// Whether the tuple is found to be within one of the list.
-fn is_among<E: Evaluate>(
-    alloc: Global,
-    engine: &E,
-    tuple: &Tuple,
-    list: &[Tuple],
-) -> Result<bool, NoMemory>
+fn is_among<E: Evaluate>(alloc: Global, tuple: &Tuple, list: &[Tuple]) -> Result<bool, NoMemory>
     ensures { IfOk result (λ b. b ≡ true → IsCovered tuple.now list.now) }
 {
     for other in list {
-        if covers(alloc, engine, other, tuple)? {
+        if covers::<E>(alloc, other, tuple)? {
             return Ok(true);
         }
     }
@@ -70,12 +59,7 @@ fn is_among<E: Evaluate>(
 }
 
 /// Whether the first tuple is found to hold where the second one does: they are equal, or the tuple of both is the second one.
-fn covers<E: Evaluate>(
-    alloc: Global,
-    engine: &E,
-    other: &Tuple,
-    tuple: &Tuple,
-) -> Result<bool, NoMemory>
+fn covers<E: Evaluate>(alloc: Global, other: &Tuple, tuple: &Tuple) -> Result<bool, NoMemory>
     ensures { IfOk result (λ b. b ≡ true → IsPartOf tuple.now other.now) }
 {
     equal_tuples();
@@ -85,7 +69,7 @@ fn covers<E: Evaluate>(
     if !may_cover(other, tuple) {
         return Ok(false);
     }
-    match engine.meet(alloc, tuple, other)? {
+    match E::meet(alloc, tuple, other)? {
         Some(both) => Ok(both == *tuple),
         None => Ok(false),
     }

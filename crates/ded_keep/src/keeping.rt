@@ -29,7 +29,6 @@ use std::alloc::Global;
 /// `Wide` only where the plan clashes over the given relations, otherwise out of memory.
 pub fn refresh<E: Evaluate, R: Relations>(
     alloc: Global,
-    engine: &E,
     plan: &Plan,
     relations: &R,
 ) -> Result<Tuples, Refused>
@@ -37,7 +36,7 @@ pub fn refresh<E: Evaluate, R: Relations>(
     ensures is { IfOk result (λ ts. IsEvaluation (R.catalogue relations.now) (plan_form plan.now) (tuples_hold ts) (tuples_mention ts) (tuples_lines ts)) }
     ensures wide { IsErrOf result Wide → plan_clashes (stored_measures (R.catalogue relations.now)) (plan_form plan.now) ≡ true }
 {
-    engine.evaluate(alloc, plan, relations)
+    E::evaluate(alloc, plan, relations)
 }
 
 /// Tuples that hold where `kept` does or where the plan does with `added` alone as the tuples of `changed`: `kept`, and more behind it,
@@ -51,7 +50,6 @@ pub fn refresh<E: Evaluate, R: Relations>(
 /// `Wide` only where the plan clashes with `added` alone as the tuples of `changed`, otherwise out of memory. `kept` is lost then.
 pub fn add_tuple<E: Evaluate, R: Relations>(
     alloc: Global,
-    engine: &E,
     plan: &Plan,
     changed: &Name,
     heading: &Heading,
@@ -69,8 +67,8 @@ pub fn add_tuple<E: Evaluate, R: Relations>(
     ensures wide { IsErrOf result Wide → plan_clashes (stored_measures (with_alone (R.catalogue others.now) changed.now heading.now added.now)) (plan_form plan.now) ≡ true }
 {
     others.formed();
-    let more = tuples_alone(alloc, engine, plan, changed, heading, added, others)?;
+    let more = tuples_alone::<E, R>(alloc, plan, changed, heading, added, others)?;
     let mut list = kept.list;
-    put_behind(alloc, engine, &mut list, more)?;
+    put_behind::<E>(alloc, &mut list, more)?;
     Ok(Tuples { list })
 }

@@ -10,7 +10,7 @@
 //! closure and the interior of the name, to which an insert does more than add.
 //!
 //! It stands on `ded_algebra` for what evaluates plans, on `ded_hull` for windows of tuples, and on `ded_views` for plans over catalogues
-//! that agree. What evaluates is passed by the caller.
+//! that agree. What evaluates is a type that the caller names.
 #![tactic(auto)]
 
 mod additive;

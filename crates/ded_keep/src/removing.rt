@@ -35,7 +35,6 @@ use std::alloc::Global;
 /// memory. `kept` is lost then.
 pub fn remove_tuple<E: Evaluate, R: Relations, A: Relations>(
     alloc: Global,
-    engine: &E,
     plan: &Plan,
     changed: &Name,
     heading: &Heading,
@@ -57,9 +56,9 @@ pub fn remove_tuple<E: Evaluate, R: Relations, A: Relations>(
         ⊎ (plan_clashes (stored_measures (A.catalogue after.now)) (plan_form plan.now) ≡ true) }
 {
     others.formed();
-    let lost = tuples_alone(alloc, engine, plan, changed, heading, gone, others)?;
-    let parted = part_kept(alloc, engine, kept, &lost.list)?;
-    left_of(alloc, engine, plan, parted, &lost.list, after)
+    let lost = tuples_alone::<E, R>(alloc, plan, changed, heading, gone, others)?;
+    let parted = part_kept::<E>(alloc, kept, &lost.list)?;
+    left_of::<E, A>(alloc, plan, parted, &lost.list, after)
 }
 
 /// Kept tuples: those that meet no lost one, and the others.
@@ -73,18 +72,13 @@ struct Parted {
 ///
 /// # Errors
 /// Out of memory.
-fn part_kept<E: Evaluate>(
-    alloc: Global,
-    engine: &E,
-    kept: Tuples,
-    lost: &[Tuple],
-) -> Result<Parted, NoMemory>
+fn part_kept<E: Evaluate>(alloc: Global, kept: Tuples, lost: &[Tuple]) -> Result<Parted, NoMemory>
     ensures { IfOk result (λ s. IsParted lost.now kept s.apart s.near) }
 {
     let mut apart = Vec::new(alloc);
     let mut near = Vec::new(alloc);
     for tuple in kept.list {
-        if is_apart(alloc, engine, &tuple, lost)? {
+        if is_apart::<E>(alloc, &tuple, lost)? {
             apart.push(tuple)?;
         } else {
             near.push(tuple)?;
@@ -97,19 +91,14 @@ fn part_kept<E: Evaluate>(
 }
 
 /// Whether the tuple is found to hold nowhere with one of the lost ones.
-fn is_apart<E: Evaluate>(
-    alloc: Global,
-    engine: &E,
-    tuple: &Tuple,
-    lost: &[Tuple],
-) -> Result<bool, NoMemory>
+fn is_apart<E: Evaluate>(alloc: Global, tuple: &Tuple, lost: &[Tuple]) -> Result<bool, NoMemory>
     ensures { IfOk result (λ b. b ≡ true → IsApart tuple.now lost.now) }
 {
     for other in lost {
         if fix_other_texts(&tuple.atoms, &other.atoms) {
             continue;
         }
-        if let Some(_) = engine.meet(alloc, tuple, other)? {
+        if let Some(_) = E::meet(alloc, tuple, other)? {
             return Ok(false);
         }
     }
@@ -123,7 +112,6 @@ fn is_apart<E: Evaluate>(
 /// `Wide` only where the plan clashes over the given relations, otherwise out of memory.
 fn left_of<E: Evaluate, A: Relations>(
     alloc: Global,
-    engine: &E,
     plan: &Plan,
     parted: Parted,
     lost: &[Tuple],
@@ -137,9 +125,9 @@ fn left_of<E: Evaluate, A: Relations>(
     let mut list = parted.apart.list;
     let mut cut = Vec::new(alloc);
     for tuple in parted.near.list {
-        add_within(alloc, engine, plan, tuple, after, &mut list, &mut cut)?;
+        add_within::<E, A>(alloc, plan, tuple, after, &mut list, &mut cut)?;
     }
-    put_behind(alloc, engine, &mut list, Tuples { list: cut })?;
+    put_behind::<E>(alloc, &mut list, Tuples { list: cut })?;
     Ok(Tuples { list })
 }
 
@@ -149,7 +137,6 @@ fn left_of<E: Evaluate, A: Relations>(
 /// `Wide` only where the plan clashes over the given relations, otherwise out of memory.
 fn add_within<E: Evaluate, A: Relations>(
     alloc: Global,
-    engine: &E,
     plan: &Plan,
     tuple: Tuple,
     after: &A,
@@ -160,9 +147,9 @@ fn add_within<E: Evaluate, A: Relations>(
     ensures is { OnOk result (AddsWithin (A.catalogue after.now) (plan_form plan.now) tuple list.old.items cut.old.items list.new.items cut.new.items) }
     ensures wide { IsErrOf result Wide → plan_clashes (stored_measures (A.catalogue after.now)) (plan_form plan.now) ≡ true }
 {
-    let within = plan_within(alloc, engine, plan, tuple, after)?;
+    let within = plan_within::<E, A>(alloc, plan, tuple, after)?;
     if within.is_whole {
-        return Ok(put_behind(alloc, engine, list, within.tuples)?);
+        return Ok(put_behind::<E>(alloc, list, within.tuples)?);
     }
     let mut pieces = within.tuples.list;
     Ok(cut.append(&mut pieces)?)
@@ -181,7 +168,6 @@ struct Within {
 /// `Wide` only where the plan clashes over the given relations, otherwise out of memory.
 fn plan_within<E: Evaluate, A: Relations>(
     alloc: Global,
-    engine: &E,
     plan: &Plan,
     tuple: Tuple,
     after: &A,
@@ -190,8 +176,8 @@ fn plan_within<E: Evaluate, A: Relations>(
     ensures is { IfOk result (λ w. IsWithin (A.catalogue after.now) (plan_form plan.now) tuple w.tuples) }
     ensures wide { IsErrOf result Wide → plan_clashes (stored_measures (A.catalogue after.now)) (plan_form plan.now) ≡ true }
 {
-    let found = engine.evaluate_within(alloc, plan, after, &tuple)?;
-    let pieces = pieces_of(alloc, engine, &tuple, &found.list)?;
+    let found = E::evaluate_within(alloc, plan, after, &tuple)?;
+    let pieces = pieces_of::<E>(alloc, &tuple, &found.list)?;
     if has(&pieces.list, &tuple) {
         return Ok(Within {
             tuples: single(alloc, tuple)?,
@@ -205,17 +191,12 @@ fn plan_within<E: Evaluate, A: Relations>(
 }
 
 /// The tuple together with each of the list, without those that hold nowhere.
-fn pieces_of<E: Evaluate>(
-    alloc: Global,
-    engine: &E,
-    tuple: &Tuple,
-    list: &[Tuple],
-) -> Result<Tuples, NoMemory>
+fn pieces_of<E: Evaluate>(alloc: Global, tuple: &Tuple, list: &[Tuple]) -> Result<Tuples, NoMemory>
     ensures { IfOk result (AreOfBoth tuple.now list.now) }
 {
     let mut pieces = Vec::new(alloc);
     for other in list {
-        push_met(alloc, engine, tuple, other, &mut pieces)?;
+        push_met::<E>(alloc, tuple, other, &mut pieces)?;
     }
     Ok(Tuples { list: pieces })
 }
@@ -226,14 +207,13 @@ fn pieces_of<E: Evaluate>(
 /// Out of memory.
 fn push_met<E: Evaluate>(
     alloc: Global,
-    engine: &E,
     tuple: &Tuple,
     other: &Tuple,
     pieces: &mut Vec<Tuple>,
 ) -> Result<(), NoMemory>
     ensures { OnOk result (AddsPiece tuple.now other.now pieces.old.items pieces.new.items) }
 {
-    match engine.meet(alloc, tuple, other)? {
+    match E::meet(alloc, tuple, other)? {
         Some(piece) => Ok(pieces.push(piece)?),
         None => Ok(()),
     }

@@ -1,6 +1,8 @@
 -- How an input is cut into statements.
-use Rattle.std.specs.Prelude.{◌≡◌, ◌≢◌, ◌⊎◌, ℕ, List, [], ◌∷◌, ◌++◌, flat_map, map}
+use Rattle.std.specs.Prelude.{◌≡◌, ◌≢◌, ◌≤◌, ◌⊎◌, ℕ, List, [], ◌∷◌, ◌++◌, length, flat_map, map}
 use Rattle.std.specs.List.{AllByRecursion}
+use Rattle.ded_lex.specs.declared.piece.Piece.{Piece}
+use Rattle.ded_lex.specs.declared.piece.Piece.TheVariants as piece
 use Rattle.ded_lex.specs.Gaps.{IsLine, IsBlank}
 
 -- A part of a piece. The bytes below are ' (39), - (45), ; (59) and the line feed (10).
@@ -66,6 +68,10 @@ pub data Statement : Type 0 where
   Whole : List ℕ → Statement
   Unfinished : List ℕ → Statement
 
+abbrev pub statement_bytes : Statement → List ℕ
+statement_bytes (Whole piece) = piece
+statement_bytes (Unfinished rest) = rest
+
 -- the pieces as statements, then the rest where it isn't blank
 abbrev pub EndsIn : List ℕ → List Statement → List Statement → Type 0
 EndsIn rest wholes statements =
@@ -77,3 +83,9 @@ pub record AreStatements (input : List ℕ) (statements : List Statement) : Type
   pub rest : List ℕ
   pub cut : IsCut input pieces rest
   pub are : EndsIn rest (map Whole pieces) statements
+
+-- a whole piece that is handed on has at most 65,536 bytes
+abbrev pub IsShortPiece : Piece → Type 0
+IsShortPiece (piece.Whole bytes) = length bytes.now ≤ 65536
+IsShortPiece piece.Long = Unit {0}
+IsShortPiece piece.Cut = Unit {0}

@@ -3,7 +3,8 @@
 //! A [`Splitter`] is fed an input byte by byte. It says at which byte a piece ends and, at the end, whether the rest is
 //! blank or cut. The pieces that ended are the whole pieces of the input as `specs/Pieces.antt` defines them, with no
 //! machine in the definition, whatever the input and however it comes. It has one buffer of 65,536 bytes: of a longer
-//! piece it only tells that it is longer. Feeding and finishing don't allocate.
+//! piece it only tells that it is longer. Feeding and finishing don't allocate. A [`Piece`] is what is handed on to who
+//! answers statements.
 //!
 //! [`tokens`] gives the tokens of bytes with the places where they stand, exactly where the bytes are tokens, blanks
 //! and comments (`specs/Tokens.antt`); there is one list at most. What a token says, a word, the digits of a number,
@@ -18,6 +19,7 @@ mod byte;
 mod front;
 mod laws;
 mod lexer;
+mod piece;
 mod splitter;
 mod state;
 mod token;
@@ -28,5 +30,6 @@ pub use laws::{
     piece_stays_whole, tokens_say_what_bytes_say, tokens_stand_in_order,
 };
 pub use lexer::tokens;
+pub use piece::Piece;
 pub use splitter::{Fed, Rest, Splitter};
 pub use token::{LexFault, Token, TokenKind, TokenList};

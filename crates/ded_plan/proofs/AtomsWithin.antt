@@ -20,6 +20,7 @@ use Rattle.ded_tuple.specs.TrueRows.{IsNormalOrTrue}
 use Rattle.ded_plan.specs.Rewrite.{atoms_of, rows_of}
 use Rattle.ded_plan.specs.Scans.{RowsHold, AddsAtoms, is_theme_over, is_over}
 use Rattle.ded_plan.proofs.AddedScans.{all_more}
+use Rattle.ded_algebra.proofs.PlanMeanings.{none-holds}
 
 -- ---- what holds
 
@@ -35,10 +36,6 @@ hold_last : (t : List Atom) (a : Atom) (p : Point) → IsTrue (tuple_holds t p) 
 unfolding tuple_holds
 hold_last [] a p h k = and_from _ _ k refl
 hold_last (b ∷ t) a p h k = and_from _ _ (and_left _ _ h) (hold_last t a p (and_right (atom_holds b p) _ h) k)
-
-pub hold_none : (p : Point) → IsTrue (tuple_holds [] p)
-unfolding tuple_holds
-hold_none p = refl
 
 -- ---- the loop
 
@@ -81,7 +78,7 @@ picked_same P old all left rest picked more a e m k = subst (Picked P old all re
 
 -- those that are taken after none hold where the tuple does
 pub picked_hold : (P : Atom → Type 0) (all left picked t : List Atom) (p : Point) → all ≡ t → Picked P [] all left picked → IsTrue (tuple_holds t p) → IsTrue (tuple_holds picked p)
-picked_hold P all left picked t p e k h = (k.holds p (hold_none p) (subst (λ xs. IsTrue (tuple_holds xs p)) (sym e) h)).0
+picked_hold P all left picked t p e k h = (k.holds p (none-holds p) (subst (λ xs. IsTrue (tuple_holds xs p)) (sym e) h)).0
 
 -- all of them
 pub picked_all : (P : Atom → Type 0) (old all left picked t : List Atom) → all ≡ t → Picked P old all left picked → AddsAtoms t old picked
@@ -107,7 +104,7 @@ pub record WithRows (t : List Atom) (all left : List Plan) (atoms : List Atom) :
 pub rows_none : (t : List Atom) (all : List Plan) (none atoms : List Atom) → none ≡ [] → AddsAtoms t none atoms → WithRows t all all atoms
 rows_none t all none atoms e a =
     let b = subst (λ xs. AddsAtoms t xs atoms) e a in
-    record { normal = b.normal tt; holds = λ p x y. (b.holds p (hold_none p) x, y) }
+    record { normal = b.normal tt; holds = λ p x y. (b.holds p (none-holds p) x, y) }
 
 -- rows add theirs
 pub rows_added : (t w : List Atom) (all left rest : List Plan) (plan : Plan) (atoms more : List Atom) → left ≡ plan ∷ rest → plan_form plan ≡ atom (rows w) → AddsAtoms w atoms more → WithRows t all left atoms → WithRows t all rest more

@@ -26,7 +26,7 @@ use Rattle.ded_plan.proofs.TidyPlans.{all_weaker}
 -- ---- scans
 
 -- a scan of the goal of an accepted formula is of a name that the formula uses
-atom_scans : (c : Catalogue) (h : List Column) (f : Form) → IsAccepted (known c) h f → (a : PlanAtom) → ComesFrom (goal_of h f) a → IsScanOf c f a
+pub atom_scans : (c : Catalogue) (h : List Column) (f : Form) → IsAccepted (known c) h f → (a : PlanAtom) → ComesFrom (goal_of h f) a → IsScanOf c f a
 atom_scans c h f e (scan n ss) i = goal_use (known c) h f e n ss i
 atom_scans c h f e (rows t) i = tt
 
@@ -37,7 +37,7 @@ plan_scans c h f plan e p = all_weaker (ComesFrom (goal_of h f)) (IsScanOf c f) 
 -- ---- points
 
 -- an argument of bytes
-argument_value : (s : Sort) (x : Argument) → AllBytes x.1 → IsValue (argument_coordinate s x)
+pub argument_value : (s : Sort) (x : Argument) → AllBytes x.1 → IsValue (argument_coordinate s x)
 argument_value Rat x h = tt
 argument_value Text x h = h
 

@@ -15,7 +15,7 @@ use Rattle.std.proofs.lemmas.Bool.{or_from}
 -- ---- one name more
 
 -- a name at the end is one more
-any_more : (n m : List ℕ) (ns : List (List ℕ)) → list_any (bytes_eq n) (ns ++ m ∷ []) ≡ (list_any (bytes_eq n) ns || bytes_eq n m)
+pub any_more : (n m : List ℕ) (ns : List (List ℕ)) → list_any (bytes_eq n) (ns ++ m ∷ []) ≡ (list_any (bytes_eq n) ns || bytes_eq n m)
 any_more n m [] = or-false (bytes_eq n m)
 any_more n m (k ∷ ns) = ap (λ b. bytes_eq n k || b) (any_more n m ns) ∙ sym (or_assoc (bytes_eq n k) _ _)
 

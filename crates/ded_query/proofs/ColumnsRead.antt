@@ -11,8 +11,8 @@ use Rattle.ded_model.specs.Catalogue.{argument_coordinate}
 use Rattle.ded_model.specs.Renaming.{renamed, HaveOneValue, IsOneToOne, KeepsSorts, IsRenamedPoint}
 use Rattle.ded_model.proofs.Points.{same_slot_is}
 use Rattle.ded_algebra.specs.Evaluation.{HaveSorts}
-use Rattle.ded_eval.proofs.Columns.{IsRead, read_sort, read_number}
-use Rattle.ded_eval.proofs.ColumnPoints.{overs_one, number_there, text_there, same_number, same_text}
+use Rattle.ded_algebra.proofs.Columns.{IsRead, read_sort, read_number}
+use Rattle.ded_algebra.proofs.ColumnPoints.{overs_one, number_there, text_there, same_number, same_text}
 use Rattle.ded_query.specs.Columns.{slot_columns}
 use Rattle.ded_query.specs.Windows.{column_values}
 

@@ -26,7 +26,7 @@ use Rattle.ded_sorts.proofs.Headings.{goals_mean}
 use Rattle.ded_sorts.proofs.KnownEntries.{columns_there}
 use Rattle.ded_algebra.specs.Evaluation.{HaveSorts}
 use Rattle.ded_plan.specs.declared.scans.ScanWithin.{ScanWithin}
-use Rattle.ded_eval.specs.declared.given.GivenRelation.{GivenRelation}
+use Rattle.ded_algebra.specs.declared.given.GivenRelation.{GivenRelation}
 use Rattle.ded_views.specs.Same.{AreByteArguments}
 use Rattle.ded_views.proofs.PlansAlike.{arguments_bytes, slots_positive}
 use Rattle.ded_views.proofs.Placing.{unknown}
@@ -34,8 +34,9 @@ use Rattle.ded_views.proofs.Views.{relation_means, view_means, plain_there, name
 use Rattle.ded_query.specs.Gathering.{IsGivenOf, IsGivenAs, IsPosed, IsEvaluated, IsViewGoal, IsViewOf}
 use Rattle.ded_query.specs.Questions.{IsQuestion}
 use Rattle.ded_query.specs.Windows.{column_values, IsAtColumns, IsReadable, IsNearView, IsEvaluatedWithin}
-use Rattle.ded_query.proofs.Arguments.{slots_point}
 use Rattle.ded_query.proofs.Posed.{posed_of}
+use Rattle.ded_topology.proofs.Normals.{over_from}
+use Rattle.ded_topology.proofs.Arguments.{arguments_point}
 
 -- ---- headings
 
@@ -47,17 +48,10 @@ known_columns h (Some k) e = sym (same_Some h k.columns e)
 pub named_columns : (c : Catalogue) (n : List ℕ) (h : List Column) → Some h ≡ option_map (λ k. k.columns) (known c n) → columns_in c n ≡ h
 named_columns c n h e = known_columns h (known c n) e
 
--- of tuples that are normal and mention only slots of the heading each is over it
-pub each_over : (h : List Column) (ts : List (List Atom)) → AllByRecursion IsNormalTuple ts → ((s : Slot) → tuples_mention ts s ≡ true → stands_in (heading_slots 0 h) s ≡ true) → AllByRecursion (IsTupleOver h) ts
-unfolding tuples_mention tuple_mentions
-each_over h [] k u = tt
-each_over h (t ∷ ts) k u =
-    (record { normal = k.0; slots = λ s e. u s (or_left (tuple_mentions t s) (tuples_mention ts s) e) }, each_over h ts k.1 (λ s e. u s (or_right (tuple_mentions t s) (tuples_mention ts s) e)))
-
 -- tuples that mention only what the goal of an accepted formula does freely are over its heading
 pub goal_over : (c : Catalogue) (h : List Column) (g : GoalForm) (f : Form) (ts : List (List Atom)) → IsQuestion c h g f → ((s : Slot) → tuples_mention ts s ≡ true → goal_mentions g (slot s) ≡ true) → AllByRecursion IsNormalTuple ts
     → AllByRecursion (IsTupleOver h) ts
-goal_over c h g f ts q slots k = each_over h ts k (λ s u. goal_free h f q.accepted.bound (slot s) (subst (λ x. goal_mentions x (slot s) ≡ true) q.goal (slots s u)))
+goal_over c h g f ts q slots k = over_from h ts k (λ s u. goal_free h f q.accepted.bound (slot s) (subst (λ x. goal_mentions x (slot s) ≡ true) q.goal (slots s u)))
 
 -- so are those that it is evaluated to
 pub evaluated_over : (c : Catalogue) (h : List Column) (g : GoalForm) (f : Form) (ts : List (List Atom)) → IsQuestion c h g f → IsEvaluated c g ts → AllByRecursion IsNormalTuple ts → AllByRecursion (IsTupleOver h) ts
@@ -75,7 +69,7 @@ goal_holds c h g f q d xs i =
 pub evaluated_holds : (c : Catalogue) (h : List Column) (g : GoalForm) (f : Form) (ts : List (List Atom)) → IsQuestion c h g f → IsEvaluated c g ts → (d : ℕ) (xs : List Argument) → 0 < d → AreByteArguments xs
     → IsTrue (tuples_hold ts (record { den = d; coords = at_slots 0 h xs })) ↔ Holds c f (record { den = d; coords = at_names h xs })
 evaluated_holds c h g f ts q e d xs i k =
-    let here = e.holds (record { den = d; coords = at_slots 0 h xs }) (slots_point d h xs i k) in
+    let here = e.holds (record { den = d; coords = at_slots 0 h xs }) (arguments_point d h xs i k) in
     let goal = goal_holds c h g f q d xs i in
     (λ x. goal.0 (here.0 x), λ x. here.1 (goal.1 x))
 
@@ -146,7 +140,7 @@ view_near c level s g h w ts f v r a e k i =
           let d : ℕ = p.den * overs (map (slot_value p) s.slots) in
           let xs : List Argument = arguments (map (slot_value p) s.slots) in
           let positive : 0 < d = mul-pos j.positive (slots_positive p s.slots) in
-          let here = e.holds (column_values p v.columns s.slots) (slots_point d v.columns xs positive (arguments_bytes p j s.slots)) (a v.columns sorts p j ∙ t) in
+          let here = e.holds (column_values p v.columns s.slots) (arguments_point d v.columns xs positive (arguments_bytes p j s.slots)) (a v.columns sorts p j ∙ t) in
           let goal = goal_holds c v.columns g v.formula q d xs positive in
           let means = view_means c f s.name v.own v.columns v.formula v.entry d xs in
           (λ x. here.1 (goal.1 (means.0 x)), λ x. means.1 (goal.0 (here.0 x)));

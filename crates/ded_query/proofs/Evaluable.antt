@@ -16,8 +16,8 @@ use Rattle.ded_model.specs.Uses.{plan_atom_uses, plan_uses}
 use Rattle.ded_model.proofs.Rows.{or_left, or_right}
 use Rattle.ded_algebra.specs.Evaluation.{HaveSorts, IsScannedFrom, IsScannable, IsEvaluable, IsAnyAtom}
 use Rattle.ded_plan.specs.Plans.{IsScanOf}
-use Rattle.ded_eval.specs.declared.given.GivenRelation.{GivenRelation}
-use Rattle.ded_eval.specs.Given.{unnumbered, given_catalogue, has_name}
+use Rattle.ded_algebra.specs.declared.given.GivenRelation.{GivenRelation}
+use Rattle.ded_algebra.specs.Given.{unnumbered, given_catalogue, has_name}
 use Rattle.ded_query.specs.Gathering.{IsGivenOf}
 use Rattle.ded_query.specs.Windows.{IsShapedOf}
 use Rattle.ded_views.specs.Same.{ScansSame}

@@ -19,8 +19,8 @@ use Rattle.ded_plan.specs.declared.scans.ScanWithin.{ScanWithin}
 use Rattle.ded_plan.specs.Scans.{AgreesAt, IsReadWithin}
 use Rattle.ded_plan.specs.Planned.{IsPlanned}
 use Rattle.ded_plan.specs.Plans.{IsScanOf}
-use Rattle.ded_eval.specs.declared.given.GivenRelation.{GivenRelation}
-use Rattle.ded_eval.specs.Given.{given_catalogue, has_name}
+use Rattle.ded_algebra.specs.declared.given.GivenRelation.{GivenRelation}
+use Rattle.ded_algebra.specs.Given.{given_catalogue, has_name}
 use Rattle.ded_views.proofs.PlansAlike.{read_alike}
 use Rattle.ded_query.specs.Gathering.{IsGivenOf, IsEvaluated}
 use Rattle.ded_query.proofs.Evaluable.{scanned_same}

@@ -19,8 +19,8 @@ use Rattle.ded_algebra.specs.Compiled.{ComesFrom}
 use Rattle.ded_plan.specs.Planned.{IsPlanned}
 use Rattle.ded_plan.specs.Plans.{IsScanOf}
 use Rattle.ded_views.proofs.Atoms.{all_weaker as each_atom}
-use Rattle.ded_eval.specs.declared.given.GivenRelation.{GivenRelation}
-use Rattle.ded_eval.specs.Given.{has_name}
+use Rattle.ded_algebra.specs.declared.given.GivenRelation.{GivenRelation}
+use Rattle.ded_algebra.specs.Given.{has_name}
 use Rattle.ded_views.proofs.Clashing.{plan_clashing}
 use Rattle.ded_views.proofs.GoalNames.{speaks_used}
 use Rattle.ded_query.specs.Gathering.{IsGivenOf, IsGathered, IsFront, IsPosed}

@@ -11,15 +11,15 @@ use Rattle.ded_model.specs.Lines.{IsSubset, tuples_lines}
 use Rattle.ded_model.specs.Measure.{Measures, with_measure, measures_from, stored_measures, measures}
 use Rattle.ded_model.specs.Made.{base}
 use Rattle.ded_model.specs.Value.{Argument, Meaning}
-use Rattle.ded_eval.specs.declared.given.GivenRelation.{GivenRelation}
-use Rattle.ded_eval.specs.Given.{unnumbered, given_entry, given_catalogue, has_name}
+use Rattle.ded_algebra.specs.declared.given.GivenRelation.{GivenRelation}
+use Rattle.ded_algebra.specs.Given.{unnumbered, given_entry, given_catalogue, has_name}
 use Rattle.ded_views.specs.Same.{AreByteArguments, IsSameOf}
 use Rattle.ded_genrel.proofs.Items.{all_weaker}
 use Rattle.ded_query.specs.Gathering.{IsGivenOf}
 use Rattle.ded_query.specs.Windows.{IsShapedOf}
-use Rattle.ded_eval.proofs.Names.{tuples-unnumbered}
+use Rattle.ded_algebra.proofs.Names.{tuples-unnumbered}
 
-same_name : (n m : List ℕ) → bytes_eq n m ≡ true → m ≡ n
+pub same_name : (n m : List ℕ) → bytes_eq n m ≡ true → m ≡ n
 same_name n m e = sym ((bytes_eq-Decides n m).0 e)
 
 -- ---- shapes

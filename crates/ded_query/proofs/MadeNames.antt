@@ -25,19 +25,20 @@ use Rattle.ded_model.proofs.Members.{In-left, In-right, In-split}
 use Rattle.ded_model.proofs.Made.{behind_none, between_none, plain_base}
 use Rattle.ded_model.proofs.Entries.{meaning-plain, measure-plain}
 use Rattle.ded_algebra.specs.Evaluation.{given_tuples}
-use Rattle.ded_eval.specs.declared.given.GivenRelation.{GivenRelation}
-use Rattle.ded_eval.specs.Given.{given_catalogue, given_entry, has_name}
-use Rattle.ded_eval.proofs.Names.{tuples-unnumbered}
+use Rattle.ded_algebra.specs.declared.given.GivenRelation.{GivenRelation}
+use Rattle.ded_algebra.specs.Given.{given_catalogue, given_entry, has_name}
+use Rattle.ded_algebra.proofs.Names.{tuples-unnumbered}
 use Rattle.ded_hull.specs.declared.window.Window.{Window}
 use Rattle.ded_hull.specs.Limits.{are_met}
 use Rattle.ded_hull.specs.Windows.{column_value, is_text_met, is_within, IsMissed, IsNear, AreLent}
 use Rattle.ded_query.specs.Gathering.{IsGivenOf}
 use Rattle.ded_query.specs.Made.{IsStanding, HoldsNear, IsMadeBy, IsTooWide}
-use Rattle.ded_query.proofs.Arguments.{slots_point}
 use Rattle.ded_query.proofs.GivenNames.{found_of}
 use Rattle.ded_topology.specs.Names.{HoldsAsTuples, StandsForName}
 use Rattle.ded_views.proofs.Placing.{unknown}
 use Rattle.ded_views.proofs.Views.{plain_there}
+use Rattle.ded_views.proofs.MadeNames.{plain_same}
+use Rattle.ded_topology.proofs.Arguments.{arguments_point}
 
 -- ---- names
 
@@ -110,10 +111,6 @@ known_plain c n w k = by (entry_of c.entries n) refl
 given_from : (rs : List GivenRelation) (n : List ℕ) (r : GivenRelation) → entry_of (map given_entry rs) n ≡ Some (given_entry r) → given_tuples (given_catalogue rs) n ≡ Some r.tuples
 given_from rs n r e = ap (λ (x : Option Entry). option_map tuples_of (relation_in x)) e ∙ ap (λ ts. Some ts) (tuples-unnumbered r.tuples)
 
--- a plain name means, and measures, what is stored under it
-plain_means : (c : Catalogue) (n : List ℕ) → is_made n ≡ false → (d : ℕ) (xs : List Argument) → meaning c n d xs ↔ stored c n d xs
-plain_means c n u d xs = meaning-plain c n d xs u
-
 module _ (c : Catalogue) (rs : List GivenRelation) (n : List ℕ) (w : Window) (limits : w.limits.items ≡ []) (texts : w.texts.items ≡ []) (unmade : is_made n ≡ false) where
   -- of a relation of the name
   stands_as : (r : GivenRelation) → IsGivenOf c r → r.name ≡ n → (us : List (List Atom)) → IsNear w us r.tuples → IsStanding c n us
@@ -126,8 +123,8 @@ module _ (c : Catalogue) (rs : List GivenRelation) (n : List ℕ) (w : Window) (
               let given : meaning c n d xs ↔ IsTrue (tuples_hold r.tuples at) =
               subst (λ k. meaning c n d xs ↔ IsTrue (tuples_hold r.tuples (record { den = d; coords = at_slots 0 k xs }))) (sym columns)
               (subst (λ (m : List ℕ). meaning c m d xs ↔ IsTrue (tuples_hold r.tuples (record { den = d; coords = at_slots 0 r.heading xs }))) e (g.means d xs p b (l ∙ ap length columns))) in
-              let near = near_hold w limits texts at (slots_point d h xs p b) us r.tuples k in
-              let plain = plain_means c n unmade d xs in
+              let near = near_hold w limits texts at (arguments_point d h xs p b) us r.tuples k in
+              let plain = plain_same c n unmade d xs in
               (λ s. subst IsTrue (sym near) (given.0 (plain.1 s)), λ t. plain.0 (given.1 (subst IsTrue near t)));
           over = subst (λ k. AllByRecursion (IsTupleOver k) us) (sym columns) (sublist_all (IsMissed w) (IsTupleOver r.heading) us r.tuples k g.over);
         };

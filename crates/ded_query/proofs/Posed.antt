@@ -17,13 +17,9 @@ use Rattle.ded_plan.proofs.GoalScans.{goal_use}
 use Rattle.ded_query.specs.Closing.{closing}
 use Rattle.ded_query.specs.Gathering.{IsPosed}
 use Rattle.ded_query.specs.Questions.{IsQuestion}
+use Rattle.ded_plan.proofs.PlansOfFormulas.{atom_scans}
 
 -- ---- accepted formulas
-
--- what the goal scans, the formula uses
-goal_scans : (c : Catalogue) (h : List Column) (f : Form) → IsAccepted (known c) h f → (a : PlanAtom) → ComesFrom (goal_of h f) a → IsScanOf c f a
-goal_scans c h f e (scan n ss) i = goal_use (known c) h f e n ss i
-goal_scans c h f e (rows t) i = tt
 
 -- ---- below quantifiers
 
@@ -59,5 +55,5 @@ module _ (c : Catalogue) (g : GoalForm) (level : ℕ) (p : IsPosed c g level) wh
   -- what it scans, the formula uses
   pub posed_atom : (a : PlanAtom) → ComesFrom g a → IsScanOf c p.formula a
   posed_atom a e =
-      goal_scans c p.columns p.formula p.question.accepted a
+      atom_scans c p.columns p.formula p.question.accepted a
       (subst (λ x. ComesFrom x a) p.question.goal (sym (some_closing p.inner (comes_from a) p.round) ∙ subst (λ x. ComesFrom x a) p.is e))

@@ -15,12 +15,12 @@ use Rattle.ded_model.proofs.Points.{same_slot_is, same_slot_refl}
 use Rattle.ded_model.proofs.PointTexts.{point-bytes}
 use Rattle.ded_sorts.proofs.Scopes.{IsOnlyOf}
 use Rattle.ded_algebra.specs.Evaluation.{HaveSorts}
-use Rattle.ded_eval.specs.Scanning.{column_pairs}
-use Rattle.ded_eval.proofs.ColumnPoints.{overs_one, number_there, text_there, same_number, same_text}
-use Rattle.ded_eval.proofs.Columns.{IsRead, read, read_sort}
+use Rattle.ded_algebra.specs.Columns.{column_pairs}
+use Rattle.ded_algebra.proofs.ColumnPoints.{overs_one, number_there, text_there, same_number, same_text}
+use Rattle.ded_algebra.proofs.Columns.{IsRead, read, read_sort}
 use Rattle.ded_query.specs.Windows.{column_values}
-use Rattle.ded_query.proofs.Arguments.{coordinate_value}
 use Rattle.ded_query.proofs.Closings.{IsOwnAt}
+use Rattle.ded_plan.proofs.PlansOfFormulas.{argument_value}
 
 -- ---- columns
 
@@ -56,7 +56,7 @@ scan_values : (q : Point) → IsPoint q → (k : ℕ) (ss : List Slot) → AreVa
 scan_values q i k [] = tt
 scan_values q i k (v ∷ ss) =
     let c : Slot = record { number = k; sort = v.sort } in
-    (coordinate_value v.sort (number_at q (slot c), text_at q (slot c)) (point-bytes q (slot c) i), scan_values q i (k + 1) ss)
+    (argument_value v.sort (number_at q (slot c), text_at q (slot c)) (point-bytes q (slot c) i), scan_values q i (k + 1) ss)
 
 pub scan_point_is : (q : Point) (ss : List Slot) → IsPoint q → IsPoint (scan_point q ss)
 scan_point_is q ss i = record { positive = i.positive; bytes = scan_values q i 0 ss }

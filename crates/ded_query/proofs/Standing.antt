@@ -16,9 +16,9 @@ use Rattle.ded_model.proofs.Rows.{or_left, or_right}
 use Rattle.ded_sorts.proofs.KnownEntries.{absent}
 use Rattle.ded_genrel.proofs.Items.{all-append, all_weaker}
 use Rattle.ded_algebra.specs.Evaluation.{AreGiven, given_tuples}
-use Rattle.ded_eval.specs.declared.given.GivenRelation.{GivenRelation}
-use Rattle.ded_eval.specs.Given.{given_entry, given_catalogue, has_name, AreNamedApart}
-use Rattle.ded_eval.proofs.Names.{tuples-unnumbered, found_in, are_given}
+use Rattle.ded_algebra.specs.declared.given.GivenRelation.{GivenRelation}
+use Rattle.ded_algebra.specs.Given.{given_entry, given_catalogue, has_name, AreNamedApart}
+use Rattle.ded_algebra.proofs.Names.{tuples-unnumbered, found_in, are_given}
 use Rattle.ded_views.proofs.Changing.{entry_there}
 use Rattle.ded_query.specs.Gathering.{IsGivenOf}
 use Rattle.ded_query.specs.Over.{relations_among, not_named, is_hidden, over_relations}

@@ -33,7 +33,7 @@ use Rattle.ded_algebra.specs.Evaluation.{HaveSorts}
 use Rattle.ded_plan.specs.Planned.{IsPlanned}
 use Rattle.ded_plan.specs.Plans.{IsScanOf}
 use Rattle.ded_plan.specs.Rewritten.{IsTidyAtom}
-use Rattle.ded_eval.proofs.ColumnPoints.{column_point_is}
+use Rattle.ded_algebra.proofs.ColumnPoints.{column_point_is}
 use Rattle.ded_views.proofs.GoalNames.{speaks_used}
 use Rattle.ded_views.proofs.PlansAlike.{slots_positive}
 use Rattle.ded_views.proofs.Views.{view_means, plain_there, name_known, view_accepted, lesser_level}

@@ -18,8 +18,8 @@ use Rattle.ded_model.specs.Row.{Atom, tuples_hold, tuples_mention}
 use Rattle.ded_model.specs.Slotted.{goal_of}
 use Rattle.ded_model.specs.Value.{Argument}
 use Rattle.ded_plan.specs.Planned.{IsPlanned}
-use Rattle.ded_eval.specs.declared.given.GivenRelation.{GivenRelation}
-use Rattle.ded_eval.specs.Given.{has_name}
+use Rattle.ded_algebra.specs.declared.given.GivenRelation.{GivenRelation}
+use Rattle.ded_algebra.specs.Given.{has_name}
 use Rattle.ded_views.specs.Same.{AreByteArguments}
 use Rattle.ded_query.specs.Closing.{closing}
 use Rattle.ded_query.specs.Questions.{IsQuestion}

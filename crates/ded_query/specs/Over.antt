@@ -2,8 +2,8 @@
 use Rattle.std.specs.Prelude.{Bool, false, ◌||◌, ℕ, Option, Some, None, List, [], ◌∷◌, ◌++◌, if◌then◌else◌}
 use Rattle.std.specs.Str.{bytes_eq}
 use Rattle.ded_model.specs.Catalogue.{Entry, relation, view, Catalogue, tuples_of}
-use Rattle.ded_eval.specs.declared.given.GivenRelation.{GivenRelation}
-use Rattle.ded_eval.specs.Given.{has_name}
+use Rattle.ded_algebra.specs.declared.given.GivenRelation.{GivenRelation}
+use Rattle.ded_algebra.specs.Given.{has_name}
 
 -- the relations among the entries, in order
 abbrev pub relations_among : List Entry → List GivenRelation

@@ -18,8 +18,8 @@ use Rattle.ded_model.specs.Row.{Atom, tuple_holds, tuple_mentions, tuples_hold, 
 use Rattle.ded_model.specs.Value.{slot_value, overs, arguments}
 use Rattle.ded_algebra.specs.Evaluation.{HaveSorts}
 use Rattle.ded_plan.specs.declared.scans.ScanWithin.{ScanWithin}
-use Rattle.ded_eval.specs.declared.given.GivenRelation.{GivenRelation}
-use Rattle.ded_eval.specs.Given.{has_name}
+use Rattle.ded_algebra.specs.declared.given.GivenRelation.{GivenRelation}
+use Rattle.ded_algebra.specs.Given.{has_name}
 
 -- ---- columns
 

@@ -12,7 +12,7 @@ ghost use Rattle.ded_model.specs.Measure.{measures, goal_clashes, IsTight};
 ghost use Rattle.ded_model.specs.PlanForm.{plan_form};
 ghost use Rattle.ded_model.specs.Row.{atom_holds};
 ghost use Rattle.ded_model.specs.Width.{IsNarrowList};
-ghost use Rattle.ded_eval.specs.Given.{has_name};
+ghost use Rattle.ded_algebra.specs.Given.{has_name};
 ghost use Rattle.ded_catalog.specs.Snapshots.{snapshot_of};
 ghost use Rattle.ded_plan.specs.Planned.{IsPlanned};
 ghost use Rattle.ded_query.specs.Gathering.{IsGivenOf, IsGathered, IsFront, IsPosed, IsPosedPlan, IsEvaluated, IsViewOf, IsViewPlan};
@@ -20,9 +20,9 @@ ghost use Rattle.ded_query.specs.Over.{over_relations};
 ghost use Rattle.ded_query.specs.Questions.{IsQuestion, IsAnswer};
 
 use crate::gathering::{evaluated_by, give_all};
+use ded_algebra::{Evaluate, Given};
 use ded_atoms::{holds_everywhere, reduced};
 use ded_catalog::Snapshot;
-use ded_eval::Given;
 use ded_goals::laws;
 use ded_model::goal::Goal;
 use ded_model::limits;
@@ -39,7 +39,7 @@ use std::alloc::Global;
 ///
 /// # Errors
 /// `Wide` only where the formula isn't tight, otherwise out of memory.
-pub fn is_true(
+pub fn is_true<E: Evaluate>(
     alloc: Global,
     snapshot: &Snapshot<'_>,
     goal: &Goal,
@@ -54,7 +54,7 @@ pub fn is_true(
         → IsTight (snapshot_of snapshot.now) [] f → ⊥ }
 {
     snapshot.formed();
-    let tuples = evaluated_over(alloc, snapshot, goal, held)?;
+    let tuples = evaluated_over::<E>(alloc, snapshot, goal, held)?;
     Ok(holds_everywhere(&tuples.list))
 }
 
@@ -64,7 +64,7 @@ pub fn is_true(
 ///
 /// # Errors
 /// `Wide` only where the formula isn't tight, otherwise out of memory.
-pub fn answer(
+pub fn answer<E: Evaluate>(
     alloc: Global,
     snapshot: &Snapshot<'_>,
     heading: &Heading,
@@ -82,7 +82,7 @@ pub fn answer(
     snapshot.formed();
     orderly_rows();
     let _ = &heading.columns; // for its invariant
-    let tuples = evaluated_over(alloc, snapshot, goal, held)?;
+    let tuples = evaluated_over::<E>(alloc, snapshot, goal, held)?;
     Ok(reduced(alloc, tuples)?)
 }
 
@@ -91,7 +91,7 @@ pub fn answer(
 ///
 /// # Errors
 /// `Wide` only where the view clashes, otherwise out of memory.
-pub fn view_tuples(
+pub fn view_tuples<E: Evaluate>(
     alloc: Global,
     snapshot: &Snapshot<'_>,
     name: &Name,
@@ -108,7 +108,7 @@ pub fn view_tuples(
     let Some(goal) = snapshot.goal(name) else {
         unreachable!()
     };
-    let tuples = evaluated_over(alloc, snapshot, goal, held)?;
+    let tuples = evaluated_over::<E>(alloc, snapshot, goal, held)?;
     Ok(reduced(alloc, tuples)?)
 }
 
@@ -116,7 +116,7 @@ pub fn view_tuples(
 ///
 /// # Errors
 /// `Wide` only where the view clashes, otherwise out of memory.
-pub fn planned_view(
+pub fn planned_view<E: Evaluate>(
     alloc: Global,
     snapshot: &Snapshot<'_>,
     name: &Name,
@@ -131,7 +131,7 @@ pub fn planned_view(
     ensures wide { IsErrOf result Wide → (measures (snapshot_of snapshot.now) name.now).clash ≡ true }
 {
     snapshot.formed();
-    let tuples = planned_over(alloc, snapshot, plan, held)?;
+    let tuples = planned_over::<E>(alloc, snapshot, plan, held)?;
     Ok(reduced(alloc, tuples)?)
 }
 
@@ -139,7 +139,7 @@ pub fn planned_view(
 ///
 /// # Errors
 /// `Wide` only where one of the names clashes, otherwise out of memory. More may be given then.
-pub fn give_names(
+pub fn give_names<E: Evaluate>(
     alloc: Global,
     snapshot: &Snapshot<'_>,
     names: &[Name],
@@ -153,14 +153,14 @@ pub fn give_names(
     ensures wide { IsErrOf result Wide → list_any (λ n. (measures (snapshot_of snapshot.now) n).clash) names.now ≡ true }
 {
     snapshot.formed();
-    give_all(alloc, snapshot, names, limits::LEVELS, held)
+    give_all::<E>(alloc, snapshot, names, limits::LEVELS, held)
 }
 
 /// What the goal of an accepted formula is evaluated to. What is held is the same after it.
 ///
 /// # Errors
 /// `Wide` only where the goal clashes, otherwise out of memory.
-fn evaluated_over(
+fn evaluated_over<E: Evaluate>(
     alloc: Global,
     snapshot: &Snapshot<'_>,
     goal: &Goal,
@@ -174,14 +174,14 @@ fn evaluated_over(
 {
     laws::normal_goals();
     let plan = plan(alloc, goal)?;
-    planned_over(alloc, snapshot, &plan, held)
+    planned_over::<E>(alloc, snapshot, &plan, held)
 }
 
 /// What the goals of accepted formulas are evaluated to of which the plan is one. What is held is the same after it.
 ///
 /// # Errors
 /// `Wide` only where each of these goals clashes, otherwise out of memory.
-fn planned_over(
+fn planned_over<E: Evaluate>(
     alloc: Global,
     snapshot: &Snapshot<'_>,
     plan: &Plan,
@@ -196,7 +196,7 @@ fn planned_over(
         → goal_clashes (measures (snapshot_of snapshot.now)) g ≡ true }
 {
     let count = held.count();
-    let tuples = evaluated_by(alloc, snapshot, plan, limits::LEVELS, held);
+    let tuples = evaluated_by::<E>(alloc, snapshot, plan, limits::LEVELS, held);
     held.keep_first(count);
     tuples
 }

@@ -11,7 +11,7 @@ ghost use Rattle.ded_model.specs.Measure.{measures, goal_clashes};
 ghost use Rattle.ded_model.specs.PlanForm.{plan_form};
 ghost use Rattle.ded_model.specs.Row.{tuple_holds};
 ghost use Rattle.ded_catalog.specs.Snapshots.{snapshot_of};
-ghost use Rattle.ded_eval.specs.Given.{has_name};
+ghost use Rattle.ded_algebra.specs.Given.{has_name};
 ghost use Rattle.ded_plan.specs.Planned.{IsPlanned};
 ghost use Rattle.ded_query.specs.Gathering.{IsGivenOf, IsGathered, IsFront, IsPosed, IsPosedPlan, IsEvaluated, IsViewGoal};
 ghost use Rattle.ded_query.specs.Over.{over_relations};
@@ -23,10 +23,9 @@ use crate::near::{NEAR_VIEWS, add, add_all, near_goal, some_view};
 use crate::over::Over;
 use crate::views::{held_view, view_relation};
 use crate::witness::{asked_view, truth, witnessed};
-use ded_algebra::Evaluate;
+use ded_algebra::{Evaluate, Given, GivenRelation};
 use ded_atoms::reduced;
 use ded_catalog::Snapshot;
-use ded_eval::{Engine, Given, GivenRelation};
 use ded_goals::laws;
 use ded_model::goal::Goal;
 use ded_model::memory::Refused;
@@ -43,7 +42,7 @@ use std::alloc::Global;
 /// # Errors
 /// `Wide` only where the goal clashes, otherwise out of memory. More may be given then.
 #[cycle(evaluated)]
-pub(crate) fn evaluated(
+pub(crate) fn evaluated<E: Evaluate>(
     alloc: Global,
     snapshot: &Snapshot<'_>,
     goal: &Goal,
@@ -59,7 +58,7 @@ pub(crate) fn evaluated(
 {
     laws::normal_goals();
     let plan = plan(alloc, goal)?;
-    evaluated_by(alloc, snapshot, &plan, level, given)
+    evaluated_by::<E>(alloc, snapshot, &plan, level, given)
 }
 
 /// Tuples that hold exactly where the goals do of which the plan is one, as [`evaluated`] gives them.
@@ -67,7 +66,7 @@ pub(crate) fn evaluated(
 /// # Errors
 /// `Wide` only where each of these goals clashes, otherwise out of memory. More may be given then.
 #[cycle(evaluated)]
-pub(crate) fn evaluated_by(
+pub(crate) fn evaluated_by<E: Evaluate>(
     alloc: Global,
     snapshot: &Snapshot<'_>,
     plan: &Plan,
@@ -84,15 +83,15 @@ pub(crate) fn evaluated_by(
         → goal_clashes (measures (snapshot_of snapshot.now)) g ≡ true }
 {
     let Some(name) = asked_view(snapshot, plan, given) else {
-        return evaluated_whole(alloc, snapshot, plan, level, given);
+        return evaluated_whole::<E>(alloc, snapshot, plan, level, given);
     };
     snapshot.formed();
     let count = given.count();
-    match witnessed(alloc, snapshot, name, level, given) {
+    match witnessed::<E>(alloc, snapshot, name, level, given) {
         Ok(holds) => Ok(truth(alloc, holds)?),
         Err(Refused::Wide) => {
             given.keep_first(count);
-            evaluated_whole(alloc, snapshot, plan, level, given)
+            evaluated_whole::<E>(alloc, snapshot, plan, level, given)
         }
         Err(Refused::Memory) => Err(Refused::Memory),
     }
@@ -103,7 +102,7 @@ pub(crate) fn evaluated_by(
 /// # Errors
 /// As [`evaluated_by`].
 #[cycle(evaluated)]
-pub(crate) fn evaluated_whole(
+pub(crate) fn evaluated_whole<E: Evaluate>(
     alloc: Global,
     snapshot: &Snapshot<'_>,
     plan: &Plan,
@@ -122,15 +121,15 @@ pub(crate) fn evaluated_whole(
     snapshot.formed();
     let names = scanned_names(alloc, plan)?;
     if some_view(snapshot, &names) {
-        return evaluated_near(alloc, snapshot, plan, level, given);
+        return evaluated_near::<E>(alloc, snapshot, plan, level, given);
     }
-    give_all(alloc, snapshot, &names, level, given)?;
+    give_all::<E>(alloc, snapshot, &names, level, given)?;
     let relations = Over {
         snapshot,
         given: &*given,
         hidden: None,
     };
-    Engine {}.evaluate(alloc, plan, &relations)
+    E::evaluate(alloc, plan, &relations)
 }
 
 /// The same, where views that the plan scans once are evaluated near their scans alone.
@@ -138,7 +137,7 @@ pub(crate) fn evaluated_whole(
 /// # Errors
 /// As [`evaluated_by`].
 #[cycle(evaluated)]
-fn evaluated_near(
+fn evaluated_near<E: Evaluate>(
     alloc: Global,
     snapshot: &Snapshot<'_>,
     plan: &Plan,
@@ -160,7 +159,7 @@ fn evaluated_near(
     };
     let scans = scans_within(alloc, plan, &everywhere)?;
     let mut left = NEAR_VIEWS;
-    let near = gathered(alloc, snapshot, &scans, level, given, &mut left)?;
+    let near = gathered::<E>(alloc, snapshot, &scans, level, given, &mut left)?;
     let count = given.count();
     add_all(given, near)?;
     let relations = Over {
@@ -168,7 +167,7 @@ fn evaluated_near(
         given: &*given,
         hidden: None,
     };
-    let tuples = Engine {}.evaluate(alloc, plan, &relations);
+    let tuples = E::evaluate(alloc, plan, &relations);
     given.keep_first(count);
     tuples
 }
@@ -179,7 +178,7 @@ fn evaluated_near(
 /// # Errors
 /// As [`evaluated_by`].
 #[cycle(evaluated)]
-fn evaluated_within(
+fn evaluated_within<E: Evaluate>(
     alloc: Global,
     snapshot: &Snapshot<'_>,
     plan: &Plan,
@@ -199,7 +198,7 @@ fn evaluated_within(
 {
     snapshot.formed();
     let scans = scans_within(alloc, plan, within)?;
-    let near = gathered(alloc, snapshot, &scans, level, given, left)?;
+    let near = gathered::<E>(alloc, snapshot, &scans, level, given, left)?;
     let count = given.count();
     add_all(given, near)?;
     let relations = Over {
@@ -207,7 +206,7 @@ fn evaluated_within(
         given: &*given,
         hidden: None,
     };
-    let tuples = Engine {}.evaluate_within(alloc, plan, &relations, within);
+    let tuples = E::evaluate_within(alloc, plan, &relations, within);
     given.keep_first(count);
     tuples
 }
@@ -218,7 +217,7 @@ fn evaluated_within(
 /// # Errors
 /// `Wide` only where one of the scanned names clashes, otherwise out of memory. More may be given then.
 #[cycle(evaluated)]
-fn gathered(
+fn gathered<E: Evaluate>(
     alloc: Global,
     snapshot: &Snapshot<'_>,
     scans: &[ScanWithin],
@@ -237,8 +236,10 @@ fn gathered(
     let mut near = Vec::new(alloc);
     for scan in scans {
         match near_goal(snapshot, scan, scans, given, left) {
-            Some(goal) => near.push(view_near(alloc, snapshot, scan, goal, level, given, left)?)?,
-            None => give(alloc, snapshot, &scan.name, level, given)?,
+            Some(goal) => near.push(view_near::<E>(
+                alloc, snapshot, scan, goal, level, given, left,
+            )?)?,
+            None => give::<E>(alloc, snapshot, &scan.name, level, given)?,
         }
     }
     Ok(near)
@@ -249,7 +250,7 @@ fn gathered(
 /// # Errors
 /// `Wide` only where the view clashes, otherwise out of memory. More may be given then.
 #[cycle(evaluated)]
-fn view_near(
+fn view_near<E: Evaluate>(
     alloc: Global,
     snapshot: &Snapshot<'_>,
     scan: &ScanWithin,
@@ -270,7 +271,7 @@ fn view_near(
     laws::normal_goals();
     let plan = plan(alloc, goal)?;
     let within = at_columns(alloc, &scan.within, &scan.slots)?;
-    let tuples = evaluated_within(alloc, snapshot, &plan, &within, level - 1, given, left)?;
+    let tuples = evaluated_within::<E>(alloc, snapshot, &plan, &within, level - 1, given, left)?;
     Ok(view_relation(snapshot, &scan.name, reduced(alloc, tuples)?)?)
 }
 
@@ -279,7 +280,7 @@ fn view_near(
 /// # Errors
 /// `Wide` only where one of the names clashes, otherwise out of memory. More may be given then.
 #[cycle(evaluated)]
-pub(crate) fn give_all(
+pub(crate) fn give_all<E: Evaluate>(
     alloc: Global,
     snapshot: &Snapshot<'_>,
     names: &[Name],
@@ -295,7 +296,7 @@ pub(crate) fn give_all(
     ensures wide { IsErrOf result Wide → list_any (λ n. (measures (snapshot_of snapshot.now) n).clash) names.now ≡ true }
 {
     for name in names {
-        give(alloc, snapshot, name, level, given)?;
+        give::<E>(alloc, snapshot, name, level, given)?;
     }
     Ok(())
 }
@@ -305,7 +306,7 @@ pub(crate) fn give_all(
 /// # Errors
 /// `Wide` only where the name clashes, otherwise out of memory. More may be given then.
 #[cycle(evaluated)]
-fn give(
+fn give<E: Evaluate>(
     alloc: Global,
     snapshot: &Snapshot<'_>,
     name: &Name,
@@ -328,8 +329,8 @@ fn give(
         return Ok(());
     }
     match snapshot.goal(name) {
-        Some(goal) => give_view(alloc, snapshot, name, goal, level, given),
-        None => give_other(alloc, snapshot, name, level, given),
+        Some(goal) => give_view::<E>(alloc, snapshot, name, goal, level, given),
+        None => give_other::<E>(alloc, snapshot, name, level, given),
     }
 }
 
@@ -339,7 +340,7 @@ fn give(
 /// # Errors
 /// `Wide` only where the name clashes, otherwise out of memory. More may be given then.
 #[cycle(evaluated)]
-fn give_other(
+fn give_other<E: Evaluate>(
     alloc: Global,
     snapshot: &Snapshot<'_>,
     name: &Name,
@@ -360,7 +361,7 @@ fn give_other(
         return Ok(());
     }
     let inner = name.base_name()?;
-    give(alloc, snapshot, &inner, level, given)?;
+    give::<E>(alloc, snapshot, &inner, level, given)?;
     let near = made(alloc, snapshot, name, &inner, given)?;
     Ok(add(snapshot, given, near)?)
 }
@@ -370,7 +371,7 @@ fn give_other(
 /// # Errors
 /// `Wide` only where the view clashes, otherwise out of memory. More may be given then.
 #[cycle(evaluated)]
-fn give_view(
+fn give_view<E: Evaluate>(
     alloc: Global,
     snapshot: &Snapshot<'_>,
     name: &Name,
@@ -387,7 +388,7 @@ fn give_view(
     ensures wide { IsErrOf result Wide → (measures (snapshot_of snapshot.now) name.now).clash ≡ true }
 {
     snapshot.formed();
-    let tuples = evaluated(alloc, snapshot, goal, level - 1, given)?;
+    let tuples = evaluated::<E>(alloc, snapshot, goal, level - 1, given)?;
     let view = held_view(snapshot, name, reduced(alloc, tuples)?)?;
     Ok(add(snapshot, given, view)?)
 }

@@ -6,16 +6,15 @@ ghost use Rattle.ded_model.specs.Entries.{known};
 ghost use Rattle.ded_model.specs.Made.{base, is_made, reading, closure_of, interior_of};
 ghost use Rattle.ded_model.specs.Measure.{measures};
 ghost use Rattle.ded_catalog.specs.Snapshots.{snapshot_of};
-ghost use Rattle.ded_eval.specs.Given.{has_name};
+ghost use Rattle.ded_algebra.specs.Given.{has_name};
 ghost use Rattle.ded_packed.specs.Lent.{lent};
 ghost use Rattle.ded_query.specs.Gathering.{IsGivenOf, IsGivenAs};
 ghost use Rattle.ded_query.specs.Made.{IsStanding, IsMadeBy, IsTooWide};
 ghost use Rattle.ded_query.specs.Over.{over_relations};
 
 use crate::over::Over;
-use ded_algebra::Relations;
+use ded_algebra::{Given, GivenRelation, Relations};
 use ded_catalog::Snapshot;
-use ded_eval::{Given, GivenRelation};
 use ded_hull::Window;
 use ded_model::memory::{NoMemory, Refused};
 use ded_model::name::Name;

@@ -4,12 +4,12 @@ ghost use Rattle.std.specs.List.{AllByRecursion};
 ghost use Rattle.std.specs.Option.{IfSome};
 ghost use Rattle.ded_model.specs.Goal.{goal_form};
 ghost use Rattle.ded_catalog.specs.Snapshots.{snapshot_of};
-ghost use Rattle.ded_eval.specs.Given.{has_name};
+ghost use Rattle.ded_algebra.specs.Given.{has_name};
 ghost use Rattle.ded_query.specs.Gathering.{IsGivenOf, IsGathered, IsFront, IsViewGoal};
 ghost use Rattle.ded_query.specs.Windows.{added, scans_of};
 
+use ded_algebra::{Given, GivenRelation};
 use ded_catalog::Snapshot;
-use ded_eval::{Given, GivenRelation};
 use ded_model::goal::Goal;
 use ded_model::memory::NoMemory;
 use ded_model::name::Name;

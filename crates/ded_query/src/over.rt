@@ -1,9 +1,8 @@
 //! The relations of a catalogue where they stand, and what is given under other names.
 ghost use Rattle.std.specs.Prelude.{◌≡◌};
 
-use ded_algebra::Relations;
+use ded_algebra::{Given, Relations};
 use ded_catalog::Snapshot;
-use ded_eval::Given;
 use ded_hull::Window;
 use ded_model::memory::NoMemory;
 use ded_model::name::Name;
@@ -36,7 +35,7 @@ impl<'a, 'b, 'c> Over<'a, 'b, 'c> {
 impl<'a, 'b, 'c> Relations for Over<'a, 'b, 'c> {
     ghost use Rattle.std.specs.Option.{option_map};
     ghost use Rattle.ded_catalog.specs.Snapshots.{snapshot_of};
-    ghost use Rattle.ded_eval.specs.Given.{given_catalogue};
+    ghost use Rattle.ded_algebra.specs.Given.{given_catalogue};
     ghost use Rattle.ded_query.specs.Over.{over_relations};
 
     ghost catalogue = { λ o. given_catalogue (over_relations (snapshot_of o.snapshot.now) (option_map (λ n. n.now) o.hidden) o.given.now) };

@@ -5,8 +5,8 @@ ghost use Rattle.ded_model.specs.Entries.{known};
 ghost use Rattle.ded_catalog.specs.Snapshots.{snapshot_of};
 ghost use Rattle.ded_query.specs.Gathering.{IsViewOf, IsGivenAs};
 
+use ded_algebra::GivenRelation;
 use ded_catalog::Snapshot;
-use ded_eval::GivenRelation;
 use ded_model::memory::NoMemory;
 use ded_model::name::Name;
 use ded_model::tuple::Tuples;

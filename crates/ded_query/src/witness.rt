@@ -14,9 +14,9 @@ ghost use Rattle.ded_query.specs.Closing.{closing};
 ghost use Rattle.ded_query.specs.Gathering.{IsGivenOf, IsGathered, IsFront};
 
 use crate::gathering::evaluated_whole;
+use ded_algebra::{Evaluate, Given, everywhere, nowhere};
 use ded_atoms::holds_everywhere;
 use ded_catalog::Snapshot;
-use ded_eval::{Given, everywhere, nowhere};
 use ded_goals::laws;
 use ded_model::goal::Goal;
 use ded_model::memory::{NoMemory, Refused};
@@ -98,7 +98,7 @@ fn is_projected(plan: &Plan, slot: Slot) -> bool
 /// # Errors
 /// Its closed goal is too wide, or out of memory. More may be given then.
 #[cycle(evaluated)]
-pub(crate) fn witnessed(
+pub(crate) fn witnessed<E: Evaluate>(
     alloc: Global,
     snapshot: &Snapshot<'_>,
     name: &Name,
@@ -115,10 +115,10 @@ pub(crate) fn witnessed(
     snapshot.formed();
     let plan = closed_plan(alloc, snapshot, name)?;
     let Some(inner) = asked_view(snapshot, &plan, given) else {
-        let tuples = evaluated_whole(alloc, snapshot, &plan, level - 1, given)?;
+        let tuples = evaluated_whole::<E>(alloc, snapshot, &plan, level - 1, given)?;
         return Ok(holds_everywhere(&tuples.list));
     };
-    witnessed(alloc, snapshot, inner, level - 1, given)
+    witnessed::<E>(alloc, snapshot, inner, level - 1, given)
 }
 
 /// A plan of the view's goal with a quantifier for each of its columns.

@@ -1,10 +1,9 @@
 -- The lines of certificates are worded as entries of the grammar.
-use Rattle.std.proofs.Common.{inl, ℕ, suc, ◌^◌, ◌<◌, List, [], ◌∷◌, ◌++◌, map, refl, sym, ap, ◌∙◌, true≢false, arith}
+use Rattle.std.proofs.Common.{inl, ℕ, suc, ◌^◌, ◌<◌, List, [], ◌∷◌, ◌++◌, map, refl, arith}
 use Rattle.std.specs.Prelude.{ℤ, pos, negsuc, unsigned_abs, ◌==◌, ◌||◌, codes}
 use Rattle.std.specs.List.{AllByRecursion}
 use Rattle.std.proofs.lemmas.Bool.{or_parts}
-use Rattle.ded_lex.specs.Lexemes.{digit_byte, word_byte, numeral_byte, BeginsWith, BeginsNot, equals_byte, dash_byte}
-use Rattle.ded_lex.proofs.Cases.{is_not}
+use Rattle.ded_lex.specs.Lexemes.{word_byte, numeral_byte, BeginsNot, equals_byte, dash_byte}
 use Rattle.ded_model.specs.declared.certificate.Entry.{Entry}
 use Rattle.ded_model.specs.declared.certificate.Proof.{Proof}
 use Rattle.ded_model.specs.declared.certificate.Proof.TheVariants.{Text, Multipliers}
@@ -16,6 +15,7 @@ use Rattle.ded_cert.specs.Certified.{magnitudes, HasSmallSum}
 use Rattle.ded_wording.proofs.Digits.{number_worded, number_begins}
 use Rattle.ded_wording.proofs.Worded.{WordedBefore, Worded, Fits, append, then_fitting, then_any, nothing, blank, open_sign, dash, word, each_of}
 use Rattle.ded_recheck.proofs.Trees.{integer_tree, proof_tree, entry_tree}
+use Rattle.ded_wording.proofs.Products.{digit_no_dash}
 
 -- ---- small numbers
 
@@ -41,14 +41,10 @@ small_proof (Multipliers ms) h = each_small ms h
 
 -- ---- integers
 
-no_dash : (t next : List ℕ) → BeginsWith digit_byte t → BeginsNot dash_byte (t ++ next)
-no_dash [] next h = absurd h
-no_dash (b ∷ t) next h = is_not b 45 (λ e. true≢false (sym h ∙ ap digit_byte e))
-
 integer_worded : (z : ℤ) → unsigned_abs z < 2 ^ 63 → Worded (integer_text z) (spell_integer (integer_tree z))
 integer_worded (pos n) h = number_worded n h
 integer_worded (negsuc n) h =
-    append (BeginsNot dash_byte) Fits (45 ∷ []) (number_text (suc n)) (Minus ∷ []) (Number (number_text (suc n)) ∷ []) dash (λ next k. no_dash (number_text (suc n)) next (number_begins (suc n)))
+    append (BeginsNot dash_byte) Fits (45 ∷ []) (number_text (suc n)) (Minus ∷ []) (Number (number_text (suc n)) ∷ []) dash (λ next k. digit_no_dash (number_text (suc n)) next (number_begins (suc n)))
     (number_worded (suc n) h)
 
 fits_integers : (ms : List ℤ) → Fits (multipliers_text ms)

@@ -11,20 +11,19 @@ use Rattle.ded_syntax.specs.Certificates.{spell_entry}
 use Rattle.ded_syntax.specs.Commands.{spell_plain}
 use Rattle.ded_wording.specs.Words.{IsName}
 use Rattle.ded_wording.proofs.TerminalsWords.{spaced}
-use Rattle.ded_wording.proofs.Worded.{Worded, Loose, Fits, Any, then_any, then_fitting, as_worded, blank, name, lone_sign}
+use Rattle.ded_wording.proofs.Worded.{Worded, Loose, Fits, Any, then_any, then_fitting, blank, name, lone_sign}
 use Rattle.ded_recheck.specs.Lines.{AreBlanks, later_lines, closed_lines, verify_text}
 use Rattle.ded_recheck.proofs.Blanks.{blanks_worded, fits_blanks}
 use Rattle.ded_recheck.proofs.Entries.{IsSmallEntry, entry_worded}
 use Rattle.ded_recheck.proofs.Trees.{entry_tree, verify_tree}
+use Rattle.ded_wording.proofs.Tuples.{closed}
 
+-- a comma without a blank, as it stands between lines
 comma : Loose (codes ",") (Comma ∷ [])
 comma = lone_sign (codes ",") (inr (inr (inr (inr (inl refl))))) refl
 
 opened : Loose (codes " {") (OpenBrace ∷ [])
 opened = then_any Any (codes " ") (codes "{") [] (OpenBrace ∷ []) blank (lone_sign (codes "{") (inr (inr (inl refl))) refl)
-
-closed : Worded (codes "}") (CloseBrace ∷ [])
-closed = as_worded (codes "}") (CloseBrace ∷ []) (lone_sign (codes "}") (inr (inr (inr (inl refl)))) refl)
 
 -- the entries and the brace behind them
 abbrev closed_symbols : List Entry → List Symbol

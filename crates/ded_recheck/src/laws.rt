@@ -1,4 +1,5 @@
-//! Laws of certificates that are checked again as they were printed. Each is the contract of a function that does nothing.
+//! Laws of certificates that are checked again as they were printed. Each is the contract of a function that does nothing but call
+//! the laws that it rests on.
 ghost use Rattle.std.specs.Prelude.{◌≡◌, ◌⊎◌, ◌≤◌, ◌<◌, ◌∷◌, ℕ, true, List, length, map};
 ghost use Rattle.ded_lex.specs.Pieces.{Statement, Whole, IsWhole};
 ghost use Rattle.ded_model.specs.declared.certificate.Entry.{Entry};
@@ -23,7 +24,9 @@ pub fn few_inserts()
         → Step language c s reply d → HaveFewInserts d }
     ensures run { (limit : ℕ) (script : List ℕ) (replies : List ReplyForm) (last : Catalogue) → Run limit script replies last
         → HaveFewInserts last }
-{}
+{
+    ded_session::laws::formed_catalogues();
+}
 
 /// What is printed of certificates has a line for each, in order, and no other lines; and it tells the certificates.
 pub fn printed_lines()
@@ -38,20 +41,36 @@ pub fn asked_certificates()
         → Accepts language s c (λ command. (n : List ℕ) × (m : List ℕ) × (command ≡ disjoint n m)) }
 {}
 
-/// The lines of a reply to `disjoint` over a well formed catalogue, in braces behind `verify` and the two names, are a piece that `;` ends,
-/// and in each language they are read as `verify` with the certificates of the reply.
+/// The lines of a reply to `disjoint` over a catalogue to which a run leads, in braces behind `verify` and the two names, are a piece that
+/// `;` ends, and in each language they are read as `verify` with the certificates of the reply. So they are over each well formed catalogue
+/// whose relations have accepted as few inserts.
 pub fn read_again()
+    ensures run_whole { (limit : ℕ) (script : List ℕ) (replies : List ReplyForm) (c : Catalogue) → Run limit script replies c
+        → (language : Language) (n m : List ℕ) (es : List Entry) (piece : List ℕ) → IsRecheck language c n m es piece
+        → (after : List ℕ) → IsWhole piece (59 ∷ after) }
+    ensures run_read { (limit : ℕ) (script : List ℕ) (replies : List ReplyForm) (c : Catalogue) → Run limit script replies c
+        → (language other : Language) (n m : List ℕ) (es : List Entry) (piece : List ℕ) → IsRecheck language c n m es piece
+        → IsRead other piece (verify n m es) }
     ensures whole { (language : Language) (c : Catalogue) (n m : List ℕ) (es : List Entry) (piece : List ℕ) → IsWellFormed c
         → HaveFewInserts c
         → IsRecheck language c n m es piece → (after : List ℕ) → IsWhole piece (59 ∷ after) }
     ensures read { (language other : Language) (c : Catalogue) (n m : List ℕ) (es : List Entry) (piece : List ℕ) → IsWellFormed c
         → HaveFewInserts c
         → IsRecheck language c n m es piece → IsRead other piece (verify n m es) }
-{}
+{
+    ded_session::laws::formed_catalogues();
+}
 
 /// This statement, of at most 65,536 bytes, may be answered `yes` over the same catalogue, in each language, and may be answered nothing else
 /// but that memory is wanted. A longer one is refused as too long. The catalogue stays as it is.
 pub fn verified_again()
+    ensures run_yes { (limit : ℕ) (script : List ℕ) (replies : List ReplyForm) (c : Catalogue) → Run limit script replies c
+        → (language other : Language) (n m : List ℕ) (es : List Entry) (piece : List ℕ) → IsRecheck language c n m es piece
+        → length piece ≤ 65536 → Step other c (Whole piece) (truth true) c }
+    ensures run_only { (limit : ℕ) (script : List ℕ) (replies : List ReplyForm) (c : Catalogue) → Run limit script replies c
+        → (language other : Language) (n m : List ℕ) (es : List Entry) (piece : List ℕ) → IsRecheck language c n m es piece
+        → length piece ≤ 65536 → (reply : ReplyForm) (d : Catalogue) → Step other c (Whole piece) reply d
+        → ((reply ≡ truth true) ⊎ (reply ≡ refused Memory)) × (d ≡ c) }
     ensures yes { (language other : Language) (c : Catalogue) (n m : List ℕ) (es : List Entry) (piece : List ℕ) → IsWellFormed c
         → HaveFewInserts c
         → IsRecheck language c n m es piece → length piece ≤ 65536 → Step other c (Whole piece) (truth true) c }
@@ -64,4 +83,6 @@ pub fn verified_again()
     ensures only_long { (other : Language) (c d : Catalogue) (piece : List ℕ) (reply : ReplyForm) → 65536 < length piece
         → Step other c (Whole piece) reply d
         → (reply ≡ refused LongStatement) × (d ≡ c) }
-{}
+{
+    ded_session::laws::formed_catalogues();
+}

@@ -14,5 +14,4 @@ pub mod Ordering
 pub mod Remaking
 pub mod Running
 pub mod Stepping
-pub mod Texts
 pub mod Views

@@ -21,11 +21,10 @@ use Rattle.ded_model.specs.Row.{Atom}
 use Rattle.ded_orderly.specs.Orderly.{IsOrderly, IsShortReach, HasShortRows}
 use Rattle.ded_session.specs.Replies.{tuples, refused}
 use Rattle.ded_session.specs.Steps.{Does, MayBeWide, Accepts, Step}
-use Rattle.ded_session.proofs.StepLemmas.{read_short, read_plain}
+use Rattle.ded_session.proofs.StepLemmas.{read_short, read_plain, accepted_read}
 use Rattle.ded_session.proofs.WideQuestions.{HasNone, none, asked, queried}
 use Rattle.ded_reload.specs.Orderly.{IsOrderlyQuestion, IsOrderlyAnswer}
 use Rattle.ded_reload.specs.Read.{WasEntryRead, WasCatalogueRead}
-use Rattle.ded_reload.proofs.Reading.{accepted_read}
 
 -- ---- entries
 

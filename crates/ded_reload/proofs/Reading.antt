@@ -5,8 +5,7 @@ use Rattle.ded_lex.specs.Pieces.{Statement, Whole}
 use Rattle.ded_lex.specs.Pieces as pieces
 use Rattle.ded_model.specs.declared.command.Language.{Language}
 use Rattle.ded_model.specs.declared.command.Language.TheVariants.{Opening}
-use Rattle.ded_model.specs.declared.command.Refusal.{Refusal}
-use Rattle.ded_model.specs.declared.command.Refusal.TheVariants.{Syntax, LongName, LongNumber, Deep, Many, Twice}
+use Rattle.ded_model.specs.declared.command.Refusal.TheVariants.{Many, Twice}
 use Rattle.ded_model.specs.declared.name.Column.{Column}
 use Rattle.ded_model.specs.declared.bound.BoxReply.{BoxReply}
 use Rattle.ded_model.specs.declared.certificate.Entry.{Entry as Certificate}
@@ -22,27 +21,17 @@ use Rattle.ded_model.specs.Slotted.{tuple_of}
 use Rattle.ded_sorts.specs.Causes.{has_cause}
 use Rattle.ded_sorts.specs.Changes.{AddsEntry, ChangesEntry, DropsEntry}
 use Rattle.ded_sorts.specs.Checks.{forms_of}
-use Rattle.ded_syntax.specs.Spelling.{AppliesIn, IsRead}
+use Rattle.ded_syntax.specs.Spelling.{IsRead}
 use Rattle.ded_restored.specs.Words.{TupleHasTexts, AtomHasWords}
+use Rattle.ded_restored.proofs.Texts.{tuple_says}
 use Rattle.ded_wording.specs.Words.{IsName, IsMember, IsText}
-use Rattle.ded_session.specs.Causes.{Applies}
 use Rattle.ded_session.specs.Replies.{ReplyForm, done, number, truth, tuples, stored, boxes, steps, script, apart, meeting, refused}
 use Rattle.ded_session.specs.Runs.{Steps, Run, empty_catalogue}
 use Rattle.ded_session.specs.Steps.{Does, Accepted, Step}
+use Rattle.ded_session.proofs.StepLemmas.{accepted_read}
 use Rattle.ded_reload.specs.Read.{WasEntryRead, WasCatalogueRead}
-use Rattle.ded_reload.proofs.Texts.{tuple_says}
 
--- ---- what is accepted was read
-
-in_applies : (l : Language) (bytes : List ℕ) (c : Catalogue) (q : Refusal) → AppliesIn q l bytes → Applies q l (Whole bytes) c
-in_applies l bytes c Syntax h = h
-in_applies l bytes c LongName h = h
-in_applies l bytes c LongNumber h = h
-in_applies l bytes c Deep h = h
-in_applies l bytes c _ h = absurd h
-
-pub accepted_read : (l : Language) (bytes : List ℕ) (c : Catalogue) (Fact : CommandForm → Type 0) → (a : Accepted l bytes c Fact) → IsRead l bytes a.command
-accepted_read l bytes c Fact a = record { depth = a.depth; spells = a.spells; accepted = λ q h. a.none q (in_applies l bytes c q h) }
+-- ---- a command that is accepted
 
 unless : (b : Bool) → ((b ≡ true) → ⊥) → b ≡ false
 unless true f = absurd (f refl)
@@ -117,7 +106,7 @@ module _ (inserts : (l : Language) (bytes n : List ℕ) (fs : Logics FormAtom) �
 
       after_number : (i : ℕ) (x : CommandForm) → IsRead l bytes x → Does x c (number i) d → WasCatalogueRead d
       after_number i (insert n fs) p k =
-          changes c d n _ _ (λ q. (q.0, q.1, q.2, one_more k.present (i, tuple_of (columns_in c n) (forms_of fs)) q.3 (tuple_says (columns_in c n) fs (inserts l bytes n fs p)))) h k.changes
+          changes c d n _ _ (λ q. (q.0, q.1, q.2, one_more k.present (i, tuple_of (columns_in c n) (forms_of fs)) q.3 (tuple_says IsName IsMember IsText tt (columns_in c n) fs (inserts l bytes n fs p)))) h k.changes
       after_number i _ p k = absurd k
 
     after_truth : (b : Bool) (x : CommandForm) → Does x c (truth b) d → WasCatalogueRead d

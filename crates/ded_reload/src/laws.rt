@@ -46,32 +46,34 @@ pub fn remade_catalogues()
     ded_restored::laws::alike_formulas();
 }
 
-/// The lines of a well formed catalogue to which a run leads, each of at most 65,536 bytes, as a script of a session with the same
-/// limit, at most 1,000,000: where no reply is that memory is wanted, they leave the remade catalogue.
+/// The lines of a catalogue to which a run leads, each of at most 65,536 bytes, as a script of a session with the same limit, at
+/// most 1,000,000: where no reply is that memory is wanted, they leave the remade catalogue.
 pub fn dumps()
     ensures { (limit : ℕ) (script : List ℕ) (replies others : List ReplyForm) (c d : Catalogue)
-        → limit ≤ 1000000 → Run limit script replies c → IsWellFormed c → AllByRecursion (λ (l : List ℕ). length l ≤ 65536) (dump_lines c)
+        → limit ≤ 1000000 → Run limit script replies c → AllByRecursion (λ (l : List ℕ). length l ≤ 65536) (dump_lines c)
         → Run limit (script_of_lines (dump_lines c)) others d → WantsNone others → d ≡ remade c }
 {
     read_catalogues();
+    ded_session::laws::formed_catalogues();
     ded_wording::laws::read_words();
     ded_wording::laws::read_lines();
     ded_restored::laws::read_formulas();
     ded_restored::laws::read_tuples();
 }
 
-/// Over a well formed catalogue to which a run leads no orderly question is refused as too wide. The answer to an orderly query has
-/// nothing superfluous, and its rows are order rows: each compares two columns, or has the coefficient and the constant of a row
-/// with one slot that the formula reaches, up to the sign of both.
+/// Over a catalogue to which a run leads no orderly question is refused as too wide. The answer to an orderly query has nothing
+/// superfluous, and its rows are order rows: each compares two columns, or has the coefficient and the constant of a row with one
+/// slot that the formula reaches, up to the sign of both.
 pub fn orderly_questions()
-    ensures narrow { (limit : ℕ) (script : List ℕ) (replies : List ReplyForm) (c : Catalogue) → Run limit script replies c → IsWellFormed c
+    ensures narrow { (limit : ℕ) (script : List ℕ) (replies : List ReplyForm) (c : Catalogue) → Run limit script replies c
         → (language : Language) (s : Statement) (d : Catalogue) → Step language c s (refused Wide) d
         → Accepts language s c (λ command. IsOrderlyQuestion command c → ⊥) }
-    ensures answers { (limit : ℕ) (script : List ℕ) (replies : List ReplyForm) (c : Catalogue) → Run limit script replies c → IsWellFormed c
+    ensures answers { (limit : ℕ) (script : List ℕ) (replies : List ReplyForm) (c : Catalogue) → Run limit script replies c
         → (language : Language) (s : Statement) (h : List Column) (ts : List (List Atom)) (d : Catalogue) → Step language c s (tuples h ts) d
         → Accepts language s c (λ command. IsOrderlyAnswer command c ts) }
 {
     read_catalogues();
+    ded_session::laws::formed_catalogues();
     ded_orderly::laws::orderly_formulas();
     ded_orderly::laws::short_reach();
 }

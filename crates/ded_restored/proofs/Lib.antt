@@ -12,4 +12,5 @@ pub mod Accepted
 pub mod Goals
 pub mod Meanings
 pub mod Columns
+pub mod Texts
 pub mod Tuples

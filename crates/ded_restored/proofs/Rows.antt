@@ -155,7 +155,7 @@ module _ (scope : SlotScope) (names : Names) (b : Bool) where
 minus_turned : (x : ℤ) → pos 0 -ℤ neg_ℤ x ≡ x
 minus_turned x = omega (arith, ints)
 
-minus_none : (x : ℤ) → x -ℤ pos 0 ≡ x
+pub minus_none : (x : ℤ) → x -ℤ pos 0 ≡ x
 minus_none x = omega (arith, ints)
 
 abbrev row_with : RowOp → List (Slot × ℤ) → ℤ → LinearConstraint

@@ -5,4 +5,3 @@ pub mod Making
 pub mod Parsing
 mod ReadBack
 pub mod Steps
-pub mod Telling

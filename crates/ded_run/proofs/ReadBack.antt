@@ -21,11 +21,11 @@ use Rattle.ded_model.specs.Width.{tuple_length}
 use Rattle.ded_readback.specs.Plain.{IsPlainHeading}
 use Rattle.ded_readback.specs.Spelling.{IsShortTuple, SpellsAnswer}
 use Rattle.ded_readback.proofs.AnswersRead.{one_list}
-use Rattle.ded_run.specs.Texts.{text_of}
 use Rattle.ded_sorts.specs.Causes.{has_cause}
 use Rattle.ded_session.specs.PlainNames.{NamesPlainly}
 use Rattle.ded_session.specs.Replies.{tuples}
 use Rattle.ded_session.specs.Steps.{Step, Does, Accepted}
+use Rattle.ded_session.specs.Texts.{text_of}
 use Rattle.ded_session.proofs.PlainSpelling.{spelled_names}
 
 -- a heading over which answers are read in one way, and tuples over it

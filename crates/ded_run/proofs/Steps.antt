@@ -1,20 +1,19 @@
 -- Whichever statement a piece stands for, a step on the piece is one on the statement.
 use Rattle.std.proofs.Common.{◌≡◌, ◌≤◌, ◌<◌, ℕ, List, length, refl, sym, inr, arith, subst}
 use Rattle.ded_dialogue.specs.Runs.{StandsFor}
-use Rattle.ded_lex.specs.Pieces.{Statement, Whole}
+use Rattle.ded_lex.specs.declared.piece.Piece.{Piece}
+use Rattle.ded_lex.specs.declared.piece.Piece.TheVariants as piece
+use Rattle.ded_lex.specs.Pieces.{Statement, Whole, statement_bytes}
 use Rattle.ded_lex.specs.Pieces as pieces
 use Rattle.ded_model.specs.declared.command.Language.{Language}
 use Rattle.ded_model.specs.declared.command.Language.TheVariants.{Opening, One, Two}
 use Rattle.ded_model.specs.declared.command.Refusal.TheVariants.{LongStatement, Unfinished}
 use Rattle.ded_model.specs.Catalogue.{Catalogue}
-use Rattle.ded_session.specs.Causes.{statement_bytes}
+use Rattle.ded_session.specs.Following.{long_step, rest_step}
 use Rattle.ded_session.specs.Pieces.{StepsPiece, GoesOnPiece}
 use Rattle.ded_session.specs.Replies.{ReplyForm, refused}
 use Rattle.ded_session.specs.Runs.{next_language, GoesOn}
 use Rattle.ded_session.specs.Steps.{Step, IsHeaderIn}
-use Rattle.ded_session.specs.declared.session.Piece.{Piece}
-use Rattle.ded_session.specs.declared.session.Piece.TheVariants as piece
-use Rattle.ded_run.specs.Following.{long_step, rest_step}
 use Rattle.ded_run.specs.OneSession.{MayAnswer, MayReply, Standing, said_of}
 
 -- behind a statement that isn't whole, or is long

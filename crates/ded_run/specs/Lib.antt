@@ -4,5 +4,4 @@ pub mod Made
 pub mod OneSession
 pub mod Outcome
 pub mod Parts
-pub mod Texts
 pub mod Words

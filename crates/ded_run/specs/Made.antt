@@ -7,7 +7,7 @@ use Rattle.ded_model.specs.Catalogue.{Catalogue}
 use Rattle.ded_print.specs.Numbers.{number_text}
 use Rattle.ded_session.specs.Replies.{ReplyForm, some_refusal}
 use Rattle.ded_session.specs.Runs.{Run}
-use Rattle.ded_run.specs.Texts.{texts}
+use Rattle.ded_session.specs.Texts.{texts}
 
 -- the numbers below n, from 0
 abbrev pub below : ℕ → List ℕ

@@ -12,7 +12,7 @@ use Rattle.ded_session.specs.Runs.{GoesOn, empty_catalogue}
 use Rattle.ded_session.specs.State.{catalogue_in, language_in}
 use Rattle.ded_session.specs.Steps.{Step}
 use Rattle.ded_session.specs.declared.session.Session.{Session}
-use Rattle.ded_run.specs.Texts.{text_of}
+use Rattle.ded_session.specs.Texts.{text_of}
 
 -- the language in which the next statement is read, and the catalogue over which
 pub record Standing : Type 0 where

@@ -7,7 +7,7 @@ use Rattle.ded_model.specs.declared.command.Language.TheVariants.{Opening}
 use Rattle.ded_model.specs.Catalogue.{Catalogue}
 use Rattle.ded_session.specs.Replies.{ReplyForm, some_refusal}
 use Rattle.ded_session.specs.Runs.{Steps, empty_catalogue, Run}
-use Rattle.ded_run.specs.Texts.{texts}
+use Rattle.ded_session.specs.Texts.{texts}
 
 -- The whole input was read, it has at most so many bytes, and the texts of the replies were written, one for each statement.
 pub record Answered (limit input_limit : ℕ) (input left contents now : Option (List ℕ)) (refused : Bool) : Type 0 where

@@ -1,5 +1,5 @@
 //! Laws of what is written, as the contracts of functions that do nothing.
-ghost use Rattle.std.specs.Prelude.{◌≡◌, ◌≤◌, ◌++◌, List, ℕ};
+ghost use Rattle.std.specs.Prelude.{◌≡◌, ◌≤◌, List, ℕ};
 ghost use Rattle.std.specs.List.{AllByRecursion};
 ghost use Rattle.ded_lex.specs.Pieces.{Statement};
 ghost use Rattle.ded_model.specs.declared.command.Language.{Language};
@@ -8,19 +8,9 @@ ghost use Rattle.ded_model.specs.Catalogue.{Catalogue};
 ghost use Rattle.ded_model.specs.Row.{Atom};
 ghost use Rattle.ded_model.specs.Width.{tuple_length};
 ghost use Rattle.ded_readback.specs.Spelling.{SpellsAnswer};
-ghost use Rattle.ded_run.specs.Texts.{text_of};
-ghost use Rattle.ded_session.specs.PlainNames.{HasPlainNames};
-ghost use Rattle.ded_session.specs.Replies.{ReplyForm, tuples};
+ghost use Rattle.ded_session.specs.Replies.{tuples};
 ghost use Rattle.ded_session.specs.Steps.{Step};
-
-/// The bytes written tell the replies one after another: of two replies that a statement may get over a catalogue no
-/// text is a proper front of the other's. The names of the catalogue are words of the grammar, as those of each
-/// catalogue are to which statements lead from the empty one.
-pub fn one_text()
-    ensures { (language : Language) (c d e : Catalogue) (s : Statement) (reply other : ReplyForm) (xs ys : List ℕ) →
-        HasPlainNames c → Step language c s reply d → Step language c s other e →
-        text_of reply ++ xs ≡ text_of other ++ ys → (text_of reply ≡ text_of other) × (xs ≡ ys) }
-{}
+ghost use Rattle.ded_session.specs.Texts.{text_of};
 
 /// What is written of an answer, read back, is the answer: the text of the tuples that a statement gets spells these
 /// tuples over their heading, and no others. The numbers in them have at most 127 binary digits, as those in each tuple

@@ -6,21 +6,18 @@
 //! the contract says what stands written. [`Status::exit_number`] is the program's exit status. [`make`] runs a script
 //! that is made (`specs/Made.antt`), and writes the replies to its questions alone. [`run`] has `clap` read the words of
 //! the command line first (`specs/Words.antt`), as [`options_in`] does for other programs; [`has_dashes`], [`limit_of`] and [`number_of`] read
-//! parts of words. [`write_reply`] writes one reply
-//! (`specs/Texts.antt`).
+//! parts of words.
 //!
-//! It stands on `ded_dialogue` for the loop, on `ded_session` for replies, on `ded_print` for their texts, and on
-//! `ded_io` for the source and the sink.
+//! It stands on `ded_dialogue` for the loop, on `ded_session` for replies and their texts, and on `ded_io` for the source
+//! and the sink.
 #![tactic(auto)]
 
 pub mod laws;
 mod made;
 mod one_session;
 mod program;
-mod reply;
 mod words;
 
 pub use ded_dialogue::Status;
 pub use program::{Setup, make, run, serve};
-pub use reply::write_reply;
 pub use words::{Options, WordFault, Words, has_dashes, limit_of, number_of, options_in};

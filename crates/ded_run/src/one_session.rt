@@ -3,10 +3,10 @@ ghost use Rattle.ded_run.specs.Following.{any_next};
 ghost use Rattle.ded_run.specs.OneSession.{MayAnswer, Standing, said_of, standing_in};
 ghost use Rattle.ded_session.specs.Answered.{reply_form};
 
-use crate::reply::write_reply;
 use ded_dialogue::Answering;
 use ded_io::{Failed, Sink};
-use ded_session::{Piece, Reply, Session};
+use ded_lex::Piece;
+use ded_session::{Reply, Session, write_reply};
 use std::alloc::Global;
 
 /// One session, which answers each statement of a script.

@@ -35,7 +35,7 @@ use Rattle.ded_model.proofs.Bools.{or_false_left, or_false_right}
 
 -- ---- tests
 
-none_of : {A : Type 0} (o : Option A) → is_some o ≡ false → o ≡ None
+pub none_of : {A : Type 0} (o : Option A) → is_some o ≡ false → o ≡ None
 none_of None e = refl
 none_of (Some x) e = absurd (true≢false e)
 
@@ -51,13 +51,13 @@ view_of : (o : Option Known) → is_none o ≡ false → is_relation_with o ≡ 
 view_of None e f = absurd (true≢false e)
 view_of (Some k) e f = not-false k.is_view f
 
-at_most : (n : ℕ) → nat_lt 16 n ≡ false → n ≤ 16
+pub at_most : (n : ℕ) → nat_lt 16 n ≡ false → n ≤ 16
 at_most n e = grind (arith, nat_tests)
 
 -- ---- commands
 
 module _ (c : Catalogue) where
-  new_relation : (n : List ℕ) (h : List Column) → HasNoCause c (relation n h) → NamesPlainly (relation n h) → IsNewName (known c) n × (length h ≤ 16)
+  pub new_relation : (n : List ℕ) (h : List Column) → HasNoCause c (relation n h) → NamesPlainly (relation n h) → IsNewName (known c) n × (length h ≤ 16)
   new_relation n h a p = ((none_of (known c n) (a Taken refl), unmade_word n p.0), at_most (length h) (a Many refl))
 
   into_relation : (n : List ℕ) (fs : Logics FormAtom) → HasNoCause c (insert n fs) → is_relation_with (known c n) ≡ true

@@ -3,6 +3,8 @@ use Rattle.std.proofs.Common.{◌≡◌, ℕ, Bool, true, false, not, ◌||◌, 
 use Rattle.std.specs.Option.{option_map}
 use Rattle.std.specs.List.{list_any, AllByRecursion}
 use Rattle.std.proofs.lemmas.Bool.{false_from_ne_true, and_parts, not-true}
+use Rattle.ded_lex.specs.declared.piece.Piece.{Piece}
+use Rattle.ded_lex.specs.declared.piece.Piece.TheVariants as piece
 use Rattle.ded_lex.specs.Pieces.{Whole}
 use Rattle.ded_model.specs.declared.name.Column.{Column}
 use Rattle.ded_model.specs.declared.command.Language.{Language}
@@ -21,7 +23,7 @@ use Rattle.ded_sorts.specs.Causes.{has_cause}
 use Rattle.ded_sorts.specs.Changes.{AddsEntry, ChangesEntry, DropsEntry}
 use Rattle.ded_syntax.proofs.Decided.{spelling_decided}
 use Rattle.ded_syntax.proofs.One.{one_command}
-use Rattle.ded_eval.specs.declared.given.GivenRelation.{GivenRelation}
+use Rattle.ded_algebra.specs.declared.given.GivenRelation.{GivenRelation}
 use Rattle.ded_views.specs.Reaching.{reaches}
 use Rattle.ded_views.specs.Unaffected.{AreUnaffected}
 use Rattle.ded_views.proofs.Changing.{added, dropped, changed}
@@ -31,16 +33,15 @@ use Rattle.ded_database.specs.declared.mark.Mark.{Mark}
 use Rattle.ded_database.specs.Marks.{IsMark}
 use Rattle.ded_database.specs.Held.{held_under, is_marked}
 use Rattle.ded_database.specs.Upkeep.{IsTightView}
-use Rattle.ded_database.proofs.Under.{same_name, other_left}
+use Rattle.ded_database.proofs.Under.{other_left}
 use Rattle.ded_database.specs.State.{State, catalogue_at, is_kept, IsSound}
 use Rattle.ded_database.specs.Steps.{KeepsLists, Marks, Unmarks}
-use Rattle.ded_session.specs.declared.session.Piece.{Piece}
-use Rattle.ded_session.specs.declared.session.Piece.TheVariants as piece
 use Rattle.ded_session.specs.Histories.{Turn, AreTurns, last_state, renews, loses, SpellsSome, PieceSpells, NoneRenews, IsLost}
 use Rattle.ded_session.specs.Pieces.{StepsPiece}
 use Rattle.ded_session.specs.Keeping.{Upholds, UpholdsPiece, UpholdsStatement, KeepsUpLists, LosesLists}
 use Rattle.ded_session.specs.Replies.{ReplyForm, done, number, truth, tuples, stored, boxes, steps, script, apart, meeting, refused}
 use Rattle.ded_session.specs.Steps.{Does, Accepts, Step}
+use Rattle.ded_query.proofs.GivenNames.{same_name}
 
 -- where the view is marked and its formula tight, a list is held
 abbrev IsDue : State → List ℕ → Type 0

@@ -4,13 +4,19 @@ mod Asking
 pub mod Bounding
 mod Carried
 mod Calls
+mod Formed
+mod FormedSteps
 pub mod HeaderSteps
+mod InsertedTuples
+pub mod KnownAlike
 mod Languages
+pub mod Making
 pub mod Pairs
 pub mod PlainNames
 pub mod PlainSpelling
 pub mod OneList
 pub mod StepLemmas
+pub mod Telling
 mod Upheld
 mod Histories
 pub mod WideQuestions

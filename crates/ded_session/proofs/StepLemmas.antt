@@ -1,4 +1,4 @@
--- From what is read of bytes, and what their command is answered, to what the rules say of the statement.
+-- From what is read of bytes, and what their command is answered, to what the rules say of the statement; what they accept was read.
 use Rattle.std.proofs.Common.{◌≡◌, ◌≢◌, ◌<◌, ◌≤◌, ℕ, Bool, true, false, arith, refl, sym, ap, ◌∙◌, true≢false, ◌⊎◌, inl, inr, ⊎_elim, List, length}
 use Rattle.ded_lex.specs.Pieces.{Whole}
 use Rattle.ded_model.specs.declared.command.Language.{Language}
@@ -17,7 +17,7 @@ use Rattle.ded_session.specs.Carrying.{Answers, IsFirstCause, MayRefuseFor, NoCa
 use Rattle.ded_session.specs.Causes.{Commands, Applies, NoneApplies}
 use Rattle.ded_session.specs.PlainNames.{NamesPlainly}
 use Rattle.ded_session.specs.Replies.{ReplyForm, done, number, truth, tuples, stored, boxes, steps, script, apart, meeting, refused}
-use Rattle.ded_session.specs.Steps.{IsHeaderIn, Step, MayRefuse}
+use Rattle.ded_session.specs.Steps.{IsHeaderIn, Step, MayRefuse, Accepted}
 use Rattle.ded_session.proofs.PlainSpelling.{spelled_names}
 
 -- ---- a command that is read
@@ -150,3 +150,15 @@ module _ (l : Language) (bytes : List ℕ) (c : Catalogue) (short : length bytes
     step_read other (script lines) d k = record { none = none_applies k.0; command = x; depth = h.depth; spells = h.spells; so = k.1 }
     step_read other (apart es) d k = record { none = none_applies k.0; command = x; depth = h.depth; spells = h.spells; so = k.1 }
     step_read other (meeting i j) d k = record { none = none_applies k.0; command = x; depth = h.depth; spells = h.spells; so = k.1 }
+
+-- ---- what is accepted was read
+
+in_applies : (l : Language) (bytes : List ℕ) (c : Catalogue) (q : Refusal) → AppliesIn q l bytes → Applies q l (Whole bytes) c
+in_applies l bytes c Syntax h = h
+in_applies l bytes c LongName h = h
+in_applies l bytes c LongNumber h = h
+in_applies l bytes c Deep h = h
+in_applies l bytes c _ h = absurd h
+
+pub accepted_read : (l : Language) (bytes : List ℕ) (c : Catalogue) (Fact : CommandForm → Type 0) → (a : Accepted l bytes c Fact) → IsRead l bytes a.command
+accepted_read l bytes c Fact a = record { depth = a.depth; spells = a.spells; accepted = λ q h. a.none q (in_applies l bytes c q h) }

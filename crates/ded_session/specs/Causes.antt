@@ -1,6 +1,6 @@
 -- When a statement is refused, and with which number.
 use Rattle.std.specs.Prelude.{◌≡◌, ◌<◌, ℕ, true, List, length}
-use Rattle.ded_lex.specs.Pieces.{Statement, Whole}
+use Rattle.ded_lex.specs.Pieces.{Statement, Whole, statement_bytes}
 use Rattle.ded_lex.specs.Pieces as pieces
 use Rattle.ded_model.specs.declared.command.Language.{Language}
 use Rattle.ded_model.specs.declared.command.Refusal.{Refusal}
@@ -17,10 +17,6 @@ pub record Commands (language : Language) (bytes : List ℕ) (r : Refusal) (c : 
   pub depth : ℕ
   pub spells : Spells language bytes command depth
   pub cause : has_cause r c command ≡ true
-
-abbrev pub statement_bytes : Statement → List ℕ
-statement_bytes (Whole piece) = piece
-statement_bytes (pieces.Unfinished rest) = rest
 
 -- by bytes alone, or by the command over the catalogue
 abbrev pub AppliesWhole : Refusal → Language → List ℕ → Catalogue → Type 0

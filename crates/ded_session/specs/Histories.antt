@@ -1,6 +1,8 @@
 -- What becomes of the list of a kept view over statements one after another.
 use Rattle.std.specs.Prelude.{◌≡◌, ◌⊎◌, ℕ, Bool, true, false, List, [], ◌∷◌}
 use Rattle.std.specs.Str.{bytes_eq}
+use Rattle.ded_lex.specs.declared.piece.Piece.{Piece}
+use Rattle.ded_lex.specs.declared.piece.Piece.TheVariants as piece
 use Rattle.ded_model.specs.declared.command.Language.{Language}
 use Rattle.ded_model.specs.declared.command.Refusal.TheVariants.{Memory}
 use Rattle.ded_model.specs.Catalogue.{Catalogue}
@@ -8,8 +10,6 @@ use Rattle.ded_model.specs.Command.{CommandForm, insert, delete, keep}
 use Rattle.ded_syntax.specs.Spelling.{Spells}
 use Rattle.ded_views.specs.Reaching.{reaches}
 use Rattle.ded_database.specs.State.{State, catalogue_at, IsSound}
-use Rattle.ded_session.specs.declared.session.Piece.{Piece}
-use Rattle.ded_session.specs.declared.session.Piece.TheVariants as piece
 use Rattle.ded_session.specs.Keeping.{UpholdsStatement}
 use Rattle.ded_session.specs.Pieces.{StepsPiece, GoesOnPiece}
 use Rattle.ded_session.specs.Replies.{ReplyForm, done, number, refused}

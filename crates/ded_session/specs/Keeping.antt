@@ -1,5 +1,7 @@
 -- What a statement makes of kept views: of their marks, and of the lists that are held of them.
 use Rattle.std.specs.Prelude.{ℕ, List}
+use Rattle.ded_lex.specs.declared.piece.Piece.{Piece}
+use Rattle.ded_lex.specs.declared.piece.Piece.TheVariants as piece
 use Rattle.ded_model.specs.declared.command.Language.{Language}
 use Rattle.ded_model.specs.declared.command.Refusal.TheVariants.{Memory}
 use Rattle.ded_model.specs.Command.{CommandForm, insert, delete, drop, keep}
@@ -7,8 +9,6 @@ use Rattle.ded_syntax.specs.Spelling.{Spells}
 use Rattle.ded_database.specs.State.{State, catalogue_at, is_kept}
 use Rattle.ded_database.specs.Steps.{KeepsMarks, KeepsLists, Marks, Unmarks}
 use Rattle.ded_database.specs.Upkeep.{KeepsUp, LeavesOthers, OnlyAdds}
-use Rattle.ded_session.specs.declared.session.Piece.{Piece}
-use Rattle.ded_session.specs.declared.session.Piece.TheVariants as piece
 use Rattle.ded_session.specs.Replies.{ReplyForm, done, number, refused}
 
 -- lists of views that don't reach the relation are held as before

@@ -1,6 +1,7 @@
 pub mod Answered
 pub mod Carrying
 pub mod Causes
+pub mod Following
 pub mod Histories
 pub mod Keeping
 pub mod Pairs
@@ -10,4 +11,5 @@ pub mod Replies
 pub mod Runs
 pub mod State
 pub mod Steps
+pub mod Texts
 pub mod Widths

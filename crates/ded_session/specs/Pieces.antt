@@ -1,20 +1,14 @@
 -- What a step does with a piece, and the language behind it.
-use Rattle.std.specs.Prelude.{◌≡◌, ◌≤◌, length}
+use Rattle.std.specs.Prelude.{◌≡◌}
+use Rattle.ded_lex.specs.declared.piece.Piece.{Piece}
+use Rattle.ded_lex.specs.declared.piece.Piece.TheVariants as piece
 use Rattle.ded_lex.specs.Pieces.{Whole}
 use Rattle.ded_model.specs.declared.command.Language.{Language}
 use Rattle.ded_model.specs.declared.command.Refusal.TheVariants.{LongStatement, Unfinished}
 use Rattle.ded_model.specs.Catalogue.{Catalogue}
-use Rattle.ded_session.specs.declared.session.Piece.{Piece}
-use Rattle.ded_session.specs.declared.session.Piece.TheVariants as piece
 use Rattle.ded_session.specs.Replies.{ReplyForm, refused}
 use Rattle.ded_session.specs.Runs.{next_language, GoesOn}
 use Rattle.ded_session.specs.Steps.{Step}
-
--- a whole piece has at most 65,536 bytes
-abbrev pub IsShortPiece : Piece → Type 0
-IsShortPiece (piece.Whole bytes) = length bytes.now ≤ 65536
-IsShortPiece piece.Long = Unit {0}
-IsShortPiece piece.Cut = Unit {0}
 
 -- a step on a whole piece is one of the rules; a long one and a cut one are refused, and change nothing
 abbrev pub StepsPiece : Piece → Language → Catalogue → ReplyForm → Catalogue → Type 0

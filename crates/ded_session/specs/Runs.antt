@@ -1,10 +1,9 @@
 -- Which replies a script may get, and the catalogue that it leaves.
 use Rattle.std.specs.Prelude.{◌≡◌, ◌⊎◌, ℕ, List, [], ◌∷◌, ◌++◌, if◌then◌else◌}
-use Rattle.ded_lex.specs.Pieces.{Statement, AreStatements}
+use Rattle.ded_lex.specs.Pieces.{Statement, AreStatements, statement_bytes}
 use Rattle.ded_model.specs.declared.command.Language.{Language}
 use Rattle.ded_model.specs.declared.command.Language.TheVariants.{Opening, One, Two}
 use Rattle.ded_model.specs.Catalogue.{Catalogue}
-use Rattle.ded_session.specs.Causes.{statement_bytes}
 use Rattle.ded_session.specs.Replies.{ReplyForm, is_refusal}
 use Rattle.ded_session.specs.Steps.{IsHeaderIn, Step}
 

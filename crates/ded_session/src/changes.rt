@@ -21,6 +21,7 @@ ghost use Rattle.ded_session.specs.Replies.{done, refused};
 
 use crate::reply::Reply;
 use ded_database::Database;
+use ded_eval::Engine;
 use ded_model::command::Refusal;
 use ded_model::formula::Formula;
 use ded_model::goal::Goal;
@@ -48,7 +49,7 @@ pub(crate) fn insert(database: &mut Database, name: &Name, tuple: Tuple) -> Repl
         Carries (insert name.now comparisons) (catalogue_at database.old) (reply_form result) (catalogue_at database.new) }
     ensures upholds { (comparisons : Logics FormAtom) → Upholds (insert name.now comparisons) (reply_form result) database.old database.new }
 {
-    match database.insert(name, tuple) {
+    match database.insert::<Engine>(name, tuple) {
         Ok(number) => Reply::Number(number),
         Err(refusal) => Reply::Refused(refusal),
     }
@@ -60,7 +61,7 @@ pub(crate) fn delete(database: &mut Database, name: &Name, number: u64) -> Reply
     ensures carries { Carries (delete name.now number) (catalogue_at database.old) (reply_form result) (catalogue_at database.new) }
     ensures upholds { Upholds (delete name.now number) (reply_form result) database.old database.new }
 {
-    done(database.delete(name, number))
+    done(database.delete::<Engine>(name, number))
 }
 
 /// Drops a defined name that no view uses.
@@ -100,7 +101,7 @@ pub(crate) fn keep(database: &mut Database, name: &Name) -> Reply
     ensures carries { Carries (keep name.now) (catalogue_at database.old) (reply_form result) (catalogue_at database.new) }
     ensures upholds { Upholds (keep name.now) (reply_form result) database.old database.new }
 {
-    done(database.keep(name))
+    done(database.keep::<Engine>(name))
 }
 
 /// The reply to a change: that it was done, or that it was refused as out of memory.

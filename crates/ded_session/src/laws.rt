@@ -1,23 +1,28 @@
-//! Laws of the rules. Each is the contract of a function that does nothing.
-ghost use Rattle.std.specs.Prelude.{◌≡◌, true, false, None, List, ℕ};
-ghost use Rattle.ded_lex.specs.Pieces.{Statement};
+//! Laws of the rules and of the texts of replies. Each is the contract of a function that does nothing but call the laws that it
+//! rests on.
+ghost use Rattle.std.specs.Prelude.{◌≡◌, ◌≤◌, ◌++◌, true, false, None, List, ℕ, length};
+ghost use Rattle.ded_lex.specs.Pieces.{Statement, Whole};
 ghost use Rattle.ded_model.specs.declared.command.Language.{Language};
 ghost use Rattle.ded_model.specs.declared.name.Column.{Column};
 ghost use Rattle.ded_model.specs.declared.command.Refusal.TheVariants.{Wide};
 ghost use Rattle.ded_model.specs.Catalogue.{Catalogue};
 ghost use Rattle.ded_model.specs.Command.{CommandForm};
 ghost use Rattle.ded_model.specs.Known.{IsWellFormed};
+ghost use Rattle.ded_model.specs.LongRows.{has_long_row};
+ghost use Rattle.ded_model.specs.Plain.{IsPlainCommand};
 ghost use Rattle.ded_model.specs.Row.{Atom};
-ghost use Rattle.ded_syntax.specs.Spelling.{Spells};
+ghost use Rattle.ded_syntax.specs.Spelling.{IsRead, Spells};
 ghost use Rattle.ded_database.specs.Held.{held_under};
 ghost use Rattle.ded_database.specs.Upkeep.{IsTightView};
 ghost use Rattle.ded_database.specs.State.{State, catalogue_at, is_kept, IsSound};
+ghost use Rattle.ded_session.specs.Carrying.{Answers};
 ghost use Rattle.ded_session.specs.Histories.{Turn, AreTurns, last_state, IsLost};
 ghost use Rattle.ded_session.specs.Pairs.{AreOfOne, SpeaksPlainly};
 ghost use Rattle.ded_session.specs.PlainNames.{HasPlainNames, NamesPlainly};
 ghost use Rattle.ded_session.specs.Replies.{ReplyForm, refused, stored};
 ghost use Rattle.ded_session.specs.Runs.{Run, Steps, accepted, accepted_replies, script_of};
-ghost use Rattle.ded_session.specs.Steps.{Accepts, Step};
+ghost use Rattle.ded_session.specs.Steps.{Accepts, IsHeaderIn, Step};
+ghost use Rattle.ded_session.specs.Texts.{text_of};
 ghost use Rattle.ded_session.specs.Widths.{IsNotNarrow};
 
 /// A statement over a catalogue shows one list of tuples at most.
@@ -30,6 +35,16 @@ pub fn one_list()
 pub fn spelled_names()
     ensures { (language : Language) (bytes : List ℕ) (command : CommandForm) (depth : ℕ) →
         Spells language bytes command depth → NamesPlainly command }
+{}
+
+/// A command that is read of bytes is plain, has no long row and names words of the grammar; and what it may be answered over a
+/// catalogue, the statement of these bytes may be answered, unless it is the header.
+pub fn read_commands()
+    ensures plain { (language : Language) (bytes : List ℕ) (command : CommandForm) → IsRead language bytes command → IsPlainCommand command }
+    ensures short { (language : Language) (bytes : List ℕ) (command : CommandForm) → IsRead language bytes command → has_long_row command ≡ false }
+    ensures named { (language : Language) (bytes : List ℕ) (command : CommandForm) → IsRead language bytes command → NamesPlainly command }
+    ensures step { (language : Language) (bytes : List ℕ) (command : CommandForm) (c d : Catalogue) (reply : ReplyForm) → length bytes ≤ 65536
+        → IsRead language bytes command → (IsHeaderIn language (Whole bytes) → ⊥) → Answers command c reply d → Step language c (Whole bytes) reply d }
 {}
 
 /// Each catalogue to which a step leads from one whose names are words of the grammar has such names too, and so has
@@ -52,12 +67,36 @@ pub fn two_replies()
         Step language c s reply d → Step language c s other e → AreOfOne reply other }
 {}
 
-/// A statement over a well formed catalogue is refused as too wide only where it is accepted, and what it asks isn't
-/// narrow.
-pub fn wide_questions()
-    ensures { (language : Language) (c d : Catalogue) (s : Statement) → IsWellFormed c → Step language c s (refused Wide) d
-        → Accepts language s c (λ command. IsNotNarrow command c) }
+/// The bytes written tell the replies one after another: of two replies that a statement may get over a catalogue no
+/// text is a proper front of the other's. The names of the catalogue are words of the grammar, as those of each
+/// catalogue are to which statements lead from the empty one.
+pub fn one_text()
+    ensures { (language : Language) (c d e : Catalogue) (s : Statement) (reply other : ReplyForm) (xs ys : List ℕ) →
+        HasPlainNames c → Step language c s reply d → Step language c s other e →
+        text_of reply ++ xs ≡ text_of other ++ ys → (text_of reply ≡ text_of other) × (xs ≡ ys) }
 {}
+
+/// A statement makes a well formed catalogue of one, so each catalogue to which a run leads is well formed.
+pub fn formed_catalogues()
+    ensures step { (language : Language) (c d : Catalogue) (s : Statement) (reply : ReplyForm) → IsWellFormed c →
+        Step language c s reply d → IsWellFormed d }
+    ensures run { (limit : ℕ) (script : List ℕ) (replies : List ReplyForm) (last : Catalogue) →
+        Run limit script replies last → IsWellFormed last }
+{
+    ded_goals::laws::normal_goals();
+}
+
+/// A statement over a well formed catalogue, as each is to which a run leads, is refused as too wide only where it is
+/// accepted, and what it asks isn't narrow.
+pub fn wide_questions()
+    ensures step { (language : Language) (c d : Catalogue) (s : Statement) → IsWellFormed c → Step language c s (refused Wide) d
+        → Accepts language s c (λ command. IsNotNarrow command c) }
+    ensures run { (limit : ℕ) (script : List ℕ) (replies : List ReplyForm) (c : Catalogue) → Run limit script replies c
+        → (language : Language) (s : Statement) (d : Catalogue) → Step language c s (refused Wide) d
+        → Accepts language s c (λ command. IsNotNarrow command c) }
+{
+    formed_catalogues();
+}
 
 /// The statements of a run that are not refused, with their replies, are a run with the same last catalogue.
 pub fn accepted_statements()

@@ -6,11 +6,12 @@
 //! left to refuse a command that the names accept. [`Session::step`] takes one step of these rules: it reads the
 //! command, checks it over the names (`command`), and then changes the database (`changes`), shows what a relation
 //! stores (`shown`) or its bounds (`boxes`), answers what a formula asks (`questions`), or certifies that relations have no common point
-//! (`certificates`).
+//! (`certificates`). [`Session::answer`] takes one for a command that was read before. [`write_reply`] writes the text of a reply (`specs/Texts.antt`).
 //!
 //! It stands on `ded_syntax` for commands, on `ded_resolve` for commands by slots, on `ded_database` for the catalogue
 //! and the lists of kept views, on `ded_packed` for the tuples of the catalogue, on `ded_plan` for plans, on `ded_atoms` for bounds,
-//! on `ded_cert` for certificates and on `ded_model` for what formulas mean.
+//! on `ded_cert` for certificates, on `ded_print` for texts and on `ded_model` for what formulas mean. That a run leads to a well
+//! formed catalogue ([`laws`]) stands on `ded_orderly`, `ded_restored` and `ded_wording` besides, for the tuples that statements insert.
 #![tactic(auto)]
 
 mod boxes;
@@ -25,7 +26,9 @@ mod session;
 mod shown;
 mod statement;
 mod stored;
+mod text;
 
 pub use reply::Reply;
-pub use session::{Piece, Session};
+pub use session::Session;
 pub use stored::StoredTuples;
+pub use text::write_reply;

@@ -13,6 +13,7 @@ ghost use Rattle.ded_session.specs.Steps.{Does, MayBeWide};
 
 use crate::reply::Reply;
 use ded_database::Database;
+use ded_eval::Engine;
 use ded_goals::laws;
 use ded_model::answer::Answer;
 use ded_model::goal::Goal;
@@ -33,7 +34,7 @@ pub(crate) fn truth(database: &mut Database, goal: &Goal) -> Result<Reply, Refus
         → IsErrOf result Wide → MayBeWide (ask f) (catalogue_at database.old) }
     ensures same { database.new ≡ database.old }
 {
-    Ok(Reply::Truth(database.is_true(goal)?))
+    Ok(Reply::Truth(database.is_true::<Engine>(goal)?))
 }
 
 /// The reply with the tuples over the heading that hold where a formula does, given as its goal.
@@ -52,7 +53,7 @@ pub(crate) fn tuples(
         → IsErrOf result Wide → MayBeWide (query heading f) (catalogue_at database.old) }
     ensures same { database.new ≡ database.old }
 {
-    let tuples = database.answer(&heading, goal)?;
+    let tuples = database.answer::<Engine>(&heading, goal)?;
     Ok(Reply::Tuples(Answer { heading, tuples }))
 }
 

@@ -3,26 +3,17 @@
 ghost use Rattle.std.specs.Prelude.{◌≡◌};
 ghost use Rattle.ded_session.specs.Runs.{next_language};
 
+use crate::command::answer;
 use crate::reply::Reply;
 use crate::statement::{is_header_in, reply_to};
 use ded_catalog::Catalogue;
 use ded_database::Database;
-use ded_model::command::{Language, Refusal};
+use ded_lex::Piece;
+use ded_model::command::{Command, Language, Refusal};
 use ded_model::memory::NoMemory;
 use ded_model::name::Name;
 use ded_model::tuple::Tuple;
 use std::alloc::Global;
-
-/// What stands between two ends of statements.
-#[derive(Clone, Copy)]
-pub enum Piece<'a> {
-    /// A whole piece of at most 65,536 bytes.
-    Whole(&'a [u8]),
-    /// A piece of more bytes.
-    Long,
-    /// A last piece that no `;` ends, of at most 65,536 bytes, and not blank.
-    Cut,
-}
 
 /// The state of a script between two statements.
 #[derive(Drop)]
@@ -33,15 +24,20 @@ pub struct Session {
 }
 
 impl Session {
-    ghost use Rattle.std.specs.Prelude.{◌≡◌, ◌≤◌, true, IsOk, IfOk, IfErr, IfSome, length};
+    ghost use Rattle.std.specs.Prelude.{◌≡◌, ◌≤◌, true, false, IsOk, IfOk, IfErr, IfSome, length};
     ghost use Rattle.std.specs.Option.{option_map};
-    ghost use Rattle.ded_lex.specs.Pieces.{Whole};
+    ghost use Rattle.ded_lex.specs.Pieces.{Whole, IsShortPiece};
+    ghost use Rattle.ded_model.specs.Command.{command_form};
+    ghost use Rattle.ded_model.specs.LongRows.{has_long_row};
+    ghost use Rattle.ded_model.specs.Plain.{IsPlainCommand};
     ghost use Rattle.ded_catalog.specs.State.{catalogue_of};
     ghost use Rattle.ded_database.specs.State.{is_kept, IsSound};
     ghost use Rattle.ded_database.specs.Held.{held_under, IsListOf};
     ghost use Rattle.ded_session.specs.Answered.{reply_form};
-    ghost use Rattle.ded_session.specs.Keeping.{UpholdsPiece, UpholdsStatement};
-    ghost use Rattle.ded_session.specs.Pieces.{IsShortPiece, StepsPiece, GoesOnPiece};
+    ghost use Rattle.ded_session.specs.Carrying.{Answers};
+    ghost use Rattle.ded_session.specs.Keeping.{Upholds, UpholdsPiece, UpholdsStatement};
+    ghost use Rattle.ded_session.specs.Pieces.{StepsPiece, GoesOnPiece};
+    ghost use Rattle.ded_session.specs.PlainNames.{NamesPlainly};
     ghost use Rattle.ded_session.specs.Replies.{refused};
     ghost use Rattle.ded_session.specs.Runs.{next_language, GoesOn};
     ghost use Rattle.ded_session.specs.State.{catalogue_in, language_in, state_in, IsFreshSession, IsResumed};
@@ -82,6 +78,7 @@ impl Session {
     /// None: nothing is allocated before the first statement. The catalogue would be handed back.
     #[tactic(auto, unfolding(crate::specs::State::catalogue_in, crate::specs::State::language_in, crate::specs::State::state_in))]
     pub fn resume(alloc: Global, catalogue: Catalogue) -> Result<Session, Catalogue>
+        ensures made { IsOk result }
         ensures resumed { IfOk result (IsResumed (catalogue_of catalogue)) }
         ensures handed_back { IfErr result (λ c. catalogue_of c ≡ catalogue_of catalogue) }
     {
@@ -149,6 +146,22 @@ impl Session {
             Piece::Long => self.refuse(Refusal::LongStatement),
             Piece::Cut => self.refuse(Refusal::Unfinished),
         }
+    }
+
+    /// Answers the next statement, given by the command that it spells, and changes the catalogue as the rules say. By
+    /// [`laws::read_commands`](crate::laws::read_commands) that is what [`Session::step`] does with the bytes that spell it.
+    #[tactic(auto, unfolding(crate::specs::State::catalogue_in, crate::specs::State::language_in, crate::specs::State::state_in))]
+    pub fn answer(&mut self, command: Command) -> Reply
+        requires plain { IsPlainCommand (command_form command) }
+        requires short { has_long_row (command_form command) ≡ false }
+        requires named { NamesPlainly (command_form command) }
+        ensures answers { Answers (command_form command) (catalogue_in self.old) (reply_form result) (catalogue_in self.new) }
+        ensures language { language_in self.new ≡ next_language (language_in self.old) }
+        ensures upholds { Upholds (command_form command) (reply_form result) (state_in self.old) (state_in self.new) }
+    {
+        let reply = answer(self.alloc, command, &mut self.database);
+        self.language = after(self.language);
+        reply
     }
 
     /// Answers the next statement with the refusal, and changes nothing but the language.

@@ -68,7 +68,7 @@ module _ (keeps : KeepsFormed) (x y : Transaction) (bytes : List ℕ) (reply : R
         last = r.0;
         steps = steps_join ts (told bytes reply ∷ []) d g.last r.0 g.steps (steps_one g.last r.0 (told bytes reply) r.1);
         replays = replays_more bytes command depth reply spells x.accepted y.accepted (remembers command depth spells).accepted d g.last r.0 g.replays r.1;
-        formed = keeps g.last r.0 bytes reply g.formed r.1;
+        formed = keeps One g.last r.0 (Whole bytes) reply g.formed r.1;
         agree = r.2;
         left = agree_then d g.last r.0 (λ n. not (is_among x.changed n)) (λ n. not (changes g.last command reply n)) (λ n. not (is_among y.changed n))
             g.left (step_keeps g.last r.0 g.formed bytes command depth spells reply r.1)
@@ -79,7 +79,7 @@ module _ (keeps : KeepsFormed) (x y : Transaction) (bytes : List ℕ) (reply : R
   follows_more : (ts : List Told) (c : Catalogue) → Follows x ts c → Follows y (ts ++ told bytes reply ∷ []) c
   follows_more ts c f = record {
     start = f.start;
-    formed = keeps x.own y.own bytes reply w step;
+    formed = keeps One x.own y.own (Whole bytes) reply w step;
     fresh = subst (λ ns. Agree f.start c (λ n. not (is_among ns n))) (sym (remembers command depth spells).stale) f.fresh;
     over = λ among d v a within. goes_more ts among d within
         (f.over among d v a (λ n h. within n ((remembers command depth spells).touched n ∙ first_of (is_among x.touched n) _ _ h)));

@@ -1,6 +1,8 @@
 -- One statement more of shared sessions: what it moves, and what the open transactions have done.
 use Rattle.std.proofs.Common.{◌≡◌, ◌-◌, ℕ, ◌==◌, Bool, true, false, not, List, [], ◌∷◌, ◌++◌, Option, Some, None, option_map, length, slice_set, if◌then◌else◌, refl, sym, ap, ◌∙◌, subst}
 use Rattle.std.proofs.lemmas.Bool.{eqb-true}
+use Rattle.ded_lex.specs.Pieces.{Whole}
+use Rattle.ded_model.specs.declared.command.Language.TheVariants.{One}
 use Rattle.ded_model.specs.declared.command.Refusal.TheVariants.{Memory}
 use Rattle.ded_model.specs.Catalogue.{Catalogue}
 use Rattle.ded_model.specs.Known.{IsWellFormed}
@@ -131,7 +133,7 @@ module _ (keeps : KeepsFormed) (s : State) (o : Open) (c : Carries s o) where
           (λ n h. subst (λ b. not b ≡ true) (p.are spells.command spells.depth spells.spells n) h) in
           record {
             carries = record {
-              formed = keeps s.shared u.shared bytes reply c.formed p.step;
+              formed = keeps One s.shared u.shared (Whole bytes) reply c.formed p.step;
               size = subst (λ xs. length xs ≡ 64) (sym p.transactions) (size_aged p.names s.transactions c.size);
               each = λ j m. subst (λ xs. FollowsIn (place xs j) (with_open o k None j) u.shared) (sym p.transactions)
                   (subst (λ ts. FollowsIn (place (all_with_stale p.names s.transactions) j) ts u.shared) (sym (still_none o k e j))

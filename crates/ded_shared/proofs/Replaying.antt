@@ -1,7 +1,8 @@
 -- Steps one after another, and changes that are made again.
 use Rattle.std.proofs.Common.{◌≡◌, ℕ, Bool, true, false, not, ◌&&◌, ◌||◌, List, [], ◌∷◌, ◌++◌, if◌then◌else◌, refl, sym, ap, ◌∙◌, subst, true≢false, bytes_eq}
 use Rattle.std.proofs.lemmas.Bool.{and_parts, not-true}
-use Rattle.ded_lex.specs.Pieces.{Whole}
+use Rattle.ded_lex.specs.Pieces.{Statement, Whole}
+use Rattle.ded_model.specs.declared.command.Language.{Language}
 use Rattle.ded_model.specs.declared.command.Language.TheVariants.{One}
 use Rattle.ded_model.specs.Catalogue.{Catalogue}
 use Rattle.ded_model.specs.Command.{CommandForm, relation, insert, delete, drop, view, header, keep, ask, query, show, box_of, explain, dump, disjoint, verify}
@@ -12,7 +13,8 @@ use Rattle.ded_syntax.specs.Spelling.{Spells}
 use Rattle.ded_syntax.proofs.One.{one_command}
 use Rattle.ded_frame.specs.Agreeing.{Agree}
 use Rattle.ded_frame.specs.Touching.{touches, changes, depends_on_names, uses_name}
-use Rattle.ded_frame.proofs.Making.{Makes, step_makes, one_after}
+use Rattle.ded_frame.proofs.OneCatalogue.{one_after}
+use Rattle.ded_session.proofs.Making.{Makes, step_makes}
 use Rattle.ded_session.specs.Replies.{ReplyForm, is_refusal, done, number, truth, tuples, stored, boxes, steps, script, apart, meeting, refused}
 use Rattle.ded_session.specs.Runs.{Steps}
 use Rattle.ded_session.specs.Steps.{Step}
@@ -41,13 +43,13 @@ replays_join (x ∷ xs) ys c d e p q = (p.0, p.1, p.2, p.3, replays_join xs ys p
 
 -- a statement makes a well formed catalogue of one
 abbrev pub KeepsFormed : Type 0
-KeepsFormed = (c d : Catalogue) (bytes : List ℕ) (reply : ReplyForm) → IsWellFormed c → Step One c (Whole bytes) reply d → IsWellFormed d
+KeepsFormed = (language : Language) (c d : Catalogue) (s : Statement) (reply : ReplyForm) → IsWellFormed c → Step language c s reply d → IsWellFormed d
 
 pub one_replay : KeepsFormed → (xs : List (List ℕ)) (c d e : Catalogue) → IsWellFormed c → Replays xs c d → Replays xs c e → d ≡ e
 one_replay formed [] c d e w p q = p ∙ sym q
 one_replay formed (x ∷ xs) c d e w p q =
-    let same = one_after c p.1 q.1 x p.0 q.0 w p.2 q.2 p.3 q.3 in
-    one_replay formed xs p.1 d e (formed c p.1 x p.0 w p.2) p.4 (subst (λ y. Replays xs y e) (sym same) q.4)
+    let same = one_after One c p.1 q.1 (Whole x) p.0 q.0 w p.2 q.2 p.3 q.3 in
+    one_replay formed xs p.1 d e (formed One c p.1 (Whole x) p.0 w p.2) p.4 (subst (λ y. Replays xs y e) (sym same) q.4)
 
 -- ---- commands that change nothing
 
@@ -94,7 +96,7 @@ no_change c d bytes x depth reply spells h p = by (is_refusal reply) refl
     by : (b : Bool) → is_refusal reply ≡ b → d ≡ c
     by true e = refused_same c d bytes reply e p
     by false e =
-        let a = step_makes c d bytes reply e p in
+        let a = step_makes One c d (Whole bytes) reply e p in
         let is = (one_command One bytes a.command x a.depth depth a.spells spells).0 in
         makes_same x c d (changeless (is_change x) (is_refusal reply) e h) (subst (λ y. Makes y c d) is a.so)
 

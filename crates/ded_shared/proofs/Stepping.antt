@@ -1,12 +1,12 @@
 -- Whichever statement a piece stands for, a step on the piece is one on the statement.
 use Rattle.std.proofs.Common.{◌≡◌, refl, sym, subst}
 use Rattle.ded_dialogue.specs.Runs.{StandsFor}
+use Rattle.ded_lex.specs.declared.piece.Piece.{Piece}
+use Rattle.ded_lex.specs.declared.piece.Piece.TheVariants as piece
 use Rattle.ded_lex.specs.Pieces.{Statement, Whole}
 use Rattle.ded_lex.specs.Pieces as pieces
 use Rattle.ded_model.specs.declared.command.Refusal.TheVariants.{LongStatement, Unfinished}
 use Rattle.ded_session.specs.Replies.{refused}
-use Rattle.ded_session.specs.declared.session.Piece.{Piece}
-use Rattle.ded_session.specs.declared.session.Piece.TheVariants as piece
 use Rattle.ded_shared.specs.Deciding.{some_tagged}
 use Rattle.ded_shared.specs.Forms.{SharedForm, plain}
 use Rattle.ded_shared.specs.Going.{long_reply, rest_reply}

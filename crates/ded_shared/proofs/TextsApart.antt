@@ -14,11 +14,11 @@ use Rattle.ded_model.specs.declared.command.Language.TheVariants.{One}
 use Rattle.ded_model.specs.declared.command.Refusal.TheVariants.{Memory}
 use Rattle.ded_model.specs.Catalogue.{Catalogue}
 use Rattle.ded_print.specs.Numbers.{number_text}
-use Rattle.ded_run.proofs.Telling.{one_text}
 use Rattle.ded_session.specs.PlainNames.{HasPlainNames}
 use Rattle.ded_session.specs.Replies.{ReplyForm, done, refused}
 use Rattle.ded_session.specs.Steps.{Step}
 use Rattle.ded_session.proofs.PlainNames.{plain_step}
+use Rattle.ded_session.proofs.Telling.{one_text}
 use Rattle.ded_shared.specs.Conflicts.{IsLeastInBoth}
 use Rattle.ded_shared.specs.Forms.{SharedForm, plain, begun, not_begun, conflict}
 use Rattle.ded_shared.specs.PlainNames.{HavePlainNames}

@@ -4,7 +4,7 @@ use Rattle.std.proofs.lemmas.List.{set-get_or}
 use Rattle.std.proofs.lemmas.Bool.Decides.{leb_tells}
 use Rattle.ded_dialogue.specs.Replies.{Said}
 use Rattle.ded_dialogue.specs.Runs.{SomeAnswer}
-use Rattle.ded_lex.specs.Pieces.{Statement, Whole}
+use Rattle.ded_lex.specs.Pieces.{Statement, Whole, statement_bytes}
 use Rattle.ded_lex.specs.Pieces as pieces
 use Rattle.ded_model.specs.declared.command.Language.TheVariants.{One}
 use Rattle.ded_model.specs.declared.command.Refusal.{Refusal}
@@ -12,8 +12,7 @@ use Rattle.ded_model.specs.declared.command.Refusal.TheVariants.{LongStatement, 
 use Rattle.ded_model.specs.Catalogue.{Catalogue}
 use Rattle.ded_model.specs.Command.{CommandForm, relation, insert, delete, drop as drops, view}
 use Rattle.ded_frame.specs.Touching.{touches, changes, depends_on_names}
-use Rattle.ded_run.specs.Following.{long_step, rest_step}
-use Rattle.ded_session.specs.Causes.{statement_bytes}
+use Rattle.ded_session.specs.Following.{long_step, rest_step}
 use Rattle.ded_session.specs.Replies.{refused}
 use Rattle.ded_session.specs.Steps.{MayRefuse}
 use Rattle.ded_shared.specs.Deciding.{some_tagged}

@@ -14,5 +14,6 @@ pub mod Rules
 pub mod Serial
 pub mod State
 pub mod Tags
+pub mod TagTokens
 pub mod Texts
 pub mod Verbs

@@ -1,8 +1,8 @@
 -- What a step does with a piece of an input.
 use Rattle.std.specs.Prelude.{◌≡◌, ℕ, List}
+use Rattle.ded_lex.specs.declared.piece.Piece.{Piece}
+use Rattle.ded_lex.specs.declared.piece.Piece.TheVariants as piece
 use Rattle.ded_model.specs.declared.command.Refusal.TheVariants.{LongStatement, Unfinished}
-use Rattle.ded_session.specs.declared.session.Piece.{Piece}
-use Rattle.ded_session.specs.declared.session.Piece.TheVariants as piece
 use Rattle.ded_session.specs.Replies.{refused}
 use Rattle.ded_shared.specs.Forms.{SharedForm, plain}
 use Rattle.ded_shared.specs.Rules.{SharedStep}

@@ -1,7 +1,7 @@
 -- The text that is written of each reply of shared sessions.
 use Rattle.std.specs.Prelude.{ℕ, List, ◌∷◌, [], ◌++◌, codes}
 use Rattle.std.specs.List.{flat_map}
-use Rattle.ded_run.specs.Texts.{text_of}
+use Rattle.ded_session.specs.Texts.{text_of}
 use Rattle.ded_shared.specs.Forms.{SharedForm, plain, begun, not_begun, conflict}
 
 abbrev pub shared_text : SharedForm → List ℕ

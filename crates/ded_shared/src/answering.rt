@@ -14,9 +14,9 @@ use crate::reply::SharedReply;
 use crate::shared::Shared;
 use ded_dialogue::Answering;
 use ded_io::{Failed, Sink, send};
+use ded_lex::Piece;
 use ded_model::name::Name;
-use ded_run::write_reply;
-use ded_session::Piece;
+use ded_session::write_reply;
 
 impl Answering for Shared {
     type Reply = SharedReply;

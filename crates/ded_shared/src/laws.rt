@@ -24,7 +24,7 @@ pub fn serial()
     ensures { (limit : ℕ) (statements : List Statement) (xs : List Tagged) (replies : List SharedForm) (t : State) → AreTagged statements xs
         → SharedSteps (first_state limit) xs replies t → AreSteps (empty_catalogue limit) (serial xs replies) t.shared }
 {
-    ded_frame::laws::formed_catalogues();
+    ded_session::laws::formed_catalogues();
 }
 
 /// The statements of each transaction, also of one that is given up, are with their replies steps of one session from the shared
@@ -34,7 +34,7 @@ pub fn transactions()
         → AreTagged statements before → SharedSteps (first_state limit) before got s → SharedStep s (begins k) (plain done) u
         → AreTagged more later → SharedSteps u later answers t → (end : Catalogue) × AreSteps s.shared (inside k later answers) end }
 {
-    ded_frame::laws::formed_catalogues();
+    ded_session::laws::formed_catalogues();
 }
 
 /// In each state to which tagged statements lead, the names in all catalogues are words of the grammar.

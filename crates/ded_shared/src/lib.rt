@@ -9,8 +9,8 @@
 //! run over an input. [`laws`] say that the statements outside of transactions and those of committed ones, in the order of
 //! their ends (`specs/Events`), are steps of one session with the same replies.
 //!
-//! It stands on `ded_frame` for what statements touch and change, on `ded_session` for their replies, on `ded_syntax` and
-//! `ded_lex` for tags, and on `ded_dialogue` and `ded_run` for the loop and the texts of replies.
+//! It stands on `ded_frame` for what statements touch and change, on `ded_session` for their replies and the texts of these,
+//! on `ded_syntax` and `ded_lex` for tags, and on `ded_dialogue` for the loop.
 #![tactic(auto)]
 
 mod answering;

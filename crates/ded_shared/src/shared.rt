@@ -11,11 +11,12 @@ use crate::reply::SharedReply;
 use crate::tag::{SESSIONS, Tag, Verb, tag_of, verb_of};
 use crate::transaction::Transaction;
 use ded_catalog::Catalogue;
+use ded_lex::{LexFault, Piece, Token, tokens};
 use ded_model::command::Refusal;
 use ded_model::memory::NoMemory;
 use ded_model::name::Name;
-use ded_session::{Piece, Reply};
-use std::alloc::{AllocError, Global};
+use ded_session::Reply;
+use std::alloc::Global;
 use std::marker::Model;
 
 /// The shared catalogue, and the open transactions. Contracts see all of it.
@@ -46,13 +47,15 @@ impl Model for Shared {
 
 impl Shared {
     ghost use Rattle.std.specs.Prelude.{◌≡◌, ◌≤◌, ℕ, List, IfOk, length};
+    ghost use Rattle.ded_lex.specs.Tokens.{AreTokens};
     ghost use Rattle.ded_catalog.specs.State.{catalogue_of};
-    ghost use Rattle.ded_session.specs.Pieces.{IsShortPiece};
+    ghost use Rattle.ded_lex.specs.Pieces.{IsShortPiece};
     ghost use Rattle.ded_shared.specs.Answered.{shared_form};
     ghost use Rattle.ded_shared.specs.Parts.{state_of};
     ghost use Rattle.ded_shared.specs.Pieces.{StepsSharedPiece, StepsTagged};
     ghost use Rattle.ded_shared.specs.State.{first_state};
     ghost use Rattle.ded_shared.specs.Tags.{HasTag};
+    ghost use Rattle.ded_shared.specs.TagTokens.{AreTokensOf};
 
     /// Sessions without open transactions over a catalogue without entries, whose relations have at most `limit` tuples, 1 to
     /// 1,000,000. Names are hashed with keys that are known to all.
@@ -110,10 +113,22 @@ impl Shared {
         requires { length bytes.now ≤ 65536 }
         ensures { StepsTagged bytes.now (state_of self.old) (shared_form result) (state_of self.new) }
     {
-        match tag_of(self.alloc, bytes) {
-            Ok(Some(tag)) => self.step_tagged(tag),
-            Ok(None) => refused(Refusal::Syntax),
-            Err(AllocError) => refused(Refusal::Memory),
+        match tokens(self.alloc, bytes) {
+            Ok(tokens) => self.step_tokens(bytes, tokens.list()),
+            Err(LexFault::NoToken) => refused(Refusal::Syntax),
+            Err(LexFault::Memory) => refused(Refusal::Memory),
+        }
+    }
+
+    /// Answers the next whole piece, of which these are the tokens.
+    fn step_tokens(&mut self, bytes: &[u8], list: &[Token]) -> SharedReply
+        requires tokens { AreTokens bytes.now list.now }
+        requires short { length bytes.now ≤ 65536 }
+        ensures { StepsTagged bytes.now (state_of self.old) (shared_form result) (state_of self.new) }
+    {
+        match tag_of(bytes, list) {
+            Some(tag) => self.step_tagged(tag),
+            None => refused(Refusal::Syntax),
         }
     }
 
@@ -122,14 +137,14 @@ impl Shared {
         requires low { 1 ≤ tag.session }
         requires high { tag.session ≤ 64 }
         requires short { length tag.rest.now ≤ 65536 }
+        requires tokens { AreTokensOf tag.rest.now tag.bytes.now tag.tokens.now }
         ensures { (bytes : List ℕ) → length bytes ≤ 65536 → HasTag bytes tag.entry.session tag.entry.rest.now → StepsTagged bytes (state_of self.old) (shared_form result) (state_of self.new) }
     {
-        match verb_of(self.alloc, tag.rest) {
-            Ok(Some(Verb::Begin)) => self.begin(tag.session),
-            Ok(Some(Verb::Commit)) => self.commit(tag.session),
-            Ok(Some(Verb::Abort)) => self.abort(tag.session),
-            Ok(None) => self.command(tag),
-            Err(AllocError) => refused(Refusal::Memory),
+        match verb_of(tag.bytes, tag.tokens) {
+            Some(Verb::Begin) => self.begin(tag.session),
+            Some(Verb::Commit) => self.commit(tag.session),
+            Some(Verb::Abort) => self.abort(tag.session),
+            None => self.command(tag),
         }
     }
 }

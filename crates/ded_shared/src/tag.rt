@@ -1,24 +1,28 @@
 //! The tag of a statement, and what stands behind it.
-ghost use Rattle.std.specs.Prelude.{◌≡◌, ◌≤◌, ◌↔◌, ℕ, List, Some, true, min, length, drop, IfOk, MatchOption, codes};
+ghost use Rattle.std.specs.Prelude.{◌≡◌, ◌≤◌, ◌↔◌, ℕ, List, Some, true, min, length, drop, MatchOption, codes};
 ghost use Rattle.ded_lex.specs.Tokens.{AreTokens, lexeme, token_text};
 ghost use Rattle.ded_lex.specs.Lexemes.{Sign, Word};
 ghost use Rattle.ded_syntax.specs.Symbols.{number_of};
 ghost use Rattle.ded_shared.specs.Tags.{HasTag, IsSessionOf, IsWord};
+ghost use Rattle.ded_shared.specs.TagTokens.{AreTokensIn, AreTokensOf};
 ghost use Rattle.ded_shared.specs.Verbs.{verb_word};
 ghost use Rattle.ded_shared.specs.declared.tag.Verb.{Verb as VerbForm};
 
-use ded_lex::{LexFault, Token, TokenKind, tokens};
-use ded_model::memory::NoMemory;
-use std::alloc::{AllocError, Global};
+use ded_lex::{Token, TokenKind};
 
 /// The greatest number of a session.
 pub const SESSIONS: u32 = 64;
 
-/// The number of a session, 1 to 64, and the bytes behind the colon that follows it.
+/// The number of a session, 1 to 64, and what stands behind the colon that follows it.
 #[derive(Clone, Copy)]
 pub struct Tag<'a> {
     pub session: u32,
+    /// The bytes behind the colon.
     pub rest: &'a [u8],
+    /// All bytes of the statement.
+    pub bytes: &'a [u8],
+    /// The tokens behind the colon, which say where they stand among all bytes.
+    pub tokens: &'a [Token],
 }
 
 /// What stands behind a tag, where it is no command.
@@ -78,31 +82,13 @@ fn is_colon(bytes: &[u8], token: Token) -> bool
     token.kind == TokenKind::Sign && text(bytes, token) == b":".as_slice()
 }
 
-/// The tag with which the bytes begin, where they are tokens and begin with one.
-///
-/// # Errors
-/// Out of memory.
-pub fn tag_of(alloc: Global, bytes: &[u8]) -> Result<Option<Tag<'_>>, NoMemory>
-    requires { length bytes.now ≤ 65536 }
-    ensures { IfOk result (λ o. MatchOption o
-        ((k : ℕ) (rest : List ℕ) → HasTag bytes.now k rest → ⊥)
-        (λ tag. HasTag bytes.now tag.session tag.rest.now × (length tag.rest.now ≤ 65536))) }
-{
-    let list = match tokens(alloc, bytes) {
-        Ok(list) => list,
-        Err(LexFault::NoToken) => return Ok(None),
-        Err(LexFault::Memory) => return Err(AllocError),
-    };
-    Ok(tag_at(bytes, list.list()))
-}
-
-/// The tag that the tokens of the bytes begin with.
-fn tag_at<'a>(bytes: &'a [u8], list: &[Token]) -> Option<Tag<'a>>
+/// The tag with which the bytes begin, of which these are the tokens, where they begin with one.
+pub fn tag_of<'a>(bytes: &'a [u8], list: &'a [Token]) -> Option<Tag<'a>>
     requires tokens { AreTokens bytes.now list.now }
     requires short { length bytes.now ≤ 65536 }
     ensures { MatchOption result
         ((k : ℕ) (rest : List ℕ) → HasTag bytes.now k rest → ⊥)
-        (λ tag. HasTag bytes.now tag.session tag.rest.now × (length tag.rest.now ≤ 65536)) }
+        (λ tag. HasTag bytes.now tag.session tag.rest.now × (length tag.rest.now ≤ 65536) × AreTokensOf tag.rest.now tag.bytes.now tag.tokens.now) }
 {
     let number = *list.get(0)?;
     let colon = *list.get(1)?;
@@ -113,7 +99,17 @@ fn tag_at<'a>(bytes: &'a [u8], list: &[Token]) -> Option<Tag<'a>>
     Some(Tag {
         session,
         rest: behind(bytes, colon),
+        bytes,
+        tokens: behind_tag(list),
     })
+}
+
+/// The tokens behind the first two.
+fn behind_tag(list: &[Token]) -> &[Token]
+    requires { 2 ≤ length list.now }
+    ensures { result.now ≡ drop 2 list.now }
+{
+    &list[2..]
 }
 
 /// The bytes behind a token.
@@ -145,29 +141,13 @@ fn verb_at(bytes: &[u8], token: Token) -> Option<Verb>
     }
 }
 
-/// The word of transactions that the bytes are, where they are one and nothing else but blanks and comments.
-///
-/// # Errors
-/// Out of memory.
-pub fn verb_of(alloc: Global, bytes: &[u8]) -> Result<Option<Verb>, NoMemory>
-    requires { length bytes.now ≤ 65536 }
-    ensures { IfOk result (λ o. (verb : VerbForm) → (o ≡ Some verb) ↔ IsWord (verb_word verb) bytes.now) }
+/// The word of transactions that the tokens are, where they are one and nothing else.
+pub fn verb_of(bytes: &[u8], tokens: &[Token]) -> Option<Verb>
+    requires { AreTokensIn bytes.now tokens.now }
+    ensures { (rest : List ℕ) → AreTokensOf rest bytes.now tokens.now → (verb : VerbForm) → (result ≡ Some verb) ↔ IsWord (verb_word verb) rest }
 {
-    let list = match tokens(alloc, bytes) {
-        Ok(list) => list,
-        Err(LexFault::NoToken) => return Ok(None),
-        Err(LexFault::Memory) => return Err(AllocError),
-    };
-    Ok(verb_alone(bytes, list.list()))
-}
-
-/// The word of transactions that the only token of the bytes is, where they have one token and it is such a word.
-fn verb_alone(bytes: &[u8], list: &[Token]) -> Option<Verb>
-    requires { AreTokens bytes.now list.now }
-    ensures { (verb : VerbForm) → (result ≡ Some verb) ↔ IsWord (verb_word verb) bytes.now }
-{
-    if list.len() != 1 {
+    if tokens.len() != 1 {
         return None;
     }
-    verb_at(bytes, list[0])
+    verb_at(bytes, tokens[0])
 }

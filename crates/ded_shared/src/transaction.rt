@@ -64,21 +64,22 @@ impl Transaction {
     }
 
     /// Answers a command, given by its bytes too, over the transaction's catalogue, and remembers what it touches and changes.
-    pub fn work(&mut self, alloc: Global, bytes: &[u8], command: &Command) -> Reply
-        requires read { IsRead One bytes.now (command_form command.now) }
+    pub fn work(&mut self, alloc: Global, bytes: &[u8], command: Command) -> Reply
+        requires read { IsRead One bytes.now (command_form command) }
         requires short { length bytes.now ≤ 65536 }
         ensures step { Step One (catalogue_of self.old.own) (Whole bytes.now) (reply_form result) (catalogue_of self.new.own) }
-        ensures remembers { (log : List (List ℕ)) → Remembers bytes.now (reply_form result) (command_form command.now) (transaction_in log self.old) (transaction_in log self.new) }
+        ensures remembers { (log : List (List ℕ)) → Remembers bytes.now (reply_form result) (command_form command) (transaction_in log self.old) (transaction_in log self.new) }
         ensures since { self.new.since ≡ self.old.since }
         ensures pieces { ArePieces self.old.accepted.items → ArePieces self.new.accepted.items }
     {
         self.own.formed();
         let extent = self.extent();
-        if self.remember(alloc, bytes, command).is_err() {
+        if self.remember(alloc, bytes, &command).is_err() {
+            drop(command);
             self.shorten(extent);
             return Reply::Refused(Refusal::Memory);
         }
-        let reply = step_over(alloc, &mut self.own, bytes);
+        let reply = step_over(alloc, &mut self.own, command);
         self.settle(&reply, extent);
         reply
     }

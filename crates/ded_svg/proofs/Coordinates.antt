@@ -13,11 +13,11 @@ use Rattle.ded_svg.specs.Coordinates.{nearest, nearest_whole, hundredths_of, IsN
 -- ---- near
 
 -- twice so many times d is within d of twice m
-record Rounds (m d q : ℕ) : Type 0 where
-  above : 2 * (q * d) ≤ 2 * m + d
-  below : 2 * m ≤ 2 * (q * d) + d
+pub record Rounds (m d q : ℕ) : Type 0 where
+  pub above : 2 * (q * d) ≤ 2 * m + d
+  pub below : 2 * m ≤ 2 * (q * d) + d
 
-nearest_rounds : (m d : ℕ) → 0 < d → Rounds m d (nearest m d)
+pub nearest_rounds : (m d : ℕ) → 0 < d → Rounds m d (nearest m d)
 nearest_rounds m d some = by (nat_le d (2 * (m % d))) refl
   where
     by : (b : Bool) → nat_le d (2 * (m % d)) ≡ b → Rounds m d (if b then (m / d + 1) else (m / d))

@@ -1,5 +1,5 @@
 -- The symbols of bytes, from their tokens.
-use Rattle.std.proofs.Common.{◌≡◌, ℕ, ◌+◌, ◌≤◌, List, [], ◌∷◌, length, ap, sym, ◌∙◌, arith}
+use Rattle.std.proofs.Common.{◌≡◌, ℕ, ◌+◌, ◌≤◌, List, [], ◌∷◌, length, ap, sym, ◌∙◌, subst, arith}
 use Rattle.std.specs.Prelude.{map}
 use Rattle.std.proofs.lemmas.List.{length-map}
 use Rattle.ded_lex.specs.declared.token.Token.{Token}
@@ -23,22 +23,22 @@ one_list bytes these those x y =
     let t = said_by_tokens bytes those y in
     s.2 ∙ ap (map (lexeme bytes)) (one_token_list bytes s.0 t.0 s.1 t.1) ∙ sym t.2
 
--- the symbols of a list that was made from a slice of the tokens
-pub symbols_are : (language : Language) (bytes : List ℕ) (tokens slice : List Token) (items : List Item) → AreTokens bytes tokens → slice ≡ tokens → symbols bytes items ≡ map (symbol language) (map (lexeme bytes) slice) → AreSymbols language bytes (symbols bytes items)
-symbols_are language bytes tokens slice items are e f = record {
-  lexemes = map (lexeme bytes) tokens;
-  are = tokens_say bytes tokens are;
-  seen = f ∙ ap (λ (l : List Token). map (symbol language) (map (lexeme bytes) l)) e;
-}
+-- the symbols of items that were made of tokens, which say what the piece says
+pub symbols_are : (language : Language) (bytes piece : List ℕ) (tokens : List Token) (items : List Item) → AreLexemes piece (map (lexeme bytes) tokens) → symbols bytes items ≡ map (symbol language) (map (lexeme bytes) tokens) → AreSymbols language piece (symbols bytes items)
+symbols_are language bytes piece tokens items are e = record { lexemes = map (lexeme bytes) tokens; are = are; seen = e }
 
 -- tokens in order are no more than the bytes in which they stand
 count : (tokens : List Token) (at limit : ℕ) → at ≤ limit → AreInOrder at limit tokens → at + length tokens ≤ limit
 count [] at limit le order = omega (arith, le)
 count (t ∷ ts) at limit le (begins, some, within, behind) = omega (arith, begins, some, count ts t.end limit within behind)
 
-few_tokens : (bytes : List ℕ) (tokens : List Token) → AreTokens bytes tokens → length tokens ≤ length bytes
-few_tokens bytes tokens are = omega (arith, count tokens 0 (length bytes) (omega arith) (in_order bytes tokens are))
+pub few_tokens : (bytes : List ℕ) (tokens slice : List Token) → length bytes ≤ 65536 → AreTokens bytes tokens → slice ≡ tokens → length slice ≤ 65536
+few_tokens bytes tokens slice le are e = omega (arith, le, count tokens 0 (length bytes) (omega arith) (in_order bytes tokens are), ap length e)
 
-pub few_items : (language : Language) (bytes : List ℕ) (tokens slice : List Token) (items : List Item) → length bytes ≤ 65536 → AreTokens bytes tokens → slice ≡ tokens → symbols bytes items ≡ map (symbol language) (map (lexeme bytes) slice) → length items ≤ 65536
-few_items language bytes tokens slice items le are e f =
-    omega (arith, le, few_tokens bytes tokens are, ap length e, ap length f, length-map items (seen bytes), length-map (map (lexeme bytes) slice) (symbol language), length-map slice (lexeme bytes))
+pub few_items : (language : Language) (bytes : List ℕ) (tokens : List Token) (items : List Item) → length tokens ≤ 65536 → symbols bytes items ≡ map (symbol language) (map (lexeme bytes) tokens) → length items ≤ 65536
+few_items language bytes tokens items le e =
+    omega (arith, le, ap length e, length-map items (seen bytes), length-map (map (lexeme bytes) tokens) (symbol language), length-map tokens (lexeme bytes))
+
+-- a slice of all tokens of bytes says what these say
+pub slice_says : (bytes : List ℕ) (tokens slice : List Token) → AreTokens bytes tokens → slice ≡ tokens → AreLexemes bytes (map (lexeme bytes) slice)
+slice_says bytes tokens slice are e = subst (λ (l : List Token). AreLexemes bytes (map (lexeme bytes) l)) (sym e) (tokens_say bytes tokens are)

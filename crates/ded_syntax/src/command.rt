@@ -1,5 +1,6 @@
 //! Commands of bytes.
-ghost use Rattle.std.specs.Prelude.{◌≡◌, ◌≢◌, ◌≤◌, ℕ, List, Some, true, length, IfOk, IfErr, IfSome, IfNone};
+ghost use Rattle.std.specs.Prelude.{◌≡◌, ◌≢◌, ◌≤◌, ℕ, List, Some, true, length, map, IfOk, IfErr, IfSome, IfNone};
+ghost use Rattle.ded_lex.specs.Tokens.{AreLexemes, lexeme};
 ghost use Rattle.ded_grammar.specs.declared.fault.ReadFault.TheVariants.{NotRead};
 ghost use Rattle.ded_model.specs.declared.command.Language.{Language as LanguageForm};
 ghost use Rattle.ded_model.specs.declared.command.Refusal.TheVariants as refusal;
@@ -18,7 +19,7 @@ use crate::item::{Rest, has_long_literal, has_long_name, items_of};
 use crate::long::is_unfit;
 use crate::statement::draft;
 use ded_grammar::{ReadFault, formula_of, is_formula};
-use ded_lex::{LexFault, tokens};
+use ded_lex::{LexFault, Token, tokens};
 use ded_model::command::{Command, Language, Refusal};
 use ded_model::formula::Formula;
 use std::alloc::Global;
@@ -131,12 +132,28 @@ pub fn read_command(alloc: Global, bytes: &[u8], language: Language) -> Result<C
     ensures read { IfOk result (λ c. IsRead language bytes.now (command_form c)) }
     ensures refused { IfErr result (λ r. r ≢ refusal.Memory → IsLeastIn r language bytes.now) }
 {
-    let tokens = match tokens(alloc, bytes) {
-        Ok(tokens) => tokens,
-        Err(LexFault::NoToken) => return Err(Refusal::Syntax),
-        Err(LexFault::Memory) => return Err(Refusal::Memory),
-    };
-    let Ok(items) = items_of(alloc, bytes, tokens.list(), language) else {
+    match tokens(alloc, bytes) {
+        Ok(tokens) => read_tokens(alloc, bytes, tokens.list(), language),
+        Err(LexFault::NoToken) => Err(Refusal::Syntax),
+        Err(LexFault::Memory) => Err(Refusal::Memory),
+    }
+}
+
+/// The command that the tokens spell in the language. They may be all tokens of the bytes, or those of a part.
+///
+/// # Errors
+/// Those of [`read_command`] for a piece that says what the tokens say.
+pub fn read_tokens(
+    alloc: Global,
+    bytes: &[u8],
+    tokens: &[Token],
+    language: Language,
+) -> Result<Command, Refusal>
+    requires { length tokens.now ≤ 65536 }
+    ensures read { IfOk result (λ c. (piece : List ℕ) → AreLexemes piece (map (lexeme bytes.now) tokens.now) → IsRead language piece (command_form c)) }
+    ensures refused { IfErr result (λ r. r ≢ refusal.Memory → (piece : List ℕ) → AreLexemes piece (map (lexeme bytes.now) tokens.now) → IsLeastIn r language piece) }
+{
+    let Ok(items) = items_of(alloc, bytes, tokens, language) else {
         return Err(Refusal::Memory);
     };
     command_by(

@@ -1,6 +1,7 @@
 //! From the bytes of a statement to its command.
 //!
-//! [`read_command`] answers the command that the bytes spell, or the least refusal that bytes alone decide. The grammar
+//! [`read_command`] answers the command that the bytes spell, or the least refusal that bytes alone decide; [`read_tokens`] that of
+//! tokens that were cut before. The grammar
 //! stands in `specs/` over symbols (`Symbols`, `Literals`, `Operands`, `Atoms`, `Certificates`, `Commands`), with what each part means;
 //! `Spelling` says when bytes spell a command in a language, and when a refusal applies. The languages differ in the symbols
 //! that lexemes are: what a language doesn't have is a symbol that stands in no command.
@@ -32,6 +33,6 @@ mod sum;
 mod terminals;
 mod word;
 
-pub use command::read_command;
+pub use command::{read_command, read_tokens};
 pub use header::is_header;
 pub use laws::{member_names, one_command, opening_language, some_command, spelled_sums};

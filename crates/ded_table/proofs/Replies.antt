@@ -3,6 +3,8 @@ use Rattle.std.proofs.Common.{◌≡◌, ℕ, true, false, Option, Some, None, L
 use Rattle.std.specs.List.{AllByRecursion}
 use Rattle.ded_dialogue.specs.Replies.{Said}
 use Rattle.ded_dialogue.specs.Runs.{StandsFor}
+use Rattle.ded_lex.specs.declared.piece.Piece.{Piece}
+use Rattle.ded_lex.specs.declared.piece.Piece.TheVariants as piece
 use Rattle.ded_lex.specs.Pieces.{Statement, Whole}
 use Rattle.ded_model.specs.declared.command.Language.{Language}
 use Rattle.ded_model.specs.declared.command.Refusal.TheVariants.{Memory}
@@ -15,8 +17,6 @@ use Rattle.ded_model.specs.Known.{IsTupleOver, IsWellFormed}
 use Rattle.ded_model.specs.Row.{Atom}
 use Rattle.ded_run.specs.OneSession.{Standing, said_of}
 use Rattle.ded_run.proofs.Steps.{answers_step}
-use Rattle.ded_session.specs.declared.session.Piece.{Piece}
-use Rattle.ded_session.specs.declared.session.Piece.TheVariants as piece
 use Rattle.ded_session.specs.Pieces.{StepsPiece, GoesOnPiece}
 use Rattle.ded_session.specs.Replies.{ReplyForm, done, number, truth, tuples, stored, boxes, steps, script, apart, meeting, refused}
 use Rattle.ded_session.specs.Steps.{Does, Step}

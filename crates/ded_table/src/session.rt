@@ -7,7 +7,8 @@ ghost use Rattle.ded_table.specs.Tabled.{MayTable};
 use crate::tabled::{TableReply, refuses, tabled, write_tabled};
 use ded_dialogue::Answering;
 use ded_io::{Failed, Sink};
-use ded_session::{Piece, Session};
+use ded_lex::Piece;
+use ded_session::Session;
 use std::alloc::Global;
 
 /// One session, which answers each statement of a script with tables.

@@ -11,8 +11,7 @@ use ded_io::{Failed, Sink, send};
 use ded_model::command::Refusal;
 use ded_model::memory::NoMemory;
 use ded_model::name::Name;
-use ded_run::write_reply;
-use ded_session::Reply;
+use ded_session::{Reply, write_reply};
 use std::alloc::{AllocError, Global};
 
 /// What is written of a reply.

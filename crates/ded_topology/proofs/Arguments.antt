@@ -80,7 +80,7 @@ module _ (m k d e : ℕ) (a : 0 < m) (i : 0 < d) (j : 0 < e) where
   }
 
 -- it is a point
-values_there : (n : ℕ) (h : List Column) (xs : List Argument) → AreByteArguments xs → AreValues (at_slots n h xs)
+pub values_there : (n : ℕ) (h : List Column) (xs : List Argument) → AreByteArguments xs → AreValues (at_slots n h xs)
 values_there n [] xs b = tt
 values_there n (c ∷ cs) [] b = tt
 values_there n (c ∷ cs) (x ∷ xs) b = (of c.sort, values_there (n + 1) cs xs b.1)
@@ -91,18 +91,6 @@ values_there n (c ∷ cs) (x ∷ xs) b = (of c.sort, values_there (n + 1) cs xs 
 
 pub arguments_point : (d : ℕ) (h : List Column) (xs : List Argument) → 0 < d → AreByteArguments xs → IsPoint (record { den = d; coords = at_slots 0 h xs })
 arguments_point d h xs i b = record { positive = i; bytes = values_there 0 h xs b }
-
-pub near_bytes : (m k d e : ℕ) (xs ys : List Argument) → AreNear m k d e xs ys → AreByteArguments xs → AreByteArguments ys
-near_bytes m k d e [] [] n b = tt
-near_bytes m k d e [] (y ∷ ys) n b = absurd n
-near_bytes m k d e (x ∷ xs) [] n b = absurd n
-near_bytes m k d e (x ∷ xs) (y ∷ ys) n b = (subst AllBytes n.1 b.0, near_bytes m k d e xs ys n.2 b.1)
-
-pub near_length : (m k d e : ℕ) (xs ys : List Argument) → AreNear m k d e xs ys → length ys ≡ length xs
-near_length m k d e [] [] n = refl
-near_length m k d e [] (y ∷ ys) n = absurd n
-near_length m k d e (x ∷ xs) [] n = absurd n
-near_length m k d e (x ∷ xs) (y ∷ ys) n = ap suc (near_length m k d e xs ys n.2)
 
 -- ---- what stands at the columns
 

@@ -23,7 +23,7 @@ use Rattle.ded_genrel.proofs.Laws.{conj_lines-append}
 use Rattle.ded_complement.specs.Pieces.{all_atoms}
 use Rattle.ded_atoms.proofs.Conjunctive.{tuple_holds-is, tuple_mentions-is, atoms_lines-is}
 use Rattle.ded_atoms.proofs.Narrowness.{narrow_atoms}
-use Rattle.ded_eval.proofs.NarrowLists.{all_of_each}
+use Rattle.ded_complement.proofs.NarrowLists.{all_of_each}
 use Rattle.ded_topology.specs.Closing.{IsClosed}
 use Rattle.ded_topology.proofs.Closed.{closed_slots, closed_lines}
 

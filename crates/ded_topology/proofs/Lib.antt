@@ -3,8 +3,6 @@ pub mod Closed
 pub mod Interiors
 pub mod MadeNames
 pub mod Normals
-pub mod Shortness
-pub mod SlotCounts
 pub mod SortedSame
 pub mod Weak
 pub mod WideNames

@@ -14,10 +14,11 @@ use Rattle.ded_model.specs.Value.{Argument}
 use Rattle.ded_atoms.proofs.Conjunctive.{normal-is}
 use Rattle.ded_views.specs.Same.{AreByteArguments}
 use Rattle.ded_topology.specs.Names.{HoldsAsTuples, StandsForName}
-use Rattle.ded_topology.proofs.Arguments.{near_point, arguments_point, near_bytes, near_length, arguments_of, arguments_near, number_there, text_there}
+use Rattle.ded_topology.proofs.Arguments.{near_point, arguments_point, arguments_of, arguments_near, number_there, text_there}
 use Rattle.ded_topology.proofs.Normals.{over_slots}
 use Rattle.ded_topology.proofs.SortedSame.{tuples_same}
 use Rattle.ded_topology.proofs.Weak.{sorted_atoms}
+use Rattle.ded_views.proofs.MadeNames.{near_bytes, near_length}
 
 sorted_over : (h : List Column) (ts : List (List Atom)) → AllByRecursion (IsTupleOver h) ts → AreSortedTuples ts
 sorted_over h [] o = tt

@@ -12,7 +12,7 @@ use Rattle.ded_model.specs.Row.{Atom, tuple_mentions, tuples_hold, tuples_mentio
 use Rattle.ded_model.proofs.Members.{or_split}
 use Rattle.ded_model.proofs.Rows.{or_left, or_right}
 use Rattle.ded_model.proofs.Members.{subset_trans}
-use Rattle.ded_eval.specs.Written.{IsWrittenAs}
+use Rattle.ded_atoms.specs.Written.{IsWrittenAs}
 use Rattle.ded_topology.specs.Closing.{AreNormalPart}
 
 -- tuples over a heading mention its slots alone
@@ -22,7 +22,7 @@ over_slots h [] o s e = absurd (true≢false (sym e))
 over_slots h (t ∷ ts) o s e = ⊎_elim (λ (a : tuple_mentions t s ≡ true). o.0.slots s a) (λ b. over_slots h ts o.1 s b) (or_split (tuple_mentions t s) (tuples_mention ts s) e)
 
 -- normal tuples that do so are over it
-over_from : (h : List Column) (us : List (List Atom)) → AllByRecursion IsNormalTuple us → ((s : Slot) → tuples_mention us s ≡ true → stands_in (heading_slots 0 h) s ≡ true) → AllByRecursion (IsTupleOver h) us
+pub over_from : (h : List Column) (us : List (List Atom)) → AllByRecursion IsNormalTuple us → ((s : Slot) → tuples_mention us s ≡ true → stands_in (heading_slots 0 h) s ≡ true) → AllByRecursion (IsTupleOver h) us
 unfolding tuples_mention
 over_from h [] n m = tt
 over_from h (u ∷ us) n m =

@@ -2,62 +2,32 @@
 --
 -- The lines of the name have less than (b + 1) * 2 ^ q digits, and its columns are the heading's: so were (b + 1) * 2 ^ (q + k) at most
 -- 128 for the k rational columns, each list of atoms of the tuples would be narrow.
-use Rattle.std.proofs.Common.{◌≡◌, ◌⊎◌, ℕ, ◌+◌, ◌*◌, ◌^◌, ◌≤◌, nat_lt, Bool, true, false, ◌||◌, cond, bytes_eq, Some, None, List, [], ◌∷◌, ◌++◌, length, inl, inr, arith, refl, sym, ap, ◌∙◌, subst}
+use Rattle.std.proofs.Common.{◌≡◌, ◌⊎◌, ℕ, ◌+◌, ◌*◌, ◌^◌, ◌≤◌, nat_lt, Bool, true, false, ◌||◌, cond, bytes_eq, Some, None, List, [], ◌∷◌, ◌++◌, inl, inr, arith, refl, sym, ap, ◌∙◌, subst}
 use Rattle.std.specs.List.{AllByRecursion}
-use Rattle.std.proofs.Math.Pow.{pow-add}
 use Rattle.std.proofs.lemmas.Bool.Decides.{nat_tests}
 use Rattle.std.proofs.lemmas.List.Folds.{list_any-append}
 use Rattle.ded_model.specs.declared.name.Column.{Column}
 use Rattle.ded_model.specs.declared.slot.Slot.{Slot}
 use Rattle.ded_model.specs.Catalogue.{Entry, relation, view, Catalogue, entry_name}
 use Rattle.ded_model.specs.Entries.{columns_in}
-use Rattle.ded_model.specs.Known.{KnownNames, IsTupleOver, IsWellFormed, heading_slots, entry_known, with_known, known_from, known_of, columns_with}
+use Rattle.ded_model.specs.Known.{KnownNames, IsTupleOver, IsWellFormed, entry_known, with_known, known_from, known_of, columns_with}
 use Rattle.ded_model.specs.Lines.{Line, IsSubset, AreWithin, atoms_lines, tuples_lines}
 use Rattle.ded_model.specs.Made.{reading, closure_of, interior_of}
 use Rattle.ded_model.specs.Measure.{Measure, Measures, is_wide_with, near_measure, measure_as, entry_measure, with_measure, measures_from, stored_measures, measures}
-use Rattle.ded_model.specs.Normal.{IsNormalAtom, IsNormalTuple}
-use Rattle.ded_model.specs.Point.{stands_in}
+use Rattle.ded_model.specs.Normal.{IsNormalAtom}
 use Rattle.ded_model.specs.Row.{Atom, atom_mentions, tuple_mentions, tuples_mention}
-use Rattle.ded_model.specs.Width.{IsNarrowWith, IsNarrowList, tuple_length, rational_slots, rational_columns}
-use Rattle.ded_model.proofs.Members.{In-left, In-right}
+use Rattle.ded_model.specs.Width.{IsNarrowWith, IsNarrowList, rational_columns}
 use Rattle.ded_model.proofs.Rows.{or_right}
 use Rattle.ded_width.proofs.NameReaches.{stored_in_reach}
-use Rattle.ded_width.proofs.Reaches.{reach, some_power, from_within, narrow_with_less}
+use Rattle.ded_width.proofs.Reaches.{reach, some_power, from_within}
 use Rattle.ded_genrel.specs.Lists.{AreNormal, SomeConj}
 use Rattle.ded_complement.specs.Pieces.{all_atoms}
-use Rattle.ded_eval.proofs.NarrowLists.{all_of_each}
+use Rattle.ded_complement.proofs.NarrowLists.{all_of_each}
 use Rattle.ded_atoms.proofs.TuplesRead.{atoms_lines-append}
 use Rattle.ded_topology.proofs.Normals.{over_slots}
-use Rattle.ded_topology.proofs.Shortness.{atoms_short}
-use Rattle.ded_topology.proofs.SlotCounts.{slots_few}
-
--- ---- lists of atoms
-
--- what is narrow with q + m is, with the lengths that q leaves, narrow with m
-narrow_after : (k b q m : ℕ) → k + 1 ≡ (b + 1) * 2 ^ q → IsNarrowWith b (q + m) → IsNarrowWith k m
-narrow_after k b q m e n = subst (λ x. x * 2 ^ m ≤ 128) (sym e) (grouped (b + 1) (2 ^ q) (2 ^ m) (subst (λ x. (b + 1) * x ≤ 128) (pow-add 2 q m) n))
-  where
-    grouped : (a x y : ℕ) → a * (x * y) ≤ 128 → (a * x) * y ≤ 128
-    grouped a x y h = omega (arith, h)
-
-atoms_narrow : (h : List Column) (k : ℕ) (ls : List Line) → IsNarrowWith k (rational_columns h) → AreWithin k ls → (t : List Atom) → AllByRecursion IsNormalAtom t
-    → ((s : Slot) → tuple_mentions t s ≡ true → stands_in (heading_slots 0 h) s ≡ true) → IsSubset (atoms_lines t) ls → IsNarrowList t
-unfolding IsNarrowList
-atoms_narrow h k ls n w t a o s = narrow_with_less (tuple_length t) k (length (rational_slots t)) (rational_columns h) (atoms_short t k a (λ l i. w l (s l i))) (slots_few h t a o) n
-
-normal_atoms : (t : List Atom) → IsNormalTuple t → AllByRecursion IsNormalAtom t
-normal_atoms [] n = tt
-normal_atoms (a ∷ t) n = (n.0, normal_atoms t n.2)
+use Rattle.ded_width.proofs.AnswerReaches.{atoms_narrow, narrow_after, normal_atoms, tuples_narrow}
 
 -- ---- each tuple
-
-each_narrow : (h : List Column) (k : ℕ) (ls : List Line) → IsNarrowWith k (rational_columns h) → AreWithin k ls → (ts : List (List Atom)) → AllByRecursion (IsTupleOver h) ts → IsSubset (tuples_lines ts) ls
-    → AllByRecursion IsNarrowList ts
-each_narrow h k ls n w [] o s = tt
-each_narrow h k ls n w (t ∷ ts) o s = (
-  atoms_narrow h k ls n w t (normal_atoms t o.0.normal) o.0.slots (λ l i. s l (In-left l (atoms_lines t) (tuples_lines ts) i)),
-  each_narrow h k ls n w ts o.1 (λ l i. s l (In-right l (atoms_lines t) (tuples_lines ts) i)),
-)
 
 none_other : (ts : List (List Atom)) → AllByRecursion IsNarrowList ts → SomeConj (λ t. IsNarrowList t → ⊥) ts → ⊥
 none_other [] a w = w
@@ -141,7 +111,7 @@ module _ (c : Catalogue) (w : IsWellFormed c) (n : List ℕ) (ts : List (List At
 
   pub wide_tuple : (m : List ℕ) → (reading m ≡ closure_of n) ⊎ (reading m ≡ interior_of n) → SomeConj (λ t. IsNarrowList t → ⊥) ts → (measures c m).clash ≡ true
   wide_tuple m r x =
-      clash_from c m n r (λ k. none_other ts (each_narrow (columns_in c n) (reach (stored_measures c n).b (stored_measures c n).rank) (stored_measures c n).lines (left k) lines_within ts o s) x)
+      clash_from c m n r (λ k. none_other ts (tuples_narrow (columns_in c n) (reach (stored_measures c n).b (stored_measures c n).rank) (stored_measures c n).lines (left k) lines_within ts o s) x)
 
   pub wide_together : (m : List ℕ) → (reading m ≡ closure_of n) ⊎ (reading m ≡ interior_of n) → (IsNarrowList (all_atoms ts) → ⊥) → (measures c m).clash ≡ true
   wide_together m r x =

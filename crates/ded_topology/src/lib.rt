@@ -11,8 +11,8 @@
 //! Of names that are made of other names the [`laws`] say that these tuples stand for them, and that the made name clashes where
 //! such tuples aren't narrow.
 //!
-//! It stands on `ded_genrel` and `ded_complement` for lists of conjunctions, on `ded_atoms` for the atoms and for reduced tuples, on
-//! `ded_eval` for the tuples of a list, and, for its laws alone, on `ded_width` and `ded_views`. That weak rows are the closure is a
+//! It stands on `ded_genrel` and `ded_complement` for lists of conjunctions, on `ded_atoms` for the atoms, the
+//! tuples of a list and reduced tuples, and, for its laws alone, on `ded_width` and `ded_views`. That weak rows are the closure is a
 //! law of `ded_model`.
 #![tactic(auto)]
 

@@ -70,5 +70,5 @@ fn conjunctions(alloc: Global, tuples: &[Tuple]) -> Result<GenRel<Atoms>, NoMemo
 fn normal_tuples(alloc: Global, list: GenRel<Atoms>) -> Result<Tuples, NoMemory>
     ensures { IfOk result (λ us. AreNormalPart list us) }
 {
-    reduced(alloc, ded_eval::tuples(alloc, list)?)
+    reduced(alloc, ded_atoms::tuples(alloc, list)?)
 }

@@ -6,7 +6,8 @@ ghost use Rattle.ded_model.specs.PlanForm.{plan_form, rows};
 ghost use Rattle.ded_algebra.specs.Evaluation.{IsAnyAtom, IsEvaluable};
 
 use crate::texts::{X, are_written, list, read};
-use ded_eval::{Engine, Given, eval_counted};
+use ded_algebra::Given;
+use ded_eval::{Engine, eval_counted};
 use ded_join::{join_counted, join_inhabited};
 use ded_keep::refresh;
 use ded_model::memory::{NoMemory, Refused};
@@ -105,7 +106,7 @@ fn evaluated(alloc: Global) -> Result<(usize, u64, bool), Fail> {
     let given = Given::new(alloc);
     let mut met = 0;
     let list = eval_counted(alloc, &plan, &given, &mut met).map_err(lack)?;
-    let kept = refresh(alloc, &Engine {}, &plan, &given).map_err(lack)?;
+    let kept = refresh::<Engine, Given>(alloc, &plan, &given).map_err(lack)?;
     Ok((
         list.list().len(),
         met,

@@ -7,8 +7,9 @@ ghost use Rattle.ded_model.specs.Point.{slot};
 
 use crate::joins::union;
 use crate::texts::{X, is_written, read};
+use ded_algebra::Given;
 use ded_atoms::Atoms;
-use ded_eval::{Given, eval};
+use ded_eval::eval;
 use ded_genrel::GenRel;
 use ded_model::memory::{NoMemory, Refused};
 use ded_model::plan::Plan;

@@ -1,9 +1,9 @@
 //! Sessions, seen by the lists that they hold of kept views.
 use crate::texts::{page, put_tuples};
 use ded_io::{BytesSink, Failed, send};
+use ded_lex::Piece;
 use ded_model::name::Name;
-use ded_run::write_reply;
-use ded_session::{Piece, Session};
+use ded_session::{Session, write_reply};
 use std::alloc::Global;
 use std::test::Fail;
 

@@ -4,9 +4,8 @@ ghost use Rattle.std.specs.Prelude.{◌≡◌, ◌∷◌, [], IfOk};
 ghost use Rattle.std.specs.List.{AllByRecursion};
 ghost use Rattle.ded_readback.specs.Plain.{IsPlainHeading};
 
-use ded_atoms::Atoms;
 use ded_atoms::laws::normal_tuples;
-use ded_eval::tuples;
+use ded_atoms::{Atoms, tuples};
 use ded_genrel::{GenRel, copy_conj};
 use ded_io::{BytesSink, Failed, send};
 use ded_model::answer::Answer;

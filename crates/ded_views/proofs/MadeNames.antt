@@ -13,13 +13,13 @@ use Rattle.ded_views.specs.Same.{AreByteArguments, MeansSame, IsSameOf}
 
 -- ---- what is near
 
-near_bytes : (m k d e : ℕ) (xs ys : List Argument) → AreNear m k d e xs ys → AreByteArguments xs → AreByteArguments ys
+pub near_bytes : (m k d e : ℕ) (xs ys : List Argument) → AreNear m k d e xs ys → AreByteArguments xs → AreByteArguments ys
 near_bytes m k d e [] [] n h = tt
 near_bytes m k d e [] (y ∷ ys) n h = absurd n
 near_bytes m k d e (x ∷ xs) [] n h = absurd n
 near_bytes m k d e (x ∷ xs) (y ∷ ys) n h = (subst AllBytes n.1 h.0, near_bytes m k d e xs ys n.2 h.1)
 
-near_length : (m k d e : ℕ) (xs ys : List Argument) → AreNear m k d e xs ys → length ys ≡ length xs
+pub near_length : (m k d e : ℕ) (xs ys : List Argument) → AreNear m k d e xs ys → length ys ≡ length xs
 near_length m k d e [] [] n = refl
 near_length m k d e [] (y ∷ ys) n = absurd n
 near_length m k d e (x ∷ xs) [] n = absurd n
@@ -57,7 +57,7 @@ unfolding meaning
 stored_same c d n k f = read_of (stored c) (stored d) n (reading n) k f
 
 -- a name that isn't made of another one means what stands under it
-plain_same : (c : Catalogue) (n : List ℕ) → is_made n ≡ false → (den : ℕ) (xs : List Argument) → meaning c n den xs ↔ stored c n den xs
+pub plain_same : (c : Catalogue) (n : List ℕ) → is_made n ≡ false → (den : ℕ) (xs : List Argument) → meaning c n den xs ↔ stored c n den xs
 plain_same c n p den xs = meaning-plain c n den xs p
 
 -- where the name that it is made of isn't made itself, what that one means decides

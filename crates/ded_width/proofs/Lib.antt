@@ -7,5 +7,7 @@ pub mod GoalReaches
 pub mod AscendingGoals
 pub mod NameReaches
 pub mod FormulaReaches
+pub mod Shortness
+pub mod SlotCounts
 pub mod AnswerReaches
 mod WorkedWidths

@@ -91,7 +91,7 @@ sum_total M g k (c ∷ cs) over fine all once = by (int_eq k (pos 0)) refl
 abbrev pub AreShortOver : ℕ → List Part → Type 0
 AreShortOver m = AllByRecursion (λ (p : Part). numerator_over m p.1.0 < 2 ^ 63)
 
-not_long : (n : ℕ) → n < 2 ^ 63 → nat_lt (2 ^ 96) n ≡ false
+pub not_long : (n : ℕ) → n < 2 ^ 63 → nat_lt (2 ^ 96) n ≡ false
 not_long n h = grind (arith, nat_tests)
 
 pub none_long : (m : ℕ) (ps : List Part) → AreShortOver m ps → list_any (is_long_over m) (literals_of ps) ≡ false

@@ -128,7 +128,7 @@ worded_compare names l op r None goal words plain short =
 
 -- ---- members
 
-comma : Loose (codes ", ") (Comma ∷ [])
+pub comma : Loose (codes ", ") (Comma ∷ [])
 comma = then_any Any (codes ",") (codes " ") (Comma ∷ []) [] (lone_sign (codes ",") (inr (inr (inr (inr (inl refl))))) refl) blank
 
 record AreWordedArguments (bytes : List ℕ) (ts : List Operand) : Type 0 where

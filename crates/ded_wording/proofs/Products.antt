@@ -163,7 +163,7 @@ sum_value minus p more f ps none e v =
     ∙ ap parts (v (add_factor [] minus (factor (λ n. n) p)))
     ∙ ap (λ (g : Factor). parts ((minus, g) ∷ ps)) e
 
-digit_no_dash : (s next : List ℕ) → BeginsWith digit_byte s → BeginsNot dash_byte (s ++ next)
+pub digit_no_dash : (s next : List ℕ) → BeginsWith digit_byte s → BeginsNot dash_byte (s ++ next)
 digit_no_dash [] next h = absurd h
 digit_no_dash (b ∷ s) next h = no_dash b h
   where

@@ -31,6 +31,7 @@ use Rattle.ded_wording.specs.Words.{IsName, IsText}
 use Rattle.ded_wording.proofs.Operands.{HaveNames}
 use Rattle.ded_wording.proofs.Sides.{AreSmall, left_side, constant_side, whole_comparison}
 use Rattle.ded_wording.proofs.WordedAtoms.{IsWordedComparison}
+use Rattle.ded_restored.proofs.Rows.{minus_none}
 
 -- ---- the greatest common divisor of a normal row
 
@@ -94,14 +95,11 @@ have_each : (ts : List (List ℕ × ℤ)) → AreOnce ts → HaveCoefficients ts
 have_each [] h = tt
 have_each (c ∷ cs) h = (ap (λ (b : Bool). if b then c.1 else coefficient cs c.0) (bytes_eq-refl c.0), have_more c cs cs h.0 (have_each cs h.1))
 
-minus_zero : (z : ℤ) → z -ℤ pos 0 ≡ z
-minus_zero z = omega (arith, ints)
-
 differences_are : (l r : Operand) (ts xs : List (List ℕ × ℤ)) → parts_over (pos 1) l ≡ ts → parts_over (pos 1) r ≡ [] → HaveCoefficients ts xs → differences_over (pos 1) l r xs ≡ coefficients xs
 differences_are l r ts [] e f h = refl
 differences_are l r ts (x ∷ xs) e f h =
     ap₂ (λ (z : ℤ) (zs : List ℤ). z ∷ zs)
-    (ap₂ (λ (a b : List (List ℕ × ℤ)). coefficient a x.0 -ℤ coefficient b x.0) e f ∙ minus_zero (coefficient ts x.0) ∙ h.0)
+    (ap₂ (λ (a b : List (List ℕ × ℤ)). coefficient a x.0 -ℤ coefficient b x.0) e f ∙ minus_none (coefficient ts x.0) ∙ h.0)
     (differences_are l r ts xs e f h.1)
 
 row_is : (l : Operand) (ts : List (List ℕ × ℤ)) (k : ℤ) → IsLeft l ts → AreOnce ts → is_long_comparison l (whole_sum [] k) ≡ is_long_row (coefficients ts) (pos 0 -ℤ k)

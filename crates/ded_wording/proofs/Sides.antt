@@ -32,7 +32,7 @@ use Rattle.ded_syntax.specs.Atoms.{compared}
 use Rattle.ded_syntax.specs.Marks.{is_marked}
 use Rattle.ded_restored.specs.Operands.{whole_sum, terms_of, left_of}
 use Rattle.ded_wording.specs.Words.{IsName, IsText}
-use Rattle.ded_wording.proofs.Arguments.{marked_low}
+use Rattle.ded_wording.proofs.Arguments.{marked_low, not_long}
 use Rattle.ded_wording.proofs.Operands.{HaveNames}
 use Rattle.ded_wording.proofs.Products.{sign_codes, whole_numeral, IsProduct, any_product, scaled_product, constant_product, lone_product, AreMore, no_more, one_more, IsSide, quoted_side, named_side, sum_side, named_sum}
 use Rattle.ded_wording.proofs.Sums.{AreRead, total_named, total_with, no_mark}
@@ -60,9 +60,6 @@ whole_common (l ∷ ls) h = ap (λ (m : ℕ). lcm_from m ls) (ap (lcm 1) h.0.0 �
 
 pub whole_numerator : (l : Literal) → l.1 ≡ 1 → numerator_over 1 l ≡ l.0
 whole_numerator l e = let one : l.0 * (1 / 1) ≡ l.0 = omega arith in ap (λ (d : ℕ). l.0 * (1 / d)) e ∙ one
-
-not_long : (n : ℕ) → n < 2 ^ 63 → nat_lt (2 ^ 96) n ≡ false
-not_long n h = grind (arith, nat_tests)
 
 whole_short : (ls : List Literal) → AreWhole ls → list_any (is_long_over 1) ls ≡ false
 whole_short [] h = refl

@@ -18,6 +18,7 @@ use Rattle.ded_syntax.specs.Atoms.{truth, IsTerminal, AreTerminals, spell_column
 use Rattle.ded_dump.specs.Headings.{column_text, variable}
 use Rattle.ded_wording.specs.Words.{IsName}
 use Rattle.ded_wording.proofs.Worded.{WordedBefore, Worded, Loose, Any, Fits, append, then_any, then_fitting, as_worded, nothing, blank, word, name, lone_sign, each_of}
+use Rattle.ded_wording.proofs.MemberWords.{opened}
 
 -- ---- terminals in a row
 
@@ -87,9 +88,6 @@ say_or = say_one Any (codes " or ") (Word words.Or ∷ []) disjunct (twice_space
 
 pub say_implies : SaysLoosely (codes " implies ") (arrow ∷ [])
 say_implies = say_one Any (codes " implies ") (Word words.Implies ∷ []) arrow (twice_spaced (codes "implies") refl refl (omega arith)) refl refl
-
-opened : Loose (codes "(") (Open ∷ [])
-opened = lone_sign (codes "(") (inl refl) refl
 
 pub say_opening : SaysLoosely (codes "(") (opening ∷ [])
 say_opening = say_one Any (codes "(") (Open ∷ []) opening opened refl refl

@@ -17,17 +17,14 @@ use Rattle.ded_syntax.proofs.Marked.{comparison_exact}
 use Rattle.ded_restored.specs.Formulas.{tuple_compare, tuple_compares}
 use Rattle.ded_restored.specs.Words.{AtomHasWords}
 use Rattle.ded_wording.specs.Words.{IsName, IsMember, IsText}
-use Rattle.ded_wording.proofs.Atoms.{worded_tuple_atom}
+use Rattle.ded_wording.proofs.Atoms.{worded_tuple_atom, comma}
 use Rattle.ded_wording.proofs.WordedAtoms.{IsWordedComparison}
 use Rattle.ded_wording.proofs.Worded.{Worded, Loose, Fits, Any, then_any, then_fitting, as_worded, nothing, blank, lone_sign}
 
-comma : Loose (codes ", ") (Comma ∷ [])
-comma = then_any Any (codes ",") (codes " ") (Comma ∷ []) [] (lone_sign (codes ",") (inr (inr (inr (inr (inl refl))))) refl) blank
-
-opened : Loose (codes "{ ") (OpenBrace ∷ [])
+pub opened : Loose (codes "{ ") (OpenBrace ∷ [])
 opened = then_any Any (codes "{") (codes " ") (OpenBrace ∷ []) [] (lone_sign (codes "{") (inr (inr (inl refl))) refl) blank
 
-closed : Worded (codes "}") (CloseBrace ∷ [])
+pub closed : Worded (codes "}") (CloseBrace ∷ [])
 closed = as_worded (codes "}") (CloseBrace ∷ []) (lone_sign (codes "}") (inr (inr (inr (inl refl)))) refl)
 
 closed_apart : Worded (codes " }") (CloseBrace ∷ [])

@@ -11,13 +11,11 @@ use Rattle.ded_restored.specs.Words.{AreNamed}
 use Rattle.ded_wording.specs.Words.{IsName, IsHeading}
 use Rattle.ded_wording.proofs.Worded.{Worded, Loose, Any, Fits, append, then_any, then_fitting, nothing, blank, name, lone_sign}
 use Rattle.ded_wording.proofs.TerminalsWords.{spaced, sorted}
+use Rattle.ded_wording.proofs.Atoms.{comma}
 
 fits_columns : (cs : List Column) → Fits (columns_text (codes ", ") cs)
 fits_columns [] = tt
 fits_columns (c ∷ cs) = refl
-
-comma : Loose (codes ", ") (Comma ∷ [])
-comma = then_any Any (codes ",") (codes " ") (Comma ∷ []) [] (lone_sign (codes ",") (inr (inr (inr (inr (inl refl))))) refl) blank
 
 column : (c : Column) → IsName c.name → Worded (column_text c) (spell_column c)
 column c h = sorted c.name c.sort h

@@ -4,9 +4,9 @@
 #![tactic(auto)]
 
 use ded_io::{Failed, Sink, StdSink, send};
+use ded_lex::Piece;
 use ded_model::tuple::{BothAtom, ThemeAtom, Tuple};
-use ded_run::write_reply;
-use ded_session::{Piece, Reply, Session};
+use ded_session::{Reply, Session, write_reply};
 use std::process::ExitCode;
 
 /// Talks, their rooms, and the hours at which they are.

@@ -14,7 +14,7 @@ use Rattle.ded_model.specs.Row.{tuple_holds, tuples_hold, tuples_mention}
 use Rattle.ded_model.specs.Uses.{plan_uses}
 use Rattle.ded_catalog.specs.Snapshots.{snapshot_of}
 use Rattle.ded_complement.proofs.Cutting.{all-at}
-use Rattle.ded_eval.specs.Given.{has_name}
+use Rattle.ded_algebra.specs.Given.{has_name}
 use Rattle.ded_plan.specs.Scans.{IsReadWithin}
 use Rattle.ded_query.specs.Asking.{IsAskedView, IsClosedPlan}
 use Rattle.ded_query.specs.Gathering.{IsGathered, IsFront}
@@ -36,31 +36,31 @@ use Rattle.ded_views.proofs.Named.{of_named}
 -- ---- evaluated
 
 pub gathering::evaluated-plan-requires : goal.gathering::evaluated-plan-requires
-gathering::evaluated-plan-requires t c =
+gathering::evaluated-plan-requires g t c =
     record { normal = posed_normal (snapshot_of c.args.snapshot.now) (goal_form c.args.goal.now) c.args.level c.requires.posed c.normal_goals.ensures.accepted }
 
 pub gathering::evaluated-evaluated_by-requires : goal.gathering::evaluated-evaluated_by-requires
-gathering::evaluated-evaluated_by-requires t c =
-    (search rules, (record { goal = goal_form c.args.goal.now; posed = c.requires.posed; planned = c.in_ok-plan.ensures }, c.requires.given))
+gathering::evaluated-evaluated_by-requires g t c κs within =
+    (search rules, (search rules, (record { goal = goal_form c.args.goal.now; posed = c.requires.posed; planned = c.in_ok-plan.ensures }, c.requires.given)))
 
 pub gathering::evaluated-returns-clause-is : goal.gathering::evaluated-returns-clause-is
-gathering::evaluated-returns-clause-is t c = c.evaluated_by.ensures.is (goal_form c.args.goal.now) c.requires.posed c.in_ok-plan.ensures
+gathering::evaluated-returns-clause-is g t c = c.evaluated_by.ensures.is (goal_form c.args.goal.now) c.requires.posed c.in_ok-plan.ensures
 
 pub gathering::evaluated-returns-clause-wide : goal.gathering::evaluated-returns-clause-wide
-gathering::evaluated-returns-clause-wide t c = λ i. c.evaluated_by.ensures.wide i (goal_form c.args.goal.now) c.requires.posed c.in_ok-plan.ensures
+gathering::evaluated-returns-clause-wide g t c = λ i. c.evaluated_by.ensures.wide i (goal_form c.args.goal.now) c.requires.posed c.in_ok-plan.ensures
 
 -- ---- evaluated_by
 
 pub gathering::evaluated_by-witnessed-requires : goal.gathering::evaluated_by-witnessed-requires
-gathering::evaluated_by-witnessed-requires t c =
+gathering::evaluated_by-witnessed-requires g t c κs within =
     let cat = snapshot_of c.args.snapshot.now in
     let plan = plan_form c.args.plan.now in
     let q = c.requires.posed in
     let a : IsAskedView cat plan c.in-Some.name.now = c.in-Some.ensures in
-    (search rules, (a.view, (asked_low cat c.formed.ensures q.goal plan c.args.level q.posed q.planned c.in-Some.name.now a.asking, c.requires.given)))
+    (search rules, (search rules, (a.view, (asked_low cat c.formed.ensures q.goal plan c.args.level q.posed q.planned c.in-Some.name.now a.asking, c.requires.given))))
 
 pub gathering::evaluated_by-returns-in_ok-truth-in-Ok-clause-is : goal.gathering::evaluated_by-returns-in_ok-truth-in-Ok-clause-is
-gathering::evaluated_by-returns-in_ok-truth-in-Ok-clause-is t c = λ g p k.
+gathering::evaluated_by-returns-in_ok-truth-in-Ok-clause-is g t c = λ g p k.
     let cat = snapshot_of c.args.snapshot.now in
     let plan = plan_form c.args.plan.now in
     let a : IsAskedView cat plan c.in-Some.name.now = c.in-Some.ensures in
@@ -69,21 +69,21 @@ gathering::evaluated_by-returns-in_ok-truth-in-Ok-clause-is t c = λ g p k.
 -- ---- witnessed
 
 pub witness::witnessed-overflow_sub-level : goal.witness::witnessed-overflow_sub-level
-witness::witnessed-overflow_sub-level t c =
+witness::witnessed-overflow_sub-level g t c =
     let cat = snapshot_of c.args.snapshot.now in
     let x : IsClosedPlan cat c.args.name.now (plan_form c.in_ok-plan.plan) = c.in_ok-plan.ensures in
     closed_level cat c.formed.ensures c.args.name.now x.goal c.args.level x.closed c.requires.level
 
 pub witness::witnessed-evaluated_whole-requires : goal.witness::witnessed-evaluated_whole-requires
-witness::witnessed-evaluated_whole-requires t c =
+witness::witnessed-evaluated_whole-requires g t c κs within =
     let cat = snapshot_of c.args.snapshot.now in
     let n = c.args.name.now in
     let x : IsClosedPlan cat n (plan_form c.in_ok-plan.plan) = c.in_ok-plan.ensures in
     let above : 1 ≤ c.args.level = closed_level cat c.formed.ensures n x.goal c.args.level x.closed c.requires.level in
-    (search rules, (record { goal = x.goal; posed = closed_posed cat c.formed.ensures n x.goal c.args.level x.closed c.requires.level; planned = x.planned }, c.requires.given))
+    (search rules, (search rules, (record { goal = x.goal; posed = closed_posed cat c.formed.ensures n x.goal c.args.level x.closed c.requires.level; planned = x.planned }, c.requires.given)))
 
 pub witness::witnessed-holds_everywhere-requires : goal.witness::witnessed-holds_everywhere-requires
-witness::witnessed-holds_everywhere-requires t c =
+witness::witnessed-holds_everywhere-requires g t c =
     let cat = snapshot_of c.args.snapshot.now in
     let n = c.args.name.now in
     let x : IsClosedPlan cat n (plan_form c.in_ok-plan.plan) = c.in_ok-plan.ensures in
@@ -91,7 +91,7 @@ witness::witnessed-holds_everywhere-requires t c =
     record { closed = λ s. ap (λ ts. tuples_mention ts s) (c.deref.ensures.value ∙ c.tuples.view_is) ∙ closed_mentions cat c.formed.ensures n x.goal x.closed c.in_ok-tuples.tuples e s }
 
 pub witness::witnessed-returns-in_default-clause-is : goal.witness::witnessed-returns-in_default-clause-is
-witness::witnessed-returns-in_default-clause-is t c =
+witness::witnessed-returns-in_default-clause-is g t c =
     let cat = snapshot_of c.args.snapshot.now in
     let n = c.args.name.now in
     let x : IsClosedPlan cat n (plan_form c.in_ok-plan.plan) = c.in_ok-plan.ensures in
@@ -99,13 +99,13 @@ witness::witnessed-returns-in_default-clause-is t c =
     closed_witness cat n x.goal x.closed c.in_ok-tuples.tuples e c.holds_everywhere.result (λ p. ap (λ ts. tuples_hold ts p) (sym (c.deref.ensures.value ∙ c.tuples.view_is)) ∙ c.holds_everywhere.ensures p)
 
 pub witness::witnessed-overflow_sub-level-2 : goal.witness::witnessed-overflow_sub-level-2
-witness::witnessed-overflow_sub-level-2 t c =
+witness::witnessed-overflow_sub-level-2 g t c =
     let cat = snapshot_of c.args.snapshot.now in
     let x : IsClosedPlan cat c.args.name.now (plan_form c.in_ok-plan.plan) = c.in_ok-plan.ensures in
     closed_level cat c.formed.ensures c.args.name.now x.goal c.args.level x.closed c.requires.level
 
 pub witness::witnessed-witnessed-requires : goal.witness::witnessed-witnessed-requires
-witness::witnessed-witnessed-requires t c =
+witness::witnessed-witnessed-requires g t c κs within =
     let cat = snapshot_of c.args.snapshot.now in
     let n = c.args.name.now in
     let plan = plan_form c.in_ok-plan.plan in
@@ -113,10 +113,10 @@ witness::witnessed-witnessed-requires t c =
     let a : IsAskedView cat (plan_form c.in_ok-plan.plan) c.in-Some.inner.now = c.in-Some.ensures in
     let above : 1 ≤ c.args.level = closed_level cat c.formed.ensures n x.goal c.args.level x.closed c.requires.level in
     let posed = closed_posed cat c.formed.ensures n x.goal c.args.level x.closed c.requires.level in
-    (search rules, (a.view, (asked_low cat c.formed.ensures x.goal plan (c.args.level - 1) posed x.planned c.in-Some.inner.now a.asking, c.requires.given)))
+    (search rules, (search rules, (a.view, (asked_low cat c.formed.ensures x.goal plan (c.args.level - 1) posed x.planned c.in-Some.inner.now a.asking, c.requires.given))))
 
 pub witness::witnessed-returns-clause-is : goal.witness::witnessed-returns-clause-is
-witness::witnessed-returns-clause-is t c =
+witness::witnessed-returns-clause-is g t c =
     let cat = snapshot_of c.args.snapshot.now in
     let n = c.args.name.now in
     let plan = plan_form c.in_ok-plan.plan in
@@ -128,23 +128,26 @@ witness::witnessed-returns-clause-is t c =
 -- ---- evaluated_whole
 
 pub gathering::evaluated_whole-give_all-requires : goal.gathering::evaluated_whole-give_all-requires
-gathering::evaluated_whole-give_all-requires t c =
+gathering::evaluated_whole-give_all-requires g t c κs within =
     let cat = snapshot_of c.args.snapshot.now in
     let plan = plan_form c.args.plan.now in
     let ns = c.deref-2.result.now in
     let all : (n : List ℕ) → plan_uses n plan ≡ list_any (bytes_eq n) ns = λ n. c.in_ok-names.ensures.all n ∙ ap (list_any (bytes_eq n)) (sym c.deref-2.ensures.value) in (
       search rules,
       (
-        posed_known cat c.requires.posed.goal plan c.args.level c.requires.posed.posed c.requires.posed.planned ns all,
+        search rules,
         (
-          posed_levels cat c.requires.posed.goal plan c.args.level c.requires.posed.posed c.requires.posed.planned ns all,
-          c.requires.given,
+          posed_known cat c.requires.posed.goal plan c.args.level c.requires.posed.posed c.requires.posed.planned ns all,
+          (
+            posed_levels cat c.requires.posed.goal plan c.args.level c.requires.posed.posed c.requires.posed.planned ns all,
+            c.requires.given,
+          ),
         ),
       ),
     )
 
 pub gathering::evaluated_whole-returns-in_err-give_all-clause-wide : goal.gathering::evaluated_whole-returns-in_err-give_all-clause-wide
-gathering::evaluated_whole-returns-in_err-give_all-clause-wide t c = λ i g q k.
+gathering::evaluated_whole-returns-in_err-give_all-clause-wide g t c = λ i g q k.
     let p = err_from_is_err_and c.from_residual-in_err-give_all.result c.from_residual-in_err-give_all.ensures.1 in
     let is : c.in_err-give_all.field-0.0 ≡ Wide = cc (p.1, p.2, i) in
     let cat = snapshot_of c.args.snapshot.now in
@@ -153,7 +156,7 @@ gathering::evaluated_whole-returns-in_err-give_all-clause-wide t c = λ i g q k.
     posed_clash cat g plan c.args.level q k ns (λ n. c.in_ok-names.ensures.all n ∙ ap (list_any (bytes_eq n)) (sym c.deref-2.ensures.value)) (c.in_err-give_all.ensures.wide (ap Err is))
 
 pub gathering::evaluated_whole-evaluate-requires : goal.gathering::evaluated_whole-evaluate-requires
-gathering::evaluated_whole-evaluate-requires t c =
+gathering::evaluated_whole-evaluate-requires g t c =
     let cat = snapshot_of c.args.snapshot.now in
     let plan = plan_form c.args.plan.now in
     let ns = c.deref-2.result.now in
@@ -164,7 +167,7 @@ gathering::evaluated_whole-evaluate-requires t c =
     (λ n u. of_named (λ m. has_name m rs ≡ true) ns n c.in_ok-give_all.ensures.all (sym (c.in_ok-names.ensures.all n ∙ ap (list_any (bytes_eq n)) (sym c.deref-2.ensures.value)) ∙ u))
 
 pub gathering::evaluated_whole-returns-clause-is : goal.gathering::evaluated_whole-returns-clause-is
-gathering::evaluated_whole-returns-clause-is t c = λ g p k.
+gathering::evaluated_whole-returns-clause-is g t c = λ g p k.
     let cat = snapshot_of c.args.snapshot.now in
     let plan = plan_form c.args.plan.now in
     let ns = c.deref-2.result.now in
@@ -176,7 +179,7 @@ gathering::evaluated_whole-returns-clause-is t c = λ g p k.
     (λ ts e. evaluated_of cat g plan rs (over_right cat None gs c.formed.ensures c.in_ok-give_all.ensures.gathered.of) k p.formula (posed_scans cat g plan c.args.level p k) ts uses e) c.evaluate.ensures.is
 
 pub gathering::evaluated_whole-returns-clause-wide : goal.gathering::evaluated_whole-returns-clause-wide
-gathering::evaluated_whole-returns-clause-wide t c = λ i g p k.
+gathering::evaluated_whole-returns-clause-wide g t c = λ i g p k.
     let cat = snapshot_of c.args.snapshot.now in
     let gs = c.give_all.new.given in
     clash_of_goal cat g (plan_form c.args.plan.now) (over_relations cat None gs) (shaped cat (over_relations cat None gs) (over_right cat None gs c.formed.ensures c.in_ok-give_all.ensures.gathered.of)) k (c.evaluate.ensures.wide i)
@@ -184,16 +187,16 @@ gathering::evaluated_whole-returns-clause-wide t c = λ i g p k.
 -- ---- evaluated_near
 
 pub gathering::evaluated_near-gathered-requires : goal.gathering::evaluated_near-gathered-requires
-gathering::evaluated_near-gathered-requires t c =
+gathering::evaluated_near-gathered-requires g t c κs within =
     let cat = snapshot_of c.args.snapshot.now in
     let plan = plan_form c.args.plan.now in
     let q = c.requires.posed in
     let ss = c.deref.result.now in
     let r : IsReadWithin plan c.new.result.items ss = subst (IsReadWithin plan c.new.result.items) (sym c.deref.ensures.value) c.in_ok-scans.ensures in
-    (search rules, (posed_readable cat q.goal plan c.args.level q.posed q.planned c.new.result.items ss r, c.requires.given))
+    (search rules, (search rules, (posed_readable cat q.goal plan c.args.level q.posed q.planned c.new.result.items ss r, c.requires.given)))
 
 pub gathering::evaluated_near-returns-in_err-near-clause-wide : goal.gathering::evaluated_near-returns-in_err-near-clause-wide
-gathering::evaluated_near-returns-in_err-near-clause-wide t c = λ i g p k.
+gathering::evaluated_near-returns-in_err-near-clause-wide g t c = λ i g p k.
     let cat = snapshot_of c.args.snapshot.now in
     let plan = plan_form c.args.plan.now in
     let q = c.requires.posed in
@@ -204,10 +207,10 @@ gathering::evaluated_near-returns-in_err-near-clause-wide t c = λ i g p k.
     scans_clash cat g plan c.args.level p k c.new.result.items ss r (c.in_err-near.ensures.wide (ap Err is))
 
 pub gathering::evaluated_near-returns-in_err-add_all-clause-front : goal.gathering::evaluated_near-returns-in_err-add_all-clause-front
-gathering::evaluated_near-returns-in_err-add_all-clause-front t c = front_more c.args.given.now _ c.add_all.new.given c.in_ok-near.ensures.front c.in_err-add_all.ensures.front
+gathering::evaluated_near-returns-in_err-add_all-clause-front g t c = front_more c.args.given.now _ c.add_all.new.given c.in_ok-near.ensures.front c.in_err-add_all.ensures.front
 
 pub gathering::evaluated_near-evaluate-tuples-requires : goal.gathering::evaluated_near-evaluate-tuples-requires
-gathering::evaluated_near-evaluate-tuples-requires t c =
+gathering::evaluated_near-evaluate-tuples-requires g t c =
     let cat = snapshot_of c.args.snapshot.now in
     let plan = plan_form c.args.plan.now in
     let q = c.requires.posed in
@@ -216,7 +219,7 @@ gathering::evaluated_near-evaluate-tuples-requires t c =
     near_evaluable cat q.goal plan c.args.level q.posed q.planned c.new.result.items ss r _ c.in_ok-near.near.items c.add_all.new.given c.in_ok-add_all.ensures.all c.formed.ensures c.in_ok-near.ensures.gathered.of c.in_ok-near.ensures.near c.in_ok-near.ensures.all
 
 pub gathering::evaluated_near-returns-clause-is : goal.gathering::evaluated_near-returns-clause-is
-gathering::evaluated_near-returns-clause-is t c = λ g p k.
+gathering::evaluated_near-returns-clause-is g t c = λ g p k.
     let cat = snapshot_of c.args.snapshot.now in
     let plan = plan_form c.args.plan.now in
     let q = c.requires.posed in
@@ -225,14 +228,14 @@ gathering::evaluated_near-returns-clause-is t c = λ g p k.
     IfOk-weaker c.evaluate-tuples.result _ _ (λ us e. evaluated_everywhere cat g us (evaluated_inside cat g plan (over_relations cat None c.add_all.new.given) (right_shapes cat q.goal plan c.args.level q.posed q.planned c.new.result.items ss r _ c.in_ok-near.near.items c.add_all.new.given c.in_ok-add_all.ensures.all c.formed.ensures c.in_ok-near.ensures.gathered.of c.in_ok-near.ensures.near c.in_ok-near.ensures.all) k c.new.result.items (λ x. true) ss us r (near_agrees cat q.goal plan c.args.level q.posed q.planned c.new.result.items ss r _ c.in_ok-near.near.items c.add_all.new.given c.in_ok-add_all.ensures.all c.formed.ensures c.in_ok-near.ensures.gathered.of c.in_ok-near.ensures.near c.in_ok-near.ensures.all) (λ x w. holds_without c.new.result.items c.new.ensures.items x) e)) c.evaluate-tuples.ensures.is
 
 pub gathering::evaluated_near-returns-clause-gathered : goal.gathering::evaluated_near-returns-clause-gathered
-gathering::evaluated_near-returns-clause-gathered t c =
+gathering::evaluated_near-returns-clause-gathered g t c =
     IfOk-weaker c.evaluate-tuples.result _ _ (λ us e. subst (IsGathered (snapshot_of c.args.snapshot.now) c.args.given.now) (sym (c.keep_first.ensures ∙ ap (λ k. take k c.add_all.new.given) c.count-count.ensures ∙ front_kept _ c.add_all.new.given c.in_ok-add_all.ensures.front)) c.in_ok-near.ensures.gathered) c.evaluate-tuples.ensures.is
 
 pub gathering::evaluated_near-returns-clause-front : goal.gathering::evaluated_near-returns-clause-front
-gathering::evaluated_near-returns-clause-front t c = subst (IsFront c.args.given.now) (sym (c.keep_first.ensures ∙ ap (λ k. take k c.add_all.new.given) c.count-count.ensures ∙ front_kept _ c.add_all.new.given c.in_ok-add_all.ensures.front)) c.in_ok-near.ensures.front
+gathering::evaluated_near-returns-clause-front g t c = subst (IsFront c.args.given.now) (sym (c.keep_first.ensures ∙ ap (λ k. take k c.add_all.new.given) c.count-count.ensures ∙ front_kept _ c.add_all.new.given c.in_ok-add_all.ensures.front)) c.in_ok-near.ensures.front
 
 pub gathering::evaluated_near-returns-clause-wide : goal.gathering::evaluated_near-returns-clause-wide
-gathering::evaluated_near-returns-clause-wide t c = λ i g p k.
+gathering::evaluated_near-returns-clause-wide g t c = λ i g p k.
     let cat = snapshot_of c.args.snapshot.now in
     let plan = plan_form c.args.plan.now in
     let q = c.requires.posed in
@@ -243,16 +246,16 @@ gathering::evaluated_near-returns-clause-wide t c = λ i g p k.
 -- ---- evaluated_within
 
 pub gathering::evaluated_within-gathered-requires : goal.gathering::evaluated_within-gathered-requires
-gathering::evaluated_within-gathered-requires t c =
+gathering::evaluated_within-gathered-requires g t c κs within =
     let cat = snapshot_of c.args.snapshot.now in
     let plan = plan_form c.args.plan.now in
     let q = c.requires.posed in
     let ss = c.deref.result.now in
     let r : IsReadWithin plan c.args.within.now ss = subst (IsReadWithin plan c.args.within.now) (sym c.deref.ensures.value) c.in_ok-scans.ensures in
-    (search rules, (posed_readable cat q.goal plan c.args.level q.posed q.planned c.args.within.now ss r, c.requires.given))
+    (search rules, (search rules, (posed_readable cat q.goal plan c.args.level q.posed q.planned c.args.within.now ss r, c.requires.given)))
 
 pub gathering::evaluated_within-returns-in_err-near-clause-wide : goal.gathering::evaluated_within-returns-in_err-near-clause-wide
-gathering::evaluated_within-returns-in_err-near-clause-wide t c = λ i g p k.
+gathering::evaluated_within-returns-in_err-near-clause-wide g t c = λ i g p k.
     let cat = snapshot_of c.args.snapshot.now in
     let plan = plan_form c.args.plan.now in
     let q = c.requires.posed in
@@ -263,10 +266,10 @@ gathering::evaluated_within-returns-in_err-near-clause-wide t c = λ i g p k.
     scans_clash cat g plan c.args.level p k c.args.within.now ss r (c.in_err-near.ensures.wide (ap Err is))
 
 pub gathering::evaluated_within-returns-in_err-add_all-clause-front : goal.gathering::evaluated_within-returns-in_err-add_all-clause-front
-gathering::evaluated_within-returns-in_err-add_all-clause-front t c = front_more c.args.given.now _ c.add_all.new.given c.in_ok-near.ensures.front c.in_err-add_all.ensures.front
+gathering::evaluated_within-returns-in_err-add_all-clause-front g t c = front_more c.args.given.now _ c.add_all.new.given c.in_ok-near.ensures.front c.in_err-add_all.ensures.front
 
 pub gathering::evaluated_within-evaluate_within-tuples-requires : goal.gathering::evaluated_within-evaluate_within-tuples-requires
-gathering::evaluated_within-evaluate_within-tuples-requires t c =
+gathering::evaluated_within-evaluate_within-tuples-requires g t c =
     let cat = snapshot_of c.args.snapshot.now in
     let plan = plan_form c.args.plan.now in
     let q = c.requires.posed in
@@ -275,7 +278,7 @@ gathering::evaluated_within-evaluate_within-tuples-requires t c =
     near_evaluable cat q.goal plan c.args.level q.posed q.planned c.args.within.now ss r _ c.in_ok-near.near.items c.add_all.new.given c.in_ok-add_all.ensures.all c.formed.ensures c.in_ok-near.ensures.gathered.of c.in_ok-near.ensures.near c.in_ok-near.ensures.all
 
 pub gathering::evaluated_within-returns-clause-is : goal.gathering::evaluated_within-returns-clause-is
-gathering::evaluated_within-returns-clause-is t c = λ g p k.
+gathering::evaluated_within-returns-clause-is g t c = λ g p k.
     let cat = snapshot_of c.args.snapshot.now in
     let plan = plan_form c.args.plan.now in
     let q = c.requires.posed in
@@ -284,14 +287,14 @@ gathering::evaluated_within-returns-clause-is t c = λ g p k.
     IfOk-weaker c.evaluate_within-tuples.result _ _ (λ us e. evaluated_inside cat g plan (over_relations cat None c.add_all.new.given) (right_shapes cat q.goal plan c.args.level q.posed q.planned c.args.within.now ss r _ c.in_ok-near.near.items c.add_all.new.given c.in_ok-add_all.ensures.all c.formed.ensures c.in_ok-near.ensures.gathered.of c.in_ok-near.ensures.near c.in_ok-near.ensures.all) k c.args.within.now (tuple_holds c.args.within.now) ss us r (near_agrees cat q.goal plan c.args.level q.posed q.planned c.args.within.now ss r _ c.in_ok-near.near.items c.add_all.new.given c.in_ok-add_all.ensures.all c.formed.ensures c.in_ok-near.ensures.gathered.of c.in_ok-near.ensures.near c.in_ok-near.ensures.all) (λ x w. w) e) c.evaluate_within-tuples.ensures.is
 
 pub gathering::evaluated_within-returns-clause-gathered : goal.gathering::evaluated_within-returns-clause-gathered
-gathering::evaluated_within-returns-clause-gathered t c =
+gathering::evaluated_within-returns-clause-gathered g t c =
     IfOk-weaker c.evaluate_within-tuples.result _ _ (λ us e. subst (IsGathered (snapshot_of c.args.snapshot.now) c.args.given.now) (sym (c.keep_first.ensures ∙ ap (λ k. take k c.add_all.new.given) c.count-count.ensures ∙ front_kept _ c.add_all.new.given c.in_ok-add_all.ensures.front)) c.in_ok-near.ensures.gathered) c.evaluate_within-tuples.ensures.is
 
 pub gathering::evaluated_within-returns-clause-front : goal.gathering::evaluated_within-returns-clause-front
-gathering::evaluated_within-returns-clause-front t c = subst (IsFront c.args.given.now) (sym (c.keep_first.ensures ∙ ap (λ k. take k c.add_all.new.given) c.count-count.ensures ∙ front_kept _ c.add_all.new.given c.in_ok-add_all.ensures.front)) c.in_ok-near.ensures.front
+gathering::evaluated_within-returns-clause-front g t c = subst (IsFront c.args.given.now) (sym (c.keep_first.ensures ∙ ap (λ k. take k c.add_all.new.given) c.count-count.ensures ∙ front_kept _ c.add_all.new.given c.in_ok-add_all.ensures.front)) c.in_ok-near.ensures.front
 
 pub gathering::evaluated_within-returns-clause-wide : goal.gathering::evaluated_within-returns-clause-wide
-gathering::evaluated_within-returns-clause-wide t c = λ i g p k.
+gathering::evaluated_within-returns-clause-wide g t c = λ i g p k.
     let cat = snapshot_of c.args.snapshot.now in
     let plan = plan_form c.args.plan.now in
     let q = c.requires.posed in
@@ -302,7 +305,7 @@ gathering::evaluated_within-returns-clause-wide t c = λ i g p k.
 -- ---- gathered
 
 pub gathering::gathered-loop-scan-preserved : goal.gathering::gathered-loop-scan-preserved
-gathering::gathered-loop-scan-preserved t c =
+gathering::gathered-loop-scan-preserved g t c =
     let cat = snapshot_of c.args.snapshot.now in
     let ss = c.args.scans.now in
     let old = c.args.given.now in
@@ -321,7 +324,7 @@ gathering::gathered-loop-scan-preserved t c =
 -- ---- view_near
 
 pub gathering::view_near-plan-requires : goal.gathering::view_near-plan-requires
-gathering::view_near-plan-requires t c =
+gathering::view_near-plan-requires g t c =
     let cat = snapshot_of c.args.snapshot.now in
     let n = c.args.scan.now.name in
     let g = goal_form c.args.goal.now in
@@ -330,7 +333,7 @@ gathering::view_near-plan-requires t c =
     record { normal = posed_normal cat g (c.args.level - 1) p c.normal_goals.ensures.accepted }
 
 pub gathering::view_near-overflow_sub-level : goal.gathering::view_near-overflow_sub-level
-gathering::view_near-overflow_sub-level t c =
+gathering::view_near-overflow_sub-level g t c =
     let cat = snapshot_of c.args.snapshot.now in
     let n = c.args.scan.now.name in
     let g = goal_form c.args.goal.now in
@@ -338,16 +341,16 @@ gathering::view_near-overflow_sub-level t c =
     view_level cat n g c.args.level c.formed.ensures c.requires.view low
 
 pub gathering::view_near-evaluated_within-requires : goal.gathering::view_near-evaluated_within-requires
-gathering::view_near-evaluated_within-requires t c =
+gathering::view_near-evaluated_within-requires g t c κs within =
     let cat = snapshot_of c.args.snapshot.now in
     let n = c.args.scan.now.name in
-    let g = goal_form c.args.goal.now in
-    let low = view_low cat n g c.args.level c.formed.ensures c.requires.view c.requires.readable.level in
-    let above : 1 ≤ c.args.level = view_level cat n g c.args.level c.formed.ensures c.requires.view low in
-    (search rules, (record { goal = g; posed = view_posed cat n g c.args.level c.formed.ensures c.requires.view low; planned = c.in_ok-plan.ensures }, c.requires.given))
+    let f = goal_form c.args.goal.now in
+    let low = view_low cat n f c.args.level c.formed.ensures c.requires.view c.requires.readable.level in
+    let above : 1 ≤ c.args.level = view_level cat n f c.args.level c.formed.ensures c.requires.view low in
+    (search rules, (search rules, (record { goal = f; posed = view_posed cat n f c.args.level c.formed.ensures c.requires.view low; planned = c.in_ok-plan.ensures }, c.requires.given)))
 
 pub gathering::view_near-returns-in_err-tuples-clause-wide : goal.gathering::view_near-returns-in_err-tuples-clause-wide
-gathering::view_near-returns-in_err-tuples-clause-wide t c = λ i.
+gathering::view_near-returns-in_err-tuples-clause-wide g t c = λ i.
     let cat = snapshot_of c.args.snapshot.now in
     let n = c.args.scan.now.name in
     let g = goal_form c.args.goal.now in
@@ -357,10 +360,10 @@ gathering::view_near-returns-in_err-tuples-clause-wide t c = λ i.
     view_clash cat n g c.formed.ensures c.requires.view (c.in_err-tuples.ensures.wide (ap Err is) g (view_posed cat n g c.args.level c.formed.ensures c.requires.view low) c.in_ok-plan.ensures)
 
 pub gathering::view_near-view_relation-requires : goal.gathering::view_near-view_relation-requires
-gathering::view_near-view_relation-requires t c = view_known (snapshot_of c.args.snapshot.now) c.args.scan.now.name (goal_form c.args.goal.now) c.formed.ensures c.requires.view
+gathering::view_near-view_relation-requires g t c = view_known (snapshot_of c.args.snapshot.now) c.args.scan.now.name (goal_form c.args.goal.now) c.formed.ensures c.requires.view
 
 pub gathering::view_near-returns-clause-is : goal.gathering::view_near-returns-clause-is
-gathering::view_near-returns-clause-is t c =
+gathering::view_near-returns-clause-is g t c =
     let cat = snapshot_of c.args.snapshot.now in
     let n = c.args.scan.now.name in
     let g = goal_form c.args.goal.now in
@@ -375,41 +378,44 @@ gathering::view_near-returns-clause-is t c =
 -- ---- give
 
 pub gathering::give-give_view-requires : goal.gathering::give-give_view-requires
-gathering::give-give_view-requires t c =
+gathering::give-give_view-requires g t c κs within =
     let cat = snapshot_of c.args.snapshot.now in
     let view = view_goal cat c.args.name.now (goal_form c.in-Some.goal.now) c.in-Some.ensures in
-    (search rules, (view, (view_low cat c.args.name.now (goal_form c.in-Some.goal.now) c.args.level c.formed.ensures view c.requires.level, c.requires.given)))
+    (search rules, (search rules, (view, (view_low cat c.args.name.now (goal_form c.in-Some.goal.now) c.args.level c.formed.ensures view c.requires.level, c.requires.given))))
 
 pub gathering::give-returns-then-has-clause-is : goal.gathering::give-returns-then-has-clause-is
-gathering::give-returns-then-has-clause-is t c = given_there (snapshot_of c.args.snapshot.now) None c.args.given.now c.args.name.now (sym c.has.ensures ∙ c.if-has.true)
+gathering::give-returns-then-has-clause-is g t c = given_there (snapshot_of c.args.snapshot.now) None c.args.given.now c.args.name.now (sym c.has.ensures ∙ c.if-has.true)
 
 pub gathering::give-returns-then-is_relation-clause-is : goal.gathering::give-returns-then-is_relation-clause-is
-gathering::give-returns-then-is_relation-clause-is t c =
+gathering::give-returns-then-is_relation-clause-is g t c =
     stored_there (snapshot_of c.args.snapshot.now) None c.args.given.now c.args.name.now refl (sym c.is_relation.ensures ∙ c.if-is_relation.true)
 
 pub gathering::give-returns-in-Some-clause-is : goal.gathering::give-returns-in-Some-clause-is
-gathering::give-returns-in-Some-clause-is t c = on_ok_weaker c.give_view.result (given_there (snapshot_of c.args.snapshot.now) None c.give_view.new.given c.args.name.now) c.give_view.ensures.is
+gathering::give-returns-in-Some-clause-is g t c = on_ok_weaker c.give_view.result (given_there (snapshot_of c.args.snapshot.now) None c.give_view.new.given c.args.name.now) c.give_view.ensures.is
 
 -- ---- give_all
 
 pub gathering::give_all-loop-name-init : goal.gathering::give_all-loop-name-init
-gathering::give_all-loop-name-init t c = (gathered_none (snapshot_of c.args.snapshot.now) c.args.given.now c.requires.given, tt, front_none c.args.given.now)
+gathering::give_all-loop-name-init g t c = (gathered_none (snapshot_of c.args.snapshot.now) c.args.given.now c.requires.given, tt, front_none c.args.given.now)
 
 pub gathering::give_all-give-requires : goal.gathering::give_all-give-requires
-gathering::give_all-give-requires t c =
+gathering::give_all-give-requires g t c κs within =
     let k = known (snapshot_of c.args.snapshot.now) in (
       search rules,
       (
-        all-at (λ n. is_some (k (base n)) ≡ true) c.args.names.now c.loop-name.name-index c.name-item.result c.loop-name-test.true c.name-item.is c.requires.defined,
+        search rules,
         (
-          all-at (λ n. level_with (k (base n)) ≤ c.args.level) c.args.names.now c.loop-name.name-index c.name-item.result c.loop-name-test.true c.name-item.is c.requires.levels,
-          c.loop-name.invariant.0.of,
+          all-at (λ n. is_some (k (base n)) ≡ true) c.args.names.now c.loop-name.name-index c.name-item.result c.loop-name-test.true c.name-item.is c.requires.defined,
+          (
+            all-at (λ n. level_with (k (base n)) ≤ c.args.level) c.args.names.now c.loop-name.name-index c.name-item.result c.loop-name-test.true c.name-item.is c.requires.levels,
+            c.loop-name.invariant.0.of,
+          ),
         ),
       ),
     )
 
 pub gathering::give_all-loop-name-preserved : goal.gathering::give_all-loop-name-preserved
-gathering::give_all-loop-name-preserved t c =
+gathering::give_all-loop-name-preserved g t c =
     let cat = snapshot_of c.args.snapshot.now in (
       gathered_more cat c.args.given.now c.loop-name.given c.give.new.given c.loop-name.invariant.0 c.in_ok-give.ensures.gathered,
       named_more cat c.args.names.now c.loop-name.name-index c.name-item.result c.loop-name.given c.give.new.given c.loop-name-test.true c.name-item.is c.in_ok-give.ensures.gathered c.in_ok-give.ensures.is c.loop-name.invariant.1,
@@ -417,42 +423,45 @@ gathering::give_all-loop-name-preserved t c =
     )
 
 pub gathering::give_all-returns-clause-gathered : goal.gathering::give_all-returns-clause-gathered
-gathering::give_all-returns-clause-gathered t c = c.loop-name.invariant.0
+gathering::give_all-returns-clause-gathered g t c = c.loop-name.invariant.0
 
 pub gathering::give_all-returns-clause-all : goal.gathering::give_all-returns-clause-all
-gathering::give_all-returns-clause-all t c =
+gathering::give_all-returns-clause-all g t c =
     subst (AllByRecursion (λ n. has_name n (over_relations (snapshot_of c.args.snapshot.now) None c.loop-name.given) ≡ true)) (take_all c.loop-name.name-index c.args.names.now c.loop-name-test.false) c.loop-name.invariant.1
 
 pub gathering::give_all-returns-clause-front : goal.gathering::give_all-returns-clause-front
-gathering::give_all-returns-clause-front t c = c.loop-name.invariant.2
+gathering::give_all-returns-clause-front g t c = c.loop-name.invariant.2
 
 pub gathering::give_all-returns-in_err-give-clause-front : goal.gathering::give_all-returns-in_err-give-clause-front
-gathering::give_all-returns-in_err-give-clause-front t c = front_more c.args.given.now c.loop-name.given c.give.new.given c.loop-name.invariant.2 c.give.ensures.front
+gathering::give_all-returns-in_err-give-clause-front g t c = front_more c.args.given.now c.loop-name.given c.give.new.given c.loop-name.invariant.2 c.give.ensures.front
 
 -- ---- give_view
 
 pub gathering::give_view-overflow_sub-level : goal.gathering::give_view-overflow_sub-level
-gathering::give_view-overflow_sub-level t c = view_level (snapshot_of c.args.snapshot.now) c.args.name.now (goal_form c.args.goal.now) c.args.level c.formed.ensures c.requires.view c.requires.level
+gathering::give_view-overflow_sub-level g t c = view_level (snapshot_of c.args.snapshot.now) c.args.name.now (goal_form c.args.goal.now) c.args.level c.formed.ensures c.requires.view c.requires.level
 
 pub gathering::give_view-evaluated-requires : goal.gathering::give_view-evaluated-requires
-gathering::give_view-evaluated-requires t c =
+gathering::give_view-evaluated-requires g t c κs within =
     let cat = snapshot_of c.args.snapshot.now in
     let above : 1 ≤ c.args.level = view_level cat c.args.name.now (goal_form c.args.goal.now) c.args.level c.formed.ensures c.requires.view c.requires.level in (
       search rules,
       (
-        view_posed cat c.args.name.now (goal_form c.args.goal.now) c.args.level c.formed.ensures c.requires.view c.requires.level,
-        c.requires.given,
+        search rules,
+        (
+          view_posed cat c.args.name.now (goal_form c.args.goal.now) c.args.level c.formed.ensures c.requires.view c.requires.level,
+          c.requires.given,
+        ),
       ),
     )
 
 pub gathering::give_view-returns-in_err-tuples-clause-wide : goal.gathering::give_view-returns-in_err-tuples-clause-wide
-gathering::give_view-returns-in_err-tuples-clause-wide t c = λ i.
+gathering::give_view-returns-in_err-tuples-clause-wide g t c = λ i.
     let p = err_from_is_err_and c.from_residual.result c.from_residual.ensures.1 in
     let is : c.in_err-tuples.field-0.0 ≡ Wide = cc (p.1, p.2, i) in
     view_clash (snapshot_of c.args.snapshot.now) c.args.name.now (goal_form c.args.goal.now) c.formed.ensures c.requires.view (c.in_err-tuples.ensures.wide (ap Err is))
 
 pub gathering::give_view-held_view-requires : goal.gathering::give_view-held_view-requires
-gathering::give_view-held_view-requires t c = record {
+gathering::give_view-held_view-requires g t c = record {
   goal = goal_form c.args.goal.now;
   view = c.requires.view;
   evaluated = evaluated_part (snapshot_of c.args.snapshot.now) (goal_form c.args.goal.now) c.in_ok-tuples.tuples c.in_ok-reduced.field-0 c.in_ok-tuples.ensures.is c.in_ok-reduced.ensures.holds c.in_ok-reduced.ensures.slots c.in_ok-reduced.ensures.lines;
@@ -462,14 +471,14 @@ gathering::give_view-held_view-requires t c = record {
 -- ---- give_other
 
 pub gathering::give_other-returns-then-is_some-clause-is : goal.gathering::give_other-returns-then-is_some-clause-is
-gathering::give_other-returns-then-is_some-clause-is t c =
+gathering::give_other-returns-then-is_some-clause-is g t c =
     let cat = snapshot_of c.args.snapshot.now in
     let n = c.args.name.now in
     let there : is_some (known cat n) ≡ true = sym (headed_known (λ h. h.now) c.heading.result (known cat n) c.heading.ensures) ∙ sym c.is_some.ensures ∙ c.if-is_some.true in
     stored_there cat None c.args.given.now n refl (relation_there cat n there c.requires.view)
 
 pub gathering::give_other-give-requires : goal.gathering::give_other-give-requires
-gathering::give_other-give-requires t c =
+gathering::give_other-give-requires g t c κs within =
     let cat = snapshot_of c.args.snapshot.now in
     let n = c.args.name.now in
     let unknown : is_some (known cat n) ≡ false = sym (headed_known (λ h. h.now) c.heading.result (known cat n) c.heading.ensures) ∙ sym c.is_some.ensures ∙ c.if-is_some.false in
@@ -480,16 +489,19 @@ gathering::give_other-give-requires t c =
     let below : 9 * c.args.level + (if is_made m then 3 else 1) < 9 * c.args.level + (if is_made n then 2 else 0) = lower c.args.level (is_made m) (is_made n) plain other in (
       search (rules, below),
       (
-        subst (λ x. is_some (known cat x) ≡ true) (sym same) c.requires.defined,
+        search rules,
         (
-          subst (λ x. level_with (known cat x) ≤ c.args.level) (sym same) c.requires.level,
-          c.requires.given,
+          subst (λ x. is_some (known cat x) ≡ true) (sym same) c.requires.defined,
+          (
+            subst (λ x. level_with (known cat x) ≤ c.args.level) (sym same) c.requires.level,
+            c.requires.given,
+          ),
         ),
       ),
     )
 
 pub gathering::give_other-returns-in_err-give-clause-wide : goal.gathering::give_other-returns-in_err-give-clause-wide
-gathering::give_other-returns-in_err-give-clause-wide t c = λ i.
+gathering::give_other-returns-in_err-give-clause-wide g t c = λ i.
     let cat = snapshot_of c.args.snapshot.now in
     let n = c.args.name.now in
     let p = err_from_is_err_and c.from_residual-in_err-give.result c.from_residual-in_err-give.ensures.1 in
@@ -498,7 +510,7 @@ gathering::give_other-returns-in_err-give-clause-wide t c = λ i.
     inner_clash cat c.formed.ensures n c.in_ok-inner.inner c.in_ok-inner.ensures unknown c.requires.defined (c.in_err-give.ensures.wide (ap Err is))
 
 pub gathering::give_other-made-requires : goal.gathering::give_other-made-requires
-gathering::give_other-made-requires t c =
+gathering::give_other-made-requires g t c =
     let cat = snapshot_of c.args.snapshot.now in
     let n = c.args.name.now in
     let unknown : is_some (known cat n) ≡ false = sym (headed_known (λ h. h.now) c.heading.result (known cat n) c.heading.ensures) ∙ sym c.is_some.ensures ∙ c.if-is_some.false in
@@ -511,6 +523,6 @@ gathering::give_other-made-requires t c =
     }
 
 pub gathering::give_other-returns-clause-is : goal.gathering::give_other-returns-clause-is
-gathering::give_other-returns-clause-is t c =
+gathering::give_other-returns-clause-is g t c =
     given_there (snapshot_of c.args.snapshot.now) None c.add.new.given c.args.name.now
     (subst (λ (x : List ℕ). has_name x c.add.new.given ≡ true) c.in_ok-near.ensures.is.name c.in_ok-add.ensures.is)

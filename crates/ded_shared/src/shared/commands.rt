@@ -12,7 +12,7 @@ use crate::working::step_over;
 use ded_model::command::{Command, Language, Refusal};
 use ded_model::memory::NoMemory;
 use ded_session::Reply;
-use ded_syntax::read_command;
+use ded_syntax::read_tokens;
 
 impl Shared {
     ghost use Rattle.std.specs.Prelude.{◌≡◌, ◌≤◌, ℕ, List, length, OnOk, OnErr};
@@ -26,6 +26,7 @@ impl Shared {
     ghost use Rattle.ded_shared.specs.Rules.{Works, WorksOutside};
     ghost use Rattle.ded_shared.specs.State.{transaction_of};
     ghost use Rattle.ded_shared.specs.Tags.{HasTag, IsWord};
+    ghost use Rattle.ded_shared.specs.TagTokens.{AreTokensOf};
     ghost use Rattle.ded_shared.specs.Verbs.{verb_word};
     ghost use Rattle.ded_shared.specs.declared.tag.Verb.{Verb};
 
@@ -34,21 +35,22 @@ impl Shared {
         requires low { 1 ≤ tag.session }
         requires high { tag.session ≤ 64 }
         requires short { length tag.rest.now ≤ 65536 }
+        requires tokens { AreTokensOf tag.rest.now tag.bytes.now tag.tokens.now }
         requires no_word { (verb : Verb) → IsWord (verb_word verb) tag.rest.now → ⊥ }
         ensures { (bytes : List ℕ) → length bytes ≤ 65536 → HasTag bytes tag.entry.session tag.entry.rest.now → StepsTagged bytes (state_of self.old) (shared_form result) (state_of self.new) }
     {
-        match read_command(self.alloc, tag.rest, Language::One) {
-            Ok(command) => SharedReply::Plain(self.work(tag, &command)),
+        match read_tokens(self.alloc, tag.bytes, tag.tokens, Language::One) {
+            Ok(command) => SharedReply::Plain(self.work(tag, command)),
             Err(refusal) => refused(refusal),
         }
     }
 
     /// Answers a command that is read, in the session's transaction or outside of one.
-    fn work(&mut self, tag: Tag<'_>, command: &Command) -> Reply
+    fn work(&mut self, tag: Tag<'_>, command: Command) -> Reply
         requires low { 1 ≤ tag.session }
         requires high { tag.session ≤ 64 }
         requires short { length tag.rest.now ≤ 65536 }
-        requires read { IsRead One tag.rest.now (command_form command.now) }
+        requires read { IsRead One tag.rest.now (command_form command) }
         ensures { Works tag.entry.session tag.entry.rest.now (transaction_of (state_of self.old) tag.entry.session) (state_of self.old) (reply_form result) (state_of self.new) }
     {
         match &mut self.transactions[place_of(tag.session)] {
@@ -58,17 +60,18 @@ impl Shared {
     }
 
     /// Answers a command that is read over the shared catalogue.
-    fn work_outside(&mut self, bytes: &[u8], command: &Command) -> Reply
+    fn work_outside(&mut self, bytes: &[u8], command: Command) -> Reply
         requires short { length bytes.now ≤ 65536 }
-        requires read { IsRead One bytes.now (command_form command.now) }
+        requires read { IsRead One bytes.now (command_form command) }
         ensures { WorksOutside bytes.now (state_of self.old) (reply_form result) (state_of self.new) }
     {
         self.forget();
         let count = self.log.len();
-        if self.note(command).is_err() {
+        if self.note(&command).is_err() {
+            drop(command);
             return Reply::Refused(Refusal::Memory);
         }
-        let reply = step_over(self.alloc, &mut self.catalogue, bytes);
+        let reply = step_over(self.alloc, &mut self.catalogue, command);
         if !reply.is_refusal() {
             return reply;
         }

@@ -5,7 +5,7 @@ use Rattle.std.proofs.lemmas.Result.{err_from_is_err_and}
 use Rattle.ded_model.specs.declared.memory.Refused.TheVariants.{Wide}
 use Rattle.ded_model.specs.PlanForm.{plan_form}
 use Rattle.ded_genrel.proofs.Items.{all_weaker}
-use Rattle.ded_eval.specs.Given.{given_catalogue}
+use Rattle.ded_algebra.specs.Given.{given_catalogue}
 use Rattle.ded_keep.specs.Adding.{with_alone, IsExtended}
 use Rattle.ded_keep.specs.Behind.{IsPutBehind}
 use Rattle.ded_query.specs.Gathering.{IsGivenOf, IsFront}
@@ -18,7 +18,7 @@ use Rattle.ded_database.proofs.Beside.{IsGivenBeside, given_beside, others_used,
 use Rattle.ded_database.proofs.extending.extended_over.Goals as goal
 
 pub give_names-requires-clause-defined : goal.give_names-requires-clause-defined
-give_names-requires-clause-defined c =
+give_names-requires-clause-defined g c =
     let b = before c.args.change.now in
     let n = c.args.change.now.name.now in
     let m = c.args.mark.now in
@@ -27,10 +27,10 @@ give_names-requires-clause-defined c =
     c.deref.result.now (others_used n (plan_form m.plan) c.deref.result.now (λ o. ap (list_any (bytes_eq o)) c.deref.ensures.value ∙ c.in_ok-names.ensures o))
 
 pub give_names-requires-clause-held : goal.give_names-requires-clause-held
-give_names-requires-clause-held c = all_weaker (IsHeld (after c.args.change.now)) (IsGivenOf (after c.args.change.now)) c.args.held.now (λ r k. k.given) c.requires.held
+give_names-requires-clause-held g c = all_weaker (IsHeld (after c.args.change.now)) (IsGivenOf (after c.args.change.now)) c.args.held.now (λ r k. k.given) c.requires.held
 
 pub returns-in_err-give_names-clause-wide : goal.returns-in_err-give_names-clause-wide
-returns-in_err-give_names-clause-wide c = λ i.
+returns-in_err-give_names-clause-wide g c = λ i.
     let p = err_from_is_err_and c.from_residual-in_err-give_names.result c.from_residual-in_err-give_names.ensures.1 in
     let is : c.in_err-give_names.field-0.0 ≡ Wide = cc (p.1, p.2, i) in
     let b = before c.args.change.now in
@@ -42,13 +42,13 @@ returns-in_err-give_names-clause-wide c = λ i.
     (c.in_err-give_names.ensures.wide (ap Err is))
 
 pub unreachable-requires : goal.unreachable-requires
-unreachable-requires c =
+unreachable-requires g c =
     let b = before c.args.change.now in
     let n = c.args.change.now.name.now in
     heading_there b (after c.args.change.now) n (others b (after c.args.change.now) n c.args.tuple.now c.requires.insert) c.in_default.ensures
 
 pub add_tuple-requires-clause-apart : goal.add_tuple-requires-clause-apart
-add_tuple-requires-clause-apart c =
+add_tuple-requires-clause-apart g c =
     let n = c.args.change.now.name.now in
     let y : IsGivenBeside (after c.args.change.now) n (plan_form c.args.mark.now.plan) (over_relations (after c.args.change.now) (Some n) c.take.new.self) =
     given_beside (after c.args.change.now) n (plan_form c.args.mark.now.plan) c.deref.result.now c.give_names.new.held c.take.new.self c.requires.insert.formed_after
@@ -56,7 +56,7 @@ add_tuple-requires-clause-apart c =
     no_entry n (over_relations (after c.args.change.now) (Some n) c.take.new.self) y.apart
 
 pub add_tuple-requires-clause-evaluable : goal.add_tuple-requires-clause-evaluable
-add_tuple-requires-clause-evaluable c =
+add_tuple-requires-clause-evaluable g c =
     let b = before c.args.change.now in
     let n = c.args.change.now.name.now in
     let m = c.args.mark.now in
@@ -69,14 +69,14 @@ add_tuple-requires-clause-evaluable c =
     c.in-Some.heading.now c.in-Some.ensures rs y c.args.tuple.now (tuple_over b (after c.args.change.now) n c.args.tuple.now c.requires.insert)
 
 pub returns-in_err-added-clause-front : goal.returns-in_err-added-clause-front
-returns-in_err-added-clause-front c =
+returns-in_err-added-clause-front g c =
     let n = c.args.change.now.name.now in
     subst (IsFront c.args.held.now) (sym c.take.ensures.left)
     (front_without n c.args.held.now c.give_names.new.held
     (held_other (before c.args.change.now) (after c.args.change.now) n (others (before c.args.change.now) (after c.args.change.now) n c.args.tuple.now c.requires.insert) c.args.held.now c.requires.held) c.give_names.ensures.front)
 
 pub returns-in_err-added-clause-wide : goal.returns-in_err-added-clause-wide
-returns-in_err-added-clause-wide c = λ i.
+returns-in_err-added-clause-wide g c = λ i.
     let p = err_from_is_err_and c.from_residual-in_err-added.result c.from_residual-in_err-added.ensures.1 in
     let is : c.in_err-added.field-0.0 ≡ Wide = cc (p.1, p.2, i) in
     let b = before c.args.change.now in
@@ -92,21 +92,21 @@ returns-in_err-added-clause-wide c = λ i.
     (c.in_err-added.ensures.wide (ap Err is))
 
 pub returns-in_err-more-clause-front : goal.returns-in_err-more-clause-front
-returns-in_err-more-clause-front c =
+returns-in_err-more-clause-front g c =
     let n = c.args.change.now.name.now in
     subst (IsFront c.args.held.now) (sym c.take.ensures.left)
     (front_without n c.args.held.now c.give_names.new.held
     (held_other (before c.args.change.now) (after c.args.change.now) n (others (before c.args.change.now) (after c.args.change.now) n c.args.tuple.now c.requires.insert) c.args.held.now c.requires.held) c.give_names.ensures.front)
 
 pub returns-in_err-put_behind-clause-front : goal.returns-in_err-put_behind-clause-front
-returns-in_err-put_behind-clause-front c =
+returns-in_err-put_behind-clause-front g c =
     let n = c.args.change.now.name.now in
     subst (IsFront c.args.held.now) (sym c.take.ensures.left)
     (front_without n c.args.held.now c.give_names.new.held
     (held_other (before c.args.change.now) (after c.args.change.now) n (others (before c.args.change.now) (after c.args.change.now) n c.args.tuple.now c.requires.insert) c.args.held.now c.requires.held) c.give_names.ensures.front)
 
 pub returns-clause-is : goal.returns-clause-is
-returns-clause-is c =
+returns-clause-is g c =
     let b = before c.args.change.now in
     let n = c.args.change.now.name.now in
     let m = c.args.mark.now in
@@ -124,13 +124,13 @@ returns-clause-is c =
     r.normal (subst (λ ks. IsPutBehind ks c.in_ok-more.more c.put_behind.new.list.items) c.list.view_is c.in_ok-put_behind.ensures)
 
 pub returns-clause-front : goal.returns-clause-front
-returns-clause-front c =
+returns-clause-front g c =
     let n = c.args.change.now.name.now in
     subst (IsFront c.args.held.now) (sym c.take.ensures.left)
     (front_without n c.args.held.now c.give_names.new.held
     (held_other (before c.args.change.now) (after c.args.change.now) n (others (before c.args.change.now) (after c.args.change.now) n c.args.tuple.now c.requires.insert) c.args.held.now c.requires.held) c.give_names.ensures.front)
 
 pub returns-clause-longer : goal.returns-clause-longer
-returns-clause-longer c =
+returns-clause-longer g c =
     let b = subst (λ ks. IsPutBehind ks c.in_ok-more.more c.put_behind.new.list.items) c.list.view_is c.in_ok-put_behind.ensures in
     record { more = b.rest; is = b.is }

@@ -5,7 +5,7 @@ use Rattle.ded_database.proofs.Listing.{marked_after}
 use Rattle.ded_database.proofs.keeping.keep_view.Goals as goal
 
 pub returns-in-Ok-clause-upheld : goal.returns-in-Ok-clause-upheld
-returns-in-Ok-clause-upheld c =
+returns-in-Ok-clause-upheld g c =
     let ms = c.mark.new.marks.items in
     record {
       marks = c.mark.ensures.marks;

@@ -2,7 +2,7 @@ use Rattle.std.proofs.Common.{◌++◌, sym, ap, ◌∙◌, subst}
 use Rattle.ded_model.specs.Lines.{atoms_lines}
 use Rattle.ded_model.specs.Renaming.{IsOneToOne, KeepsSorts, mapped_lines}
 use Rattle.ded_model.specs.Row.{tuple_mentions}
-use Rattle.ded_eval.specs.Scanning.{column_pairs}
+use Rattle.ded_algebra.specs.Columns.{column_pairs}
 use Rattle.ded_database.proofs.LostReading.{own_read, columns_apart, columns_sorted, adds_read}
 use Rattle.ded_database.proofs.lost.add_read.Goals as goal
 

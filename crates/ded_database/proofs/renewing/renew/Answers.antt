@@ -11,13 +11,13 @@ use Rattle.ded_database.proofs.Views.{mark_clash}
 use Rattle.ded_database.proofs.renewing.renew.Goals as goal
 
 pub new_list-requires-clause-list : goal.new_list-requires-clause-list
-new_list-requires-clause-list c =
+new_list-requires-clause-list g c =
     let b = before c.args.change.now in
     let v = c.args.mark.now.name in
     found_tuples (IsHeld b) (IsViewOf b v) v c.args.stale.now c.take-list.result (λ r e k. subst (λ m. IsViewOf b m r.tuples) e k.view) c.take-list.ensures.taken c.requires.stale
 
 pub returns-in_ok-held_view-in-Ok-clause-ok : goal.returns-in_ok-held_view-in-Ok-clause-ok
-returns-in_ok-held_view-in-Ok-clause-ok c =
+returns-in_ok-held_view-in-Ok-clause-ok g c =
     let b = before c.args.change.now in
     let d = after c.args.change.now in
     let n = c.args.change.now.name.now in
@@ -29,7 +29,7 @@ returns-in_ok-held_view-in-Ok-clause-ok c =
     (λ us s o h. found_so (λ ls. IsLonger ls c.in-Ok.tuples) m.name c.args.stale.now c.take-list.result us c.take-list.ensures.taken h (c.in-Ok.ensures.longer s (c.conjunctive_views.ensures b m n c.requires.mark o)))) c.add.ensures.ok
 
 pub returns-in-Err-Wide-clause-ok : goal.returns-in-Err-Wide-clause-ok
-returns-in-Err-Wide-clause-ok c =
+returns-in-Err-Wide-clause-ok g c =
     let b = before c.args.change.now in
     let d = after c.args.change.now in
     let n = c.args.change.now.name.now in

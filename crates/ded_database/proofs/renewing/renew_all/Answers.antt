@@ -14,7 +14,7 @@ use Rattle.ded_database.proofs.renewing.renew_all.Goals as goal
 use Rattle.ded_database.proofs.renewing.renew_all.Goals.{then-reaches+in_ok-renew, else-reaches}
 
 pub renew-requires-clause-new : goal.renew-requires-clause-new
-renew-requires-clause-new c =
+renew-requires-clause-new g c =
     let b = before c.args.change.now in
     let n = c.args.change.now.name.now in
     let m = c.mark-item.result in
@@ -27,7 +27,7 @@ renew-requires-clause-new c =
     ∙ c.requires.gone m.name (marked_at c.args.marks.now i m c.loop-mark-test.true c.mark-item.is) s)
 
 pub loop-mark-preserved : goal.loop-mark-preserved
-loop-mark-preserved c =
+loop-mark-preserved g c =
     let b = before c.args.change.now in
     let d = after c.args.change.now in
     let n = c.args.change.now.name.now in

@@ -7,7 +7,7 @@ use Rattle.ded_database.proofs.LostViews.{lines_but}
 use Rattle.ded_database.proofs.shortening.list_without.Goals as goal
 
 pub settled-requires-clause-but : goal.settled-requires-clause-but
-settled-requires-clause-but c =
+settled-requires-clause-but g c =
     let b = before c.args.change.now in
     let d = after c.args.change.now in
     let v = c.args.mark.now.name in
@@ -17,4 +17,4 @@ settled-requires-clause-but c =
     (subst (λ o. IfSome o (λ (w : Vec LinearConstraint Global). HasLinesBut b d v w.items c.deref.result.now)) c.in-Some.is c.in_ok-lost.ensures)))
 
 pub settled-requires-clause-loses : goal.settled-requires-clause-loses
-settled-requires-clause-loses c = λ more k. c.in-Ok.ensures.is more (lines_but (before c.args.change.now) (after c.args.change.now) c.args.mark.now.name more c.args.list c.requires.list k)
+settled-requires-clause-loses g c = λ more k. c.in-Ok.ensures.is more (lines_but (before c.args.change.now) (after c.args.change.now) c.args.mark.now.name more c.args.list c.requires.list k)

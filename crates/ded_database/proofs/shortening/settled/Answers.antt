@@ -7,7 +7,7 @@ use Rattle.ded_database.proofs.shortening.settled.Goals.{then-not-branch-via-the
 use Rattle.ded_database.proofs.shortening.settled.Goals as goal
 
 pub returns-then-not-branch-clause-is : goal.returns-then-not-branch-clause-is
-returns-then-not-branch-clause-is c =
+returns-then-not-branch-clause-is g c =
     elim c.then-not-branch.branch [
       | then-not-branch-via-then-not-branch w ↦ none_but (after c.args.change.now) c.args.mark.now.name c.args.lost.now c.args.tuples c.requires.but
           (subst (λ ts. AreApartLines (tuples_lines ts) c.args.lost.now) (c.deref.ensures.value ∙ c.tuples.view_is) (c.in_ok-have_any.ensures w.if-not-branch.true))

@@ -4,7 +4,7 @@ use Rattle.std.specs.List.{list_any}
 use Rattle.ded_model.specs.Lines.{Line}
 use Rattle.ded_model.specs.PlanForm.{plan_form}
 use Rattle.ded_genrel.proofs.Items.{all_weaker}
-use Rattle.ded_eval.specs.Given.{given_catalogue}
+use Rattle.ded_algebra.specs.Given.{given_catalogue}
 use Rattle.ded_keep.specs.Adding.{with_alone}
 use Rattle.ded_keep.specs.Remaining.{IsRemaining}
 use Rattle.ded_query.specs.Gathering.{IsGivenOf, IsFront}
@@ -18,7 +18,7 @@ use Rattle.ded_database.proofs.Losing.{both_ok, others, tuple_over, removal, eva
 use Rattle.ded_database.proofs.shortening.shortened_over.Goals as goal
 
 pub give_names-requires-clause-defined : goal.give_names-requires-clause-defined
-give_names-requires-clause-defined c =
+give_names-requires-clause-defined g c =
     let b = before c.args.change.now in
     let d = after c.args.change.now in
     let n = c.args.change.now.name.now in
@@ -28,17 +28,17 @@ give_names-requires-clause-defined c =
     names_known b d n o m.name k.own k.columns k.formula (plan_form m.plan) k.entry k.planned c.deref.result.now (λ x i. c.in_ok-names.ensures.all x ∙ sym (ap (list_any (bytes_eq x)) c.deref.ensures.value) ∙ i)
 
 pub give_names-requires-clause-held : goal.give_names-requires-clause-held
-give_names-requires-clause-held c = all_weaker (IsHeld (after c.args.change.now)) (IsGivenOf (after c.args.change.now)) c.args.held.now (λ r k. k.given) c.requires.held
+give_names-requires-clause-held g c = all_weaker (IsHeld (after c.args.change.now)) (IsGivenOf (after c.args.change.now)) c.args.held.now (λ r k. k.given) c.requires.held
 
 pub unreachable-requires : goal.unreachable-requires
-unreachable-requires c =
+unreachable-requires g c =
     let b = before c.args.change.now in
     let d = after c.args.change.now in
     let n = c.args.change.now.name.now in
     heading_there b d n (others b d n c.args.gone.now c.requires.delete) c.in_default.ensures
 
 pub remove_tuple-requires-clause-apart : goal.remove_tuple-requires-clause-apart
-remove_tuple-requires-clause-apart c =
+remove_tuple-requires-clause-apart g c =
     let d = after c.args.change.now in
     let n = c.args.change.now.name.now in
     let m = c.args.mark.now in
@@ -49,7 +49,7 @@ remove_tuple-requires-clause-apart c =
     no_entry n rs y.apart
 
 pub remove_tuple-requires-clause-evaluable : goal.remove_tuple-requires-clause-evaluable
-remove_tuple-requires-clause-evaluable c =
+remove_tuple-requires-clause-evaluable g c =
     let b = before c.args.change.now in
     let d = after c.args.change.now in
     let n = c.args.change.now.name.now in
@@ -63,7 +63,7 @@ remove_tuple-requires-clause-evaluable c =
     evaluable_alone b d n o m.name k.own k.columns k.formula (plan_form m.plan) k.entry k.planned c.in-Some.heading.now c.in-Some.ensures rs y c.args.gone.now (tuple_over b d n c.args.gone.now c.requires.delete)
 
 pub remove_tuple-requires-clause-after : goal.remove_tuple-requires-clause-after
-remove_tuple-requires-clause-after c =
+remove_tuple-requires-clause-after g c =
     let b = before c.args.change.now in
     let d = after c.args.change.now in
     let n = c.args.change.now.name.now in
@@ -73,7 +73,7 @@ remove_tuple-requires-clause-after c =
     c.give_names.new.held c.take.new.self c.in_ok-give_names.ensures.gathered.of c.in_ok-give_names.ensures.all c.take.ensures.left
 
 pub returns-clause-is : goal.returns-clause-is
-returns-clause-is c =
+returns-clause-is g c =
     let b = before c.args.change.now in
     let d = after c.args.change.now in
     let n = c.args.change.now.name.now in
@@ -95,7 +95,7 @@ returns-clause-is c =
     (λ was. law b d gone read was)) c.remove_tuple.ensures.is c.remove_tuple.ensures.removes
 
 pub returns-clause-front : goal.returns-clause-front
-returns-clause-front c =
+returns-clause-front g c =
     let b = before c.args.change.now in
     let d = after c.args.change.now in
     let n = c.args.change.now.name.now in

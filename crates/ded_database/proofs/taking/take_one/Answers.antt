@@ -1,5 +1,5 @@
 use Rattle.std.proofs.Common.{sym, ap, ◌∙◌}
-use Rattle.ded_eval.specs.Given.{has_name}
+use Rattle.ded_algebra.specs.Given.{has_name}
 use Rattle.ded_database.proofs.Under.{under_name}
 use Rattle.ded_database.proofs.taking.take_one.Goals as goal
 

@@ -1,7 +1,7 @@
 use Rattle.ded_genrel.proofs.Items.{all-append}
 use Rattle.ded_complement.specs.Pieces.{all_atoms}
 use Rattle.ded_atoms.proofs.Narrowness.{narrow_atoms}
-use Rattle.ded_eval.proofs.NarrowLists.{all_of_each, none_wide}
+use Rattle.ded_complement.proofs.NarrowLists.{all_of_each, none_wide}
 use Rattle.ded_eval.proofs.laws.narrow_lists.Goals as goal
 
 pub returns-clause-together : goal.returns-clause-together

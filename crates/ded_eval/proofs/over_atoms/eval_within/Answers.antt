@@ -7,7 +7,7 @@ use Rattle.ded_elimination.specs.LinearAtoms.{IsLinearAtom}
 use Rattle.ded_theory.specs.Both.{IsByKind}
 use Rattle.ded_atoms.proofs.Conjunctive.{normal-is}
 use Rattle.ded_eval.proofs.PlansRead.{evaluable_any}
-use Rattle.ded_eval.proofs.TuplesWritten.{within_tuple}
+use Rattle.ded_eval.proofs.PlansWritten.{within_tuple}
 use Rattle.ded_eval.proofs.over_atoms.eval_within.Goals as goal
 
 pub evaluate_within-requires-clause-plan : goal.evaluate_within-requires-clause-plan

@@ -2,7 +2,7 @@ use Rattle.std.proofs.Common.{◌≡◌}
 use Rattle.std.proofs.lemmas.List.{get_or_default}
 use Rattle.ded_model.specs.declared.slot.Slot.{Slot}
 use Rattle.ded_model.specs.Renaming.{renamed}
-use Rattle.ded_eval.specs.Scanning.{column_pairs}
+use Rattle.ded_algebra.specs.Columns.{column_pairs}
 use Rattle.ded_eval.proofs.Staying.{columns_more, columns_done}
 use Rattle.ded_eval.proofs.scanning.are_columns.Goals as goal
 

@@ -1,7 +1,7 @@
 use Rattle.std.proofs.Common.{◌≡◌, drop}
 use Rattle.ded_model.specs.declared.slot.Slot.{Slot}
 use Rattle.ded_model.specs.Renaming.{renamed}
-use Rattle.ded_eval.specs.Scanning.{column_pairs}
+use Rattle.ded_algebra.specs.Columns.{column_pairs}
 use Rattle.ded_eval.proofs.scanning.are_columns.Given as goal
 
 abbrev pub invariant-loop-slot : goal.invariant-loop-slot

@@ -4,7 +4,7 @@ use Rattle.ded_model.specs.declared.slot.Slot.{Slot}
 use Rattle.ded_model.specs.Renaming.{renamed, IsOneToOne, KeepsSorts}
 use Rattle.ded_genrel.specs.Lists.{conjs_hold, conjs_mention, conjs_lines}
 use Rattle.ded_genrel.specs.Operations.{IsRenaming}
-use Rattle.ded_eval.specs.Scanning.{column_pairs}
+use Rattle.ded_algebra.specs.Columns.{column_pairs}
 use Rattle.ded_eval.proofs.Staying.{renaming_stays}
 use Rattle.ded_eval.proofs.scanning.in_slots.Goals as goal
 

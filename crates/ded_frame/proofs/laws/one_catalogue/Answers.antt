@@ -1,4 +1,4 @@
-use Rattle.ded_frame.proofs.Making.{one_after}
+use Rattle.ded_frame.proofs.OneCatalogue.{one_after}
 use Rattle.ded_frame.proofs.laws.one_catalogue.Goals as goal
 
 pub returns : goal.returns

@@ -8,12 +8,12 @@ use Rattle.ded_query.proofs.Evaluations.{evaluated_part}
 use Rattle.ded_query.proofs.answering.planned_view.Goals as goal
 
 pub planned_over-requires-clause-posed : goal.planned_over-requires-clause-posed
-planned_over-requires-clause-posed c =
+planned_over-requires-clause-posed g c =
     let p = c.requires.plan in
     record { goal = p.goal; posed = view_is_posed (snapshot_of c.args.snapshot.now) c.args.name.now p.goal c.formed.ensures p.view; planned = p.planned }
 
 pub returns-in_err-tuples-clause-wide : goal.returns-in_err-tuples-clause-wide
-returns-in_err-tuples-clause-wide c = λ i.
+returns-in_err-tuples-clause-wide g c = λ i.
     let cat = snapshot_of c.args.snapshot.now in
     let k = c.requires.plan in
     let p = err_from_is_err_and c.from_residual.result c.from_residual.ensures.1 in
@@ -22,7 +22,7 @@ returns-in_err-tuples-clause-wide c = λ i.
     (c.in_err-tuples.ensures.wide (ap Err is) k.goal (view_is_posed cat c.args.name.now k.goal c.formed.ensures k.view) k.planned)
 
 pub returns-clause-is : goal.returns-clause-is
-returns-clause-is c =
+returns-clause-is g c =
     let cat = snapshot_of c.args.snapshot.now in
     let k = c.requires.plan in
     let r = c.in_ok-reduced.ensures in

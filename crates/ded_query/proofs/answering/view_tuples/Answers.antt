@@ -10,16 +10,16 @@ use Rattle.ded_query.proofs.Evaluations.{evaluated_part}
 use Rattle.ded_query.proofs.answering.view_tuples.Goals as goal
 
 pub unreachable-requires : goal.unreachable-requires
-unreachable-requires c = view_missing (view_in (entry_of (snapshot_of c.args.snapshot.now).entries c.args.name.now)) c.requires.view c.in_default.ensures
+unreachable-requires g c = view_missing (view_in (entry_of (snapshot_of c.args.snapshot.now).entries c.args.name.now)) c.requires.view c.in_default.ensures
 
 pub evaluated_over-requires-clause-posed : goal.evaluated_over-requires-clause-posed
-evaluated_over-requires-clause-posed c =
+evaluated_over-requires-clause-posed g c =
     let cat = snapshot_of c.args.snapshot.now in
     let g = goal_form c.in-Some.goal.now in
     view_is_posed cat c.args.name.now g c.formed.ensures (view_goal cat c.args.name.now g c.in-Some.ensures)
 
 pub returns-in_err-tuples-clause-wide : goal.returns-in_err-tuples-clause-wide
-returns-in_err-tuples-clause-wide c = λ i.
+returns-in_err-tuples-clause-wide g c = λ i.
     let cat = snapshot_of c.args.snapshot.now in
     let g = goal_form c.in-Some.goal.now in
     let p = err_from_is_err_and c.from_residual.result c.from_residual.ensures.1 in
@@ -27,7 +27,7 @@ returns-in_err-tuples-clause-wide c = λ i.
     view_clash cat c.args.name.now g c.formed.ensures (view_goal cat c.args.name.now g c.in-Some.ensures) (c.in_err-tuples.ensures.wide (ap Err is))
 
 pub returns-clause-is : goal.returns-clause-is
-returns-clause-is c =
+returns-clause-is g c =
     let cat = snapshot_of c.args.snapshot.now in
     let g = goal_form c.in-Some.goal.now in
     let r = c.in_ok-reduced.ensures in

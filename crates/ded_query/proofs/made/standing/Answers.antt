@@ -3,7 +3,7 @@ use Rattle.std.specs.Option.{option_map}
 use Rattle.std.proofs.lemmas.Result.{IfOk-weaker}
 use Rattle.ded_algebra.specs.Evaluation.{given_tuples}
 use Rattle.ded_catalog.specs.Snapshots.{snapshot_of}
-use Rattle.ded_eval.specs.Given.{given_catalogue}
+use Rattle.ded_algebra.specs.Given.{given_catalogue}
 use Rattle.ded_hull.specs.Windows.{AreLent}
 use Rattle.ded_packed.specs.Lent.{lent}
 use Rattle.ded_query.specs.Made.{IsStanding}

@@ -1,6 +1,6 @@
 use Rattle.std.proofs.Common.{ap, ◌∙◌}
 use Rattle.std.proofs.lemmas.Result.{on_ok_weaker}
-use Rattle.ded_eval.specs.Given.{has_name}
+use Rattle.ded_algebra.specs.Given.{has_name}
 use Rattle.ded_query.proofs.GivenNames.{has_last}
 use Rattle.ded_query.proofs.near.add.Goals as goal
 

@@ -5,4 +5,4 @@ pub returns-clause-step : goal.returns-clause-step
 returns-clause-step c = few_step
 
 pub returns-clause-run : goal.returns-clause-run
-returns-clause-run c = few_after
+returns-clause-run c = few_after c.formed_catalogues.ensures.step

@@ -1,5 +1,14 @@
+use Rattle.ded_recheck.proofs.Inserts.{few_after}
 use Rattle.ded_recheck.proofs.Steps.{again_yes, again_only, long_refused, long_only}
 use Rattle.ded_recheck.proofs.laws.verified_again.Goals as goal
+
+pub returns-clause-run_yes : goal.returns-clause-run_yes
+returns-clause-run_yes g = λ limit script replies c run language other n m es piece h short.
+    again_yes language c n m es piece (g.formed_catalogues.ensures.run limit script replies c run) (few_after g.formed_catalogues.ensures.step limit script replies c run) h other short
+
+pub returns-clause-run_only : goal.returns-clause-run_only
+returns-clause-run_only g = λ limit script replies c run language other n m es piece h short reply d.
+    again_only language c n m es piece (g.formed_catalogues.ensures.run limit script replies c run) (few_after g.formed_catalogues.ensures.step limit script replies c run) h other short d reply
 
 pub returns-clause-yes : goal.returns-clause-yes
 returns-clause-yes g = λ language other c n m es piece formed few h short. again_yes language c n m es piece formed few h other short

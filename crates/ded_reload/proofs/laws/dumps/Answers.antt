@@ -7,7 +7,7 @@ use Rattle.ded_reload.proofs.Limits.{run_limit}
 use Rattle.ded_reload.proofs.laws.dumps.Goals as goal
 
 pub returns : goal.returns
-returns c = λ limit script replies others k d small run w short again wants.
+returns c = λ limit script replies others k d small run short again wants.
     let same : k.limit ≡ limit = run_limit limit script replies k run in
     dumped
     (record {
@@ -22,5 +22,6 @@ returns c = λ limit script replies others k d small run w short again wants.
       sorted = c.read_tuples.ensures.sorted;
       equalities = c.read_tuples.ensures.equalities;
     })
-    c.read_lines.ensures.header c.read_lines.ensures.whole_header k d (subst (λ l. l ≤ 1000000) (sym same) small) w (c.read_catalogues.ensures.run limit script replies k run) short
+    c.read_lines.ensures.header c.read_lines.ensures.whole_header k d (subst (λ l. l ≤ 1000000) (sym same) small) (c.formed_catalogues.ensures.run limit script replies k run)
+    (c.read_catalogues.ensures.run limit script replies k run) short
     others (subst (λ l. Run l (script_of_lines (dump_lines k)) others d) (sym same) again) wants

@@ -2,4 +2,4 @@ use Rattle.ded_shared.proofs.OneSession.{one_session}
 use Rattle.ded_shared.proofs.laws.serial.Goals as goal
 
 pub returns : goal.returns
-returns g = one_session g.formed_catalogues.ensures
+returns g = one_session g.formed_catalogues.ensures.step

@@ -1,6 +1,6 @@
 use Rattle.std.proofs.Common.{sym, subst}
 use Rattle.ded_algebra.specs.Evaluation.{IsAnyAtom, IsEvaluable}
-use Rattle.ded_eval.specs.Given.{given_catalogue}
+use Rattle.ded_algebra.specs.Given.{given_catalogue}
 use Rattle.ded_trials.proofs.orders.projected.Goals as goal
 
 pub eval-requires : goal.eval-requires

@@ -11,12 +11,12 @@ use Rattle.ded_database.proofs.Told.{told_delete}
 use Rattle.ded_database.proofs.database.Database.delete.Goals as goal
 
 pub bring_up_to_date-requires-clause-told : goal.bring_up_to_date-requires-clause-told
-bring_up_to_date-requires-clause-told c =
+bring_up_to_date-requires-clause-told g c =
     told_delete (λ t. t.now) (catalogue_of c.self.inside.catalogue) (snapshot_of c.without_tuple-snapshot.result) c.args.name.now c.args.number c.told_tuple.result c.told_tuple.ensures c.formed-2.ensures
     c.without_tuple-snapshot.ensures
 
 pub invariant_of-self-in-Ok : goal.invariant_of-self-in-Ok
-invariant_of-self-in-Ok c =
+invariant_of-self-in-Ok g c =
     let b = catalogue_of c.self.inside.catalogue in
     let d = snapshot_of c.without_tuple-snapshot.result in
     let n = c.args.name.now in
@@ -28,7 +28,7 @@ invariant_of-self-in-Ok c =
     (subst (λ (ms : List Mark). IsReady b d n None ms c.self.inside.held c.bring_up_to_date.new.held c.in_ok-count.count) c.deref.ensures.value c.in_ok-count.ensures.ok))
 
 pub returns-in-Ok-clause-kept : goal.returns-in-Ok-clause-kept
-returns-in-Ok-clause-kept c =
+returns-in-Ok-clause-kept g c =
     let b = catalogue_of c.self.inside.catalogue in
     let d = snapshot_of c.without_tuple-snapshot.result in
     let n = c.args.name.now in

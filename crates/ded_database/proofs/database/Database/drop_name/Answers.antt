@@ -2,7 +2,7 @@ use Rattle.std.proofs.Common.{◌≡◌, false, not, ◌&&◌, sym, ap, ◌∙�
 use Rattle.std.specs.List.{list_any}
 use Rattle.ded_model.specs.Entries.{entry_uses}
 use Rattle.ded_catalog.specs.State.{catalogue_of}
-use Rattle.ded_eval.specs.Given.{without_name}
+use Rattle.ded_algebra.specs.Given.{without_name}
 use Rattle.ded_database.specs.Held.{is_marked, IsUpheld}
 use Rattle.ded_database.specs.Keeping.{without_mark}
 use Rattle.ded_database.specs.State.{State, catalogue_at, is_kept}

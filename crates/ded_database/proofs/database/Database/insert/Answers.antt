@@ -10,7 +10,7 @@ use Rattle.ded_database.proofs.Ready.{upheld_after}
 use Rattle.ded_database.proofs.database.Database.insert.Goals as goal
 
 pub invariant_of-self-in-Ok-insert : goal.invariant_of-self-in-Ok-insert
-invariant_of-self-in-Ok-insert c =
+invariant_of-self-in-Ok-insert g c =
     let b = catalogue_of c.self.inside.catalogue in
     let d = snapshot_of c.with_tuple-snapshot.result in
     let n = c.args.name.now in
@@ -22,7 +22,7 @@ invariant_of-self-in-Ok-insert c =
     (subst (λ (ms : List Mark). IsReady b d n (Some c.args.tuple) ms c.self.inside.held c.bring_up_to_date.new.held c.in-Ok.count) c.deref.ensures.value c.in-Ok.ensures.ok))
 
 pub returns-in-Ok-insert-clause-kept : goal.returns-in-Ok-insert-clause-kept
-returns-in-Ok-insert-clause-kept c =
+returns-in-Ok-insert-clause-kept g c =
     let b = catalogue_of c.self.inside.catalogue in
     let d = snapshot_of c.with_tuple-snapshot.result in
     let n = c.args.name.now in
@@ -33,5 +33,5 @@ returns-in-Ok-insert-clause-kept c =
     (subst (λ (ms : List Mark). IsReady b d n (Some c.args.tuple) ms c.self.inside.held c.bring_up_to_date.new.held c.in-Ok.count) c.deref.ensures.value c.in-Ok.ensures.ok).kept)
 
 pub returns-in-Ok-insert-clause-adds : goal.returns-in-Ok-insert-clause-adds
-returns-in-Ok-insert-clause-adds c =
+returns-in-Ok-insert-clause-adds g c =
     subst (λ (s : State). OnlyAdds (catalogue_at s) c.args.name.now s.held c.bring_up_to_date.new.held) c.self.view_is (c.in-Ok.ensures.ok.adds refl)

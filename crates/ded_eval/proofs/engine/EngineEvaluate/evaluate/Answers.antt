@@ -3,7 +3,7 @@ use Rattle.ded_model.specs.PlanForm.{plan_form}
 use Rattle.ded_eval.specs.Finding.{IsClosedVerdict}
 use Rattle.ded_eval.proofs.PlansRead.{evaluable_any}
 use Rattle.ded_eval.proofs.Shown.{found_everywhere, found_nowhere}
-use Rattle.ded_eval.proofs.TuplesWritten.{written_for}
+use Rattle.ded_eval.proofs.PlansWritten.{written_for}
 use Rattle.ded_eval.proofs.engine.EngineEvaluate.evaluate.Goals as goal
 
 pub found-requires : goal.found-requires

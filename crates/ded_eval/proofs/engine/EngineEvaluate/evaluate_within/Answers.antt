@@ -1,6 +1,6 @@
 use Rattle.ded_model.specs.PlanForm.{plan_form}
 use Rattle.ded_model.specs.Row.{tuple_holds}
-use Rattle.ded_eval.proofs.TuplesWritten.{written_for}
+use Rattle.ded_eval.proofs.PlansWritten.{written_for}
 use Rattle.ded_eval.proofs.engine.EngineEvaluate.evaluate_within.Goals as goal
 
 pub returns-clause-is : goal.returns-clause-is

@@ -1,5 +1,5 @@
 use Rattle.std.proofs.Common.{sym, subst}
-use Rattle.ded_session.specs.declared.session.Piece.{Piece}
+use Rattle.ded_lex.specs.declared.piece.Piece.{Piece}
 use Rattle.ded_session.specs.Answered.{reply_form}
 use Rattle.ded_session.specs.Keeping.{UpholdsStatement}
 use Rattle.ded_session.specs.State.{language_in, state_in}

@@ -19,7 +19,7 @@ invariant_of-self c =
     let at : get_or xs (c.args.tag.session - 1) None ≡ Some c.in-Some.transaction =
     read_at xs c.args.tag.session c.place_of.result c.index_mut.result.now c.index_mut.ensures.value c.place_of.ensures c.requires.low c.requires.high c.self.invariant.places ∙ c.in-Some.is in
     kept_set c.self.inside.catalogue xs log c.place_of.result (Some c.work.new.self) c.self.invariant
-    (within_more c.args.tag.rest.now (command_form c.args.command.now) c.requires.read (reply_form c.work.result) log c.in-Some.transaction c.work.new.self
+    (within_more c.args.tag.rest.now (command_form c.args.command) c.requires.read (reply_form c.work.result) log c.in-Some.transaction c.work.new.self
     c.work.ensures.step (c.work.ensures.remembers log) shared (length log) c.work.ensures.since c.work.ensures.pieces
     (within_at shared (length log) xs (c.args.tag.session - 1) c.in-Some.transaction c.self.invariant.within at))
 
@@ -33,7 +33,7 @@ returns-in-Some c =
     (state_of (record { table = s.table; transactions = slice_set s.transactions c.place_of.result (Some c.work.new.self); log = s.log }))) c.self.view_is
     (subst (λ (i : ℕ). Works k c.args.tag.rest.now (transaction_of (state_of s) k) (state_of s) (reply_form c.work.result)
     (state_of (record { table = s.table; transactions = slice_set s.transactions i (Some c.work.new.self); log = s.log }))) (sym c.place_of.ensures)
-    (works_inside k c.args.tag.rest.now (command_form c.args.command.now) (reply_form c.work.result) s.table s.table s.transactions s.log c.in-Some.transaction c.work.new.self at refl c.requires.read
+    (works_inside k c.args.tag.rest.now (command_form c.args.command) (reply_form c.work.result) s.table s.table s.transactions s.log c.in-Some.transaction c.work.new.self at refl c.requires.read
     c.work.ensures.step (c.work.ensures.remembers s.log)))
 
 pub returns-in-None : goal.returns-in-None

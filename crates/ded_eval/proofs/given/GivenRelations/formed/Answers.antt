@@ -1,7 +1,0 @@
-use Rattle.std.proofs.Common.{subst}
-use Rattle.ded_eval.specs.Given.{AreNamedApart}
-use Rattle.ded_eval.proofs.Names.{are_given}
-use Rattle.ded_eval.proofs.given.GivenRelations.formed.Goals as goal
-
-pub returns : goal.returns
-returns c = are_given c.args.self.now (subst AreNamedApart c.self.view_is c.self.invariant)

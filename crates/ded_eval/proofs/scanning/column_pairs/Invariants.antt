@@ -1,6 +1,0 @@
-use Rattle.std.proofs.Common.{◌≡◌, ◌++◌, drop}
-use Rattle.ded_eval.specs.Scanning.{column_pairs}
-use Rattle.ded_eval.proofs.scanning.column_pairs.Given as goal
-
-abbrev pub invariant-loop-slot : goal.invariant-loop-slot
-invariant-loop-slot l = l.pairs.items ++ column_pairs l.number (drop l.slot-index l.slots) ≡ column_pairs 0 l.slots

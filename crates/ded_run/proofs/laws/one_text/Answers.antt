@@ -1,5 +1,0 @@
-use Rattle.ded_run.proofs.Telling.{one_text}
-use Rattle.ded_run.proofs.laws.one_text.Goals as goal
-
-pub returns : goal.returns
-returns c = one_text
