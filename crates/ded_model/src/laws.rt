@@ -1,7 +1,4 @@
-//! What all crates above rest on, as contracts of functions that do nothing: each law is proved once, here.
+//! What crates above rest on, as contracts of functions that do nothing: each law is proved once, here. Those on what the data means stand
+//! in `ded_laws`.
 
-pub mod deciding;
-pub mod lines;
-pub mod near;
-pub mod points;
 pub mod sameness;

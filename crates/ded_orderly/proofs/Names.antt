@@ -16,7 +16,7 @@ use Rattle.ded_model.specs.Normal.{IsNormalTuple}
 use Rattle.ded_model.specs.Point.{slot}
 use Rattle.ded_model.specs.Row.{Atom, row_mentions, atom_mentions, tuple_mentions}
 use Rattle.ded_model.specs.Slotted.{goal_of}
-use Rattle.ded_model.proofs.AtomSlots.{goal_lines-over}
+use Rattle.ded_laws.proofs.AtomSlots.{goal_lines-over}
 use Rattle.ded_model.proofs.LineCoefs.{AllNonzero}
 use Rattle.ded_model.proofs.LineSlots.{has_slot, line_slots}
 use Rattle.ded_model.proofs.Members.{In-split}

@@ -14,7 +14,7 @@ use Rattle.ded_model.specs.PlanForm.{PlanAtom, PlanForm, PlanAtomHolds, in_plan_
 use Rattle.ded_model.specs.Catalogue.{meaning, PlanHolds}
 use Rattle.ded_model.specs.Lines.{Line, In, IsSubset, elim_past, clash_past}
 use Rattle.ded_model.specs.Measure.{Measures, plan_lines, plan_clashes}
-use Rattle.ded_model.proofs.AtomSlots.{plan_lines-over}
+use Rattle.ded_laws.proofs.AtomSlots.{plan_lines-over}
 use Rattle.ded_model.proofs.Members.{In-left, In-right, subset_none, subset_join, In-elim-kept}
 use Rattle.ded_model.proofs.Monotone.{past-grows, clash_past-grows}
 use Rattle.ded_model.proofs.Points.{same_key_is}

@@ -9,7 +9,7 @@ use Rattle.ded_model.specs.PlanForm.{PlanAtom, rows, PlanForm, plan_mentions}
 use Rattle.ded_model.specs.Catalogue.{PlanHolds}
 use Rattle.ded_model.specs.Lines.{Line, In, IsSubset}
 use Rattle.ded_model.specs.Measure.{plan_lines, plan_clashes}
-use Rattle.ded_model.proofs.Deciding.{plan_stable, plan_decided}
+use Rattle.ded_laws.proofs.Decided.{plan_stable, plan_decided}
 use Rattle.ded_model.proofs.Members.{In-left, In-right, subset_none, subset_join}
 use Rattle.ded_plan.proofs.Keeps.{any_mention, member_lines, any_clash, Keeps}
 use Rattle.ded_algebra.proofs.PlanShapes.{or_one}

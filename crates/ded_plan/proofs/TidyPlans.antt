@@ -11,7 +11,7 @@ use Rattle.ded_model.specs.Logic.{Logic, atom, always, never, negation, every_of
 use Rattle.ded_model.specs.PlanForm.{PlanAtom, scan, rows, PlanForm, plan_form, plan_forms}
 use Rattle.ded_model.specs.Point.{Key, slot, name, IsSlotOf}
 use Rattle.ded_plan.specs.Rewritten.{ProjectsSlots, EachProjectsSlots, IsTidyAtom, IsTidyPlan}
-use Rattle.ded_model.proofs.AtomSlots.{AreCoefs-rational}
+use Rattle.ded_laws.proofs.AtomSlots.{AreCoefs-rational}
 
 -- ---- all atoms
 

@@ -14,7 +14,7 @@ use Rattle.ded_model.specs.Row.{Atom, row_holds, theme_holds, row_mentions, them
 use Rattle.ded_model.specs.Width.{IsNarrowList}
 use Rattle.ded_model.proofs.Rows.{or_left, or_right}
 use Rattle.ded_model.proofs.Members.{subset_append, or_split, In-left}
-use Rattle.ded_model.proofs.Weakened.{closure_is}
+use Rattle.ded_laws.proofs.Weakened.{closure_is}
 use Rattle.ded_theory.specs.Both.{by_kind, IsByKind}
 use Rattle.ded_theory.specs.Conjunctions.{IsWide}
 use Rattle.ded_theory.specs.Verdicts.{HoldsNowhere}

@@ -11,7 +11,7 @@ use Rattle.ded_model.specs.Row.{Atom, row_holds, theme_holds, row_mentions, them
 use Rattle.ded_model.specs.Width.{IsNarrowList}
 use Rattle.ded_model.proofs.Rows.{or_left, or_right}
 use Rattle.ded_model.proofs.Members.{In-left, In-right}
-use Rattle.ded_model.proofs.Weakened.{interior_is}
+use Rattle.ded_laws.proofs.Weakened.{interior_is}
 use Rattle.ded_theory.specs.Both.{by_kind, IsByKind}
 use Rattle.ded_theory.specs.Conjunctions.{conj_mentions, conj_lines, IsWide}
 use Rattle.ded_theory.proofs.Conjunctions.{conj_mentions-append}

@@ -1,5 +1,0 @@
-use Rattle.ded_model.proofs.Classical.{formula_exists_is}
-use Rattle.ded_model.proofs.laws.deciding.exists_is_not_all_not.Goals as goal
-
-pub returns : goal.returns
-returns c = formula_exists_is

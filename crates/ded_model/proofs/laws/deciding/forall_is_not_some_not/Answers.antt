@@ -1,5 +1,0 @@
-use Rattle.ded_model.proofs.Classical.{formula_forall_is}
-use Rattle.ded_model.proofs.laws.deciding.forall_is_not_some_not.Goals as goal
-
-pub returns : goal.returns
-returns c = formula_forall_is

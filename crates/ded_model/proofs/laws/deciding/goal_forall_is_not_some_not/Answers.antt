@@ -1,5 +1,0 @@
-use Rattle.ded_model.proofs.Classical.{goal_forall_is}
-use Rattle.ded_model.proofs.laws.deciding.goal_forall_is_not_some_not.Goals as goal
-
-pub returns : goal.returns
-returns c = goal_forall_is

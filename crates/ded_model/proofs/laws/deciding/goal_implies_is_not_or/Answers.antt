@@ -1,5 +1,0 @@
-use Rattle.ded_model.proofs.Classical.{goal_implies_is}
-use Rattle.ded_model.proofs.laws.deciding.goal_implies_is_not_or.Goals as goal
-
-pub returns : goal.returns
-returns c = goal_implies_is

@@ -1,5 +1,0 @@
-use Rattle.ded_model.proofs.Classical.{formula_implies_is}
-use Rattle.ded_model.proofs.laws.deciding.implies_is_not_or.Goals as goal
-
-pub returns : goal.returns
-returns c = formula_implies_is

@@ -1,5 +1,0 @@
-use Rattle.ded_model.proofs.Entries.{alike_names}
-use Rattle.ded_model.proofs.laws.near.alike_names.Goals as goal
-
-pub returns : goal.returns
-returns c = alike_names

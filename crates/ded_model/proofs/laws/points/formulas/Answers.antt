@@ -1,8 +1,0 @@
-use Rattle.ded_model.proofs.Sats.{Holds-same}
-use Rattle.ded_model.proofs.laws.points.formulas.Goals as goal
-
-pub returns-clause-values : goal.returns-clause-values
-returns-clause-values c = Holds-same
-
-pub returns-clause-point : goal.returns-clause-point
-returns-clause-point c = λ d f p q i j same h. Holds-same d f p q i j (λ k e. same k) h

@@ -1,8 +1,0 @@
-use Rattle.ded_model.proofs.Entries.{meaning-plain, measure-plain}
-use Rattle.ded_model.proofs.laws.points.plain_names.Goals as goal
-
-pub returns-clause-meaning : goal.returns-clause-meaning
-returns-clause-meaning c = meaning-plain
-
-pub returns-clause-measure : goal.returns-clause-measure
-returns-clause-measure c = measure-plain
