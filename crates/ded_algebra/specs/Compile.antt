@@ -29,6 +29,7 @@ projected (s ∷ ss) f = projected ss (exists s.sort (slot s) f)
 abbrev pub member_plan : List ℕ → List Place → PlanForm
 member_plan n ts = projected (fresh_slots (scanned ts)) (joined (atom (scan n (scanned_slots (scanned ts)))) (map row_plan (tied_atoms (scanned ts))))
 
+-- the plan of an atom of a goal: rows for a comparison, and for a name its scan at the arguments
 abbrev pub atom_plan : GoalAtom → PlanForm
 atom_plan (linear r) = atom (rows (goal_atoms (atom (linear r))))
 atom_plan (theme a) = row_plan (Second a)
@@ -48,6 +49,7 @@ abbrev mutual
   plan_of (exists s k f) = exists s k (plan_of f)
   plan_of (forall s k f) = negation (exists s k (negation (plan_of f)))
 
+  -- the plan of each of the goals, in order
   pub plans_of : Logics GoalAtom → Logics PlanAtom
   plans_of none = none
   plans_of (also f fs) = also (plan_of f) (plans_of fs)

@@ -24,15 +24,18 @@ use Rattle.ded_model.specs.Measure.{Measures, goal_b, goal_rank, goal_lines, goa
 
 -- ---- goals of byte texts
 
+-- an argument that is a quoted text is a byte string
 abbrev pub IsByteText : Place → Type 0
 IsByteText (At s) = Unit {0}
 IsByteText (Value t) = Unit {0}
 IsByteText (Quoted x) = AllBytes x
 
+-- each quoted text among the arguments is a byte string
 abbrev pub AreByteTexts : List Place → Type 0
 AreByteTexts [] = Unit {0}
 AreByteTexts (t ∷ ts) = IsByteText t × AreByteTexts ts
 
+-- each quoted argument of an atom of a name is a byte string; nothing is asked of other atoms
 abbrev pub HasByteTexts : GoalAtom → Type 0
 HasByteTexts (linear r) = Unit {0}
 HasByteTexts (theme a) = Unit {0}
@@ -44,12 +47,13 @@ IsOfBytes g = AllAtoms HasByteTexts g
 
 -- ---- scans
 
+-- the sort of an argument: that of its slot, rational for a sum, and text for a quoted text
 abbrev pub place_sort : Place → Sort
 place_sort (At s) = s.sort
 place_sort (Value t) = Rat
 place_sort (Quoted t) = Text
 
--- one after another
+-- the sorts are the same, one after another, and as many
 abbrev pub same_sorts : List Sort → List Sort → Bool
 same_sorts [] [] = true
 same_sorts [] (b ∷ bs) = false
@@ -81,17 +85,19 @@ abbrev pub comes_from : PlanAtom → GoalAtom → Bool
 comes_from (scan n ss) = is_scanned_by n ss
 comes_from (rows t) = has_rows t
 
--- of some atom of the goal
+-- the plan's atom comes from some atom of the goal
 abbrev pub ComesFrom : GoalForm → PlanAtom → Type 0
 ComesFrom g a = some_atom (comes_from a) g ≡ true
 
 -- ---- conjunctive plans
 
+-- whether the goal's atom is one of this name
 abbrev pub is_member_of : List ℕ → GoalAtom → Bool
 is_member_of n (linear r) = false
 is_member_of n (theme a) = false
 is_member_of n (member m ts) = bytes_eq n m
 
+-- whether the plan's atom is a scan of this name
 abbrev pub is_scan_of : List ℕ → PlanAtom → Bool
 is_scan_of n (scan m ss) = bytes_eq n m
 is_scan_of n (rows t) = false

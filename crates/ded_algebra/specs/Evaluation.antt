@@ -43,6 +43,8 @@ IsScannedFrom Reads None ss = ⊥
 IsScannedFrom Reads (Some (relation n h m ts)) ss = HaveSorts h ss × AllByRecursion (λ t. IsTupleOver h t × AllByRecursion Reads t) (tuples_of ts)
 IsScannedFrom Reads (Some (view n h f)) ss = ⊥
 
+-- the name of a scan has a relation with columns of its slots' sorts and tuples as above, or the rows are made of atoms
+-- that are read
 abbrev pub IsScannable : (Atom → Type 0) → Catalogue → PlanAtom → Type 0
 IsScannable Reads c (scan n ss) = IsScannedFrom Reads (entry_of c.entries n) ss
 IsScannable Reads c (rows t) = AllByRecursion Reads t

@@ -34,9 +34,11 @@ extent_x w c = (w.right -ℤ w.left) *ℤ c.den
 abbrev pub extent_y : Frame → Spot → ℤ
 extent_y w c = (w.top -ℤ w.bottom) *ℤ c.den
 
+-- how far to the right a spot stands in a picture of this width; one beside the window stands on the nearest border
 abbrev pub place_x : Frame → ℕ → Spot → Coordinate
 place_x w width c = record { hundredths = portion (offset_x w c) (extent_x w c) width }
 
+-- how far down a spot stands in a picture of this height; one above or below the window stands on the nearest border
 abbrev pub place_y : Frame → ℕ → Spot → Coordinate
 place_y w height c = record { hundredths = portion (offset_y w c) (extent_y w c) height }
 

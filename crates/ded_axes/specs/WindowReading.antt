@@ -8,6 +8,7 @@ abbrev pub bind : {A B : Type 0} → Option A → (A → Option B) → Option B
 bind (Some x) f = f x
 bind None f = None
 
+-- whether the byte is a decimal digit
 abbrev pub is_digit : ℕ → Bool
 is_digit b = nat_le 48 b && nat_le b 57
 
@@ -26,11 +27,13 @@ abbrev pub behind : ℕ → List ℕ → Option (List ℕ)
 behind byte [] = None
 behind byte (b ∷ bs) = if b == byte then Some bs else None
 
--- what stands behind digits that read as n: maybe a point, and 1 to 9 digits behind it
+-- what stands behind digits that read as n, given what stands behind the point, where one follows: maybe a point, and 1
+-- to 9 digits behind it
 abbrev pub places_behind : ℕ → List ℕ → Option (List ℕ) → Option (ℕ × ℕ × List ℕ)
 places_behind n bytes None = Some (n, 0, bytes)
 places_behind n bytes (Some rest) = some_digits (digits_at 9 n 0 rest)
 
+-- the same, given the text behind those digits; none where no digit stands behind the point
 abbrev pub places_at : ℕ → List ℕ → Option (ℕ × ℕ × List ℕ)
 places_at n bytes = places_behind n bytes (behind 46 bytes)
 
@@ -39,17 +42,21 @@ places_at n bytes = places_behind n bytes (behind 46 bytes)
 abbrev pub magnitude_at : List ℕ → Option (ℕ × ℕ × List ℕ)
 magnitude_at bytes = bind (some_digits (digits_at 18 0 0 bytes)) (λ x. places_at x.0 x.2)
 
--- a decimal: maybe `-`, and a magnitude
+-- what was read as a magnitude, negated
 abbrev pub negative : ℕ × ℕ × List ℕ → ℤ × ℕ × List ℕ
 negative x = (neg_ℤ (pos x.0), x.1, x.2)
 
+-- what was read as a magnitude, as it is
 abbrev pub positive : ℕ × ℕ × List ℕ → ℤ × ℕ × List ℕ
 positive x = (pos x.0, x.1, x.2)
 
+-- a decimal, given the text behind its `-` where it begins with one
 abbrev pub signed_at : List ℕ → Option (List ℕ) → Option (ℤ × ℕ × List ℕ)
 signed_at bytes None = bind (magnitude_at bytes) (λ x. Some (positive x))
 signed_at bytes (Some rest) = bind (magnitude_at rest) (λ x. Some (negative x))
 
+-- a decimal: maybe `-`, and a magnitude; what it reads as without its point, how many digits stand behind the point,
+-- and the text behind it
 abbrev pub decimal_at : List ℕ → Option (ℤ × ℕ × List ℕ)
 decimal_at bytes = signed_at bytes (behind 45 bytes)
 

@@ -4,6 +4,7 @@ use Rattle.ded_catalog.specs.Changing as changing
 use Rattle.ded_catalog.specs.declared.change.Change.{Change}
 use Rattle.ded_catalog.specs.declared.change.Change.TheVariants.{Nothing, Insert, Delete}
 
+-- what a change of the program stands for: none, an insertion or a deletion
 abbrev pub change_form : Change → changing.Change
 change_form Nothing = none
 change_form (Insert n t) = insertion n.now t.now

@@ -38,6 +38,7 @@ value_text f = lowest_value_text (int_div f.num (common_divisor f)) (int_div f.d
 
 -- ---- what digits say
 
+-- the byte is a decimal digit
 abbrev pub IsDigit : ℕ → Type 0
 IsDigit b = (48 ≤ b) × (b < 58)
 

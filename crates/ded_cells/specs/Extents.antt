@@ -20,11 +20,12 @@ IsExtent h t Nowhere = HoldsNowhere (tuple_holds t)
 IsExtent h t (Within spans) = HoldsSomewhere (tuple_holds t) × AreBounds (tuple_holds t) 0 h spans
 IsExtent h t Wide = (IsBoxNarrow h (t ∷ []) → ⊥) × (AreOrderAtoms t → ⊥)
 
--- the bounds that stand first, and those behind the first
+-- the bounds that stand first, or none of the empty list
 abbrev pub first_span : List (Bound × Bound) → Option (Bound × Bound)
 first_span [] = None
 first_span (b ∷ bs) = Some b
 
+-- the bounds behind the first; none where the list is empty
 abbrev pub later_spans : List (Bound × Bound) → List (Bound × Bound)
 later_spans [] = []
 later_spans (b ∷ bs) = bs

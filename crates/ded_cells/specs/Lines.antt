@@ -33,10 +33,11 @@ condition_text name (Second (NeText s t)) = name ++ (codes "!=" ++ t)
 condition_text name (Second (EqSlot s t)) = []
 condition_text name (Second (NeSlot s t)) = []
 
--- the condition that an atom is on column number i, after `lead`, and what stands before the next one
+-- the condition that an atom is on column number i, after `lead`; nothing where it is about no column or another one
 abbrev pub condition_after : List ℕ → ℕ → List ℕ → Atom → List ℕ
 condition_after name i lead a = if is_about i a then (lead ++ condition_text name a) else []
 
+-- what stands before the next condition: a comma and a blank behind an atom that is about the column, else `lead`
 abbrev pub next_lead : ℕ → List ℕ → Atom → List ℕ
 next_lead i lead a = if is_about i a then codes ", " else lead
 
@@ -56,10 +57,12 @@ abbrev pub bounded_cell : List ℕ → Option (Bound × Bound) → List ℕ
 bounded_cell name None = name
 bounded_cell name (Some b) = span_text name b.0 b.1
 
+-- the cell of column number i: a rational one with these bounds, a text one with the conditions on it
 abbrev pub sorted_cell : List ℕ → Sort → ℕ → List Atom → Option (Bound × Bound) → List ℕ
 sorted_cell name Rat i atoms span = bounded_cell name span
 sorted_cell name Text i atoms span = texts_cell name i atoms
 
+-- the same where the bounds may be too wide: a rational one is `x wide`
 abbrev pub wide_cell : List ℕ → Sort → ℕ → List Atom → List ℕ
 wide_cell name Rat i atoms = name ++ codes " wide"
 wide_cell name Text i atoms = texts_cell name i atoms
@@ -124,6 +127,7 @@ tie_text h (Second (NeSlot s t)) = column_at h s.number ++ (codes " != " ++ colu
 abbrev pub told_text : List Column → Extent → Atom → List ℕ
 told_text h e a = if is_tie h e a then (9 ∷ tie_text h a) else []
 
+-- the ties among the atoms, each after a tab, in order
 abbrev pub ties_text : List Column → Extent → List Atom → List ℕ
 ties_text h e [] = []
 ties_text h e (a ∷ atoms) = told_text h e a ++ ties_text h e atoms

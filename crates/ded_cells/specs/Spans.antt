@@ -6,12 +6,13 @@ use Rattle.ded_model.specs.Bound.{Fraction}
 use Rattle.ded_box.specs.Intervals.{may_meet}
 use Rattle.ded_cells.specs.Decimals.{value_text}
 
--- a square bracket where the bound is attained
+-- a lower bound: a square bracket where it is attained, `(-inf` where there is none
 abbrev pub lower_text : Bound → List ℕ
 lower_text Infinite = codes "(-inf"
 lower_text (Excluded f) = codes "(" ++ value_text f
 lower_text (Included f) = codes "[" ++ value_text f
 
+-- an upper bound: a square bracket where it is attained, `inf)` where there is none
 abbrev pub upper_text : Bound → List ℕ
 upper_text Infinite = codes "inf)"
 upper_text (Excluded f) = value_text f ++ codes ")"
@@ -28,5 +29,6 @@ abbrev pub span_with : List ℕ → Bound → Bound → Option Fraction → List
 span_with name l u (Some f) = name ++ (61 ∷ value_text f)
 span_with name l u None = name ++ (codes " in " ++ (lower_text l ++ (codes ", " ++ upper_text u)))
 
+-- how the span between two bounds is written behind the name of its column
 abbrev pub span_text : List ℕ → Bound → Bound → List ℕ
 span_text name l u = span_with name l u (value_in l u)

@@ -26,6 +26,7 @@ pub record IsStoredLine (h : List Column) (t : ℕ × List Atom) (line : List �
   pub is_behind : IsTupleLine h (9 ∷ []) t.1 behind
   pub is : line ≡ number_text t.0 ++ behind
 
+-- the line of a tuple of an answer has nothing before its cells
 abbrev pub IsAnswerLine : List Column → List Atom → List ℕ → Type 0
 IsAnswerLine h t line = IsTupleLine h [] t line
 

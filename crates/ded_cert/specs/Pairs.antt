@@ -24,9 +24,11 @@ pairs_of (t ∷ ts) us = pairs_with t us ++ pairs_of ts us
 
 -- ---- what is certified
 
+-- the two tuples of the pair hold together nowhere
 abbrev pub AreApart : Numbered × Numbered → Type 0
 AreApart p = HoldsNowhere (tuple_holds (p.0.1 ++ p.1.1))
 
+-- the two tuples of the pair hold together somewhere
 abbrev pub Meet : Numbered × Numbered → Type 0
 Meet p = HoldsSomewhere (tuple_holds (p.0.1 ++ p.1.1))
 
@@ -65,6 +67,7 @@ IsLongCheck es p = MatchOption (entry_for es p.0.0 p.1.0) ⊥ (λ e. IsTooLong p
 
 -- ---- some pair
 
+-- it is so of some pair of the list
 abbrev pub SomePair : (Numbered × Numbered → Type 0) → List (Numbered × Numbered) → Type 0
 SomePair P [] = ⊥
 SomePair P (p ∷ ps) = P p ⊎ SomePair P ps

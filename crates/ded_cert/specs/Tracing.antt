@@ -41,10 +41,11 @@ tagged b w n cs c = record { coefs = tagged_coefs b w n cs; constant = c; op = A
 abbrev pub turned_coefs : List (Slot × ℤ) → List (Slot × ℤ)
 turned_coefs cs = coefs_over (negsuc 0) cs
 
--- the row, and the turned one
+-- the row as one that is at most 0, with the total and the tag n, and with the slack where it is strict
 abbrev pub forward : ℕ → ℕ → LinearConstraint → LinearConstraint
 forward b n r = tagged b (slack_of r.op) n r.coefs r.constant
 
+-- the row with all signs turned as one that is at most 0, with the total and the tag n + 1
 abbrev pub backward : ℕ → ℕ → LinearConstraint → LinearConstraint
 backward b n r = tagged b (pos 0) (n + 1) (turned_coefs r.coefs) (neg_ℤ r.constant)
 
@@ -68,13 +69,14 @@ abbrev pub multipliers : LinearConstraint → ℕ → ℕ → List ℤ
 multipliers l n zero = []
 multipliers l n (suc k) = (coef_at l.coefs (tag n) -ℤ coef_at l.coefs (tag (n + 1))) ∷ multipliers l (n + 2) k
 
--- a row with coefficients is at most 0
+-- there are no coefficients, or the op is at most 0
 abbrev pub is_weak_with : List (Slot × ℤ) → RowOp → Bool
 is_weak_with [] op = true
 is_weak_with (c ∷ cs) Zero = false
 is_weak_with (c ∷ cs) AtMost = true
 is_weak_with (c ∷ cs) Below = false
 
+-- the row has no coefficients, or is at most 0
 abbrev pub is_weak_row : LinearConstraint → Bool
 is_weak_row r = is_weak_with r.coefs r.op
 

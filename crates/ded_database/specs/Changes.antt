@@ -11,10 +11,11 @@ use Rattle.ded_database.specs.declared.change.Change.{Change}
 use Rattle.ded_database.specs.declared.change.Step.{Step}
 use Rattle.ded_database.specs.declared.change.Step.TheVariants.{Inserted, Deleted}
 
--- the catalogue before the change, and after it
+-- the catalogue before the change
 abbrev pub before : Change → Catalogue
 before x = catalogue_of x.catalogue.now
 
+-- the catalogue after the change
 abbrev pub after : Change → Catalogue
 after x = snapshot_of x.snapshot.now
 
@@ -28,9 +29,11 @@ abbrev pub deleted_in : Step → Option (List Atom)
 deleted_in (Inserted t) = None
 deleted_in (Deleted o) = option_map (λ t. t.now) o
 
+-- the tuple that a change inserts, none where it deletes one
 abbrev pub inserted_tuple : Change → Option (List Atom)
 inserted_tuple x = inserted_in x.step
 
+-- the tuple that a change deletes, where it is told; none where it inserts one
 abbrev pub deleted_tuple : Change → Option (List Atom)
 deleted_tuple x = deleted_in x.step
 

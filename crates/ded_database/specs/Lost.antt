@@ -33,7 +33,7 @@ binds_one test Rat (slot s) = test s
 binds_one test Rat (name x) = false
 binds_one test Text k = false
 
--- some quantifier of the formula does
+-- some quantifier of the formula ranges over numbers, and binds a slot that passes the test
 abbrev mutual
   pub binds : {L : Type 0} → (Slot → Bool) → Logic L → Bool
   binds test (atom a) = false
@@ -47,6 +47,7 @@ abbrev mutual
   binds test (exists s k f) = binds_one test s k || binds test f
   binds test (forall s k f) = binds_one test s k || binds test f
 
+  -- some quantifier of some formula of the list ranges over numbers, and binds a slot that passes the test
   pub any_binds : {L : Type 0} → (Slot → Bool) → Logics L → Bool
   any_binds test none = false
   any_binds test (also f fs) = binds test f || any_binds test fs
@@ -59,7 +60,7 @@ with_arguments n done (linear r) = done
 with_arguments n done (theme a) = done
 with_arguments n done (member m ts) = if bytes_eq m n then done ++ ts ∷ [] else done
 
--- of each atom of the goal
+-- after the others, the arguments of each atom of the goal that is one of the name
 abbrev mutual
   pub with_all : List ℕ → List (List Place) → GoalForm → List (List Place)
   with_all n done (atom a) = with_arguments n done a
@@ -73,6 +74,7 @@ abbrev mutual
   with_all n done (exists s k f) = with_all n done f
   with_all n done (forall s k f) = with_all n done f
 
+  -- after the others, the arguments of each atom of the goals that is one of the name
   pub with_all_of : List ℕ → List (List Place) → Logics GoalAtom → List (List Place)
   with_all_of n done none = done
   with_all_of n done (also f fs) = with_all_of n (with_all n done f) fs

@@ -7,6 +7,7 @@ pub record Said : Type 0 where
   pub text : List ℕ
   pub refuses : Bool
 
+-- the text of a reply
 abbrev pub text_of : Said → List ℕ
 text_of reply = reply.text
 

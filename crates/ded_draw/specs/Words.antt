@@ -18,11 +18,12 @@ WidthValue (Some value) width = IsNumber 10000 value width
 
 -- ---- columns
 
--- what stands before the first comma and what stands behind it
+-- both texts, with a byte before the first one, where there are two
 abbrev pub with_byte : ℕ → Option (List ℕ × List ℕ) → Option (List ℕ × List ℕ)
 with_byte b None = None
 with_byte b (Some pair) = Some (b ∷ pair.0, pair.1)
 
+-- what stands before the first comma and what stands behind it, where there is a comma
 abbrev pub cut_at_comma : List ℕ → Option (List ℕ × List ℕ)
 cut_at_comma [] = None
 cut_at_comma (b ∷ bs) = if b == 44 then Some ([], bs) else with_byte b (cut_at_comma bs)

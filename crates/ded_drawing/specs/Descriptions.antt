@@ -18,10 +18,11 @@ is_unseen look (tuples h ts) = is_none (axes_of look h)
 is_unseen look (stored h ts) = is_none (axes_of look h)
 is_unseen look reply = false
 
--- how many of the replies are so
+-- 1 where it is so, and else 0
 abbrev pub counted : Bool → ℕ
 counted b = if b then 1 else 0
 
+-- how many of the replies have tuples, and lack the columns
 abbrev pub unseen_in : Look → List ReplyForm → ℕ
 unseen_in look [] = 0
 unseen_in look (r ∷ rs) = counted (is_unseen look r) + unseen_in look rs

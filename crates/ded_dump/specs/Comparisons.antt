@@ -18,16 +18,17 @@ abbrev pub constant_text : Bool → List ℕ
 constant_text true = codes "0 = 0"
 constant_text false = codes "0 < 0"
 
--- the row is compared; a row without coefficients is true or false
+-- the row is compared; a row without coefficients is `0 = 0` where it is true, else `0 < 0`
 abbrev pub stated_text : Names → LinearConstraint → List (Slot × ℤ) → List ℕ
 stated_text names r [] = constant_text (is_true_row r)
 stated_text names r (c ∷ cs) = row_text names r
 
--- the row of `=` is denied
+-- the row of `=` with `!=` in its place; a row without coefficients is `0 < 0` where it is true, else `0 = 0`
 abbrev pub denied_text : Names → LinearConstraint → List (Slot × ℤ) → List ℕ
 denied_text names r [] = constant_text (not (is_true_row r))
 denied_text names r (c ∷ cs) = unlike_text names r
 
+-- a comparison with this op by its row; that of `!=` is the row of `=`, which is denied
 abbrev pub row_comparison_text : Names → CompareOp → LinearConstraint → List ℕ
 row_comparison_text names Less r = stated_text names r r.coefs
 row_comparison_text names LessEq r = stated_text names r r.coefs
@@ -38,6 +39,7 @@ row_comparison_text names Greater r = stated_text names r r.coefs
 
 -- ---- comparisons of texts, as they were written
 
+-- the op, between blanks
 abbrev pub compare_text : CompareOp → List ℕ
 compare_text Less = codes " < "
 compare_text LessEq = codes " <= "
@@ -46,6 +48,7 @@ compare_text NotEqual = codes " != "
 compare_text GreaterEq = codes " >= "
 compare_text Greater = codes " > "
 
+-- the two operands with the op between them
 abbrev pub written_text : Operand → CompareOp → Operand → List ℕ
 written_text l op r = operand_text l ++ (compare_text op ++ operand_text r)
 
@@ -64,6 +67,7 @@ below (minus f g) = minus f g
 below (exists s k g) = g
 below (forall s k g) = g
 
+-- the row of a comparison of numbers; a text atom and an atom of a name have none
 abbrev pub atom_row : GoalAtom → Option LinearConstraint
 atom_row (linear r) = Some r
 atom_row (theme a) = None
@@ -82,6 +86,7 @@ row_of (minus f g) = None
 row_of (exists s k g) = None
 row_of (forall s k g) = None
 
+-- a comparison by its row, or as it was written where it has none
 abbrev pub compared_text : Names → Operand → CompareOp → Operand → Option LinearConstraint → List ℕ
 compared_text names l op r (Some row) = row_comparison_text names op row
 compared_text names l op r None = written_text l op r

@@ -25,6 +25,7 @@ insert_line n h t = codes "insert " ++ (n ++ (codes " " ++ (tuple_text (column_n
 abbrev pub view_line : List ℕ → List Column → Form → List ℕ
 view_line n h f = codes "view " ++ (n ++ (heading_text h ++ (codes " := " ++ (formula_text h f ++ codes ";"))))
 
+-- one insert for each of the numbered tuples, in order
 abbrev pub insert_lines : List ℕ → List Column → List (ℕ × List Atom) → List (List ℕ)
 insert_lines n h [] = []
 insert_lines n h (t ∷ ts) = insert_line n h t.1 ∷ insert_lines n h ts
@@ -39,6 +40,7 @@ abbrev pub lines_under : Option Entry → List (List ℕ)
 lines_under None = []
 lines_under (Some e) = entry_lines e
 
+-- the lines of the entries, in order
 abbrev pub entries_lines : List Entry → List (List ℕ)
 entries_lines [] = []
 entries_lines (e ∷ es) = entry_lines e ++ entries_lines es

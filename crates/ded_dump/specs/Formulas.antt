@@ -15,6 +15,7 @@ use Rattle.ded_dump.specs.Operands.{member_text}
 
 -- ---- the parts of a goal
 
+-- the first part of an `implies`; any other goal is itself
 abbrev pub left_goal : GoalForm → GoalForm
 left_goal (atom a) = atom a
 left_goal always = always
@@ -27,6 +28,7 @@ left_goal (minus f g) = minus f g
 left_goal (exists s k g) = exists s k g
 left_goal (forall s k g) = forall s k g
 
+-- the second part of an `implies`; any other goal is itself
 abbrev pub right_goal : GoalForm → GoalForm
 right_goal (atom a) = atom a
 right_goal always = always
@@ -39,6 +41,7 @@ right_goal (minus f g) = minus f g
 right_goal (exists s k g) = exists s k g
 right_goal (forall s k g) = forall s k g
 
+-- the members of an `and` or an `or`; any other goal has none
 abbrev pub goals_in : GoalForm → Logics GoalAtom
 goals_in (atom a) = none
 goals_in always = none
@@ -78,12 +81,14 @@ is_grouped p (minus f g) = false
 is_grouped p (exists s k f) = false
 is_grouped p (forall s k f) = false
 
+-- the text, in parentheses where `true` is given
 abbrev pub grouped : Bool → List ℕ → List ℕ
 grouped true t = codes "(" ++ (t ++ codes ")")
 grouped false t = t
 
 -- ---- formulas
 
+-- a comparison, by its goal, or a name with its arguments
 abbrev pub atom_text : Names → FormAtom → GoalForm → List ℕ
 atom_text names (compare l op r) g = comparison_text names l op r g
 atom_text names (member n ts) g = member_text n ts

@@ -24,6 +24,7 @@ heading_text h = codes "(" ++ (columns_text [] h ++ codes ")")
 
 -- ---- by slots
 
+-- the variable of a quantifier as a column
 abbrev pub variable : Sort → Key → Column
 variable s k = record { name = key_text k; sort = s }
 
@@ -41,6 +42,7 @@ abbrev mutual
   variables (exists s k f) = variable s k ∷ variables f
   variables (forall s k f) = variable s k ∷ variables f
 
+  -- the variables of the quantifiers of the formulas of a list, in order
   pub variables_of : Logics FormAtom → List Column
   variables_of none = []
   variables_of (also f fs) = variables f ++ variables_of fs

@@ -26,6 +26,7 @@ product_text m a x = number_over m a ++ (42 ∷ x)
 abbrev pub later_product_text : ℤ → ℤ → List ℕ → List ℕ
 later_product_text m a x = sign_text a ++ product_text m (magnitude a) x
 
+-- the products after the first, each after its sign
 abbrev pub later_products_text : ℤ → List (List ℕ × ℤ) → List ℕ
 later_products_text m [] = []
 later_products_text m (c ∷ cs) = later_product_text m c.1 c.0 ++ later_products_text m cs
@@ -39,6 +40,7 @@ abbrev pub parts_text : ℤ → ℤ → List (List ℕ × ℤ) → List ℕ
 parts_text m k [] = number_over m k
 parts_text m k (c ∷ cs) = product_text m c.1 c.0 ++ (later_products_text m cs ++ later_constant_text m k)
 
+-- a sum: its products in order and its constant, with each number divided by what the sum is over
 abbrev pub sum_text : sum.Sum → List ℕ
 sum_text t = parts_text t.over t.constant t.parts
 

@@ -17,7 +17,7 @@ equal_size_with Zero a = unsigned_abs a
 equal_size_with AtMost a = 0
 equal_size_with Below a = 0
 
--- that of the slot's coefficient in a row
+-- the magnitude of the slot's coefficient in an equality; 0 in another row
 abbrev pub equal_size : Slot → LinearConstraint → ℕ
 equal_size s r = equal_size_with r.op (coef_at r.coefs s)
 
@@ -35,7 +35,7 @@ pub record IsEqualityAt (s : Slot) (rows : List LinearConstraint) (n i : ℕ) : 
   pub mentions : n ≢ 0
   pub size : (d : LinearConstraint) → equal_size s (get_or rows i d) ≡ n
 
--- such a row, of the least magnitude
+-- the row at the place is an equality that mentions the slot, with the least magnitude of all
 abbrev pub IsLeastEquality : Slot → List LinearConstraint → ℕ → Type 0
 IsLeastEquality s rows i = (n : ℕ) × IsEqualityAt s rows n i × AreAtLeast s rows n (length rows)
 
@@ -47,6 +47,6 @@ settled_row s e r = if int_eq (coef_at r.coefs s) (pos 0) then r else (if int_lt
 abbrev pub SettledHolds : Slot → LinearConstraint → LinearConstraint → Point → Type 0
 SettledHolds s e r p = (r ≡ e) ⊎ (row_holds (settled_row s e r) p ≡ true)
 
--- whether a number of it, or a product on the way to it, is too long
+-- whether a number of what the equality leaves of a row, or a product on the way to it, is too long
 abbrev pub settled_clash : Slot → LinearConstraint → LinearConstraint → Bool
 settled_clash s e r = if int_eq (coef_at r.coefs s) (pos 0) then false else (if int_lt (pos 0) (coef_at r.coefs s) then lines_clash s r e else lines_clash s e r)

@@ -23,7 +23,7 @@ at_least_with Below a Zero b = false
 at_least_with Below a AtMost b = int_le b a
 at_least_with Below a Below b = int_le b a
 
--- so by the constants and ops of two rows
+-- whether the first row implies the second one by their constants and ops, where both have the same coefficients
 abbrev pub at_least : LinearConstraint → LinearConstraint → Bool
 at_least q r = at_least_with q.op q.constant r.op r.constant
 

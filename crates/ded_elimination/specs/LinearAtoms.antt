@@ -11,6 +11,7 @@ pub record IsLinearAtom (r : LinearConstraint) : Type 0 where
   pub coefs : AreCoefs r.coefs
   pub row : IsNormalRow r
 
+-- whether the sort is that of rationals
 abbrev pub is_rational : Sort → Bool
 is_rational Rat = true
 is_rational Text = false

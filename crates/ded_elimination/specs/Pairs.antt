@@ -16,6 +16,6 @@ LevelHolds s r p = coef_at r.coefs s ≡ pos 0 → row_holds r p ≡ true
 abbrev pub PairHolds : Slot → LinearConstraint → LinearConstraint → Point → Type 0
 PairHolds s u l p = coef_at l.coefs s <ℤ pos 0 → row_holds (mix_of s u l) p ≡ true
 
--- so it is of a row that bounds the slot from above and all of the rows
+-- where u bounds the slot from above, its combinations with all rows that bound the slot from below hold
 abbrev pub UpperHolds : Slot → List LinearConstraint → LinearConstraint → Point → Type 0
 UpperHolds s rows u p = pos 0 <ℤ coef_at u.coefs s → OfFirst (PairHolds s u) rows (length rows) p

@@ -63,6 +63,7 @@ IsPlaceable scope (Single x) = Unit {0}
 IsPlaceable scope (Sum t) = IsSummable scope (Sum t)
 IsPlaceable scope (Quoted t) = Unit {0}
 
+-- each sum among the operands of an atom is one of rational variables
 abbrev pub ArePlaceable : SlotScope → List Operand → Type 0
 ArePlaceable scope [] = Unit {0}
 ArePlaceable scope (t ∷ ts) = IsPlaceable scope t × ArePlaceable scope ts

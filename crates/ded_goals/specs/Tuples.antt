@@ -32,6 +32,7 @@ abbrev pub found : Option Atom → List Atom
 found None = []
 found (Some a) = a ∷ []
 
+-- each of the atoms is normal
 abbrev pub AreNormalAtoms : List Atom → Type 0
 AreNormalAtoms [] = Unit {0}
 AreNormalAtoms (a ∷ atoms) = IsNormalAtom a × AreNormalAtoms atoms

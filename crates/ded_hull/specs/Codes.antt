@@ -28,10 +28,11 @@ units_of c = if int_lt c (neg_ℤ edge) then pos fine *ℤ (c +ℤ shift) else (
 unfoldable pub code_of : ℤ → ℤ
 code_of k = if int_lt k (neg_ℤ edge) then int_div_euclid k (pos fine) -ℤ shift else (if int_lt edge k then int_div_euclid k (pos fine) +ℤ shift else k)
 
--- the end of a code, and the code of an end
+-- the end that a code stands for: none for the lowest code
 abbrev pub end_of : ℤ → Option ℤ
 end_of c = if int_eq c lowest then None else Some (units_of c)
 
+-- the code of an end: that of its units, or the lowest code where there is no end
 abbrev pub code_at : Option ℤ → ℤ
 code_at None = lowest
 code_at (Some k) = code_of k

@@ -218,10 +218,12 @@ units_back : (c : ℤ) → code_of (units_of c) ≡ c
 unfolding units_of code_of
 units_back c = wide_back edge shift fine some_unit edge_side edge_join c
 
+-- the code of a number of units never stands for more units than these
 pub code_under : (k : ℤ) → units_of (code_of k) ≤ℤ k
 unfolding units_of code_of
 code_under k = narrow_under edge shift fine some_unit edge_side edge_join k
 
+-- the negative of a code stands for the negative of its units
 pub units_turned : (c : ℤ) → units_of (neg_ℤ c) ≡ neg_ℤ (units_of c)
 unfolding units_of
 units_turned c = wide_turned edge shift fine some_unit edge_side edge_join c
@@ -274,13 +276,14 @@ up_to_is a b o p la lb some e f = by (int_eq a lowest) refl ∙ ap (λ h. is_up_
     by true h = least lowest a b h lb
     by false h = turn_order a b (units_of a) (units_of b) (units_order b a)
 
--- the negative of an end
+-- the lowest code stands for no end, which is its own negative
 pub turned_none : (c : ℤ) (o : Option ℤ) → int_eq c lowest ≡ true → end_of c ≡ o → o ≡ turned o
 turned_none c o h e = by o (sym e ∙ ap (λ i. cond i None (Some (units_of c))) h)
   where
     by : (o : Option ℤ) → o ≡ None → o ≡ turned o
     by o e = e ∙ sym (ap turned e)
 
+-- the negative of a code that stands for an end, and is below 2 to the power of 63, stands for the negative of that end
 pub turned_some : (c d : ℤ) (o : Option ℤ) → int_eq c lowest ≡ false → c <ℤ pos (2 ^ 63) → d ≡ neg_ℤ c → end_of c ≡ o → end_of d ≡ turned o
 turned_some c d o h l f e =
     ap (λ i. cond i None (Some (units_of d))) (other (2 ^ 63) c d l f) ∙ ap Some (ap units_of f ∙ units_turned c) ∙ ap turned (sym (ap (λ i. cond i None (Some (units_of c))) h) ∙ e)
@@ -288,41 +291,49 @@ turned_some c d o h l f e =
     other : (n : ℕ) (c d : ℤ) → c <ℤ pos n → d ≡ neg_ℤ c → int_eq d (neg_ℤ (pos n)) ≡ false
     other n c d l f = grind (arith, ints)
 
--- what the program computes
+-- a code of 64 binary digits with its sign is at least the lowest one
 pub fits_low : (c : ℤ) → SFits w64 c → lowest ≤ℤ c
 fits_low c h = omega (arith, ints)
 
+-- a code of 64 binary digits with its sign is below 2 to the power of 63
 pub fits_high : (c : ℤ) → SFits w64 c → c <ℤ pos (2 ^ 63)
 fits_high c h = omega (arith, ints)
 
+-- 0 less a number is its negative
 pub from_zero : (c : ℤ) → pos 0 -ℤ c ≡ neg_ℤ c
 from_zero c = omega (arith, ints)
 
+-- a code below the negative of the edge stands for the units of the whole number that is the shift above it
 pub units_low : (c x : ℤ) → x ≡ c → x <ℤ neg_ℤ edge → pos fine *ℤ (x +ℤ shift) ≡ units_of c
 unfolding units_of
 units_low c x e h =
     ap (λ i. cond i (pos fine *ℤ (x +ℤ shift)) (cond (int_lt edge x) (pos fine *ℤ (x -ℤ shift)) x)) (sym (lt_true x (neg_ℤ edge) h)) ∙ ap units_of e
 
+-- a code above the edge stands for the units of the whole number that is the shift below it
 pub units_high : (c x : ℤ) → x ≡ c → neg_ℤ edge ≤ℤ x → edge <ℤ x → pos fine *ℤ (x -ℤ shift) ≡ units_of c
 unfolding units_of
 units_high c x e h k =
     ap (λ i. cond i (pos fine *ℤ (x -ℤ shift)) x) (sym (lt_true edge x k)) ∙ ap (λ i. cond i (pos fine *ℤ (x +ℤ shift)) (cond (int_lt edge x) (pos fine *ℤ (x -ℤ shift)) x)) (sym (lt_false x (neg_ℤ edge) h)) ∙ ap units_of e
 
+-- a code from the negative of the edge to the edge stands for as many units as itself
 pub units_own : (c x : ℤ) → x ≡ c → neg_ℤ edge ≤ℤ x → x ≤ℤ edge → x ≡ units_of c
 unfolding units_of
 units_own c x e h k =
     ap (λ i. cond i (pos fine *ℤ (x -ℤ shift)) x) (sym (lt_false edge x k)) ∙ ap (λ i. cond i (pos fine *ℤ (x +ℤ shift)) (cond (int_lt edge x) (pos fine *ℤ (x -ℤ shift)) x)) (sym (lt_false x (neg_ℤ edge) h)) ∙ ap units_of e
 
+-- the code of units below the negative of the edge is the shift below the whole number at or below them
 pub code_low : (k q : ℤ) → q ≡ int_div_euclid k (pos fine) → k <ℤ neg_ℤ edge → q -ℤ shift ≡ code_of k
 unfolding code_of
 code_low k q e h =
     ap (λ x. x -ℤ shift) e ∙ ap (λ i. cond i (int_div_euclid k (pos fine) -ℤ shift) (cond (int_lt edge k) (int_div_euclid k (pos fine) +ℤ shift) k)) (sym (lt_true k (neg_ℤ edge) h))
 
+-- the code of units above the edge is the shift above the whole number at or below them
 pub code_high : (k q : ℤ) → q ≡ int_div_euclid k (pos fine) → neg_ℤ edge ≤ℤ k → edge <ℤ k → q +ℤ shift ≡ code_of k
 unfolding code_of
 code_high k q e h l =
     ap (λ x. x +ℤ shift) e ∙ ap (λ i. cond i (int_div_euclid k (pos fine) +ℤ shift) k) (sym (lt_true edge k l)) ∙ ap (λ i. cond i (int_div_euclid k (pos fine) -ℤ shift) (cond (int_lt edge k) (int_div_euclid k (pos fine) +ℤ shift) k)) (sym (lt_false k (neg_ℤ edge) h))
 
+-- units from the negative of the edge to the edge are their own code
 pub code_own : (k : ℤ) → neg_ℤ edge ≤ℤ k → k ≤ℤ edge → k ≡ code_of k
 unfolding code_of
 code_own k h l =

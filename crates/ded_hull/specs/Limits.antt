@@ -46,11 +46,13 @@ beyond true false = Some (pos (2 ^ 127 - 1))
 beyond false true = Some (pos (2 ^ 127 - 1))
 beyond false false = None
 
+-- what is kept of the sum of two numbers; none where one of them is none
 abbrev pub plus : Option ℤ → Option ℤ → Option ℤ
 plus None o = None
 plus (Some s) None = None
 plus (Some s) (Some t) = kept (s +ℤ t)
 
+-- what is kept of a multiple of a number; none where the number is none
 abbrev pub times : ℤ → Option ℤ → Option ℤ
 times a None = None
 times a (Some e) = kept (a *ℤ e)
@@ -68,24 +70,28 @@ least rs (t ∷ ts) s = least rs ts (plus s (times t.1 (least_end t.1 (range_at 
 abbrev pub turned : Bool → ℤ → ℤ
 turned b z = if b then neg_ℤ z else z
 
+-- the terms, or the terms with the negatives of their coefficients
 abbrev pub turn : Bool → List Term → List Term
 turn b ts = map (λ t. (t.0, turned b t.1)) ts
 
--- that of the terms and a constant, or of its negative
+-- a number at most the sum of the terms and a constant, or at most the negative of that sum, in units, at all values of
+-- the reach, or none
 abbrev pub least_of : List Range → List Term → ℤ → Bool → Option ℤ
 least_of rs ts c b = least rs (turn b ts) (kept (turned b c *ℤ pos fine))
 
 -- ---- whether limits may hold
 
+-- the least sum is at most 0, or isn't known
 abbrev pub at_most_zero : Option ℤ → Bool
 at_most_zero None = true
 at_most_zero (Some s) = int_le s (pos 0)
 
+-- the least sum is below 0, or isn't known
 abbrev pub below_zero : Option ℤ → Bool
 below_zero None = true
 below_zero (Some s) = int_lt s (pos 0)
 
--- with the least sums of a row and of its negative
+-- a row with the op may hold, by the least sum of the row and that of its negative
 abbrev pub may_stand : RowOp → Option ℤ → Option ℤ → Bool
 may_stand Zero o n = at_most_zero o && at_most_zero n
 may_stand AtMost o n = at_most_zero o

@@ -13,32 +13,41 @@ use Rattle.ded_model.proofs.Core.{Meets, meets_unscale}
 
 -- ---- tests
 
+-- where a number is below another one, the test for that is true
 pub lt_true : (a b : ℤ) → a <ℤ b → int_lt a b ≡ true
 lt_true a b h = grind (arith, ints)
 
+-- where a number is at most another one, the test for that is true
 pub le_true : (a b : ℤ) → a ≤ℤ b → int_le a b ≡ true
 le_true a b h = grind (arith, ints)
 
+-- where the second number is at most the first one, the test whether the first is below the second is false
 pub lt_false : (a b : ℤ) → b ≤ℤ a → int_lt a b ≡ false
 lt_false a b h = grind (arith, ints)
 
+-- where the test whether a number is below another one is true, it is
 pub of_lt_true : (a b : ℤ) → int_lt a b ≡ true → a <ℤ b
 of_lt_true a b h = grind (arith, ints)
 
+-- where the test whether a number is at most another one is true, it is
 pub of_le_true : (a b : ℤ) → int_le a b ≡ true → a ≤ℤ b
 of_le_true a b h = grind (arith, ints)
 
+-- where the test whether the first number is below the second one is false, the second is at most the first
 pub of_lt_false : (a b : ℤ) → int_lt a b ≡ false → b ≤ℤ a
 of_lt_false a b h = grind (arith, ints)
 
+-- each whole number is at most itself
 pub le_self : (z : ℤ) → z ≤ℤ z
 le_self z = omega (arith, ints)
 
+-- a natural number is at least 0 as a whole number
 pub not_negative : (n : ℕ) → pos 0 ≤ℤ pos n
 not_negative n = omega (arith, ints)
 
 -- ---- factors
 
+-- a factor of at least 0 keeps the order of two numbers
 pub times_up : (k x y : ℤ) → pos 0 ≤ℤ k → x ≤ℤ y → (k *ℤ x) ≤ℤ (k *ℤ y)
 times_up (negsuc n) x y h l = absurd (omega (arith, ints))
 times_up (pos n) x y h l = rw (parts x, parts y) (simp ring_pos (diff_le _ _ _ _ (grow n (up x) (down x) (up y) (down y) (le_out x y l))))
@@ -46,9 +55,11 @@ times_up (pos n) x y h l = rw (parts x, parts y) (simp ring_pos (diff_le _ _ _ _
     grow : (n a b c d : ℕ) → a + d ≤ c + b → n * a + 0 * b + (n * d + 0 * c) ≤ n * c + 0 * d + (n * b + 0 * a)
     grow n a b c d h = omega (arith, mul-le-mul_left n h)
 
+-- a multiple by the negative of a factor is the negative of the multiple by the factor
 pub times_neg : (k x : ℤ) → neg_ℤ k *ℤ x ≡ neg_ℤ (k *ℤ x)
 times_neg k x = rw (parts k, parts x) (simp ring (diff_same _ _ _ _ (omega arith)))
 
+-- where multiples by a factor above 0 are in order, the numbers are
 pub le_unscale : (d x y : ℤ) → pos 0 <ℤ d → (d *ℤ x) ≤ℤ (d *ℤ y) → x ≤ℤ y
 le_unscale d x y p h = at_most x y (meets_unscale AtMost d (x -ℤ y) p (subst (Meets AtMost) (law d x y) (difference (d *ℤ x) (d *ℤ y) h)))
   where
@@ -67,6 +78,7 @@ apart x y h k = omega (arith, ints)
 weak : (k : ℤ) → pos 0 <ℤ k → pos 0 ≤ℤ k
 weak k h = omega (arith, ints)
 
+-- a factor above 0 keeps the strict order of two numbers
 pub times_lt : (k x y : ℤ) → pos 0 <ℤ k → x <ℤ y → (k *ℤ x) <ℤ (k *ℤ y)
 times_lt k x y p h = by (int_lt (k *ℤ x) (k *ℤ y)) refl
   where
@@ -74,6 +86,7 @@ times_lt k x y p h = by (int_lt (k *ℤ x) (k *ℤ y)) refl
     by true e = of_lt_true (k *ℤ x) (k *ℤ y) e
     by false e = absurd (apart x y h (le_unscale k y x p (of_lt_false (k *ℤ x) (k *ℤ y) e)))
 
+-- where multiples by a factor above 0 are in strict order, the numbers are
 pub lt_unscale : (k x y : ℤ) → pos 0 <ℤ k → (k *ℤ x) <ℤ (k *ℤ y) → x <ℤ y
 lt_unscale k x y p h = by (int_lt x y) refl
   where
@@ -81,12 +94,13 @@ lt_unscale k x y p h = by (int_lt x y) refl
     by true e = of_lt_true x y e
     by false e = absurd (apart (k *ℤ x) (k *ℤ y) h (times_up k y x (weak k p) (of_lt_false x y e)))
 
+-- a product doesn't depend on the order of its factors
 pub commute : (a b : ℤ) → a *ℤ b ≡ b *ℤ a
 commute a b = rw (parts a, parts b) (simp ring (diff_same _ _ _ _ (omega arith)))
 
 -- ---- whole quotients
 
--- the whole quotient, times the divisor
+-- the whole quotient by a divisor above 0, times the divisor, is at most the number that was divided
 pub quotient_at_most : (n d : ℤ) → pos 0 <ℤ d → (int_div_euclid n d *ℤ d) ≤ℤ n
 quotient_at_most n d h = less (int_div_euclid n d *ℤ d) n (unsigned_abs (int_rem_euclid n d)) (whole_and_rest_is n d h)
   where
@@ -97,7 +111,7 @@ rest_below : (n : ℤ) (f : ℕ) → 0 < f → unsigned_abs (int_rem_euclid n (p
 rest_below (pos a) f h = mod_below a f h
 rest_below (negsuc a) f h = omega (arith, mod_below a f h)
 
--- the quotient is the last number that isn't too great
+-- the number after the whole quotient, times the divisor, is more than the number that was divided
 pub quotient_next : (n : ℤ) (f : ℕ) → 0 < f → n <ℤ (pos f *ℤ (int_div_euclid n (pos f) +ℤ pos 1))
 quotient_next n f h = more (int_div_euclid n (pos f) *ℤ pos f) n (pos f *ℤ (int_div_euclid n (pos f) +ℤ pos 1)) (unsigned_abs (int_rem_euclid n (pos f))) f (whole_and_rest_is n (pos f) (above f h)) (rest_below n f h) (law (int_div_euclid n (pos f)) (pos f))
   where
@@ -110,6 +124,7 @@ quotient_next n f h = more (int_div_euclid n (pos f) *ℤ pos f) n (pos f *ℤ (
     more : (q n m : ℤ) (r f : ℕ) → n ≡ q +ℤ pos r → r < f → m ≡ q +ℤ pos f → n <ℤ m
     more q n m r f e h g = omega (arith, ints)
 
+-- the divisor, a natural number above 0, times the whole quotient is at most the number that was divided
 pub quotient_up_to : (n : ℤ) (f : ℕ) → 0 < f → (pos f *ℤ int_div_euclid n (pos f)) ≤ℤ n
 quotient_up_to n f h = turn (pos f *ℤ int_div_euclid n (pos f)) (int_div_euclid n (pos f) *ℤ pos f) n (commute (pos f) (int_div_euclid n (pos f))) (quotient_at_most n (pos f) (above f h))
   where

@@ -17,6 +17,7 @@ pub record IsSegment (e : Entry) : Type 0 where
   pub one : length e.reach ≡ 1
   pub ends : is_up_to (first_range e).low (first_range e).high ≡ true
 
+-- each entry is a segment
 abbrev pub AreSegments : List Entry → Type 0
 AreSegments es = Every IsSegment es
 
@@ -26,6 +27,7 @@ AreOrdered rs = Every (λ r. is_up_to r.low r.high ≡ true) rs
 
 -- ---- middles
 
+-- twice the middle between a low and a high end, or twice the one end that there is; 0 where there is none
 abbrev pub middle_between : Option ℤ → Option ℤ → ℤ
 middle_between None None = pos 0
 middle_between None (Some h) = h +ℤ h

@@ -35,10 +35,11 @@ terms_of cs = map (λ c. (c.0.number, c.1)) cs
 abbrev pub is_text_column : Slot → ℕ → Bool
 is_text_column s i = same_slot s (record { number = i; sort = Text })
 
--- a text that stands in a column doesn't contradict that the slot has the text, or has another one
+-- a text that stands in a column doesn't contradict that the slot has the text
 abbrev pub may_equal : Slot → List ℕ → ℕ × List ℕ → Bool
 may_equal s t u = not (is_text_column s u.0 && not (bytes_eq u.1 t))
 
+-- a text that stands in a column doesn't contradict that the slot has another text than this one
 abbrev pub may_differ : Slot → List ℕ → ℕ × List ℕ → Bool
 may_differ s t u = not (is_text_column s u.0 && bytes_eq u.1 t)
 

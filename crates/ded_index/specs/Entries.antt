@@ -9,6 +9,7 @@ use Rattle.ded_box.specs.Intervals.{intervals_meet}
 use Rattle.ded_box.specs.Boxes.{Shared, boxes_meet}
 use Rattle.ded_index.specs.declared.entry.Entry.{Entry}
 
+-- a box: a lower and an upper bound for each column
 abbrev pub Box : Type 0
 Box = List (Bound × Bound)
 
@@ -17,10 +18,11 @@ abbrev pub first_of : Box → Bound × Bound
 first_of [] = (Infinite, Infinite)
 first_of (i ∷ is) = i
 
--- the low and the high end of an entry's first interval
+-- the low end of an entry's first interval
 abbrev pub low : Entry → Bound
 low e = (first_of e.bounds).0
 
+-- the high end of an entry's first interval
 abbrev pub high : Entry → Bound
 high e = (first_of e.bounds).1
 

@@ -13,11 +13,13 @@ use Rattle.ded_index.specs.Entries.{low}
 unfoldable pub sound_fraction : Fraction → Fraction
 sound_fraction f = if int_lt (pos 0) f.den then f else record { num = pos 0; den = pos 1 }
 
+-- the bound, whose fraction counts as 0 where its denominator isn't above 0
 abbrev pub sound : Bound → Bound
 sound Infinite = Infinite
 sound (Excluded f) = Excluded (sound_fraction f)
 sound (Included f) = Included (sound_fraction f)
 
+-- the order of two fractions with denominators above 0
 abbrev pub fraction_order : Fraction → Fraction → Ordering
 fraction_order f g = int_cmp (f.num *ℤ g.den) (g.num *ℤ f.den)
 
@@ -33,6 +35,6 @@ low_order (Included f) Infinite = Greater
 low_order (Included f) (Excluded g) = ordering_then (fraction_order f g) Less
 low_order (Included f) (Included g) = fraction_order f g
 
--- the order of entries
+-- the order of entries, by where their first intervals begin
 abbrev pub entry_order : Entry → Entry → Ordering
 entry_order a b = low_order (sound (low a)) (sound (low b))

@@ -10,6 +10,7 @@ use Rattle.ded_index.specs.declared.tree.Node.{Node}
 use Rattle.ded_index.specs.Entries.{first_of, high, SomeEntry}
 use Rattle.ded_index.specs.Orders.{entry_order}
 
+-- the entries of the nodes, in order
 abbrev pub entries_of : List Node → List Entry
 entries_of ns = map (λ n. n.entry) ns
 
@@ -27,6 +28,7 @@ pub record IsGreatest (es : List Entry) (b : Bound) : Type 0 where
   pub upper : AllByRecursion (λ e. (w : Bound) → HasPositive w → may_meet w (high e) ≡ true → may_meet w b ≡ true) es
   pub attained : SomeEntry (λ e. high e ≡ b) es
 
+-- the place of the middle of a range of nodes; of two middles it is the later one
 abbrev pub middle_of : List Node → ℕ
 middle_of ns = length ns / 2
 

@@ -4,12 +4,13 @@ use Rattle.std.proofs.Common.{zero}
 use Rattle.ded_keep.specs.declared.additive.Scans.{Scans}
 use Rattle.ded_keep.specs.declared.additive.Scans.TheVariants.{Never, Once, Often}
 
+-- how often that many scans are: never, once or more often
 abbrev pub scans_of : ℕ → Scans
 scans_of zero = Never
 scans_of (suc zero) = Once
 scans_of (suc (suc k)) = Often
 
--- of two plans together
+-- how often two plans together scan a name
 abbrev pub both : Scans → Scans → Scans
 both Never b = b
 both Once Never = Once

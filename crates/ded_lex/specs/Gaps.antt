@@ -13,6 +13,7 @@ pub data Gap : Type 0 where
   Comment : List ℕ → Gap
   OpenComment : List ℕ → Gap
 
+-- the bytes of a gap
 abbrev pub gap_bytes : Gap → List ℕ
 gap_bytes (Space b) = b ∷ []
 gap_bytes (Comment body) = 45 ∷ 45 ∷ body ++ 10 ∷ []

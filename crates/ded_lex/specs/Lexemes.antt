@@ -11,6 +11,7 @@ digit_byte b = nat_le 48 b && nat_le b 57
 abbrev pub letter_byte : ℕ → Bool
 letter_byte b = (nat_le 65 b && nat_le b 90) || ((nat_le 97 b && nat_le b 122) || (b == 95))
 
+-- what may stand in a word: a letter, _ or a digit
 abbrev pub word_byte : ℕ → Bool
 word_byte b = letter_byte b || digit_byte b
 
@@ -26,6 +27,7 @@ pub data Lexeme : Type 0 where
   Quoted : List ℕ → Lexeme
   Sign : List ℕ → Lexeme
 
+-- the bytes that spell a lexeme: a quoted text between quotes, with each quote in it doubled, and any other as it is
 abbrev pub lexeme_bytes : Lexeme → List ℕ
 lexeme_bytes (Word bs) = bs
 lexeme_bytes (Number digits) = digits
@@ -61,15 +63,19 @@ pub record IsDecimal (bs : List ℕ) : Type 0 where
   pub goes_on : BeginsWith digit_byte fraction
   pub more_digits : Each digit_byte fraction
 
+-- the sign =
 abbrev pub equals_byte : ℕ → Bool
 equals_byte b = b == 61
 
+-- the sign -
 abbrev pub dash_byte : ℕ → Bool
 dash_byte b = b == 45
 
+-- the quote '
 abbrev pub quote_byte : ℕ → Bool
 quote_byte b = b == 39
 
+-- the bytes are one of the listed ones; false where none is listed
 abbrev pub IsOneOf : List ℕ → List (List ℕ) → Type 0
 IsOneOf bs [] = ⊥
 IsOneOf bs (xs ∷ rest) = (bs ≡ xs) ⊎ IsOneOf bs rest

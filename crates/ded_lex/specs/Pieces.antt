@@ -12,12 +12,14 @@ pub data Part : Type 0 where
   Quoted : List ℕ → Part
   Comment : List ℕ → Part
 
+-- the bytes of a part, with the quotes around a quoted one, and with the dashes and the line feed of a comment
 abbrev pub part_bytes : Part → List ℕ
 part_bytes (Plain b) = b ∷ []
 part_bytes Dash = 45 ∷ []
 part_bytes (Quoted body) = 39 ∷ body ++ 39 ∷ []
 part_bytes (Comment body) = 45 ∷ 45 ∷ body ++ 10 ∷ []
 
+-- the bytes of parts, one part after another
 abbrev pub spelled : List Part → List ℕ
 spelled parts = flat_map part_bytes parts
 
@@ -33,6 +35,7 @@ IsPart Dash next = NoDash next
 IsPart (Quoted body) next = AllByRecursion (λ b. b ≢ 39) body
 IsPart (Comment body) next = IsLine body
 
+-- The parts may stand one after another, where these bytes of the input come next.
 abbrev pub AreParts : List Part → List ℕ → Type 0
 AreParts [] next = Unit {0}
 AreParts (part ∷ parts) next = IsPart part (spelled parts ++ next) × AreParts parts next
@@ -68,6 +71,7 @@ pub data Statement : Type 0 where
   Whole : List ℕ → Statement
   Unfinished : List ℕ → Statement
 
+-- the bytes of a statement, without the ; that ends a whole one
 abbrev pub statement_bytes : Statement → List ℕ
 statement_bytes (Whole piece) = piece
 statement_bytes (Unfinished rest) = rest

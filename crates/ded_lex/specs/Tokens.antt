@@ -11,6 +11,7 @@ pub data Cell : Type 0 where
   GapCell : Gap → Cell
   LexemeCell : Lexeme → Cell
 
+-- the bytes of a cell
 abbrev pub cell_bytes : Cell → List ℕ
 cell_bytes (GapCell gap) = gap_bytes gap
 cell_bytes (LexemeCell lexeme) = lexeme_bytes lexeme
@@ -25,6 +26,7 @@ abbrev pub AreCells : List Cell → Type 0
 AreCells [] = Unit {0}
 AreCells (cell ∷ cells) = IsCell cell (flat_map cell_bytes cells) × AreCells cells
 
+-- the kind of the token of a lexeme
 abbrev pub kind_of : Lexeme → TokenKind
 kind_of (Word bs) = kind.Word
 kind_of (Number digits) = kind.Number
@@ -39,6 +41,7 @@ tokens_from at (GapCell gap ∷ cells) = tokens_from (at + length (gap_bytes gap
 tokens_from at (LexemeCell lexeme ∷ cells) =
     record { kind = kind_of lexeme; start = at; end = at + length (lexeme_bytes lexeme) } ∷ tokens_from (at + length (lexeme_bytes lexeme)) cells
 
+-- the lexemes among cells, in order
 abbrev pub lexemes_of : List Cell → List Lexeme
 lexemes_of [] = []
 lexemes_of (GapCell gap ∷ cells) = lexemes_of cells

@@ -42,6 +42,7 @@ narrowed e s b (r ∷ rs) = narrowed e s (narrower e b (row_bound e s r)) rs
 
 -- ---- rows of which each mentions one slot or none
 
+-- whether the row has at most one coefficient
 abbrev pub is_single : LinearConstraint → Bool
 is_single r = nat_lt (length r.coefs) 2
 
@@ -50,14 +51,16 @@ abbrev pub coefs_fit : List LinearConstraint → Slot → LinearConstraint → L
 coefs_fit rows s r [] = sign_meets r.op r.constant
 coefs_fit rows s r (c ∷ cs) = same_slot c.0 s || may_meet (narrowed lower c.0 Infinite rows) (narrowed upper c.0 Infinite rows)
 
+-- a row without slots holds, and the bounds that the rows give the row's first slot may meet, where that isn't s
 abbrev pub row_fits : List LinearConstraint → Slot → LinearConstraint → Bool
 row_fits rows s r = coefs_fit rows s r r.coefs
 
--- two rows with the same first slot
+-- two lists of coefficients with the same first slot
 abbrev pub same_places : List (Slot × ℤ) → List (Slot × ℤ) → Bool
 same_places [] ds = false
 same_places (c ∷ cs) [] = false
 same_places (c ∷ cs) (d ∷ ds) = same_slot c.0 d.0
 
+-- two rows with the same first slot; a row without slots has none
 abbrev pub same_place : LinearConstraint → LinearConstraint → Bool
 same_place q r = same_places q.coefs r.coefs

@@ -40,14 +40,17 @@ sign_tells Zero (negsuc n) = refl
 sign_tells AtMost (negsuc n) = refl
 sign_tells Below (negsuc n) = refl
 
+-- the sign of a negative is the negative of the sign
 pub sign-turned : (z : ℤ) → sign (neg_ℤ z) ≡ neg_ℤ (sign z)
 sign-turned (pos zero) = refl
 sign-turned (pos (suc n)) = ap neg_ℤ (sym (above_sign n))
 sign-turned (negsuc n) = above_sign n
 
+-- numbers of one sign compare with 0 alike
 pub by_sign : (op : RowOp) (x y : ℤ) → sign x ≡ sign y → sign_meets op x ≡ sign_meets op y
 by_sign op x y e = sign_tells op x ∙ ap (sign_meets op) e ∙ sym (sign_tells op y)
 
+-- a row holds alike at two points at which it has one cell
 pub cells_tell : (r : LinearConstraint) (p q : Point) → row_cell r p ≡ row_cell r q → row_holds r p ≡ row_holds r q
 unfolding row_holds
 cells_tell r p q e = by_sign r.op (row_at r p) (row_at r q) e
@@ -64,13 +67,16 @@ coefs_owned (c ∷ cs) s h m = elim (or_split (same_slot c.0 s) _ m) [
   | inr e ↦ coefs_owned cs s h.4 e
 ]
 
+-- each slot that a row mentions on which eliminations work is rational
 pub rational_slots : (r : LinearConstraint) (s : Slot) → IsLinearAtom r → row_mentions r s ≡ true → s.sort ≡ Rat
 unfolding row_mentions
 rational_slots r s h m = coefs_owned r.coefs s h.coefs m
 
+-- the sort of each slot that a row mentions on which eliminations work passes the test for rationals
 pub owned_slots : (r : LinearConstraint) (s : Slot) → IsLinearAtom r → row_mentions r s ≡ true → is_rational s.sort ≡ true
 owned_slots r s h m = rational s (rational_slots r s h m)
 
+-- a row mentions each slot that its lines mention
 pub slots_of_lines : (r : LinearConstraint) (l : Line) (s : Slot) → In l (row_lines r) → row_mentions l s ≡ true → row_mentions r s ≡ true
 unfolding row_mentions
 slots_of_lines r l s i m = line_slots r.coefs r.constant l s i m

@@ -16,6 +16,7 @@ pub record IsFraction (f : Fraction) : Type 0 where
   pub den : IsShort f.den
   pub positive : pos 0 <ℤ f.den
 
+-- in lowest terms: the greatest common divisor of the numerator and the denominator is 1
 abbrev pub IsLowest : Fraction → Type 0
 IsLowest f = nat_gcd (unsigned_abs f.num) (unsigned_abs f.den) ≡ 1
 
@@ -53,7 +54,7 @@ NoneOutside test s e f = (p : Point) → IsPoint p → IsTrue (test p) → is_ou
 abbrev pub SomeAt : (Point → Bool) → Slot → Fraction → Type 0
 SomeAt test s f = (p : Point) × IsPoint p × IsTrue (test p) × (number_at p (slot s) *ℤ f.den ≡ f.num *ℤ pos p.den)
 
--- no end: some value lies outside of every fraction
+-- no end: outside of every fraction lies some value
 abbrev pub IsUnbounded : (Point → Bool) → Slot → End → Type 0
 IsUnbounded test s e = (f : Fraction) → pos 0 <ℤ f.den → SomeOutside test s e f
 

@@ -30,29 +30,36 @@ pub record Catalogue : Type 0 where
   pub limit : ℕ
   pub entries : List Entry
 
+-- the name of a relation or a view
 abbrev pub entry_name : Entry → List ℕ
 entry_name (relation n h m ts) = n
 entry_name (view n h f) = n
 
+-- the heading of a relation or a view
 abbrev pub entry_columns : Entry → List Column
 entry_columns (relation n h m ts) = h
 entry_columns (view n h f) = h
 
+-- the tuples without their numbers
 abbrev pub tuples_of : List (ℕ × List Atom) → List (List Atom)
 tuples_of ts = map (λ t. t.1) ts
 
 -- ---- what a name means
 
--- the arguments as coordinates: at the slots from i on, or at the names of a heading
+-- an argument as a coordinate: its number for a rational column, its text for a text column
 abbrev pub argument_coordinate : Sort → Argument → Value
 argument_coordinate Rat a = number a.0
 argument_coordinate Text a = text a.1
 
+-- the arguments as coordinates of a heading's columns, at the slots from i on; none for a column without an argument,
+-- or for an argument without a column
 abbrev pub at_slots : ℕ → List Column → List Argument → List (Key × Value)
 at_slots i [] xs = []
 at_slots i (c ∷ cs) [] = []
 at_slots i (c ∷ cs) (a ∷ xs) = (slot (record { number = i; sort = c.sort }), argument_coordinate c.sort a) ∷ at_slots (i + 1) cs xs
 
+-- the arguments as coordinates of a heading's columns, at their names; none for a column without an argument, or for an
+-- argument without a column
 abbrev pub at_names : List Column → List Argument → List (Key × Value)
 at_names [] xs = []
 at_names (c ∷ cs) [] = []
@@ -69,6 +76,7 @@ read_as I n itself d xs = I n d xs
 read_as I n (closure_of m) d xs = IsClose (I m) d xs
 read_as I n (interior_of m) d xs = IsInside (I m) d xs
 
+-- what all names mean, those of closures and interiors included, where the relations and views mean I
 abbrev pub read : Meaning → Meaning
 read I n d xs = read_as I n (reading n) d xs
 
@@ -78,10 +86,11 @@ abbrev pub entry_meaning : Meaning → Entry → ℕ → List Argument → Type 
 entry_meaning I (relation n h m ts) d xs = IsTrue (tuples_hold (tuples_of ts) (record { den = d; coords = at_slots 0 h xs }))
 entry_meaning I (view n h f) d xs = Sat (AtomHolds (read I)) f (record { den = d; coords = at_names h xs })
 
+-- the meaning I, except that the name of the entry means what the entry does where the entries before it mean I
 abbrev pub with_entry : Meaning → Entry → Meaning
 with_entry I e n d xs = MatchBool (bytes_eq n (entry_name e)) (entry_meaning I e d xs) (I n d xs)
 
--- each entry is read over those before it
+-- what names mean after these entries, each read over those before it, where I is what they mean before the first
 abbrev pub meaning_from : Meaning → List Entry → Meaning
 meaning_from I [] = I
 meaning_from I (e ∷ es) = meaning_from (with_entry I e) es
@@ -122,11 +131,13 @@ IsTruth c f = Holds c f origin
 
 -- ---- what a formula mentions
 
+-- whether an operand mentions the key; a quoted text mentions none
 abbrev pub in_operand : Operand → Key → Bool
 in_operand (Single x) k = same_key (name x) k
 in_operand (Sum t) k = list_any (λ c. same_key (name c.0) k) t.parts
 in_operand (Quoted t) k = false
 
+-- whether an atom mentions the key in one of its operands
 abbrev pub in_atom : FormAtom → Key → Bool
 in_atom (compare l op r) k = in_operand l k || in_operand r k
 in_atom (member n ts) k = list_any (λ t. in_operand t k) ts

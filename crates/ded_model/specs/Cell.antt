@@ -13,13 +13,15 @@ use Rattle.ded_model.specs.Row.{Atom, row_at, theme_holds}
 abbrev pub sign : ℤ → ℤ
 sign z = if int_lt z (pos 0) then negsuc 0 else (if int_lt (pos 0) z then pos 1 else pos 0)
 
--- for a row the sign of its sum, for a text atom 1 where it holds and else 0
+-- the cell of a row: the sign of its sum
 abbrev pub row_cell : LinearConstraint → Point → ℤ
 row_cell r p = sign (row_at r p)
 
+-- the cell of a text atom: 1 where it holds, and else 0
 abbrev pub theme_cell : ThemeAtom → Point → ℤ
 theme_cell a p = if theme_holds a p then pos 1 else pos 0
 
+-- the cell of an atom, be it a row or a text atom
 abbrev pub atom_cell : Atom → Point → ℤ
 atom_cell (First r) p = row_cell r p
 atom_cell (Second a) p = theme_cell a p
@@ -37,6 +39,7 @@ pub record HasCells {A : Type 0} (cell : A → Point → ℤ) (atoms : List A) (
 
 -- ---- reduced conjunctions
 
+-- all the atoms hold; an empty list of atoms holds everywhere
 abbrev pub conj_holds : {A : Type 0} → (A → Point → Bool) → List A → Point → Bool
 conj_holds holds atoms p = list_all (λ a. holds a p) atoms
 

@@ -7,6 +7,7 @@ use Rattle.ded_model.specs.declared.command.Command.TheVariants.{Header, Relatio
 use Rattle.ded_model.specs.Form.{Form, FormAtom, form, forms}
 use Rattle.ded_model.specs.Logic.{Logics}
 
+-- a command: its names, headings, numbers and certificate entries, and its formulas as what they stand for
 pub data CommandForm : Type 0 where
   header : CommandForm
   relation : List ℕ → List Column → CommandForm
@@ -24,6 +25,7 @@ pub data CommandForm : Type 0 where
   disjoint : List ℕ → List ℕ → CommandForm
   verify : List ℕ → List ℕ → List Entry → CommandForm
 
+-- the command that a value of `Command` stands for
 abbrev pub command_form : Command → CommandForm
 command_form Header = header
 command_form (Relation n h) = relation n h

@@ -9,13 +9,14 @@ use Rattle.ded_model.specs.declared.tuple.BothAtom.{BothAtom}
 use Rattle.ded_model.specs.declared.tuple.BothAtom.TheVariants.{First, Second}
 
 module _ {A B : Type 0} where
+  -- two atoms are of the same kind, and equal as atoms of that kind; atoms of two kinds are never equal
   abbrev pub equal_by_kind : (A → A → Bool) → (B → B → Bool) → BothAtom A B → BothAtom A B → Bool
   equal_by_kind E F (First a) (First b) = E a b
   equal_by_kind E F (First a) (Second b) = false
   equal_by_kind E F (Second a) (First b) = false
   equal_by_kind E F (Second a) (Second b) = F a b
 
-  -- the kind, and then the atom
+  -- what an atom feeds to a hasher: its kind, and then what it feeds as an atom of that kind
   abbrev pub fed_by_kind : (A → HashWrites) → (B → HashWrites) → BothAtom A B → HashWrites
   fed_by_kind H K (First a) = fed.u8 0 ++ H a
   fed_by_kind H K (Second b) = fed.u8 1 ++ K b

@@ -14,6 +14,7 @@ pub data FormAtom : Type 0 where
   compare : Operand → CompareOp → Operand → FormAtom
   member : List ℕ → List Operand → FormAtom
 
+-- a formula as the user writes it, with variables by name
 abbrev pub Form : Type 0
 Form = Logic FormAtom
 
@@ -30,24 +31,28 @@ form_step (Formula-F.Implies f g) = implies f.value g.value
 form_step (Formula-F.Exists c f) = exists c.sort (name c.name) f.value
 form_step (Formula-F.Forall c f) = forall c.sort (name c.name) f.value
 
+-- the formula that a value of `Formula` stands for
 abbrev pub form : Formula → Form
 form = fold-Formula Form form_step
 
+-- the formulas that the values of a list stand for
 abbrev pub forms : List Formula → Logics FormAtom
 forms fs = logics (map form fs)
 
--- whether a formula has an atom of the name
+-- whether an atom is a relation or view of the name; no comparison is
 abbrev pub atom_uses : List ℕ → FormAtom → Bool
 atom_uses n (compare l op r) = false
 atom_uses n (member m ts) = bytes_eq n m
 
+-- whether a formula has an atom of the name
 abbrev pub uses : List ℕ → Form → Bool
 uses n f = some_atom (atom_uses n) f
 
--- whether a formula speaks of the name: has an atom of it, of its closure or of its interior
+-- whether an atom is a relation or view of the name, or the closure or the interior of one; no comparison is
 abbrev pub atom_speaks_of : List ℕ → FormAtom → Bool
 atom_speaks_of n (compare l op r) = false
 atom_speaks_of n (member m ts) = bytes_eq n (base m)
 
+-- whether a formula speaks of the name: has an atom of it, of its closure or of its interior
 abbrev pub speaks_of : List ℕ → Form → Bool
 speaks_of n f = some_atom (atom_speaks_of n) f

@@ -19,6 +19,7 @@ pub data GoalAtom : Type 0 where
   theme : ThemeAtom → GoalAtom
   member : List ℕ → List Place → GoalAtom
 
+-- a formula by slots
 abbrev pub GoalForm : Type 0
 GoalForm = Logic GoalAtom
 
@@ -36,9 +37,11 @@ goal_step (Goal-F.Implies f g) = implies f.value g.value
 goal_step (Goal-F.Exists s f) = exists s.sort (slot s) f.value
 goal_step (Goal-F.Forall s f) = forall s.sort (slot s) f.value
 
+-- the formula that a value of `Goal` stands for
 abbrev pub goal_form : Goal → GoalForm
 goal_form = fold-Goal GoalForm goal_step
 
+-- the formulas that the values of a list stand for
 abbrev pub goal_forms : List Goal → Logics GoalAtom
 goal_forms fs = logics (map goal_form fs)
 
@@ -48,17 +51,19 @@ GoalAtomHolds I (linear r) p = IsTrue (row_holds r p)
 GoalAtomHolds I (theme a) p = IsTrue (theme_holds a p)
 GoalAtomHolds I (member n ts) p = NameHolds I n p.den (map (λ t. place_value t p) ts)
 
--- the slots that an atom mentions
+-- whether a place mentions the slot; a quoted text mentions none
 abbrev pub place_mentions : Place → Slot → Bool
 place_mentions (At s) u = same_slot s u
 place_mentions (Value t) u = list_any (λ c. same_slot c.0 u) t.coefs
 place_mentions (Quoted t) u = false
 
+-- whether an atom mentions the slot
 abbrev pub goal_atom_mentions : GoalAtom → Slot → Bool
 goal_atom_mentions (linear r) u = row_mentions r u
 goal_atom_mentions (theme a) u = theme_mentions a u
 goal_atom_mentions (member n ts) u = list_any (λ t. place_mentions t u) ts
 
+-- whether an atom mentions the key; it mentions no names
 abbrev pub in_goal_atom : GoalAtom → Key → Bool
 in_goal_atom a k = at_slot (goal_atom_mentions a) k
 

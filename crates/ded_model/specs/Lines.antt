@@ -26,31 +26,35 @@ abbrev pub line_with : List (Slot × ℤ) → ℤ → List Line
 line_with [] constant = []
 line_with (c ∷ cs) constant = normal_row (record { coefs = c ∷ cs; constant = constant; op = Zero }) ∷ []
 
+-- the line of a row; none where it has no coefficient
 abbrev pub row_lines : LinearConstraint → List Line
 row_lines r = line_with r.coefs r.constant
 
--- text atoms have no line
+-- the lines of the rows among the atoms; text atoms have no line
 abbrev pub atoms_lines : List Atom → List Line
 atoms_lines [] = []
 atoms_lines (First r ∷ atoms) = row_lines r ++ atoms_lines atoms
 atoms_lines (Second a ∷ atoms) = atoms_lines atoms
 
+-- the lines of the atoms of all the tuples
 abbrev pub tuples_lines : List (List Atom) → List Line
 tuples_lines [] = []
 tuples_lines (t ∷ ts) = atoms_lines t ++ tuples_lines ts
 
 -- ---- sets of lines are lists that are read by membership
 
+-- the line stands in the list
 abbrev pub In : Line → List Line → Type 0
 In l [] = ⊥
 In l (m ∷ ms) = (l ≡ m) ⊎ In l ms
 
+-- each line of the first list stands in the second
 abbrev pub IsSubset : List Line → List Line → Type 0
 IsSubset xs ys = (l : Line) → In l xs → In l ys
 
 -- ---- combinations
 
--- both mention the slot
+-- both lines mention the slot
 abbrev pub both_mention : Slot → Line → Line → Bool
 both_mention s l m = row_mentions l s && row_mentions m s
 
@@ -72,7 +76,8 @@ is_long z = not (nat_lt (unsigned_abs z) (2 ^ 127))
 abbrev pub products_clash : ℤ → ℤ → ℤ → ℤ → Bool
 products_clash k c m d = is_long (k *ℤ c) || is_long (m *ℤ d) || is_long (k *ℤ c -ℤ m *ℤ d)
 
--- at some slot of the list other than s
+-- a number of the combination of the lines at s, or a product on the way to it, is too long at some slot of the list
+-- other than s
 abbrev pub slots_clash : Slot → Line → Line → List (Slot × ℤ) → Bool
 slots_clash s l m [] = false
 slots_clash s l m (c ∷ cs) =
@@ -83,73 +88,85 @@ unfoldable pub lines_clash : Slot → Line → Line → Bool
 lines_clash s l m =
     slots_clash s l m l.coefs || slots_clash s l m m.coefs || products_clash (coef_at m.coefs s) l.constant (coef_at l.coefs s) m.constant
 
+-- the line and some line of the list both mention the slot, and clash at it
 abbrev pub clash_with : Slot → Line → List Line → Bool
 clash_with s l [] = false
 clash_with s l (m ∷ ms) = (both_mention s l m && lines_clash s l m) || clash_with s l ms
 
+-- some line of the first list and some line of the second both mention the slot, and clash at it
 abbrev pub clash_of : Slot → List Line → List Line → Bool
 clash_of s [] ms = false
 clash_of s (l ∷ ls) ms = clash_with s l ms || clash_of s ls ms
 
--- some two lines of the set, or one with itself, clash at the slot
+-- some two lines of the set, or one with itself, both mention the slot, and clash at it
 unfoldable pub clash_at : Slot → List Line → Bool
 clash_at s ls = clash_of s ls ls
 
 -- ---- eliminations
 
+-- the lines that don't mention the slot
 abbrev pub without : Slot → List Line → List Line
 without s [] = []
 without s (l ∷ ls) = if row_mentions l s then without s ls else l ∷ without s ls
 
+-- the combination of the lines at the slot; none where one of them doesn't mention it, or they clash at it
 abbrev pub combined : Slot → Line → Line → List Line
 combined s l m = if both_mention s l m && not (lines_clash s l m) then combination s l m else []
 
+-- the combinations of the line with those of the list, where both mention the slot and don't clash at it
 abbrev pub pairs_with : Slot → Line → List Line → List Line
 pairs_with s l [] = []
 pairs_with s l (m ∷ ms) = combined s l m ++ pairs_with s l ms
 
+-- the combinations of the lines of the first list with those of the second, where both mention the slot and don't clash
+-- at it
 abbrev pub pairs : Slot → List Line → List Line → List Line
 pairs s [] ms = []
 pairs s (l ∷ ls) ms = pairs_with s l ms ++ pairs s ls ms
 
--- the lines without the slot, and the combinations of all pairs that don't clash, a line with itself included
+-- the lines that don't mention the slot, and the combinations of all pairs that do and don't clash, a line with itself
+-- included
 unfoldable pub elim_at : Slot → List Line → List Line
 elim_at s ls = without s ls ++ pairs s ls ls
 
--- past a quantifier
+-- the lines past a quantifier: past a rational one over a slot those that an elimination of the slot makes, and past
+-- any other one the same lines
 abbrev pub elim_past : Sort → Key → List Line → List Line
 elim_past Rat (slot s) ls = elim_at s ls
 elim_past Rat (name x) ls = ls
 elim_past Text k ls = ls
 
+-- two lines clash at a quantifier, a rational one over a slot; at any other one none do
 abbrev pub clash_past : Sort → Key → List Line → Bool
 clash_past Rat (slot s) ls = clash_at s ls
 clash_past Rat (name x) ls = false
 clash_past Text k ls = false
 
--- past quantifiers of the slots, the first one innermost
+-- the lines past quantifiers of the slots, the first one innermost
 abbrev pub elim_past_all : List Slot → List Line → List Line
 elim_past_all [] ls = ls
 elim_past_all (s ∷ ss) ls = elim_past_all ss (elim_past s.sort (slot s) ls)
 
+-- two lines clash at one of the quantifiers of the slots, the first one innermost, among the lines past those before it
 abbrev pub clash_past_all : List Slot → List Line → Bool
 clash_past_all [] ls = false
 clash_past_all (s ∷ ss) ls = clash_past s.sort (slot s) ls || clash_past_all ss (elim_past s.sort (slot s) ls)
 
 -- ---- renaming
 
--- the coefficient a of column i at the i-th slot of the list, put into the coefficients; none where there is no such
--- rational slot
+-- the coefficients with a more at the i-th slot of the list, counted from 0; unchanged where there is no such rational
+-- slot
 abbrev pub put_at : List Slot → ℕ → ℤ → List (Slot × ℤ) → List (Slot × ℤ)
 put_at [] i a cs = cs
 put_at (s ∷ ss) zero a cs = if same_sort s.sort Rat then put s a cs else cs
 put_at (s ∷ ss) (suc i) a cs = put_at ss i a cs
 
--- the coefficients with slot i read as the i-th of the list
+-- the coefficients with slot i read as the i-th of the list; those without such a rational slot fall away
 abbrev pub renamed_coefs : List Slot → List (Slot × ℤ) → List (Slot × ℤ)
 renamed_coefs ss [] = []
 renamed_coefs ss (c ∷ cs) = put_at ss c.0.number c.1 (renamed_coefs ss cs)
 
+-- the lines with slot i read as the i-th of the list; one that is left without coefficients falls away
 abbrev pub renamed_lines : List Slot → List Line → List Line
 renamed_lines ss [] = []
 renamed_lines ss (l ∷ ls) = line_with (renamed_coefs ss l.coefs) l.constant ++ renamed_lines ss ls
@@ -161,6 +178,7 @@ pub record IsLineWithin (k : ℕ) (l : Line) : Type 0 where
   pub coefs : (t : Slot) → IsWithin k (coef_at l.coefs t)
   pub constant : IsWithin k l.constant
 
+-- all numbers of all the lines have at most k digits
 abbrev pub AreWithin : ℕ → List Line → Type 0
 AreWithin k ls = (l : Line) → In l ls → IsLineWithin k l
 
@@ -180,11 +198,12 @@ abbrev mutual
   lines of_atom (exists s k f) = elim_past s k (lines of_atom f)
   lines of_atom (forall s k f) = elim_past s k (lines of_atom f)
 
+  -- the lines of all the formulas of a list
   pub all_lines : {L : Type 0} → (L → List Line) → Logics L → List Line
   all_lines of_atom none = []
   all_lines of_atom (also f fs) = lines of_atom f ++ all_lines of_atom fs
 
--- whether an atom clashes, or two lines at a quantifier
+-- whether some atom clashes, or lines do at a quantifier
 abbrev mutual
   pub clashes : {L : Type 0} → (L → List Line) → (L → Bool) → Logic L → Bool
   clashes of_atom in_atom (atom a) = in_atom a
@@ -198,6 +217,7 @@ abbrev mutual
   clashes of_atom in_atom (exists s k f) = clashes of_atom in_atom f || clash_past s k (lines of_atom f)
   clashes of_atom in_atom (forall s k f) = clashes of_atom in_atom f || clash_past s k (lines of_atom f)
 
+  -- whether some formula of a list clashes
   pub any_clashes : {L : Type 0} → (L → List Line) → (L → Bool) → Logics L → Bool
   any_clashes of_atom in_atom none = false
   any_clashes of_atom in_atom (also f fs) = clashes of_atom in_atom f || any_clashes of_atom in_atom fs

@@ -19,10 +19,12 @@ mutual
     exists : Sort → Key → Logic L → Logic L
     forall : Sort → Key → Logic L → Logic L
 
+  -- some formulas over atoms of the type L, in order
   pub data Logics (L : Type 0) : Type 0 where
     none : Logics L
     also : Logic L → Logics L → Logics L
 
+-- the formulas of a list, in the same order
 abbrev pub logics : {L : Type 0} → List (Logic L) → Logics L
 logics [] = none
 logics (f ∷ fs) = also f (logics fs)
@@ -43,10 +45,12 @@ abbrev mutual
   Sat Holds (exists s k f) p = (q : Point) × IsExtension s p k q × Sat Holds f q
   Sat Holds (forall s k f) p = (q : Point) → IsExtension s p k q → Sat Holds f q
 
+  -- whether each of the formulas holds at the point; where there are none, it is so
   pub SatEvery : {L : Type 0} → (L → Point → Type 0) → Logics L → Point → Type 0
   SatEvery Holds none p = Unit {0}
   SatEvery Holds (also f fs) p = Sat Holds f p × SatEvery Holds fs p
 
+  -- whether some of the formulas holds at the point; where there are none, it isn't so
   pub SatSome : {L : Type 0} → (L → Point → Type 0) → Logics L → Point → Type 0
   SatSome Holds none p = ⊥
   SatSome Holds (also f fs) p = Sat Holds f p ⊎ SatSome Holds fs p
@@ -67,6 +71,7 @@ abbrev mutual
   mentions in_atom (exists s k f) j = not (same_key j k) && mentions in_atom f j
   mentions in_atom (forall s k f) j = not (same_key j k) && mentions in_atom f j
 
+  -- whether some of the formulas mentions the key freely
   pub any_mentions : {L : Type 0} → (L → Key → Bool) → Logics L → Key → Bool
   any_mentions in_atom none j = false
   any_mentions in_atom (also f fs) j = mentions in_atom f j || any_mentions in_atom fs j
@@ -85,6 +90,7 @@ abbrev mutual
   some_atom test (exists s k f) = some_atom test f
   some_atom test (forall s k f) = some_atom test f
 
+  -- whether some atom of the formulas passes the test
   pub some_atom_of : {L : Type 0} → (L → Bool) → Logics L → Bool
   some_atom_of test none = false
   some_atom_of test (also f fs) = some_atom test f || some_atom_of test fs
@@ -107,6 +113,7 @@ abbrev mutual
   some_below test scope (exists s k f) = some_below test ((k, s) ∷ scope) f
   some_below test scope (forall s k f) = some_below test ((k, s) ∷ scope) f
 
+  -- whether some atom of the formulas, below its scope, passes the test
   pub some_below_of : {L : Type 0} → (Scope → L → Bool) → Scope → Logics L → Bool
   some_below_of test scope none = false
   some_below_of test scope (also f fs) = some_below test scope f || some_below_of test scope fs
@@ -125,6 +132,7 @@ abbrev mutual
   AllAtoms P (exists s k f) = AllAtoms P f
   AllAtoms P (forall s k f) = AllAtoms P f
 
+  -- each atom of the formulas has the property
   pub AllAtomsOf : {L : Type 0} → (L → Type 0) → Logics L → Type 0
   AllAtomsOf P none = Unit {0}
   AllAtomsOf P (also f fs) = AllAtoms P f × AllAtomsOf P fs
@@ -145,6 +153,7 @@ abbrev mutual
   quantifiers (exists s k f) = quantifiers f + 1
   quantifiers (forall s k f) = quantifiers f + 1
 
+  -- how many quantifiers the formulas have together
   pub quantifiers_of : {L : Type 0} → Logics L → ℕ
   quantifiers_of none = 0
   quantifiers_of (also f fs) = quantifiers f + quantifiers_of fs
@@ -168,6 +177,7 @@ abbrev mutual
   rank of_atom (exists s k f) = one_more s (rank of_atom f)
   rank of_atom (forall s k f) = one_more s (rank of_atom f)
 
+  -- the greatest rank of the formulas, 0 where there are none
   pub greatest_rank : {L : Type 0} → (L → ℕ) → Logics L → ℕ
   greatest_rank of_atom none = 0
   greatest_rank of_atom (also f fs) = max (rank of_atom f) (greatest_rank of_atom fs)
@@ -186,10 +196,12 @@ abbrev mutual
   greatest of_atom (exists s k f) = greatest of_atom f
   greatest of_atom (forall s k f) = greatest of_atom f
 
+  -- the greatest of a measure of the atoms of the formulas, 0 where there is none
   pub greatest_of : {L : Type 0} → (L → ℕ) → Logics L → ℕ
   greatest_of of_atom none = 0
   greatest_of of_atom (also f fs) = max (greatest of_atom f) (greatest_of of_atom fs)
 
+-- 1 for true, and 0 for false
 abbrev pub as_count : Bool → ℕ
 as_count true = 1
 as_count false = 0
@@ -208,12 +220,14 @@ abbrev mutual
   count_atoms test (exists s k f) = count_atoms test f
   count_atoms test (forall s k f) = count_atoms test f
 
+  -- how many atoms of the formulas pass the test
   pub count_atoms_of : {L : Type 0} → (L → Bool) → Logics L → ℕ
   count_atoms_of test none = 0
   count_atoms_of test (also f fs) = count_atoms test f + count_atoms_of test fs
 
 -- ---- its shape
 
+-- the key is a slot of the sort, or any name
 abbrev pub IsOfSort : Sort → Key → Type 0
 IsOfSort s (slot u) = u.sort ≡ s
 IsOfSort s (name x) = Unit {0}
@@ -232,6 +246,7 @@ abbrev mutual
   IsSorted (exists s k f) = IsOfSort s k × IsSorted f
   IsSorted (forall s k f) = IsOfSort s k × IsSorted f
 
+  -- in each of the formulas a quantifier over a slot ranges over what the slot's sort says
   pub AreSorted : {L : Type 0} → Logics L → Type 0
   AreSorted none = Unit {0}
   AreSorted (also f fs) = IsSorted f × AreSorted fs
@@ -250,6 +265,7 @@ abbrev mutual
   conjunctive (exists s k f) = conjunctive f
   conjunctive (forall s k f) = false
 
+  -- whether each of the formulas is made of atoms, `and` and `exists` alone
   pub all_conjunctive : {L : Type 0} → Logics L → Bool
   all_conjunctive none = true
   all_conjunctive (also f fs) = conjunctive f && all_conjunctive fs

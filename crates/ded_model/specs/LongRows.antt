@@ -28,6 +28,7 @@ parts_over m (Single n) = (n, m) ∷ []
 parts_over m (Sum t) = t.parts
 parts_over m (Quoted t) = []
 
+-- the constant of a sum, over the sum's denominator; 0 for any other operand
 abbrev pub constant_of : Operand → ℤ
 constant_of (Single n) = pos 0
 constant_of (Sum t) = t.constant
@@ -48,6 +49,7 @@ abbrev pub differences_over : ℤ → Operand → Operand → List (List ℕ × 
 differences_over m l r [] = []
 differences_over m l r (p ∷ ps) = difference_over m l r p.0 ∷ differences_over m l r ps
 
+-- the coefficients in `m*l - m*r` of the names of l, and then those of the names of r
 abbrev pub row_coefs_over : ℤ → Operand → Operand → List ℤ
 row_coefs_over m l r = differences_over m l r (parts_over m l) ++ differences_over m l r (parts_over m r)
 
@@ -55,11 +57,13 @@ row_coefs_over m l r = differences_over m l r (parts_over m l) ++ differences_ov
 abbrev pub row_coefs : Operand → Operand → List ℤ
 row_coefs l r = row_coefs_over (denominator_of l r) l r
 
+-- the constant of the row of a comparison: that of `l - r`, times the denominator
 abbrev pub row_constant : Operand → Operand → ℤ
 row_constant l r = constant_of l -ℤ constant_of r
 
 -- ---- long numbers
 
+-- whether the number isn't 0
 abbrev pub is_nonzero : ℤ → Bool
 is_nonzero z = not (int_eq z (pos 0))
 
@@ -72,6 +76,7 @@ is_long_over g z = nat_le (2 ^ 63) (unsigned_abs z / g)
 abbrev pub is_long_row : List ℤ → ℤ → Bool
 is_long_row coefs constant = list_any is_nonzero coefs && list_any (is_long_over (gcd_all (constant ∷ coefs))) (constant ∷ coefs)
 
+-- whether the operand is a quoted text
 abbrev pub is_quoted : Operand → Bool
 is_quoted (Quoted t) = true
 is_quoted (Single n) = false
@@ -81,6 +86,7 @@ is_quoted (Sum t) = false
 abbrev pub is_long_comparison : Operand → Operand → Bool
 is_long_comparison l r = (not (is_quoted l) && not (is_quoted r)) && is_long_row (row_coefs l r) (row_constant l r)
 
+-- the coefficients of the parts of a sum, in order
 abbrev pub coefficients : List (List ℕ × ℤ) → List ℤ
 coefficients [] = []
 coefficients (p ∷ ps) = p.1 ∷ coefficients ps
@@ -91,10 +97,12 @@ is_long_argument (Single n) = false
 is_long_argument (Sum t) = is_long_row (t.over ∷ coefficients t.parts) t.constant
 is_long_argument (Quoted t) = false
 
+-- whether the row of a comparison, or that of some argument of a relation or view, has a long number
 abbrev pub is_long_atom : FormAtom → Bool
 is_long_atom (compare l op r) = is_long_comparison l r
 is_long_atom (member n ts) = list_any is_long_argument ts
 
+-- whether some comparison or argument in the command's formulas has a row with a long number
 abbrev pub has_long_row : CommandForm → Bool
 has_long_row header = false
 has_long_row (relation n h) = false

@@ -24,6 +24,7 @@ pub record Measure : Type 0 where
   pub clash : Bool
   pub columns : ℕ
 
+-- the measure of each name
 abbrev pub Measures : Type 0
 Measures = List ℕ → Measure
 
@@ -31,21 +32,25 @@ Measures = List ℕ → Measure
 abbrev pub is_wide_with : ℕ → ℕ → Bool
 is_wide_with b q = nat_lt 128 ((b + 1) * 2 ^ q)
 
--- of the closure and of the interior: the rank is greater by the rational columns, and with it the lengths may be too wide
+-- the measure of the closure and of the interior: the rank is greater by the rational columns, and with it the lengths
+-- may be too wide
 abbrev pub near_measure : Measure → Measure
 near_measure m = record { b = m.b; rank = m.rank + m.columns; lines = m.lines; clash = m.clash || is_wide_with m.b (m.rank + m.columns); columns = m.columns }
 
+-- the measure of the name n with that reading, where the relations and views have M
 abbrev pub measure_as : Measures → List ℕ → Reading → Measure
 measure_as M n itself = M n
 measure_as M n (closure_of m) = near_measure (M m)
 measure_as M n (interior_of m) = near_measure (M m)
 
--- of all names, where the relations and views have M
+-- the measures of all names, where the relations and views have M
 abbrev pub read_measure : Measures → Measures
 read_measure M n = measure_as M n (reading n)
 
 -- ---- goals
 
+-- the length of a row, or the greatest length of the rows that a name reaches and of those that tie its arguments; 0
+-- for a text atom
 abbrev pub goal_atom_b : Measures → GoalAtom → ℕ
 goal_atom_b M (linear r) = row_length r
 goal_atom_b M (theme a) = 0
@@ -67,33 +72,42 @@ goal_atom_lines M (linear r) = row_lines r
 goal_atom_lines M (theme a) = []
 goal_atom_lines M (member n ts) = elim_past_all (fresh_slots (scanned ts)) (scanned_lines M n (scanned ts))
 
+-- whether the lines of a name clash, or those with its arguments where the new slots are eliminated; a row or a text
+-- atom has no clash
 abbrev pub goal_atom_clash : Measures → GoalAtom → Bool
 goal_atom_clash M (linear r) = false
 goal_atom_clash M (theme a) = false
 goal_atom_clash M (member n ts) = (M n).clash || clash_past_all (fresh_slots (scanned ts)) (scanned_lines M n (scanned ts))
 
+-- the greatest length of the atoms of a goal, 0 where there is none
 abbrev pub goal_b : Measures → GoalForm → ℕ
 goal_b M g = greatest (goal_atom_b M) g
 
+-- the rank of a goal, where the names have M
 abbrev pub goal_rank : Measures → GoalForm → ℕ
 goal_rank M g = rank (goal_atom_rank M) g
 
+-- the lines that are left when the quantifiers of a goal are eliminated, where the names have M
 abbrev pub goal_lines : Measures → GoalForm → List Line
 goal_lines M g = lines (goal_atom_lines M) g
 
+-- whether an atom of a goal clashes, or two lines at one of its quantifiers
 abbrev pub goal_clashes : Measures → GoalForm → Bool
 goal_clashes M g = clashes (goal_atom_lines M) (goal_atom_clash M) g
 
 -- ---- plans
 
+-- the greatest length of the rows that the name of a scan reaches, or of those of a list of atoms
 abbrev pub plan_atom_b : Measures → PlanAtom → ℕ
 plan_atom_b M (scan n ss) = (M n).b
 plan_atom_b M (rows t) = tuple_length t
 
+-- the rank of the name of a scan; 0 for a list of atoms
 abbrev pub plan_atom_rank : Measures → PlanAtom → ℕ
 plan_atom_rank M (scan n ss) = (M n).rank
 plan_atom_rank M (rows t) = 0
 
+-- the lines of the name of a scan, renamed to its slots, or those of the rows of a list of atoms
 abbrev pub plan_atom_lines : Measures → PlanAtom → List Line
 plan_atom_lines M (scan n ss) = renamed_lines ss (M n).lines
 plan_atom_lines M (rows t) = atoms_lines t
@@ -103,15 +117,19 @@ abbrev pub plan_atom_clash : Measures → PlanAtom → Bool
 plan_atom_clash M (scan n ss) = (M n).clash
 plan_atom_clash M (rows t) = false
 
+-- the greatest length of the scans and lists of atoms of a plan, 0 where there is none
 abbrev pub plan_b : Measures → PlanForm → ℕ
 plan_b M f = greatest (plan_atom_b M) f
 
+-- the rank of a plan, where the names have M
 abbrev pub plan_rank : Measures → PlanForm → ℕ
 plan_rank M f = rank (plan_atom_rank M) f
 
+-- the lines that are left when the projections of a plan are made, where the names have M
 abbrev pub plan_lines : Measures → PlanForm → List Line
 plan_lines M f = lines (plan_atom_lines M) f
 
+-- whether a scan of a plan clashes, or two lines at one of its projections
 abbrev pub plan_clashes : Measures → PlanForm → Bool
 plan_clashes M f = clashes (plan_atom_lines M) (plan_atom_clash M) f
 
@@ -128,24 +146,26 @@ entry_measure M (view n h f) = record {
   columns = rational_columns h;
 }
 
+-- the measures M, with that of the entry under its name
 abbrev pub with_measure : Measures → Entry → Measures
 with_measure M e n = if bytes_eq n (entry_name e) then entry_measure M e else M n
 
+-- the measures M, with those of the entries under their names, each measured over those before it
 abbrev pub measures_from : Measures → List Entry → Measures
 measures_from M [] = M
 measures_from M (e ∷ es) = measures_from (with_measure M e) es
 
--- of the entries of a catalogue under their own names; a name that no entry has has no rows
+-- the measures of the entries of a catalogue under their own names; a name that no entry has has no rows
 unfoldable pub stored_measures : Catalogue → Measures
 stored_measures c = measures_from (λ n. record { b = 0; rank = 0; lines = []; clash = false; columns = 0 }) c.entries
 
--- of all names
+-- the measures of all names over a catalogue
 unfoldable pub measures : Catalogue → Measures
 measures c = read_measure (stored_measures c)
 
 -- ---- formulas over a heading, none for a closed one
 
--- the lengths are narrow
+-- the lengths that the formula reaches are narrow for as many eliminations as its rank says
 unfoldable pub IsNarrow : Catalogue → List Column → Form → Type 0
 IsNarrow c h f = IsNarrowWith (goal_b (measures c) (goal_of h f)) (goal_rank (measures c) (goal_of h f))
 

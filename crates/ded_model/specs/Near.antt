@@ -42,27 +42,33 @@ pub record IsNearPoint (m k : ℕ) (p q : Point) : Type 0 where
   pub numbers : (s : Slot) → s.sort ≡ Rat → IsNear m k (number_at p (slot s)) p.den (number_at q (slot s)) q.den
   pub texts : (s : Slot) → s.sort ≡ Text → text_at p (slot s) ≡ text_at q (slot s)
 
+-- for every distance m over k above 0 some point that is nearer passes the test
 abbrev pub IsCloseAt : (Point → Bool) → Point → Type 0
 IsCloseAt test p = (m k : ℕ) → 0 < m → 0 < k → (q : Point) × IsPoint q × IsNearPoint m k p q × IsTrue (test q)
 
+-- for some distance m over k above 0 all points that are nearer pass the test
 abbrev pub IsInsideAt : (Point → Bool) → Point → Type 0
 IsInsideAt test p = (m : ℕ) × (k : ℕ) × (0 < m) × (0 < k) × ((q : Point) → IsPoint q → IsNearPoint m k p q → IsTrue (test q))
 
 -- ---- strict rows made weak
 
+-- `<=` for `<`, and any other op itself
 abbrev pub weak_op : RowOp → RowOp
 weak_op Zero = Zero
 weak_op AtMost = AtMost
 weak_op Below = AtMost
 
+-- the row with `<=` for `<`
 abbrev pub weak_row : LinearConstraint → LinearConstraint
 weak_row r = record { coefs = r.coefs; constant = r.constant; op = weak_op r.op }
 
+-- the tuple with `<=` for `<` in each of its rows, and its text atoms as they are
 abbrev pub weak_tuple : List Atom → List Atom
 weak_tuple [] = []
 weak_tuple (First r ∷ atoms) = First (weak_row r) ∷ weak_tuple atoms
 weak_tuple (Second a ∷ atoms) = Second a ∷ weak_tuple atoms
 
+-- the tuples with `<=` for `<` in each of their rows
 abbrev pub weak_tuples : List (List Atom) → List (List Atom)
 weak_tuples ts = map weak_tuple ts
 
@@ -79,6 +85,7 @@ AreSortedAtoms [] = Unit {0}
 AreSortedAtoms (First r ∷ atoms) = AreRationalCoefs r.coefs × AreSortedAtoms atoms
 AreSortedAtoms (Second a ∷ atoms) = IsTextTheme a × AreSortedAtoms atoms
 
+-- in each of the tuples rows are over rational slots, and text atoms over slots of texts
 abbrev pub AreSortedTuples : List (List Atom) → Type 0
 AreSortedTuples [] = Unit {0}
 AreSortedTuples (t ∷ ts) = AreSortedAtoms t × AreSortedTuples ts

@@ -24,6 +24,7 @@ use Rattle.ded_model.specs.Row.{Atom, sign_meets}
 abbrev pub numbers : LinearConstraint → List ℤ
 numbers r = r.constant ∷ map (λ c. c.1) r.coefs
 
+-- the coefficients, each divided by k
 abbrev pub coefs_over : ℤ → List (Slot × ℤ) → List (Slot × ℤ)
 coefs_over k cs = map (λ c. (c.0, int_div c.1 k)) cs
 
@@ -32,6 +33,7 @@ abbrev pub DivideWhole : ℤ → List (Slot × ℤ) → Type 0
 DivideWhole k [] = Unit {0}
 DivideWhole k (c ∷ cs) = (k *ℤ int_div c.1 k ≡ c.1) × DivideWhole k cs
 
+-- the row with its coefficients and its constant divided by k
 abbrev pub row_over : ℤ → LinearConstraint → LinearConstraint
 row_over k r = record { coefs = coefs_over k r.coefs; constant = int_div r.constant k; op = r.op }
 
@@ -50,6 +52,7 @@ divisor_of op constant (c ∷ cs) = divisor_for op c.1 (gcd_all (constant ∷ ma
 abbrev pub constant_row : Bool → LinearConstraint
 constant_row b = record { coefs = []; constant = pos 0; op = if b then Zero else Below }
 
+-- the row r in normal form, where the list is that of its coefficients
 abbrev pub normal_with : LinearConstraint → List (Slot × ℤ) → LinearConstraint
 normal_with r [] = constant_row (sign_meets r.op r.constant)
 normal_with r (c ∷ cs) = row_over (divisor_of r.op r.constant (c ∷ cs)) r
@@ -69,6 +72,7 @@ is_true_with Zero [] = true
 is_true_with AtMost [] = true
 is_true_with Below [] = false
 
+-- whether it is a row by `=` or `<=` without coefficients; a normal one is then `0 = 0`
 abbrev pub is_true_row : LinearConstraint → Bool
 is_true_row r = is_true_with r.op r.coefs
 
@@ -113,6 +117,7 @@ row_order a b = ordering_then (coefs_order a.coefs b.coefs) (ordering_then (int_
 
 -- ---- the order of text atoms
 
+-- the slot that a text atom compares with a text, or the first of the two slots that it compares
 abbrev pub first_slot : ThemeAtom → Slot
 first_slot (EqText s t) = s
 first_slot (NeText s t) = s
@@ -126,12 +131,14 @@ kind_place (NeText s t) = 1
 kind_place (EqSlot s t) = 2
 kind_place (NeSlot s t) = 3
 
+-- the text that a text atom compares its slot with; the empty text where it compares two slots
 abbrev pub quoted_text : ThemeAtom → List ℕ
 quoted_text (EqText s t) = t
 quoted_text (NeText s t) = t
 quoted_text (EqSlot s t) = []
 quoted_text (NeSlot s t) = []
 
+-- the number of the second slot of a text atom; 0 where it compares a slot with a text
 abbrev pub second_number : ThemeAtom → ℕ
 second_number (EqText s t) = 0
 second_number (NeText s t) = 0

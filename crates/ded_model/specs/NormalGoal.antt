@@ -14,6 +14,7 @@ IsOrderedTheme (NeText s t) = s.sort ≡ Text
 IsOrderedTheme (EqSlot s t) = (s.sort ≡ Text) × (t.sort ≡ Text) × (s.number < t.number)
 IsOrderedTheme (NeSlot s t) = (s.sort ≡ Text) × (t.sort ≡ Text) × (s.number < t.number)
 
+-- a row is normal, a text atom is over text slots in order, and a relation or view may have any arguments
 abbrev pub IsNormalGoalAtom : GoalAtom → Type 0
 IsNormalGoalAtom (linear r) = IsNormalRow r
 IsNormalGoalAtom (theme a) = IsOrderedTheme a

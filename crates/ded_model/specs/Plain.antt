@@ -20,6 +20,7 @@ IsPlainOperand (Single x) = Unit {0}
 IsPlainOperand (Sum t) = (pos 0 <ℤ t.over) × AreOnce t.parts
 IsPlainOperand (Quoted t) = Unit {0}
 
+-- each of the operands is a sum that has each name once, over a denominator above 0, or is no sum
 abbrev pub ArePlainOperands : List Operand → Type 0
 ArePlainOperands [] = Unit {0}
 ArePlainOperands (t ∷ ts) = IsPlainOperand t × ArePlainOperands ts
@@ -32,6 +33,8 @@ ShareDenominator (Sum t) (Quoted x) = Unit {0}
 ShareDenominator (Single x) r = Unit {0}
 ShareDenominator (Quoted x) r = Unit {0}
 
+-- each sum of the atom has each name once and a denominator above 0, and two sums that it compares are over one
+-- denominator
 abbrev pub IsPlainAtom : FormAtom → Type 0
 IsPlainAtom (compare l op r) = IsPlainOperand l × IsPlainOperand r × ShareDenominator l r
 IsPlainAtom (member n ts) = ArePlainOperands ts
@@ -40,7 +43,8 @@ IsPlainAtom (member n ts) = ArePlainOperands ts
 abbrev pub IsPlain : Form → Type 0
 IsPlain f = AllAtoms IsPlainAtom f
 
--- each sum of the command's formulas is so
+-- in each formula of the command each sum has each name once and a denominator above 0, and the two sides of each
+-- comparison are over one denominator
 abbrev pub IsPlainCommand : CommandForm → Type 0
 IsPlainCommand header = Unit {0}
 IsPlainCommand (relation n h) = Unit {0}

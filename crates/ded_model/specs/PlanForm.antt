@@ -13,6 +13,7 @@ pub data PlanAtom : Type 0 where
   scan : List ℕ → List Slot → PlanAtom
   rows : List Atom → PlanAtom
 
+-- a formula over scans and lists of atoms
 abbrev pub PlanForm : Type 0
 PlanForm = Logic PlanAtom
 
@@ -26,9 +27,11 @@ plan_step (Plan-F.Minus p q) = minus p.value q.value
 plan_step (Plan-F.Not p) = negation p.value
 plan_step (Plan-F.Project s p) = exists s.sort (slot s) p.value
 
+-- the formula that a plan stands for
 abbrev pub plan_form : Plan → PlanForm
 plan_form = fold-Plan PlanForm plan_step
 
+-- the formulas that the plans stand for, in order
 abbrev pub plan_forms : List Plan → Logics PlanAtom
 plan_forms ps = logics (map plan_form ps)
 
@@ -37,11 +40,12 @@ abbrev pub PlanAtomHolds : Meaning → PlanAtom → Point → Type 0
 PlanAtomHolds I (scan n ss) p = NameHolds I n p.den (map (slot_value p) ss)
 PlanAtomHolds I (rows t) p = IsTrue (tuple_holds t p)
 
--- the slots that a scan or a list of atoms mentions
+-- whether a scan or a list of atoms mentions the slot
 abbrev pub plan_atom_mentions : PlanAtom → Slot → Bool
 plan_atom_mentions (scan n ss) u = stands_in ss u
 plan_atom_mentions (rows t) u = tuple_mentions t u
 
+-- whether a scan or a list of atoms mentions the key; it mentions no name
 abbrev pub in_plan_atom : PlanAtom → Key → Bool
 in_plan_atom a k = at_slot (plan_atom_mentions a) k
 

@@ -15,31 +15,34 @@ abbrev pub AreRationalCoefs : List (Slot × ℤ) → Type 0
 AreRationalCoefs [] = Unit {0}
 AreRationalCoefs (c ∷ cs) = (c.0.sort ≡ Rat) × AreRationalCoefs cs
 
--- the sums among the places
+-- each coefficient of the sums among the places is one of a rational slot
 abbrev pub AreRationalPlaces : List Place → Type 0
 AreRationalPlaces [] = Unit {0}
 AreRationalPlaces (At s ∷ ts) = AreRationalPlaces ts
 AreRationalPlaces (Value t ∷ ts) = AreRationalCoefs t.coefs × AreRationalPlaces ts
 AreRationalPlaces (Quoted t ∷ ts) = AreRationalPlaces ts
 
--- the rows among the atoms
+-- each coefficient of the rows among the atoms is one of a rational slot
 abbrev pub AreRationalAtoms : List Atom → Type 0
 AreRationalAtoms [] = Unit {0}
 AreRationalAtoms (First r ∷ atoms) = AreRationalCoefs r.coefs × AreRationalAtoms atoms
 AreRationalAtoms (Second a ∷ atoms) = AreRationalAtoms atoms
 
+-- each coefficient of a row, or of a sum among the arguments of a relation or view, is one of a rational slot
 abbrev pub IsRationalGoalAtom : GoalAtom → Type 0
 IsRationalGoalAtom (linear r) = AreRationalCoefs r.coefs
 IsRationalGoalAtom (theme a) = Unit {0}
 IsRationalGoalAtom (member n ts) = AreRationalPlaces ts
 
+-- each coefficient of a row in a list of atoms is one of a rational slot
 abbrev pub IsRationalPlanAtom : PlanAtom → Type 0
 IsRationalPlanAtom (scan n ss) = Unit {0}
 IsRationalPlanAtom (rows t) = AreRationalAtoms t
 
--- all rows and sums of a goal, and of a plan
+-- each coefficient of the rows and sums of a goal is one of a rational slot
 abbrev pub IsRationalGoal : GoalForm → Type 0
 IsRationalGoal g = AllAtoms IsRationalGoalAtom g
 
+-- each coefficient of the rows of a plan is one of a rational slot
 abbrev pub IsRationalPlan : PlanForm → Type 0
 IsRationalPlan f = AllAtoms IsRationalPlanAtom f

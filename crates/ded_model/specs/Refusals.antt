@@ -27,6 +27,7 @@ refusal_number Level = 19
 refusal_number Wide = 20
 refusal_number Memory = 21
 
+-- the word or words by which a refusal is known
 abbrev pub refusal_word : Refusal → List ℕ
 refusal_word LongStatement = codes "long statement"
 refusal_word Unfinished = codes "unfinished"

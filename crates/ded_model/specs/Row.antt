@@ -34,7 +34,7 @@ sign_meets Below s = int_lt s (pos 0)
 unfoldable pub row_holds : LinearConstraint → Point → Bool
 row_holds r p = sign_meets r.op (row_at r p)
 
--- the texts are the same, or differ
+-- the texts are the same or differ, as the text atom says
 unfoldable pub theme_holds : ThemeAtom → Point → Bool
 theme_holds (EqText s t) p = bytes_eq (text_at p (slot s)) t
 theme_holds (NeText s t) p = not (bytes_eq (text_at p (slot s)) t)
@@ -45,6 +45,7 @@ theme_holds (NeSlot s t) p = not (bytes_eq (text_at p (slot s)) (text_at p (slot
 abbrev pub Atom : Type 0
 Atom = BothAtom LinearConstraint ThemeAtom
 
+-- the row or the text atom holds
 unfoldable pub atom_holds : Atom → Point → Bool
 atom_holds (First r) p = row_holds r p
 atom_holds (Second a) p = theme_holds a p
@@ -59,22 +60,27 @@ tuples_hold tuples p = list_any (λ t. tuple_holds t p) tuples
 
 -- ---- the slots that are mentioned
 
+-- whether the row has a coefficient of the slot
 unfoldable pub row_mentions : LinearConstraint → Slot → Bool
 row_mentions r s = list_any (λ c. same_slot c.0 s) r.coefs
 
+-- whether the slot is one that the text atom compares
 unfoldable pub theme_mentions : ThemeAtom → Slot → Bool
 theme_mentions (EqText s t) u = same_slot s u
 theme_mentions (NeText s t) u = same_slot s u
 theme_mentions (EqSlot s t) u = same_slot s u || same_slot t u
 theme_mentions (NeSlot s t) u = same_slot s u || same_slot t u
 
+-- whether the row or the text atom mentions the slot
 unfoldable pub atom_mentions : Atom → Slot → Bool
 atom_mentions (First r) s = row_mentions r s
 atom_mentions (Second a) s = theme_mentions a s
 
+-- whether some atom of the tuple mentions the slot
 unfoldable pub tuple_mentions : List Atom → Slot → Bool
 tuple_mentions atoms s = list_any (λ a. atom_mentions a s) atoms
 
+-- whether some tuple mentions the slot
 unfoldable pub tuples_mention : List (List Atom) → Slot → Bool
 tuples_mention tuples s = list_any (λ t. tuple_mentions t s) tuples
 

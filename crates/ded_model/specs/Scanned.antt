@@ -26,6 +26,7 @@ pub data Scanned : Type 0 where
 abbrev pub argument_row : Slot → SlotSum → LinearConstraint
 argument_row u t = normal_row (record { coefs = put u (pos (denominator t.over)) (put_all (neg_ℤ (pos 1)) t.coefs []); constant = neg_ℤ t.constant; op = Zero })
 
+-- the sum of the slot alone
 abbrev pub of_slot : Slot → SlotSum
 of_slot s = record { coefs = (s, pos 1) ∷ []; constant = pos 0; over = pos 1 }
 
@@ -46,16 +47,18 @@ scanned_after done n (Value t ∷ ts) =
 scanned_after done n (Quoted x ∷ ts) =
     fresh (record { number = n; sort = Text }) (Second (EqText (record { number = n; sort = Text }) x)) ∷ scanned_after (done ++ record { number = n; sort = Text } ∷ []) (suc n) ts
 
--- one above the slots of the places
+-- one above the greatest number of the slots of the coefficients, 0 where there are none
 abbrev pub above_coefs : List (Slot × ℤ) → ℕ
 above_coefs [] = 0
 above_coefs (c ∷ cs) = max (suc c.0.number) (above_coefs cs)
 
+-- one above the greatest number of the slots of a place, 0 where it has none
 abbrev pub above_place : Place → ℕ
 above_place (At s) = suc s.number
 above_place (Value t) = above_coefs t.coefs
 above_place (Quoted t) = 0
 
+-- one above the greatest number of the slots of the places, 0 where they have none: the first number for new slots
 abbrev pub first_free : List Place → ℕ
 first_free [] = 0
 first_free (t ∷ ts) = max (above_place t) (first_free ts)

@@ -48,10 +48,12 @@ heading_scope i (c ∷ cs) = (name c.name, record { number = i; sort = c.sort })
 
 -- ---- sums by slots
 
+-- the parts of a sum by the slots of their names, in ascending order; those of one slot are added up, and may come to 0
 abbrev pub add_parts : SlotScope → List (List ℕ × ℤ) → List (Slot × ℤ)
 add_parts scope [] = []
 add_parts scope (c ∷ cs) = put (slot_of scope c.0) c.1 (add_parts scope cs)
 
+-- an operand as a sum of slots: a variable as its slot alone, a sum by the slots of its names, and a quoted text as 0
 abbrev pub slot_sum : SlotScope → Operand → SlotSum
 slot_sum scope (Single x) = record { coefs = (slot_of scope x, pos 1) ∷ []; constant = pos 0; over = pos 1 }
 slot_sum scope (Sum t) = record { coefs = nonzero (add_parts scope t.parts); constant = t.constant; over = t.over }
@@ -73,6 +75,7 @@ comparison_row l NotEqual r = difference_row l r Zero
 comparison_row l GreaterEq r = difference_row r l AtMost
 comparison_row l Greater r = difference_row r l Below
 
+-- the goal of a comparison of sums: its normal row, negated for `!=`
 abbrev pub sums_goal : SlotSum → CompareOp → SlotSum → GoalForm
 sums_goal l NotEqual r = negation (atom (linear (normal_row (comparison_row l NotEqual r))))
 sums_goal l op r = atom (linear (normal_row (comparison_row l op r)))
@@ -84,11 +87,13 @@ pub data TextSide : Type 0 where
   at : Slot → TextSide
   word : List ℕ → TextSide
 
+-- an operand as a side of a comparison of texts: the slot of a variable, or a quoted text; the empty text for a sum
 abbrev pub text_side : SlotScope → Operand → TextSide
 text_side scope (Single x) = at (slot_of scope x)
 text_side scope (Sum t) = word []
 text_side scope (Quoted t) = word t
 
+-- the goal that always holds for true, and the one that never holds for false
 abbrev pub truth_goal : Bool → GoalForm
 truth_goal b = if b then always else never
 
@@ -96,15 +101,18 @@ truth_goal b = if b then always else never
 abbrev pub same_slots_goal : Slot → Slot → GoalForm
 same_slots_goal s t = if same_slot s t then always else (if nat_lt s.number t.number then atom (theme (EqSlot s t)) else atom (theme (EqSlot t s)))
 
+-- two slots are different texts; the one of lesser number stands first
 abbrev pub other_slots_goal : Slot → Slot → GoalForm
 other_slots_goal s t = if same_slot s t then never else (if nat_lt s.number t.number then atom (theme (NeSlot s t)) else atom (theme (NeSlot t s)))
 
+-- the two sides are the same text
 abbrev pub same_text_goal : TextSide → TextSide → GoalForm
 same_text_goal (at s) (at t) = same_slots_goal s t
 same_text_goal (at s) (word t) = atom (theme (EqText s t))
 same_text_goal (word t) (at s) = atom (theme (EqText s t))
 same_text_goal (word t) (word u) = if bytes_eq t u then always else never
 
+-- the two sides are different texts
 abbrev pub other_text_goal : TextSide → TextSide → GoalForm
 other_text_goal (at s) (at t) = other_slots_goal s t
 other_text_goal (at s) (word t) = atom (theme (NeText s t))
@@ -119,22 +127,26 @@ texts_goal l op r = never
 
 -- ---- atoms
 
+-- whether an operand is a quoted text, or a variable whose slot is one of texts
 abbrev pub is_text_operand : SlotScope → Operand → Bool
 is_text_operand scope (Single x) = same_sort (slot_of scope x).sort Text
 is_text_operand scope (Sum t) = false
 is_text_operand scope (Quoted t) = true
 
+-- the goal of a comparison: one of texts where one of the operands is a text, and else one of sums
 abbrev pub compare_goal : SlotScope → Operand → CompareOp → Operand → GoalForm
 compare_goal scope l op r =
     if is_text_operand scope l || is_text_operand scope r
     then texts_goal (text_side scope l) op (text_side scope r)
     else sums_goal (slot_sum scope l) op (slot_sum scope r)
 
+-- an operand as an argument by slots: the slot of a variable, a sum of slots, or a quoted text
 abbrev pub place_of : SlotScope → Operand → Place
 place_of scope (Single x) = place.At (slot_of scope x)
 place_of scope (Sum t) = place.Value (slot_sum scope (Sum t))
 place_of scope (Quoted t) = place.Quoted t
 
+-- the goal of an atom: that of a comparison, or the relation or view with its arguments by slots
 abbrev pub atom_goal : SlotScope → FormAtom → GoalForm
 atom_goal scope (compare l op r) = compare_goal scope l op r
 atom_goal scope (member n ts) = atom (goal.member n (map (place_of scope) ts))
@@ -155,6 +167,8 @@ abbrev mutual
   goal_below scope n (exists s k f) = exists s (slot (record { number = n; sort = s })) (goal_below ((k, record { number = n; sort = s }) ∷ scope) (n + 1) f)
   goal_below scope n (forall s k f) = forall s (slot (record { number = n; sort = s })) (goal_below ((k, record { number = n; sort = s }) ∷ scope) (n + 1) f)
 
+  -- the goals of the formulas below the slots of their scope; their quantifiers have the slots from n on, in the order
+  -- in which they stand
   pub goals_below : SlotScope → ℕ → Logics FormAtom → Logics GoalAtom
   goals_below scope n none = none
   goals_below scope n (also f fs) = also (goal_below scope n f) (goals_below scope (n + quantifiers f) fs)
@@ -172,6 +186,7 @@ goal_atoms (atom (theme a)) = Second a ∷ []
 goal_atoms never = First (constant_row false) ∷ []
 goal_atoms _ = []
 
+-- the atoms of the goals of the comparisons, one comparison after another
 abbrev pub comparison_atoms : SlotScope → List Form → List Atom
 comparison_atoms scope [] = []
 comparison_atoms scope (f ∷ fs) = goal_atoms (goal_below scope 0 f) ++ comparison_atoms scope fs

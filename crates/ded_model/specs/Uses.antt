@@ -7,20 +7,22 @@ use Rattle.ded_model.specs.PlanForm.{PlanAtom, scan, rows, PlanForm}
 use Rattle.ded_model.specs.Value.{Argument}
 use Rattle.ded_model.specs.Catalogue.{Catalogue, meaning}
 
--- whether a goal has an atom of the name
+-- whether it is an atom of the name
 abbrev pub goal_atom_uses : List ℕ → GoalAtom → Bool
 goal_atom_uses n (linear r) = false
 goal_atom_uses n (theme a) = false
 goal_atom_uses n (member m ts) = bytes_eq n m
 
+-- whether a goal has an atom of the name
 abbrev pub goal_uses : List ℕ → GoalForm → Bool
 goal_uses n g = some_atom (goal_atom_uses n) g
 
--- whether a plan scans the name
+-- whether it is a scan of the name
 abbrev pub plan_atom_uses : List ℕ → PlanAtom → Bool
 plan_atom_uses n (scan m ss) = bytes_eq n m
 plan_atom_uses n (rows t) = false
 
+-- whether a plan scans the name
 abbrev pub plan_uses : List ℕ → PlanForm → Bool
 plan_uses n f = some_atom (plan_atom_uses n) f
 

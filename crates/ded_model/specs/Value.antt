@@ -29,6 +29,8 @@ abbrev pub parts_at : List (List ℕ × ℤ) → Point → ℤ
 parts_at [] p = pos 0
 parts_at (c ∷ cs) p = c.1 *ℤ number_at p (name c.0) +ℤ parts_at cs p
 
+-- the value of an operand at a point by names: what the point has at a variable, the sum over its denominator, or the
+-- quoted text
 abbrev pub operand_value : Operand → Point → OperandValue
 operand_value (Single x) p = record { number = number_at p (name x); over = 1; text = text_at p (name x) }
 operand_value (Sum t) p = record { number = parts_at t.parts p +ℤ t.constant *ℤ pos p.den; over = denominator t.over; text = [] }
@@ -40,9 +42,11 @@ operand_value (Quoted t) p = record { number = pos 0; over = 1; text = t }
 abbrev pub crosswise : OperandValue → OperandValue → ℤ
 crosswise a b = a.number *ℤ pos b.over
 
+-- the first number is less than the second one
 abbrev pub is_below : OperandValue → OperandValue → Bool
 is_below a b = int_lt (crosswise a b) (crosswise b a)
 
+-- the first number is at most the second one
 abbrev pub is_at_most : OperandValue → OperandValue → Bool
 is_at_most a b = int_le (crosswise a b) (crosswise b a)
 
@@ -50,6 +54,7 @@ is_at_most a b = int_le (crosswise a b) (crosswise b a)
 abbrev pub is_same_value : OperandValue → OperandValue → Bool
 is_same_value a b = int_eq (crosswise a b) (crosswise b a) && bytes_eq a.text b.text
 
+-- whether the two values compare as the sign says; the signs of order look at the numbers alone
 abbrev pub values_compare : OperandValue → CompareOp → OperandValue → Bool
 values_compare a Less b = is_below a b
 values_compare a LessEq b = is_at_most a b
@@ -69,9 +74,11 @@ abbrev pub sorted_value : Sort → ℤ → List ℕ → OperandValue
 sorted_value Rat n t = record { number = n; over = 1; text = [] }
 sorted_value Text n t = record { number = pos 0; over = 1; text = t }
 
+-- the value of a slot at a point: a number or a text, as the slot's sort says
 abbrev pub slot_value : Point → Slot → OperandValue
 slot_value p s = sorted_value s.sort (number_at p (slot s)) (text_at p (slot s))
 
+-- the value of a place at a point by slots: that of the slot, that of the sum over its denominator, or the quoted text
 abbrev pub place_value : Place → Point → OperandValue
 place_value (place.At s) p = slot_value p s
 place_value (place.Value t) p = record { number = sum_at t.coefs p +ℤ t.constant *ℤ pos p.den; over = denominator t.over; text = [] }
@@ -83,11 +90,12 @@ place_value (place.Quoted t) p = record { number = pos 0; over = 1; text = t }
 abbrev pub Argument : Type 0
 Argument = ℤ × List ℕ
 
--- the product of the denominators
+-- the product of the denominators, 1 where there are none
 abbrev pub overs : List OperandValue → ℕ
 overs [] = 1
 overs (v ∷ vs) = v.over * overs vs
 
+-- the argument with its number multiplied by m
 abbrev pub argument_times : ℕ → Argument → Argument
 argument_times m a = (a.0 *ℤ pos m, a.1)
 

@@ -17,16 +17,17 @@ abbrev pub greatest_length : List ℤ → ℕ
 greatest_length [] = 0
 greatest_length (z ∷ zs) = max (length_of z) (greatest_length zs)
 
--- of the coefficients and the constant
+-- the greatest length of the coefficients and the constant of a row
 abbrev pub row_length : LinearConstraint → ℕ
 row_length r = greatest_length (numbers r)
 
--- of the rows of a tuple; text atoms have no length
+-- the greatest length of the rows of a tuple, 0 where there is none; text atoms have no length
 abbrev pub tuple_length : List Atom → ℕ
 tuple_length [] = 0
 tuple_length (First r ∷ atoms) = max (row_length r) (tuple_length atoms)
 tuple_length (Second a ∷ atoms) = tuple_length atoms
 
+-- the greatest length of the rows of all tuples, 0 where there is none
 abbrev pub tuples_length : List (List Atom) → ℕ
 tuples_length [] = 0
 tuples_length (t ∷ ts) = max (tuple_length t) (tuples_length ts)
@@ -37,21 +38,22 @@ tuples_length (t ∷ ts) = max (tuple_length t) (tuples_length ts)
 abbrev pub IsNarrowWith : ℕ → ℕ → Type 0
 IsNarrowWith b q = (b + 1) * 2 ^ q ≤ 128
 
--- the slots of the coefficients, those of the list with each new one
+-- the slots of the list, with each new one of the coefficients
 abbrev pub with_slots : List (Slot × ℤ) → List Slot → List Slot
 with_slots [] ss = ss
 with_slots (c ∷ cs) ss = with_slots cs (if stands_in ss c.0 then ss else c.0 ∷ ss)
 
--- the rational slots that the rows of a list of atoms mention, each once
+-- the slots of the list, with each new one that the rows of a list of atoms mention
 abbrev pub rational_slots_after : List Slot → List Atom → List Slot
 rational_slots_after ss [] = ss
 rational_slots_after ss (First r ∷ atoms) = rational_slots_after (with_slots r.coefs ss) atoms
 rational_slots_after ss (Second a ∷ atoms) = rational_slots_after ss atoms
 
+-- the rational slots that the rows of a list of atoms mention, each once
 abbrev pub rational_slots : List Atom → List Slot
 rational_slots atoms = rational_slots_after [] atoms
 
--- a list of atoms, with the rational slots that it mentions
+-- the lengths of a list of atoms are narrow for eliminating all rational slots that its rows mention
 unfoldable pub IsNarrowList : List Atom → Type 0
 IsNarrowList atoms = IsNarrowWith (tuple_length atoms) (length (rational_slots atoms))
 
@@ -60,6 +62,6 @@ abbrev pub rational_columns : List Column → ℕ
 rational_columns [] = 0
 rational_columns (c ∷ cs) = (if same_sort c.sort Rat then 1 else 0) + rational_columns cs
 
--- tuples over a heading, with all its rational columns
+-- the lengths of tuples over a heading are narrow for eliminating all its rational columns
 unfoldable pub IsBoxNarrow : List Column → List (List Atom) → Type 0
 IsBoxNarrow h ts = IsNarrowWith (tuples_length ts) (rational_columns h)

@@ -7,5 +7,6 @@ use Rattle.ded_elimination.specs.LinearAtoms.{is_rational}
 use Rattle.ded_linear.specs.Laws.{owned_slots}
 use Rattle.ded_order.specs.OrderRows.{IsOrderAtom}
 
+-- the sort of each slot that an order row mentions passes the test for rationals
 pub order_slots : (r : LinearConstraint) (s : Slot) → IsOrderAtom r → row_mentions r s ≡ true → is_rational s.sort ≡ true
 order_slots r s h m = owned_slots r s h.linear m

@@ -16,6 +16,7 @@ is_order_with (x ∷ []) c = true
 is_order_with (x ∷ y ∷ []) c = int_eq c (pos 0) && are_opposite_units x.1 y.1
 is_order_with (x ∷ y ∷ z ∷ cs) c = false
 
+-- whether the row has no slot, one slot, or two slots with the coefficients 1 and -1 and the constant 0
 abbrev pub is_order_row : LinearConstraint → Bool
 is_order_row r = is_order_with r.coefs r.constant
 

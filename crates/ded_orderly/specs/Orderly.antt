@@ -36,6 +36,7 @@ pub record Order : Type 0 where
   pub points : List (ℤ × ℤ)
   pub short : Bool
 
+-- what is told of one row by itself
 abbrev pub row_reach : LinearConstraint → Order
 row_reach r = record { orderly = is_order_row r; points = points_with r.coefs r.constant; short = nat_le (row_length r) 63 }
 
@@ -43,32 +44,35 @@ row_reach r = record { orderly = is_order_row r; points = points_with r.coefs r.
 abbrev pub no_rows : Order
 no_rows = record { orderly = true; points = []; short = true }
 
--- of two sets of rows
+-- what is told of two sets of rows together
 abbrev pub both : Order → Order → Order
 both a b = record { orderly = a.orderly && b.orderly; points = a.points ++ b.points; short = a.short && b.short }
 
+-- what is told of the rows among the atoms
 abbrev pub atoms_reach : List Atom → Order
 atoms_reach [] = no_rows
 atoms_reach (First r ∷ atoms) = both (row_reach r) (atoms_reach atoms)
 atoms_reach (Second a ∷ atoms) = atoms_reach atoms
 
+-- what is told of the rows of all of the tuples
 abbrev pub tuples_reach : List (List Atom) → Order
 tuples_reach [] = no_rows
 tuples_reach (t ∷ ts) = both (atoms_reach t) (tuples_reach ts)
 
 -- ---- goals
 
--- of each name
+-- what is told of the rows that each name reaches
 abbrev pub Orders : Type 0
 Orders = List ℕ → Order
 
--- of a comparison its row, and of an atom of a name what the name reaches and the rows of the arguments
+-- what an atom of a goal reaches: a comparison its row, and an atom of a name what the name does and the rows of the
+-- arguments
 abbrev pub goal_atom_reach : Orders → GoalAtom → Order
 goal_atom_reach O (linear r) = row_reach r
 goal_atom_reach O (theme a) = no_rows
 goal_atom_reach O (member n ts) = both (O n) (atoms_reach (tied_atoms (scanned ts)))
 
--- of a formula, from what its atoms reach
+-- what a formula reaches, from what its atoms do
 abbrev mutual
   pub reach_of : {L : Type 0} → (L → Order) → Logic L → Order
   reach_of of_atom (atom a) = of_atom a
@@ -82,25 +86,28 @@ abbrev mutual
   reach_of of_atom (exists s k f) = reach_of of_atom f
   reach_of of_atom (forall s k f) = reach_of of_atom f
 
+  -- what the formulas of a list reach together, from what their atoms do
   pub reach_of_all : {L : Type 0} → (L → Order) → Logics L → Order
   reach_of_all of_atom none = no_rows
   reach_of_all of_atom (also f fs) = both (reach_of of_atom f) (reach_of_all of_atom fs)
 
+-- what a goal reaches, from what the names do
 abbrev pub goal_reach : Orders → GoalForm → Order
 goal_reach O g = reach_of (goal_atom_reach O) g
 
 -- ---- catalogues
 
--- of a name that no entry has: it is not orderly
+-- what a name reaches that no entry has: it is not orderly
 abbrev pub undefined : Order
 undefined = record { orderly = false; points = []; short = true }
 
--- so is none that is made of another one
+-- what a name reaches that is read so: as itself what it does, as a closure or an interior what an undefined name does
 abbrev pub order_as : Orders → List ℕ → Reading → Order
 order_as O n itself = O n
 order_as O n (closure_of m) = undefined
 order_as O n (interior_of m) = undefined
 
+-- what each name reaches, from what the names of entries do: a closure or an interior is as an undefined name
 abbrev pub read_order : Orders → Orders
 read_order O n = order_as O n (reading n)
 
@@ -109,18 +116,20 @@ abbrev pub entry_order : Orders → Entry → Order
 entry_order O (relation n h m ts) = tuples_reach (tuples_of ts)
 entry_order O (view n h f) = goal_reach (read_order O) (goal_of h f)
 
+-- what each name reaches with one more entry defined, which is read over what they reached before
 abbrev pub with_order : Orders → Entry → Orders
 with_order O e n = if bytes_eq n (entry_name e) then entry_order O e else O n
 
+-- what each name reaches with the entries defined one after another
 abbrev pub orders_from : Orders → List Entry → Orders
 orders_from O [] = O
 orders_from O (e ∷ es) = orders_from (with_order O e) es
 
--- of the entries of a catalogue under their own names
+-- what each name reaches over the entries of a catalogue under their own names
 unfoldable pub stored_orders : Catalogue → Orders
 stored_orders c = orders_from (λ n. undefined) c.entries
 
--- of all names
+-- what each name reaches over a catalogue, closures and interiors too
 unfoldable pub orders : Catalogue → Orders
 orders c = read_order (stored_orders c)
 
@@ -162,7 +171,7 @@ pub record IsOrdered (ps : List (ℤ × ℤ)) (r : LinearConstraint) : Type 0 wh
   pub short : row_length r ≤ 63
   pub between : r.coefs ≢ [] → IsBetweenPoints ps r
 
--- each row among the atoms is so
+-- each row among the atoms is an ordered one
 abbrev pub AreOrdered : List (ℤ × ℤ) → List Atom → Type 0
 AreOrdered ps [] = Unit {0}
 AreOrdered ps (First r ∷ atoms) = IsOrdered ps r × AreOrdered ps atoms

@@ -31,11 +31,12 @@ shape_of sheet (c ∷ []) = Disc (point_on sheet c) ∷ []
 shape_of sheet (c ∷ d ∷ []) = Segment (point_on sheet c) (point_on sheet d) ∷ []
 shape_of sheet (c ∷ d ∷ e ∷ cs) = Polygon (map (point_on sheet) (c ∷ d ∷ e ∷ cs)) ∷ []
 
--- the shape of a tuple, in its colour and with its title
+-- these shapes, in a colour and with a title
 abbrev pub marks_with : ℕ → List ℕ → List Shape → List Mark
 marks_with colour title [] = []
 marks_with colour title (s ∷ ss) = record { shape = s; colour = colour; title = title } ∷ marks_with colour title ss
 
+-- the shape of a tuple, in its colour and with its title; none where it has no corners
 abbrev pub mark_of : Sheet → Shown → List Mark
 mark_of sheet shown = marks_with shown.colour shown.title (shape_of sheet shown.part.corners.items)
 
@@ -54,5 +55,6 @@ line_of stroke.Dashed = Dashed
 abbrev pub stroke_of : Sheet → ℕ → Stretch → Stroke
 stroke_of sheet colour s = record { start = point_on sheet s.from; end = point_on sheet s.to; line = line_of s.stroke; colour = colour }
 
+-- those of all stretches, in order
 abbrev pub strokes_of : Sheet → ℕ → List Stretch → List Stroke
 strokes_of sheet colour ss = map (stroke_of sheet colour) ss

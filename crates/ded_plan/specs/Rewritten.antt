@@ -26,6 +26,7 @@ abbrev mutual
   ProjectsSlots (exists s k f) = IsSlotOf s k × ProjectsSlots f
   ProjectsSlots (forall s k f) = IsSlotOf s k × ProjectsSlots f
 
+  -- each projection in the plans of a list is one of a slot, of its sort
   pub EachProjectsSlots : Logics PlanAtom → Type 0
   EachProjectsSlots none = Unit {0}
   EachProjectsSlots (also f fs) = ProjectsSlots f × EachProjectsSlots fs

@@ -32,10 +32,12 @@ IsUsed c g s = IsScanOf c g (scan s.name s.slots)
 abbrev pub is_of : List ℕ → ScanWithin → Bool
 is_of n s = bytes_eq n s.name
 
--- its tuple is over its slots
+-- the scan's tuple is over its slots
 abbrev pub IsOver : ScanWithin → Type 0
 IsOver s = (u : Slot) → tuple_mentions s.within u ≡ true → stands_in s.slots u ≡ true
 
+-- these are the scans of the plan, each with a tuple outside of which it doesn't matter to the plan at the points where
+-- t holds
 pub record IsReadWithin (f : PlanForm) (t : List Atom) (ss : List ScanWithin) : Type 0 where
   -- where each scan agrees within its tuple, the plan does within t
   pub alike : (c d : Catalogue) → AllByRecursion (AgreesAt c d) ss → (p : Point) → IsPoint p → IsTrue (tuple_holds t p) → GivenHolds c f p ↔ PlanHolds d f p

@@ -10,12 +10,13 @@ use Rattle.ded_model.specs.Point.{same_sort}
 use Rattle.ded_print.specs.Lines.{line_text, lines_text}
 use Rattle.ded_print.specs.Numbers.{fraction_text}
 
--- a square bracket where the bound is attained
+-- a lower bound: its fraction after a square bracket where it is attained, else after a parenthesis; `(-inf` for none
 abbrev pub lower_text : Bound → List ℕ
 lower_text Infinite = codes "(-inf"
 lower_text (Excluded f) = codes "(" ++ fraction_text f
 lower_text (Included f) = codes "[" ++ fraction_text f
 
+-- an upper bound: its fraction before a square bracket where it is attained, else before a parenthesis; `inf)` for none
 abbrev pub upper_text : Bound → List ℕ
 upper_text Infinite = codes "inf)"
 upper_text (Excluded f) = fraction_text f ++ codes ")"

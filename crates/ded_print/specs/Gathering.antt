@@ -13,6 +13,7 @@ pub record Output : Type 0 where
   pub pending : List ℕ
   pub sent : Result (Unit {0}) Failed
 
+-- a sink's bytes and its count of faults, with what is gathered for it and whether all that was sent went well
 abbrev pub output : Option (List ℕ) → ℕ → Gathered → Output
 output contents faults g = record { contents = contents; faults = faults; pending = g.pending.items; sent = g.sent }
 

@@ -30,6 +30,7 @@ abbrev pub truth_line : Bool → List ℕ
 truth_line true = codes "yes"
 truth_line false = codes "no"
 
+-- the line `yes` or `no`
 abbrev pub truth_text : Bool → List ℕ
 truth_text b = line_text (truth_line b)
 
@@ -37,6 +38,7 @@ truth_text b = line_text (truth_line b)
 abbrev pub number_reply_line : ℕ → List ℕ
 number_reply_line k = codes "tuple " ++ number_text k
 
+-- the line `tuple K`
 abbrev pub number_reply_text : ℕ → List ℕ
 number_reply_text k = line_text (number_reply_line k)
 
@@ -44,6 +46,7 @@ number_reply_text k = line_text (number_reply_line k)
 abbrev pub meeting_line : ℕ → ℕ → List ℕ
 meeting_line i j = codes "meet " ++ (number_text i ++ (32 ∷ number_text j))
 
+-- the line `meet I J`
 abbrev pub meeting_text : ℕ → ℕ → List ℕ
 meeting_text i j = line_text (meeting_line i j)
 
@@ -51,11 +54,13 @@ meeting_text i j = line_text (meeting_line i j)
 abbrev pub refusal_line : Refusal → List ℕ
 refusal_line r = codes "refused " ++ (number_text (refusal_number r) ++ (32 ∷ refusal_word r))
 
+-- the line `refused N word`
 abbrev pub refusal_text : Refusal → List ℕ
 refusal_text r = line_text (refusal_line r)
 
 -- ---- the replies of one line
 
+-- a reply of one line: that it is done, yes or no, a tuple's number, the numbers of two tuples that meet, or a refusal
 pub data LineReply : Type 0 where
   done : LineReply
   truth : Bool → LineReply
@@ -63,6 +68,7 @@ pub data LineReply : Type 0 where
   met : ℕ → ℕ → LineReply
   refused : Refusal → LineReply
 
+-- the bytes of a reply's line, without its line feed
 abbrev pub reply_line : LineReply → List ℕ
 reply_line done = codes "ok"
 reply_line (truth b) = truth_line b
@@ -70,6 +76,7 @@ reply_line (numbered k) = number_reply_line k
 reply_line (met i j) = meeting_line i j
 reply_line (refused r) = refusal_line r
 
+-- a reply as a line
 abbrev pub reply_text : LineReply → List ℕ
 reply_text reply = line_text (reply_line reply)
 

@@ -32,6 +32,7 @@ abbrev mutual
   nodes (exists s k f) = suc (nodes f)
   nodes (forall s k f) = 0
 
+  -- how many nodes of all the plans of a list have a line
   pub nodes_of : Logics PlanAtom → ℕ
   nodes_of none = 0
   nodes_of (also f fs) = nodes f + nodes_of fs

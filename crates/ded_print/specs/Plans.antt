@@ -30,6 +30,7 @@ abbrev pub plan_atom_text : PlanAtom → List ℕ
 plan_atom_text (scan n ss) = codes "scan " ++ (n ++ (codes "(" ++ (slots_text ss ++ codes ")")))
 plan_atom_text (rows t) = codes "rows " ++ tuple_text slot_names t
 
+-- the name of a key: `v` and the number for a slot, and a name as such
 abbrev pub key_text : Key → List ℕ
 key_text (slot s) = slot_names s
 key_text (name x) = x
@@ -59,6 +60,7 @@ abbrev mutual
   node_lines depth (exists s k f) = (indent depth ++ (codes "project " ++ (key_text k ++ sort_text s))) ∷ node_lines (depth + 1) f
   node_lines depth (forall s k f) = []
 
+  -- the lines of the plans of a list, one plan after another, at this depth
   pub part_lines : ℕ → Logics PlanAtom → List (List ℕ)
   part_lines depth none = []
   part_lines depth (also f fs) = node_lines depth f ++ part_lines depth fs

@@ -14,6 +14,7 @@ IsQuiet = AllByRecursion (λ b. 39 < b)
 abbrev pub AreQuiet : List Column → Type 0
 AreQuiet = AllByRecursion (λ (c : Column). IsQuiet c.name)
 
+-- a scan is of such a name; nothing is asked of rows
 abbrev pub IsQuietAtom : PlanAtom → Type 0
 IsQuietAtom (scan n ss) = IsQuiet n
 IsQuietAtom (rows t) = Unit {0}
@@ -32,6 +33,7 @@ abbrev mutual
   IsQuietPlan (exists s k f) = IsQuiet (key_text k) × IsQuietPlan f
   IsQuietPlan (forall s k f) = Unit {0}
 
+  -- each plan of the list is such
   pub AreQuietPlans : Logics PlanAtom → Type 0
   AreQuietPlans none = Unit {0}
   AreQuietPlans (also f fs) = IsQuietPlan f × AreQuietPlans fs

@@ -28,6 +28,7 @@ abbrev mutual
   IsToldPlan sorts (exists s k f) = IsSlotOf s k × IsToldPlan sorts f
   IsToldPlan sorts (forall s k f) = ⊥
 
+  -- each plan of the list is told
   pub AreToldPlans : (List ℕ → List Sort) → Logics PlanAtom → Type 0
   AreToldPlans sorts none = Unit {0}
   AreToldPlans sorts (also f fs) = IsToldPlan sorts f × AreToldPlans sorts fs

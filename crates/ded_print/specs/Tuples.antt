@@ -53,6 +53,7 @@ abbrev pub signed : Bool → ℤ → ℤ
 signed false a = a
 signed true a = neg_ℤ a
 
+-- the terms after the first, each after its sign; where `turned` is true, all signs are turned
 abbrev pub later_terms_text : Names → Bool → List (Slot × ℤ) → List ℕ
 later_terms_text names turned [] = []
 later_terms_text names turned (c ∷ cs) = later_term_text names c.0 (signed turned c.1) ++ later_terms_text names turned cs
@@ -75,6 +76,7 @@ abbrev pub row_with_text : Names → List (Slot × ℤ) → RowOp → ℤ → Li
 row_with_text names [] op constant = codes "0 < 0"
 row_with_text names (c ∷ cs) op constant = sides_text names (int_lt c.1 (pos 0)) c cs op constant
 
+-- a row: its terms, the op, and the constant with its sign turned; `0 < 0` where it has no coefficients
 abbrev pub row_text : Names → LinearConstraint → List ℕ
 row_text names r = row_with_text names r.coefs r.op r.constant
 
@@ -102,6 +104,7 @@ theme_text names (NeSlot s t) = names s ++ (codes " != " ++ names t)
 
 -- ---- tuples
 
+-- a row or a text atom
 abbrev pub atom_text : Names → Atom → List ℕ
 atom_text names (First r) = row_text names r
 atom_text names (Second a) = theme_text names a

@@ -15,15 +15,18 @@ use Rattle.ded_model.specs.Width.{row_length}
 abbrev pub is_column : List Column → Slot → Bool
 is_column h s = stands_in (heading_slots 0 h) s
 
+-- each slot with a coefficient is that of a column
 abbrev pub coefs_over : List Column → List (Slot × ℤ) → Bool
 coefs_over h cs = list_all (λ c. is_column h c.0) cs
 
+-- each slot of the text atom is that of a column
 abbrev pub theme_over : List Column → ThemeAtom → Bool
 theme_over h (EqText s t) = is_column h s
 theme_over h (NeText s t) = is_column h s
 theme_over h (EqSlot s t) = is_column h s && is_column h t
 theme_over h (NeSlot s t) = is_column h s && is_column h t
 
+-- each slot of the atom is that of a column
 abbrev pub atom_over : List Column → Atom → Bool
 atom_over h (First r) = coefs_over h r.coefs
 atom_over h (Second a) = theme_over h a

@@ -2,6 +2,7 @@
 use Rattle.std.specs.Prelude.{ℕ, List}
 use Rattle.ded_readback.specs.declared.printed.Text.{Text}
 
+-- the bytes of the text that the sink has kept
 abbrev pub text_bytes : Text → List ℕ
 text_bytes t = t.bytes.items
 

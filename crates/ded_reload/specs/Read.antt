@@ -22,5 +22,6 @@ abbrev pub WasEntryRead : Entry → Type 0
 WasEntryRead (entry.relation n h m ts) = WasRead (relation n h) × (has_twice h ≡ false) × (nat_lt 16 (length h) ≡ false) × AllByRecursion (λ t. TupleHasTexts IsText t.1) ts
 WasEntryRead (entry.view n h f) = WasRead (view n h f)
 
+-- each entry of the catalogue was so read
 abbrev pub WasCatalogueRead : Catalogue → Type 0
 WasCatalogueRead c = AllByRecursion WasEntryRead c.entries

@@ -8,6 +8,7 @@ abbrev pub WantsNoMemory : ReplyForm → Type 0
 WantsNoMemory (refused Memory) = ⊥
 WantsNoMemory _ = Unit {0}
 
+-- none of the replies is that memory is wanted
 abbrev pub WantsNone : List ReplyForm → Type 0
 WantsNone [] = Unit {0}
 WantsNone (reply ∷ replies) = WantsNoMemory reply × WantsNone replies

@@ -21,10 +21,12 @@ use Rattle.ded_restored.specs.Operands.{restored_operand, row_compare, constant_
 
 -- ---- formulas
 
+-- what is read back of a comparison, by its goal, or of a name with its arguments
 abbrev pub restored_atom : Names → FormAtom → GoalForm → FormAtom
 restored_atom names (compare l op r) g = restored_compare names l op r (row_of (below g))
 restored_atom names (member n ts) g = member n (map restored_operand ts)
 
+-- what is read back of a formula with its goal and the names of the slots; a `minus`, which isn't written, is itself
 abbrev mutual
   pub restored_by : Names → Form → GoalForm → Form
   restored_by names (atom a) g = atom (restored_atom names a g)
@@ -38,6 +40,7 @@ abbrev mutual
   restored_by names (exists s k f) g = exists s k (restored_by names f (below g))
   restored_by names (forall s k f) g = forall s k (restored_by names f (below g))
 
+  -- what is read back of each formula with its goal, as far as both lists go
   pub restored_each : Names → Logics FormAtom → Logics GoalAtom → Logics FormAtom
   restored_each names none gs = none
   restored_each names (also f fs) none = none
@@ -54,16 +57,19 @@ abbrev pub row_in_tuple : Names → LinearConstraint → List (Slot × ℤ) → 
 row_in_tuple names r [] = constant_compare false
 row_in_tuple names r (c ∷ cs) = row_compare names r
 
+-- the comparison that is read back of a text atom
 abbrev pub theme_compare : Names → ThemeAtom → FormAtom
 theme_compare names (EqText s t) = compare (Single (names s)) Equal (Quoted t)
 theme_compare names (NeText s t) = compare (Single (names s)) NotEqual (Quoted t)
 theme_compare names (EqSlot s t) = compare (Single (names s)) Equal (Single (names t))
 theme_compare names (NeSlot s t) = compare (Single (names s)) NotEqual (Single (names t))
 
+-- the comparison that is read back of an atom of a tuple
 abbrev pub tuple_compare : Names → Atom → FormAtom
 tuple_compare names (First r) = row_in_tuple names r r.coefs
 tuple_compare names (Second a) = theme_compare names a
 
+-- the comparisons that are read back of the atoms, in order
 abbrev pub tuple_compares : Names → List Atom → Logics FormAtom
 tuple_compares names [] = none
 tuple_compares names (a ∷ atoms) = also (atom (tuple_compare names a)) (tuple_compares names atoms)

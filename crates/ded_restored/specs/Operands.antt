@@ -23,6 +23,7 @@ use Rattle.ded_print.specs.Tuples.{Names, signed}
 abbrev pub divisor_in : sum.Sum → ℤ
 divisor_in t = pos (gcd_all (t.over ∷ t.constant ∷ coefficients t.parts))
 
+-- the parts, with each coefficient divided by g
 abbrev pub parts_by : ℤ → List (List ℕ × ℤ) → List (List ℕ × ℤ)
 parts_by g [] = []
 parts_by g (p ∷ ps) = (p.0, int_div p.1 g) ∷ parts_by g ps
@@ -31,6 +32,7 @@ parts_by g (p ∷ ps) = (p.0, int_div p.1 g) ∷ parts_by g ps
 abbrev pub lowest_sum : sum.Sum → sum.Sum
 lowest_sum t = record { parts = parts_by (divisor_in t) t.parts; constant = int_div t.constant (divisor_in t); over = int_div t.over (divisor_in t) }
 
+-- what is read back of an operand: a sum in lowest numbers, and any other one itself
 abbrev pub restored_operand : Operand → Operand
 restored_operand (Single x) = Single x
 restored_operand (Sum t) = Sum (lowest_sum t)
@@ -47,6 +49,7 @@ abbrev pub is_turned : List (Slot × ℤ) → Bool
 is_turned [] = false
 is_turned (c ∷ cs) = int_lt c.1 (pos 0)
 
+-- the coefficients with the names of their slots; where `turned` is true, all signs are turned
 abbrev pub terms_of : Names → Bool → List (Slot × ℤ) → List (List ℕ × ℤ)
 terms_of names turned [] = []
 terms_of names turned (c ∷ cs) = (names c.0, signed turned c.1) ∷ terms_of names turned cs
@@ -61,6 +64,7 @@ left_of (p ∷ q ∷ ps) = whole_sum (p ∷ q ∷ ps) (pos 0)
 abbrev pub right_of : Bool → ℤ → Operand
 right_of turned k = whole_sum [] (neg_ℤ (signed turned k))
 
+-- how the sum of a row is compared; where all signs are turned, the other way round
 abbrev pub op_of : Bool → RowOp → CompareOp
 op_of turned Zero = Equal
 op_of false AtMost = LessEq
@@ -72,9 +76,11 @@ op_of true Below = Greater
 abbrev pub row_compared : Names → LinearConstraint → CompareOp → FormAtom
 row_compared names r op = compare (left_of (terms_of names (is_turned r.coefs) r.coefs)) op (right_of (is_turned r.coefs) r.constant)
 
+-- the comparison that is read back of a row that has coefficients
 abbrev pub row_compare : Names → LinearConstraint → FormAtom
 row_compare names r = row_compared names r (op_of (is_turned r.coefs) r.op)
 
+-- the operand 0
 abbrev pub zero : Operand
 zero = whole_sum [] (pos 0)
 
@@ -85,14 +91,17 @@ constant_compare false = compare zero Less zero
 
 -- ---- comparisons, by the rows of their goals
 
+-- the row is compared; a row without coefficients is `0 = 0` where it is true, else `0 < 0`
 abbrev pub stated : Names → LinearConstraint → List (Slot × ℤ) → FormAtom
 stated names r [] = constant_compare (is_true_row r)
 stated names r (c ∷ cs) = row_compare names r
 
+-- the row of `=` with `!=` in its place; a row without coefficients is `0 < 0` where it is true, else `0 = 0`
 abbrev pub denied : Names → LinearConstraint → List (Slot × ℤ) → FormAtom
 denied names r [] = constant_compare (not (is_true_row r))
 denied names r (c ∷ cs) = row_compared names r NotEqual
 
+-- what is read back of a comparison with this op by its row; that of `!=` is the row of `=`, which is denied
 abbrev pub restored_row : Names → CompareOp → LinearConstraint → FormAtom
 restored_row names Less r = stated names r r.coefs
 restored_row names LessEq r = stated names r r.coefs

@@ -20,11 +20,13 @@ Test = List ℕ → Type 0
 abbrev pub Passes : (List ℕ → Bool) → Test
 Passes test w = test w ≡ true
 
+-- the names in the operand are N, and its text is T
 abbrev pub HasWords : Test → Test → Operand → Type 0
 HasWords N T (Single x) = N x
 HasWords N T (Sum t) = AllByRecursion (λ (c : List ℕ × ℤ). N c.0) t.parts
 HasWords N T (Quoted t) = T t
 
+-- the names in all of the operands are N, and their texts are T
 abbrev pub HaveWords : Test → Test → List Operand → Type 0
 HaveWords N T [] = Unit {0}
 HaveWords N T (t ∷ ts) = HasWords N T t × HaveWords N T ts
@@ -60,12 +62,14 @@ abbrev mutual
   IsWritten N M T (exists s k f) = IsNamed N k × IsWritten N M T f
   IsWritten N M T (forall s k f) = IsNamed N k × IsWritten N M T f
 
+  -- each formula of the list is such
   pub AreWritten : Test → Test → Test → Logics FormAtom → Type 0
   AreWritten N M T none = Unit {0}
   AreWritten N M T (also f fs) = IsWritten N M T f × AreWritten N M T fs
 
 -- ---- tuples and headings
 
+-- the text of the atom, if it has one, is T
 abbrev pub HasTexts : Test → Atom → Type 0
 HasTexts T (First r) = Unit {0}
 HasTexts T (Second (EqText s t)) = T t
@@ -73,10 +77,10 @@ HasTexts T (Second (NeText s t)) = T t
 HasTexts T (Second (EqSlot s t)) = Unit {0}
 HasTexts T (Second (NeSlot s t)) = Unit {0}
 
--- the texts of the tuple
+-- each text in the tuple is T
 abbrev pub TupleHasTexts : Test → List Atom → Type 0
 TupleHasTexts T = AllByRecursion (HasTexts T)
 
--- the names of the columns
+-- the name of each column is N
 abbrev pub AreNamed : Test → List Column → Type 0
 AreNamed N = AllByRecursion (λ (c : Column). N c.name)

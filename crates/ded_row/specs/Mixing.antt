@@ -19,7 +19,7 @@ BoundsAbove Zero a = a ≢ pos 0
 BoundsAbove AtMost a = pos 0 <ℤ a
 BoundsAbove Below a = pos 0 <ℤ a
 
--- it bounds the slot from below
+-- a row with this coefficient bounds the slot from below: it is below 0, or any but 0 in an equality
 abbrev pub BoundsBelow : RowOp → ℤ → Type 0
 BoundsBelow Zero a = a ≢ pos 0
 BoundsBelow AtMost a = a <ℤ pos 0
@@ -51,14 +51,14 @@ mix_of s q r = normal_row (mixed_row s (factor (coef_at q.coefs s) (coef_at r.co
 
 -- ---- numbers that are too long
 
--- one of the products, or their sum
+-- one of the products, or their sum, is too long
 abbrev pub sum_is_long : ℤ → ℤ → ℤ → ℤ → Bool
 sum_is_long k c m d = is_long (k *ℤ c) || is_long (m *ℤ d) || is_long (k *ℤ c +ℤ m *ℤ d)
 
--- at the slot t, which is another than s
+-- that is so of the coefficients at the slot t, which is another than s
 abbrev pub long_at : Slot → ℤ → List (Slot × ℤ) → ℤ → List (Slot × ℤ) → Slot → Bool
 long_at s k xs m ys t = not (same_slot t s) && sum_is_long k (coef_at xs t) m (coef_at ys t)
 
--- at some slot of one of the lists
+-- that is so at some slot of one of the lists
 abbrev pub coefs_are_long : Slot → ℤ → List (Slot × ℤ) → ℤ → List (Slot × ℤ) → Bool
 coefs_are_long s k xs m ys = list_any (λ c. long_at s k xs m ys c.0) xs || list_any (λ c. long_at s k xs m ys c.0) ys

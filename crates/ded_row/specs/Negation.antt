@@ -21,5 +21,6 @@ abbrev pub negated_with : List (Slot × ℤ) → LinearConstraint → Negated Li
 negated_with [] r = One (constant_row (not (sign_meets r.op r.constant)))
 negated_with (c ∷ cs) r = negated_by r.op r
 
+-- the negation of a row, in pieces
 abbrev pub negated_row : LinearConstraint → Negated LinearConstraint
 negated_row r = negated_with r.coefs r

@@ -20,22 +20,24 @@ joined parts = flat_map (λ part. part) parts
 
 -- ---- its statements, without their `;`
 
--- the rectangle in row j and column i, with sides of length 10
+-- the parts of the statement that inserts the rectangle in row j and column i, with sides of length 10
 abbrev pub land_parts : ℕ → ℕ → List (List ℕ)
 land_parts j i =
     codes "insert Land { n = 'r" ∷ number_text j ∷ codes "c" ∷ number_text i
     ∷ codes "', x >= " ∷ number_text (10 * i) ∷ codes ", x <= " ∷ number_text (10 * i + 10)
     ∷ codes ", y >= " ∷ number_text (10 * j) ∷ codes ", y <= " ∷ number_text (10 * j + 10) ∷ codes " }" ∷ []
 
+-- the statement that inserts this rectangle
 abbrev pub land_insert : ℕ → ℕ → List ℕ
 land_insert j i = joined (land_parts j i)
 
--- band k, of width 1
+-- the parts of the statement that inserts band k, of width 1
 abbrev pub road_parts : ℕ → List (List ℕ)
 road_parts k =
     codes "insert Road { k = 's" ∷ number_text k
     ∷ codes "', y - x >= " ∷ number_text (10 * k) ∷ codes ", y - x <= " ∷ number_text (10 * k + 1) ∷ codes " }" ∷ []
 
+-- the statement that inserts this band
 abbrev pub road_insert : ℕ → List ℕ
 road_insert k = joined (road_parts k)
 
@@ -51,17 +53,19 @@ made_setup n =
     ++ map road_insert (below n)
     ++ codes "view Cross(n text, k text) := exists x exists y (Land(n, x, y) and Road(k, x, y))" ∷ []
 
--- whether the last row's first rectangle and the last band meet
+-- the parts of the question whether the last row's first rectangle and the last band meet
 abbrev pub corner_parts : ℕ → List (List ℕ)
 corner_parts n = codes "ask Cross('r" ∷ number_text (n - 1) ∷ codes "c0', 's" ∷ number_text (n - 1) ∷ codes "')" ∷ []
 
+-- the question whether they meet
 abbrev pub corner_question : ℕ → List ℕ
 corner_question n = joined (corner_parts n)
 
--- whether the first row's last rectangle and the first band meet
+-- the parts of the question whether the first row's last rectangle and the first band meet
 abbrev pub other_corner_parts : ℕ → List (List ℕ)
 other_corner_parts n = codes "ask Cross('r0c" ∷ number_text (n - 1) ∷ codes "', 's0')" ∷ []
 
+-- the question whether they meet
 abbrev pub other_corner_question : ℕ → List ℕ
 other_corner_question n = joined (other_corner_parts n)
 
@@ -79,9 +83,11 @@ made_questions n =
 abbrev pub line : List ℕ → List ℕ
 line statement = statement ++ codes ";\n"
 
+-- all statements so, in order
 abbrev pub lines : List (List ℕ) → List ℕ
 lines statements = flat_map line statements
 
+-- the made script of this size: what sets it up, and then the questions
 abbrev pub made_script : ℕ → List ℕ
 made_script n = lines (made_setup n ++ made_questions n)
 

@@ -23,6 +23,7 @@ pub record Standing : Type 0 where
 abbrev pub opening : ℕ → Standing
 opening limit = record { language = Opening; catalogue = empty_catalogue limit }
 
+-- where a session of the program stands
 abbrev pub standing_in : Session → Standing
 standing_in s = record { language = language_in s; catalogue = catalogue_in s }
 

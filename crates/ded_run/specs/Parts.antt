@@ -5,9 +5,11 @@ use Rattle.ded_print.specs.Numbers.{number_text}
 use Rattle.ded_run.specs.declared.made.Part.{Part}
 use Rattle.ded_run.specs.declared.made.Part.TheVariants.{Text, Number}
 
+-- a text as it stands, or a number in decimal
 abbrev pub part_bytes : Part → List ℕ
 part_bytes (Text bytes) = bytes.now
 part_bytes (Number n) = number_text n
 
+-- parts one after another
 abbrev pub parts_bytes : List Part → List ℕ
 parts_bytes parts = flat_map part_bytes parts

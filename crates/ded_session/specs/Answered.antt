@@ -4,6 +4,7 @@ use Rattle.ded_session.specs.declared.reply.Reply.{Reply}
 use Rattle.ded_session.specs.declared.reply.Reply.TheVariants.{Done, Number, Truth, Tuples, Stored, Boxes, Steps, Script, Apart, Meet, Refused}
 use Rattle.ded_session.specs.Replies.{ReplyForm, done, number, truth, tuples, stored, boxes, steps, script, apart, meeting, refused}
 
+-- what a reply of the program says
 abbrev pub reply_form : Reply → ReplyForm
 reply_form Done = done
 reply_form (Number k) = number k

@@ -28,10 +28,13 @@ pub record IsTurn (language : Language) (s : State) (x : Turn) : Type 0 where
   pub sound : IsSound x.left
   pub goes_on : GoesOnPiece language x.piece x.next
 
+-- each is a turn in the language and over the state that the one before it left, the first one in this language and
+-- over this state
 abbrev pub AreTurns : Language → State → List Turn → Type 0
 AreTurns language s [] = Unit {0}
 AreTurns language s (x ∷ xs) = IsTurn language s x × AreTurns x.next x.left xs
 
+-- the state that the last turn leaves; this one where there is none
 abbrev pub last_state : State → List Turn → State
 last_state s [] = s
 last_state s (x ∷ xs) = last_state x.left xs
@@ -64,9 +67,11 @@ PieceSpells language (piece.Whole bytes) test = SpellsSome language bytes.now te
 PieceSpells language piece.Long test = ⊥
 PieceSpells language piece.Cut test = ⊥
 
+-- the turn's piece spells a command that has the list of the view made
 abbrev pub Renews : Language → State → Turn → List ℕ → Type 0
 Renews language s x v = PieceSpells language x.piece (λ command. renews (catalogue_at s) command x.reply v)
 
+-- the turn's piece spells a command that may lose the list of the view
 abbrev pub Loses : Language → State → Turn → List ℕ → Type 0
 Loses language s x v = PieceSpells language x.piece (λ command. loses (catalogue_at s) command x.reply v)
 

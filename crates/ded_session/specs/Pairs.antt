@@ -13,21 +13,24 @@ use Rattle.ded_session.specs.Replies.{ReplyForm, done, number, truth, tuples, st
 
 -- ---- one reply
 
--- bounds for each rational column, of which there is one
+-- bounds, where the reply has them, are as many as the rational columns, of which there is at least one
 abbrev pub FitsHeading : List Column → BoxReply → Type 0
 FitsHeading h Nowhere = Unit {0}
 FitsHeading h NoRational = Unit {0}
 FitsHeading h (Spans bs) = (0 < rational_columns h) × (length bs ≡ rational_columns h)
 
+-- the key is a slot, and no name
 abbrev pub IsSlotKey : Key → Type 0
 IsSlotKey (slot s) = Unit {0}
 IsSlotKey (name x) = ⊥
 
+-- a scan is of a word of the grammar, or of the closure or the interior of one; a list of atoms names nothing
 abbrev pub IsPlainScan : PlanAtom → Type 0
 IsPlainScan (scan n ss) = IsMemberName n
 IsPlainScan (rows t) = Unit {0}
 
--- each scan is of a word of the grammar, or of the closure or the interior of one, and what is projected away is a slot
+-- each scan is of a word of the grammar, or of the closure or the interior of one, and what is projected away is a
+-- slot; nothing is said of implications and of what holds for all, which plans don't have
 abbrev mutual
   pub IsPlainPlan : PlanForm → Type 0
   IsPlainPlan (atom a) = IsPlainScan a
@@ -41,6 +44,7 @@ abbrev mutual
   IsPlainPlan (exists s k f) = IsSlotKey k × IsPlainPlan f
   IsPlainPlan (forall s k f) = Unit {0}
 
+  -- each of them is so
   pub ArePlainPlans : Logics PlanAtom → Type 0
   ArePlainPlans none = Unit {0}
   ArePlainPlans (also f fs) = IsPlainPlan f × ArePlainPlans fs

@@ -13,9 +13,11 @@ use Rattle.ded_syntax.specs.MemberNames.{IsMemberName}
 abbrev pub IsPlainName : List ℕ → Type 0
 IsPlainName n = BeginsWith letter_byte n × Each word_byte n
 
+-- each column has such a name
 abbrev pub ArePlainColumns : List Column → Type 0
 ArePlainColumns = AllByRecursion (λ (c : Column). IsPlainName c.name)
 
+-- the entry has such a name, and so has each of its columns
 abbrev pub HasPlainEntry : Entry → Type 0
 HasPlainEntry e = IsPlainName (entry_name e) × ArePlainColumns (entry_columns e)
 
@@ -25,6 +27,7 @@ HasPlainNames c = AllByRecursion HasPlainEntry c.entries
 
 -- ---- commands
 
+-- the name of a member is such a one, or that of the closure or of the interior of such a one; a comparison uses none
 abbrev pub IsPlainUse : FormAtom → Type 0
 IsPlainUse (compare l op r) = Unit {0}
 IsPlainUse (member n ts) = IsMemberName n

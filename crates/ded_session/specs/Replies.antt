@@ -7,6 +7,9 @@ use Rattle.ded_model.specs.declared.command.Refusal.{Refusal}
 use Rattle.ded_model.specs.Row.{Atom}
 use Rattle.ded_model.specs.PlanForm.{PlanForm}
 
+-- that something was done; the number of a tuple; whether something is so; the tuples of an answer; stored tuples with
+-- their numbers; bounds of columns; a plan; the lines of a dump; a certificate that no two tuples meet; the numbers of
+-- two that do; or a refusal
 pub data ReplyForm : Type 0 where
   done : ReplyForm
   number : ℕ → ReplyForm
@@ -20,6 +23,7 @@ pub data ReplyForm : Type 0 where
   meeting : ℕ → ℕ → ReplyForm
   refused : Refusal → ReplyForm
 
+-- whether the reply is a refusal
 abbrev pub is_refusal : ReplyForm → Bool
 is_refusal (refused r) = true
 is_refusal _ = false

@@ -69,6 +69,7 @@ pub record Accepted (language : Language) (piece : List ℕ) (c : Catalogue) (Fa
   pub spells : Spells language piece command depth
   pub so : Fact command
 
+-- the statement is such a piece; one that isn't whole never is
 abbrev pub Accepts : Language → Statement → Catalogue → (CommandForm → Type 0) → Type 0
 Accepts language (Whole piece) c Fact = Accepted language piece c Fact
 Accepts language (pieces.Unfinished rest) c Fact = ⊥

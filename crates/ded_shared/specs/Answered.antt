@@ -4,6 +4,7 @@ use Rattle.ded_shared.specs.declared.reply.SharedReply.{SharedReply}
 use Rattle.ded_shared.specs.declared.reply.SharedReply.TheVariants.{Plain, Begun, NotBegun, Conflict}
 use Rattle.ded_shared.specs.Forms.{SharedForm, plain, begun, not_begun, conflict}
 
+-- what a reply of shared sessions says
 abbrev pub shared_form : SharedReply → SharedForm
 shared_form (Plain reply) = plain (reply_form reply)
 shared_form Begun = begun

@@ -9,6 +9,7 @@ use Rattle.ded_shared.specs.State.{is_among}
 abbrev pub in_both : List (List ℕ) → List (List ℕ) → List ℕ → Bool
 in_both touched stale n = is_among touched n && is_among stale n
 
+-- no name stands in both lists
 abbrev pub NoneInBoth : List (List ℕ) → List (List ℕ) → Type 0
 NoneInBoth touched stale = (n : List ℕ) → in_both touched stale n ≡ false
 

@@ -22,6 +22,7 @@ use Rattle.ded_syntax.proofs.Decided.{SomeCommand, NoCommand, spelling_decided}
 use Rattle.ded_syntax.proofs.Seen.{no_lexemes, one_list}
 use Rattle.ded_shared.specs.Tags.{Tagged, begins, commits, aborts, commands, other, IsSessionOf, HasTag, IsWord, SpellsCommand, Tags, TagsCommand, HasNoTag, IsTaggedPiece, IsTagged}
 
+-- it is so, or it isn't
 abbrev pub Decided : Type 0 → Type 0
 Decided P = P ⊎ (P → ⊥)
 
@@ -68,6 +69,7 @@ same_text xs ys = by (bytes_eq xs ys) refl
     by true e = inl ((bytes_eq-Decides xs ys).0 e)
     by false e = inr (λ f. true≢false (sym ((bytes_eq-Decides xs ys).1 f) ∙ e))
 
+-- words that are the same lexeme have the same bytes
 pub word_same : {cs bs : List ℕ} → Word cs ≡ Word bs → cs ≡ bs
 word_same e = cc
 
@@ -77,13 +79,15 @@ number_same e = cc
 sign_same : {cs bs : List ℕ} → Sign cs ≡ Sign bs → cs ≡ bs
 sign_same e = cc
 
--- lexemes of other kinds
+-- a lexeme of another kind is no word
 pub no_word : (l : Lexeme) → kind_of l ≢ kind.Word → (bs : List ℕ) → l ≡ Word bs → ⊥
 no_word l ne bs e = ne (ap kind_of e)
 
+-- a lexeme of another kind than numbers is the number of no session
 pub no_number : (l : Lexeme) → kind_of l ≢ kind.Number → (k : ℕ) → IsSessionOf k l → ⊥
 no_number l ne k s = ne (ap kind_of s.is)
 
+-- a lexeme of another kind is no sign
 pub no_sign : (l : Lexeme) → kind_of l ≢ kind.Sign → (bs : List ℕ) → l ≡ Sign bs → ⊥
 no_sign l ne bs e = ne (ap kind_of e)
 
@@ -111,6 +115,7 @@ SomeSession l = ((k : ℕ) × IsSessionOf k l) ⊎ NoSession l
 pub one_session : (l : Lexeme) (k j : ℕ) → IsSessionOf k l → IsSessionOf j l → k ≡ j
 one_session l k j s t = sym s.value ∙ ap number_of (number_same (sym s.is ∙ t.is)) ∙ t.value
 
+-- where digits are the number of session k, they write k
 pub value_is : (digits : List ℕ) (k : ℕ) → IsSessionOf k (Number digits) → number_of digits ≡ k
 value_is digits k s = ap number_of (number_same s.is) ∙ s.value
 
@@ -145,24 +150,27 @@ one_tag bytes k j rest end s t =
       s.behind ∙ ap (λ (x : Token). drop x.end bytes) (second_same same) ∙ sym t.behind,
     )
 
+-- the bytes have no tag
 abbrev pub NoTag : List ℕ → Type 0
 NoTag bytes = (k : ℕ) (rest : List ℕ) → HasTag bytes k rest → ⊥
 
 abbrev SomeTag : List ℕ → Type 0
 SomeTag bytes = ((k : ℕ) × (rest : List ℕ) × HasTag bytes k rest) ⊎ NoTag bytes
 
--- bytes without tokens, and those with fewer than two
+-- bytes that can't be cut into tokens have no tag
 pub untagged_tokens : (bytes : List ℕ) → NoTokens bytes → NoTag bytes
 untagged_tokens bytes none k rest t = none (t.number ∷ t.colon ∷ t.more) t.are
 
+-- nor have bytes of fewer than two tokens
 pub untagged_few : (bytes : List ℕ) (tokens : List Token) → AreTokens bytes tokens → length tokens < 2 → NoTag bytes
 untagged_few bytes tokens are few k rest t = omega (arith, few, ap length (one_token_list bytes tokens (t.number ∷ t.colon ∷ t.more) are t.are))
 
--- the first token is no session's number, or the second no colon
+-- nor have bytes whose first token isn't the number of a session
 pub untagged_number : (bytes : List ℕ) (first second : Token) (others : List Token) → AreTokens bytes (first ∷ second ∷ others) → ((k : ℕ) → IsSessionOf k (lexeme bytes first) → ⊥) → NoTag bytes
 untagged_number bytes first second others are none k rest t =
     none k (subst (λ (x : Token). IsSessionOf k (lexeme bytes x)) (first_same (one_token_list bytes _ _ t.are are)) t.is_number)
 
+-- nor have bytes whose second token is no colon
 pub untagged_colon : (bytes : List ℕ) (first second : Token) (others : List Token) → AreTokens bytes (first ∷ second ∷ others) → (lexeme bytes second ≡ Sign (codes ":") → ⊥) → NoTag bytes
 untagged_colon bytes first second others are none k rest t =
     none (ap (lexeme bytes) (second_same (one_token_list bytes _ _ are t.are)) ∙ t.is_colon)

@@ -10,9 +10,11 @@ pub record Told : Type 0 where
   pub statement : Statement
   pub reply : ReplyForm
 
+-- the statements, without their replies
 abbrev pub statements_of : List Told → List Statement
 statements_of ts = map (λ t. t.statement) ts
 
+-- the replies, without their statements
 abbrev pub replies_of : List Told → List ReplyForm
 replies_of ts = map (λ t. t.reply) ts
 
@@ -22,6 +24,7 @@ replies_of ts = map (λ t. t.reply) ts
 abbrev pub Open : Type 0
 Open = ℕ → Option (List Told)
 
+-- no session has an open transaction
 abbrev pub none_open : Open
 none_open k = None
 
@@ -55,6 +58,8 @@ ends o (commands k bytes) (plain reply) = unless_open (o k) (record { statement 
 ends o (other s) (plain reply) = record { statement = s; reply = reply } ∷ []
 ends o x reply = []
 
+-- the statements that count, each with its reply, where these transactions are open before them all; one without a
+-- reply is left out
 abbrev pub serial_from : Open → List Tagged → List SharedForm → List Told
 serial_from o [] replies = []
 serial_from o (x ∷ xs) [] = []

@@ -9,6 +9,7 @@ pub data SharedForm : Type 0 where
   not_begun : SharedForm
   conflict : List ℕ → SharedForm
 
+-- whether the reply is a refusal, as `begun`, `not_begun` and `conflict` always are
 abbrev pub refuses : SharedForm → Bool
 refuses (plain reply) = is_refusal reply
 refuses _ = true

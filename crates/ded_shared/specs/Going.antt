@@ -69,6 +69,8 @@ module _ (bytes : List ℕ) (r : Refusal) (blind : depends_on_names (refused r) 
       none_changed false true f = absurd (true≢false f)
       none_changed false false f = refl
 
+  -- a refusal that the command may get over each catalogue, and that doesn't depend on names, it may get in each state,
+  -- in the open transaction of the session or outside, and then changes nothing
   pub works_refused : (s : State) (k : ℕ) (o : Option Transaction) → transaction_of s k ≡ o → Works k bytes o s (refused r) s
   works_refused s k (Some x) e = record {
     after = x;

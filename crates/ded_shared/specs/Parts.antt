@@ -59,6 +59,7 @@ pub record Parts : Type 0 where
   pub transactions : List (Option declared.Transaction)
   pub log : List (List ℕ)
 
+-- the shared catalogue and the open transactions that the parts stand for
 abbrev pub state_of : Parts → State
 state_of s = record { shared = catalogue_of s.table; transactions = map (option_map (transaction_in s.log)) s.transactions }
 

@@ -46,6 +46,7 @@ pub record WorksOutside (bytes : List ℕ) (s : State) (reply : ReplyForm) (t : 
   pub are : (command : CommandForm) (depth : ℕ) → Spells One bytes command depth → (n : List ℕ) → is_among names n ≡ changes s.shared command reply n
   pub transactions : t.transactions ≡ all_with_stale names s.transactions
 
+-- a command of a session works in its open transaction, or outside where it has none
 abbrev pub Works : ℕ → List ℕ → Option Transaction → State → ReplyForm → State → Type 0
 Works k bytes (Some x) s reply t = WorksInside k bytes x s reply t
 Works k bytes None s reply t = WorksOutside bytes s reply t
@@ -63,13 +64,16 @@ pub record IsCommitted (k : ℕ) (x : Transaction) (s t : State) : Type 0 where
   pub replays : Replays x.accepted s.shared t.shared
   pub transactions : t.transactions ≡ (with_transaction (record s { transactions = all_with_stale x.changed s.transactions }) k None).transactions
 
--- Each may be refused as out of memory, and then changes nothing.
+-- a session begins a transaction over the shared catalogue, or is told that it has begun one before; it may be refused
+-- as out of memory, and then changes nothing
 abbrev pub Begins : ℕ → Option Transaction → State → SharedForm → State → Type 0
 Begins k o s (plain (refused Memory)) t = t ≡ s
 Begins k None s (plain done) t = t ≡ with_transaction s k (Some (begun_over s.shared))
 Begins k (Some x) s begun t = t ≡ s
 Begins k o s reply t = ⊥
 
+-- a session commits its transaction, or is told the least name at which it conflicts, and it is closed either way;
+-- where none is open, the session is told so; it may be refused as out of memory, and then changes nothing
 abbrev pub Commits : ℕ → Option Transaction → State → SharedForm → State → Type 0
 Commits k o s (plain (refused Memory)) t = t ≡ s
 Commits k None s not_begun t = t ≡ s
@@ -77,6 +81,8 @@ Commits k (Some x) s (plain done) t = IsCommitted k x s t
 Commits k (Some x) s (conflict n) t = IsLeastInBoth x.touched x.stale n × (t ≡ with_transaction s k None)
 Commits k o s reply t = ⊥
 
+-- a session gives up its transaction, which is closed; where none is open, the session is told so; it may be refused as
+-- out of memory, and then changes nothing
 abbrev pub Aborts : ℕ → Option Transaction → State → SharedForm → State → Type 0
 Aborts k o s (plain (refused Memory)) t = t ≡ s
 Aborts k None s not_begun t = t ≡ s
@@ -85,6 +91,8 @@ Aborts k o s reply t = ⊥
 
 -- ---- one step
 
+-- a tagged statement over a state may get the reply, and then makes the other state of it; a statement of no session is
+-- refused, and changes nothing
 abbrev pub SharedStep : State → Tagged → SharedForm → State → Type 0
 SharedStep s (begins k) reply t = Begins k (transaction_of s k) s reply t
 SharedStep s (commits k) reply t = Commits k (transaction_of s k) s reply t

@@ -24,6 +24,7 @@ pub record State : Type 0 where
 abbrev pub is_among : List (List ℕ) → List ℕ → Bool
 is_among ns n = list_any (bytes_eq n) ns
 
+-- the open transaction of session k, where it has one
 abbrev pub transaction_of : State → ℕ → Option Transaction
 transaction_of s k = get_or s.transactions (k - 1) None
 

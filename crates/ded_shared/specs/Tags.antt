@@ -47,12 +47,13 @@ pub record SpellsCommand (bytes : List ℕ) : Type 0 where
   pub depth : ℕ
   pub spells : Spells One bytes command depth
 
--- a tag, and behind it the word, or a command
+-- a tag, and behind it the word
 pub record Tags (word bytes : List ℕ) (session : ℕ) : Type 0 where
   pub rest : List ℕ
   pub tag : HasTag bytes session rest
   pub is_word : IsWord word rest
 
+-- a tag, and behind it a command
 pub record TagsCommand (bytes : List ℕ) (session : ℕ) (rest : List ℕ) : Type 0 where
   pub tag : HasTag bytes session rest
   pub spells : SpellsCommand rest
@@ -77,6 +78,7 @@ abbrev pub IsTagged : Statement → Tagged → Type 0
 IsTagged (Whole bytes) x = IsTaggedPiece bytes x
 IsTagged (pieces.Unfinished rest) x = x ≡ other (pieces.Unfinished rest)
 
+-- what the statements are, one for each, in order
 abbrev pub AreTagged : List Statement → List Tagged → Type 0
 AreTagged [] [] = Unit {0}
 AreTagged [] (x ∷ xs) = ⊥

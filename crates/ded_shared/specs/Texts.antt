@@ -4,6 +4,7 @@ use Rattle.std.specs.List.{flat_map}
 use Rattle.ded_session.specs.Texts.{text_of}
 use Rattle.ded_shared.specs.Forms.{SharedForm, plain, begun, not_begun, conflict}
 
+-- what is written of a reply: as in one session, or one of the refusals 22 to 24, which only shared sessions give
 abbrev pub shared_text : SharedForm → List ℕ
 shared_text (plain reply) = text_of reply
 shared_text begun = codes "refused 22 begun\n"

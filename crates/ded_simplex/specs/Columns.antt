@@ -28,7 +28,7 @@ sum_from number sum _ _ = sum
 abbrev pub vanishes : List ℤ → List LinearConstraint → Slot → Bool
 vanishes ms rs s = int_eq (sum_from (λ r. coef_at r.coefs s) (pos 0) ms rs) (pos 0)
 
--- those of each of the slots do
+-- the coefficients of each of the slots come to 0
 abbrev pub all_vanish : List ℤ → List LinearConstraint → List Slot → Bool
 all_vanish ms rs ss = list_all (vanishes ms rs) ss
 
@@ -36,7 +36,7 @@ all_vanish ms rs ss = list_all (vanishes ms rs) ss
 abbrev pub HasSlots : List Slot → List (Slot × ℤ) → Type 0
 HasSlots ss cs = (s : Slot) → list_any (λ c. same_slot c.0 s) cs ≡ true → stands_in ss s ≡ true
 
--- so does each slot of the rows
+-- each slot of the rows stands among the slots
 abbrev pub HasAllSlots : List Slot → List LinearConstraint → Type 0
 HasAllSlots ss [] = Unit {0}
 HasAllSlots ss (r ∷ rs) = HasSlots ss r.coefs × HasAllSlots ss rs

@@ -15,11 +15,11 @@ abbrev pub with_slots : List Slot → List (Slot × ℤ) → List Slot
 with_slots ss [] = ss
 with_slots ss (c ∷ cs) = with_slots (with_slot ss c.0) cs
 
--- those of the rows
+-- the slots of the rows added
 abbrev pub with_all_slots : List Slot → List LinearConstraint → List Slot
 with_all_slots ss [] = ss
 with_all_slots ss (r ∷ rs) = with_all_slots (with_slots ss r.coefs) rs
 
--- each of the slots is one of the rows
+-- each of the slots is one that the rows mention
 abbrev pub AreOf : List LinearConstraint → List Slot → Type 0
 AreOf rs ss = (s : Slot) → stands_in ss s ≡ true → list_any (λ r. row_mentions r s) rs ≡ true

@@ -48,10 +48,11 @@ weakly Zero = Zero
 weakly AtMost = AtMost
 weakly Below = AtMost
 
--- the row holds so at the point, and no number on the way is too long
+-- the row holds at the point with `<=` for `<`, and no number on the way is too long
 abbrev pub leans_row : List (Slot × ℤ) → ℤ → LinearConstraint → Bool
 leans_row vs d r = not (row_is_long vs d r) && sign_meets (weakly r.op) (row_at r (point_of vs d))
 
--- the denominator isn't negative, where 0 means a direction, and all rows hold so without a number that is too long
+-- the denominator isn't negative, where 0 means a direction, and all rows hold with `<=` for `<`, without a number that
+-- is too long
 abbrev pub leans : List (Slot × ℤ) → ℤ → List LinearConstraint → Bool
 leans vs d rs = int_le (pos 0) d && list_all (λ r. leans_row vs d r) rs

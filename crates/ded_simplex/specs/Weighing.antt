@@ -11,11 +11,13 @@ use Rattle.ded_model.specs.Lines.{is_long}
 
 -- ---- the sum of the rows, each times its number; further rows, or further numbers, don't count
 
+-- the coefficients of the sum of the rows, each times its number; a coefficient may come to 0
 abbrev pub weighed_coefs : List ℤ → List LinearConstraint → List (Slot × ℤ)
 weighed_coefs [] rs = []
 weighed_coefs (m ∷ ms) [] = []
 weighed_coefs (m ∷ ms) (r ∷ rs) = put_all m r.coefs (weighed_coefs ms rs)
 
+-- the constant of the sum of the rows, each times its number
 abbrev pub weighed_constant : List ℤ → List LinearConstraint → ℤ
 weighed_constant [] rs = pos 0
 weighed_constant (m ∷ ms) [] = pos 0
@@ -29,7 +31,7 @@ fits Zero m = true
 fits AtMost m = int_le (pos 0) m
 fits Below m = int_le (pos 0) m
 
--- no such row has one
+-- no row by `<` or `<=` has a negative number
 abbrev pub signs_fit : List ℤ → List LinearConstraint → Bool
 signs_fit (m ∷ ms) (r ∷ rs) = fits r.op m && signs_fit ms rs
 signs_fit _ _ = true
@@ -49,7 +51,7 @@ abbrev pub is_strict : List ℤ → List LinearConstraint → Bool
 is_strict (m ∷ ms) (r ∷ rs) = is_strict_at r.op m || is_strict ms rs
 is_strict _ _ = false
 
--- some row by `<` or `<=` has one
+-- some row by `<` or `<=` has a positive number
 abbrev pub is_weak : List ℤ → List LinearConstraint → Bool
 is_weak (m ∷ ms) (r ∷ rs) = is_weak_at r.op m || is_weak ms rs
 is_weak _ _ = false

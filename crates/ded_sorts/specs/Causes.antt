@@ -57,10 +57,12 @@ takes_name c (relation n h) = is_some (known c n)
 takes_name c (view n h f) = is_some (known c n)
 takes_name c _ = false
 
+-- what is known of a name is that it is a view's; false where nothing is known
 abbrev pub is_view_with : Option Known → Bool
 is_view_with None = false
 is_view_with (Some k) = k.is_view
 
+-- what is known of a name is that it is a relation's; false where nothing is known
 abbrev pub is_relation_with : Option Known → Bool
 is_relation_with None = false
 is_relation_with (Some k) = not k.is_view
@@ -93,6 +95,7 @@ heading_in c (query h f) = h
 heading_in c (explain h f) = h
 heading_in c _ = []
 
+-- there is a formula, and it passes the test
 abbrev pub passes_with : Option Form → (Form → Bool) → Bool
 passes_with None test = false
 passes_with (Some f) test = test f
@@ -123,6 +126,7 @@ abbrev pub is_rational_inequality : Scope → FormAtom → Bool
 is_rational_inequality scope (compare l NotEqual r) = same_sort (operand_sort scope l) Rat && same_sort (operand_sort scope r) Rat
 is_rational_inequality scope _ = false
 
+-- an insert has `!=` between numbers
 abbrev pub has_inequality : Catalogue → CommandForm → Bool
 has_inequality c (insert n fs) = some_below is_rational_inequality (scope_of (columns_in c n)) (every_of fs)
 has_inequality c _ = false
@@ -148,6 +152,7 @@ deletes_none c _ = false
 abbrev pub is_full : Catalogue → List ℕ → Bool
 is_full c n = nat_le c.limit (length (tuples_in c n))
 
+-- an insert is into a relation that holds as many tuples as the limit allows
 abbrev pub inserts_into_full : Catalogue → CommandForm → Bool
 inserts_into_full c (insert n fs) = is_full c n
 inserts_into_full c _ = false
@@ -156,6 +161,7 @@ inserts_into_full c _ = false
 abbrev pub is_spent : Catalogue → List ℕ → Bool
 is_spent c n = nat_le 4294967295 (inserts_in (entry_of c.entries n))
 
+-- an insert is into a relation that has accepted 2^32 - 1 inserts
 abbrev pub inserts_into_spent : Catalogue → CommandForm → Bool
 inserts_into_spent c (insert n fs) = is_spent c n
 inserts_into_spent c _ = false

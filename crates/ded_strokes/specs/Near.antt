@@ -19,10 +19,11 @@ pub record IsShortDirection (w : Direction) : Type 0 where
   pub u : IsWithin 31 w.u
   pub v : IsWithin 31 w.v
 
--- the direction straight out of a half plane, and the opposite one
+-- the direction straight out of a half plane
 abbrev pub outward : HalfPlane → Direction
 outward s = record { u = s.a; v = s.b }
 
+-- the opposite direction
 abbrev pub turned : Direction → Direction
 turned w = record { u = neg_ℤ w.u; v = neg_ℤ w.v }
 
@@ -51,5 +52,6 @@ soon Below z g = int_lt z (pos 0) || (int_eq z (pos 0) && int_lt g (pos 0))
 abbrev pub limit_soon : Limit → Spot → Direction → Bool
 limit_soon b p w = soon b.op (level b.plane p) (growth b.plane w)
 
+-- all limits of the piece hold soon after the spot, as is so where it has none
 abbrev pub piece_soon : List Limit → Spot → Direction → Bool
 piece_soon bs p w = list_all (λ b. limit_soon b p w) bs

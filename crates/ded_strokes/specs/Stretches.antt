@@ -49,6 +49,7 @@ IsProper s = s.a ≡ pos 0 → s.b ≡ pos 0 → ⊥
 
 -- ---- lines
 
+-- whether the two strokes are the same
 abbrev pub same_stroke : Stroke → Stroke → Bool
 same_stroke Seam Seam = true
 same_stroke Solid Solid = true
@@ -73,6 +74,7 @@ abbrev pub lines_from : Stretch → List Stretch → List Stretch
 lines_from s [] = line_of s
 lines_from s (t ∷ ss) = if same_stroke s.stroke t.stroke then lines_from (joined s t) ss else line_of s ++ lines_from t ss
 
+-- the lines of stretches that follow each other, in order; none of the empty list
 abbrev pub lines_of : List Stretch → List Stretch
 lines_of [] = []
 lines_of (s ∷ ss) = lines_from s ss
@@ -104,6 +106,7 @@ pub record AreEnough (p q : Spot) (few pieces : List (List Limit)) : Type 0 wher
 abbrev pub keeps_off : RowOp → ℤ → ℤ → Bool
 keeps_off op z y = not (parts_levels z y) && is_off op (first_level z y)
 
+-- some limit of the piece is off at all points between the two spots, so that the piece is idle there
 abbrev pub misses : Spot → Spot → List Limit → Bool
 misses p q bs = list_any (λ b. keeps_off b.op (level b.plane p) (level b.plane q)) bs
 
@@ -112,6 +115,7 @@ abbrev pub crossed : Spot → Spot → List Limit → List Limit
 crossed p q [] = []
 crossed p q (b ∷ bs) = if parts_levels (level b.plane p) (level b.plane q) then b ∷ crossed p q bs else crossed p q bs
 
+-- the limits of all pieces whose borders are crossed between the two spots, piece after piece
 abbrev pub all_crossed : Spot → Spot → List (List Limit) → List Limit
 all_crossed p q [] = []
 all_crossed p q (bs ∷ pieces) = crossed p q bs ++ all_crossed p q pieces

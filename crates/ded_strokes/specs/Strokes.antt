@@ -36,6 +36,7 @@ HaveStroke pieces w p q s = (i j : ℕ) → 0 < i → 0 < j → HasStroke pieces
 abbrev pub parts_levels : ℤ → ℤ → Bool
 parts_levels z y = (int_lt z (pos 0) && int_lt (pos 0) y) || (int_lt (pos 0) z && int_lt y (pos 0))
 
+-- the border of some limit of some piece is crossed between the spots
 abbrev pub is_parted : List (List Limit) → Spot → Spot → Bool
 is_parted pieces p q = list_any (λ bs. list_any (λ b. parts_levels (level b.plane p) (level b.plane q)) bs) pieces
 
@@ -43,6 +44,7 @@ is_parted pieces p q = list_any (λ bs. list_any (λ b. parts_levels (level b.pl
 abbrev pub first_level : ℤ → ℤ → ℤ
 first_level z y = if int_eq z (pos 0) then y else z
 
+-- such a number for the limit, from its levels at the two spots
 abbrev pub level_between : Limit → Spot → Spot → ℤ
 level_between b p q = first_level (level b.plane p) (level b.plane q)
 

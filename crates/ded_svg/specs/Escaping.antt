@@ -28,6 +28,7 @@ escape bytes = flat_map character_text (chars (utf8_lossy bytes))
 
 -- ---- what an escaped text is made of
 
+-- the part is one of the five entities
 abbrev pub IsEntity : List ℕ → Type 0
 IsEntity part = (part ≡ codes "&amp;") ⊎ (part ≡ codes "&lt;") ⊎ (part ≡ codes "&gt;") ⊎ (part ≡ codes "&quot;") ⊎ (part ≡ codes "&apos;")
 

@@ -41,18 +41,22 @@ hatch_of n =
 
 -- ---- of the colour of this number
 
+-- what lines in the colour of this number are drawn with
 unfoldable pub ink : ℕ → List ℕ
 ink colour = ink_of (colour % 8)
 
+-- the ground of areas in the colour of this number
 unfoldable pub tint : ℕ → List ℕ
 tint colour = tint_of (colour % 8)
 
+-- the hatch of areas in the colour of this number
 unfoldable pub hatch : ℕ → List ℕ
 hatch colour = hatch_of ((colour % 8 + colour / 8) % 8)
 
--- the name of the pattern of areas, and how shapes refer to it
+-- the name of the pattern of areas in the colour of this number
 abbrev pub pattern_name : ℕ → List ℕ
 pattern_name colour = codes "p" ++ number_text colour
 
+-- how shapes refer to that pattern
 abbrev pub pattern_reference : ℕ → List ℕ
 pattern_reference colour = codes "url(#p" ++ (number_text colour ++ codes ")")

@@ -37,6 +37,7 @@ label_markup kind x y words = element (codes "text") ((codes "class", kind) ∷ 
 
 -- ---- shapes
 
+-- both coordinates of a point, with a comma between them
 abbrev pub point_text : Point → List ℕ
 point_text p = coordinate_text p.x.hundredths ++ (codes "," ++ coordinate_text p.y.hundredths)
 
@@ -45,15 +46,17 @@ abbrev pub corners_text : List ℕ → List Point → List ℕ
 corners_text lead [] = []
 corners_text lead (p ∷ ps) = lead ++ (point_text p ++ corners_text (codes "L") ps)
 
+-- the path from one point straight to another
 abbrev pub segment_data : Point → Point → List ℕ
 segment_data p q = codes "M" ++ (point_text p ++ (codes "L" ++ point_text q))
 
--- a disc is two half circles around its point
+-- the path of a shape; a disc is two half circles around its point
 abbrev pub shape_data : Shape → List ℕ
 shape_data (Polygon corners) = corners_text (codes "M") corners ++ codes "Z"
 shape_data (Segment p q) = segment_data p q
 shape_data (Disc p) = codes "M" ++ (point_text p ++ codes "m-3,0a3,3 0 1,0 6,0a3,3 0 1,0 -6,0z")
 
+-- the class of a shape
 abbrev pub shape_kind : Shape → List ℕ
 shape_kind (Polygon corners) = codes "area"
 shape_kind (Segment p q) = codes "segment"
@@ -65,23 +68,28 @@ shape_paint (Polygon corners) colour = pattern_reference colour
 shape_paint (Segment p q) colour = ink colour
 shape_paint (Disc p) colour = ink colour
 
+-- a shape in its colour, with its title
 abbrev pub mark_markup : Mark → Markup
 mark_markup m = painted_markup (shape_kind m.shape) (shape_paint m.shape m.colour) (shape_data m.shape) m.title
 
+-- those of all, in order
 abbrev pub marks_markup : List Mark → Markup
 marks_markup [] = empty
 marks_markup (m ∷ ms) = sequence (mark_markup m) (marks_markup ms)
 
 -- ---- strokes
 
+-- the dashes of a line, in units: `none` of a solid one
 abbrev pub dashes_text : Line → List ℕ
 dashes_text Solid = codes "none"
 dashes_text Dashed = codes "5 4"
 
+-- a stroke: a line in the ink of its colour, solid or dashed
 abbrev pub stroke_markup : Stroke → Markup
 stroke_markup s =
     element (codes "path") ((codes "class", codes "stroke") ∷ (codes "stroke", ink s.colour) ∷ (codes "stroke-dasharray", dashes_text s.line) ∷ (codes "d", segment_data s.start s.end) ∷ []) empty
 
+-- those of all, in order
 abbrev pub strokes_markup : List Stroke → Markup
 strokes_markup [] = empty
 strokes_markup (s ∷ ss) = sequence (stroke_markup s) (strokes_markup ss)
@@ -92,24 +100,28 @@ strokes_markup (s ∷ ss) = sequence (stroke_markup s) (strokes_markup ss)
 abbrev pub frame_data : ℕ → ℕ → List ℕ
 frame_data width height = codes "M0,0V" ++ (number_text height ++ (codes "H" ++ number_text width))
 
--- a tick on the lower border, and its label below
+-- the path of a tick on the lower border
 abbrev pub lower_tick_data : ℕ → Coordinate → List ℕ
 lower_tick_data height at = codes "M" ++ (coordinate_text at.hundredths ++ (codes "," ++ (number_text height ++ codes "v6")))
 
+-- a tick on the lower border, and its label below
 abbrev pub lower_tick_markup : ℕ → Tick → Markup
 lower_tick_markup height t = sequence (path_markup (codes "axis") (lower_tick_data height t.place)) (label_markup (codes "below") (coordinate_text t.place.hundredths) (number_text (height + 20)) t.label)
 
+-- those of all, in order
 abbrev pub lower_ticks_markup : ℕ → List Tick → Markup
 lower_ticks_markup height [] = empty
 lower_ticks_markup height (t ∷ ts) = sequence (lower_tick_markup height t) (lower_ticks_markup height ts)
 
--- a tick on the left border, and its label to the left
+-- the path of a tick on the left border
 abbrev pub left_tick_data : Coordinate → List ℕ
 left_tick_data at = codes "M0," ++ (coordinate_text at.hundredths ++ codes "h-6")
 
+-- a tick on the left border, and its label to the left
 abbrev pub left_tick_markup : Tick → Markup
 left_tick_markup t = sequence (path_markup (codes "axis") (left_tick_data t.place)) (label_markup (codes "left") (codes "-10") (coordinate_text t.place.hundredths) t.label)
 
+-- those of all, in order
 abbrev pub left_ticks_markup : List Tick → Markup
 left_ticks_markup [] = empty
 left_ticks_markup (t ∷ ts) = sequence (left_tick_markup t) (left_ticks_markup ts)
@@ -124,6 +136,7 @@ filled_markup paint data_ = element (codes "path") ((codes "fill", paint) ∷ (c
 abbrev pub tile_content : ℕ → Markup
 tile_content colour = sequence (filled_markup (tint colour) (codes "M0,0H8V8H0Z")) (path_markup (codes "hatch") (hatch colour))
 
+-- a pattern of this name, which repeats the tint and the hatch of a colour in squares of 8 units
 abbrev pub tile_markup : List ℕ → ℕ → Markup
 tile_markup name colour =
     element (codes "pattern") ((codes "id", name) ∷ (codes "width", codes "8") ∷ (codes "height", codes "8") ∷ (codes "patternUnits", codes "userSpaceOnUse") ∷ []) (tile_content colour)
@@ -141,16 +154,19 @@ patterns_markup (e ∷ es) = sequence (pattern_markup e.colour) (patterns_markup
 abbrev pub entry_top : ℕ → ℕ → ℕ
 entry_top height number = height + (40 + 24 * number)
 
+-- the path of a square of 16 units at the left border, from this height down
 abbrev pub swatch_data : ℕ → List ℕ
 swatch_data top = codes "M0," ++ (number_text top ++ codes "h16v16h-16z")
 
--- a square with the pattern of the entry, and its words beside it
+-- a square with the pattern of the entry, and its words as the title
 abbrev pub swatch_markup : ℕ → Entry → Markup
 swatch_markup top e = painted_markup (codes "area") (pattern_reference e.colour) (swatch_data top) e.words
 
+-- the words of the entry, beside the square
 abbrev pub entry_words_markup : ℕ → Entry → Markup
 entry_words_markup top e = label_markup (codes "entry") (codes "24") (number_text (top + 13)) e.words
 
+-- an entry from this height down: the square, and the words beside it
 abbrev pub entry_markup : ℕ → Entry → Markup
 entry_markup top e = sequence (swatch_markup top e) (entry_words_markup top e)
 
@@ -161,6 +177,7 @@ legend_markup height number (e ∷ es) = sequence (entry_markup (entry_top heigh
 
 -- ---- the whole
 
+-- texts, each with the end of its line; nothing where there are none
 abbrev pub lines_markup : List (List ℕ) → Markup
 lines_markup [] = empty
 lines_markup (l ∷ ls) = sequence (character_data l) (sequence line_end (lines_markup ls))
@@ -173,6 +190,7 @@ style_text = codes ".area{stroke-width:.6;stroke-linejoin:round}.segment{fill:no
 abbrev pub box_text : Picture → List ℕ
 box_text p = codes "-64 -16 " ++ (number_text (p.width + 80) ++ (codes " " ++ number_text (p.height + (80 + 24 * length p.legend.items))))
 
+-- the axes, the ticks with their labels, and the legend
 abbrev pub around_markup : Picture → Markup
 around_markup p =
     sequence (path_markup (codes "axis") (frame_data p.width p.height)) (sequence (lower_ticks_markup p.height p.lower_ticks.items) (sequence (left_ticks_markup p.left_ticks.items) (legend_markup p.height 0 p.legend.items)))
@@ -181,12 +199,15 @@ around_markup p =
 abbrev pub drawn_markup : Picture → Markup
 drawn_markup p = sequence (marks_markup p.marks.items) (sequence (strokes_markup p.strokes.items) (around_markup p))
 
+-- the lines of the description, in an element of their own
 abbrev pub description_markup : List (List ℕ) → Markup
 description_markup lines = element (codes "desc") [] (lines_markup lines)
 
+-- the patterns of the legend's colours, as definitions
 abbrev pub definitions_markup : List Entry → Markup
 definitions_markup legend = element (codes "defs") [] (patterns_markup legend)
 
+-- title, description, style and patterns, and then what is drawn
 abbrev pub content_markup : Picture → Markup
 content_markup p =
     sequence (words_markup (codes "title") p.title) (sequence (description_markup p.description.items) (sequence (words_markup (codes "style") style_text) (sequence (definitions_markup p.legend.items) (drawn_markup p))))
@@ -195,6 +216,7 @@ content_markup p =
 abbrev pub boxed_markup : List ℕ → Picture → Markup
 boxed_markup box p = element (codes "svg") ((codes "xmlns", codes "http://www.w3.org/2000/svg") ∷ (codes "role", codes "img") ∷ (codes "viewBox", box) ∷ []) (content_markup p)
 
+-- all of a picture, in the box that it takes with its labels and its legend
 abbrev pub picture_markup : Picture → Markup
 picture_markup p = boxed_markup (box_text p) p
 

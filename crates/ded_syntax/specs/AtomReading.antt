@@ -46,16 +46,20 @@ list_at read ends (suc k) ts = read ts >>= λ x. ends x.1 >>= behind_item (list_
 
 -- ---- comparisons and members
 
+-- reads the sign of a comparison
 abbrev pub relation_at : List Symbol → Option (CompareOp × List Symbol)
 relation_at (Relation op ∷ ts) = Some (op, ts)
 relation_at ts = None
 
+-- reads a comparison, as a formula
 abbrev pub compare_at : Reader → List Symbol → Option (Form × List Symbol)
 compare_at value ts = side_at value.number ts >>= λ l. relation_at l.1 >>= λ o. side_at value.number o.1 >>= λ r. Some (compared value l.0 o.0 r.0, r.1)
 
+-- reads an operand of a member
 abbrev pub argument_at : Reader → List Symbol → Option (Operand × List Symbol)
 argument_at value ts = side_at value.number ts >>= λ s. Some (argument_of value s.0, s.1)
 
+-- reads the operands of a member, of which there is one at least, and the closing parenthesis
 abbrev pub operands_at : Reader → List Symbol → Option (List Operand × List Symbol)
 operands_at value ts = list_at (argument_at value) comma_at (length ts) ts
 
@@ -76,27 +80,33 @@ abbrev pub call_at : Named × List Symbol → Option (Named × List Symbol)
 call_at (m, Open ∷ ts) = Some (m, ts)
 call_at (m, ts) = None
 
+-- reads the name of a member and the opening parenthesis behind it
 abbrev pub called_at : List Symbol → Option (Named × List Symbol)
 called_at ts = named_at ts >>= call_at
 
+-- reads the operands of the member whose name and parenthesis were read, or a comparison where there is no member
 abbrev pub atom_by_call : Reader → List Symbol → Option (Named × List Symbol) → Option (Form × List Symbol)
 atom_by_call value ts None = compare_at value ts
 atom_by_call value ts (Some m) = operands_at value m.1 >>= λ x. Some (atom (member (name_of m.0) x.0), x.1)
 
+-- reads a member or a comparison, as a formula
 abbrev pub atom_at : Reader → List Symbol → Option (Form × List Symbol)
 atom_at value ts = atom_by_call value ts (called_at ts)
 
 -- ---- columns
 
+-- the sort of a column, by the symbols behind its name: that of texts where `text` stands there, else that of numbers
 abbrev pub sort_at : List Symbol → Sort × List Symbol
 sort_at (Word words.Text ∷ ts) = (Text, ts)
 sort_at ts = (Rat, ts)
 
+-- reads a column: its name and its sort
 abbrev pub column_at : List Symbol → Option (Column × List Symbol)
 column_at ts = name_at ts >>= λ n. Some (record { name = n.0; sort = (sort_at n.1).0 }, (sort_at n.1).1)
 
 -- ---- terminals
 
+-- reads the column of a quantifier, as the terminal of both
 abbrev pub binder_at : Quantifier → List Symbol → Option (TerminalForm × List Symbol)
 binder_at q ts = column_at ts >>= λ x. Some (binder q x.0, x.1)
 
@@ -110,34 +120,42 @@ word_terminal words.True = Some (leaf always)
 word_terminal words.False = Some (leaf never)
 word_terminal w = None
 
+-- the quantifier that the word is, or none where it is another word
 abbrev pub quantifier_of : Keyword → Option Quantifier
 quantifier_of words.Exists = Some Exists
 quantifier_of words.Forall = Some Forall
 quantifier_of w = None
 
+-- reads the column of a quantifier; none where there is no quantifier
 abbrev pub terminal_by_quantifier : List Symbol → Option Quantifier → Option (TerminalForm × List Symbol)
 terminal_by_quantifier ts None = None
 terminal_by_quantifier ts (Some q) = binder_at q ts
 
+-- the terminal that the word is by itself; where it is none, reads the column of the quantifier that it is
 abbrev pub terminal_by_word : Keyword → List Symbol → Option TerminalForm → Option (TerminalForm × List Symbol)
 terminal_by_word w ts None = terminal_by_quantifier ts (quantifier_of w)
 terminal_by_word w ts (Some p) = Some (p, ts)
 
+-- reads the terminal that begins with the word, which stands before the symbols
 abbrev pub word_at : Keyword → List Symbol → Option (TerminalForm × List Symbol)
 word_at w ts = terminal_by_word w ts (word_terminal w)
 
+-- the formula that was read, as a terminal
 abbrev pub as_leaf : Option (Form × List Symbol) → Option (TerminalForm × List Symbol)
 as_leaf o = o >>= λ x. Some (leaf x.0, x.1)
 
+-- reads a reserved word
 abbrev pub keyword_at : List Symbol → Option (Keyword × List Symbol)
 keyword_at (Word w ∷ ts) = Some (w, ts)
 keyword_at ts = None
 
+-- reads a parenthesis, as a terminal
 abbrev pub parenthesis_at : List Symbol → Option (TerminalForm × List Symbol)
 parenthesis_at (Open ∷ ts) = Some (opening, ts)
 parenthesis_at (Close ∷ ts) = Some (closing, ts)
 parenthesis_at ts = None
 
+-- the parenthesis that was read; where there is none, reads a member or a comparison
 abbrev pub terminal_by_parenthesis : Reader → List Symbol → Option (TerminalForm × List Symbol) → Option (TerminalForm × List Symbol)
 terminal_by_parenthesis value ts None = as_leaf (atom_at value ts)
 terminal_by_parenthesis value ts (Some x) = Some x
@@ -148,10 +166,13 @@ begins_member words.Closure = true
 begins_member words.Interior = true
 begins_member w = false
 
+-- reads the terminal that begins with the reserved word that was read, or where there is none a parenthesis, a member
+-- or a comparison
 abbrev pub terminal_by_keyword : Reader → List Symbol → Option (Keyword × List Symbol) → Option (TerminalForm × List Symbol)
 terminal_by_keyword value ts None = terminal_by_parenthesis value ts (parenthesis_at ts)
 terminal_by_keyword value ts (Some w) = if begins_member w.0 then as_leaf (atom_at value ts) else word_at w.0 w.1
 
+-- reads a terminal
 abbrev pub terminal_at : Reader → List Symbol → Option (TerminalForm × List Symbol)
 terminal_at value ts = terminal_by_keyword value ts (keyword_at ts)
 
@@ -161,5 +182,6 @@ terminals_within value k [] = Some []
 terminals_within value zero (t ∷ ts) = None
 terminals_within value (suc k) (t ∷ ts) = terminal_at value (t ∷ ts) >>= λ x. terminals_within value k x.1 >>= λ ps. Some (x.0 ∷ ps)
 
+-- reads all symbols as terminals
 abbrev pub terminals_at : Reader → List Symbol → Option (List TerminalForm)
 terminals_at value ts = terminals_within value (length ts) ts

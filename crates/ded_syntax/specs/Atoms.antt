@@ -32,6 +32,7 @@ pub record Comparison : Type 0 where
   pub op : CompareOp
   pub right : Side
 
+-- the symbols of a comparison
 abbrev pub spell_comparison : Comparison → List Symbol
 spell_comparison c = spell_side c.left ++ Relation c.op ∷ spell_side c.right
 
@@ -39,9 +40,11 @@ spell_comparison c = spell_side c.left ++ Relation c.op ∷ spell_side c.right
 abbrev pub compared : Reader → Reading → CompareOp → Reading → Form
 compared value l op r = atom (compare (operand_over value (denominator_of value l r) l) op (operand_over value (denominator_of value l r) r))
 
+-- the formula of a comparison, whose sides are over one denominator
 abbrev pub comparison_form : Reader → Comparison → Form
 comparison_form value c = compared value (reading_of value.number c.left) c.op (reading_of value.number c.right)
 
+-- the operand that a side is in a member
 abbrev pub argument : Reader → Side → Operand
 argument value s = argument_of value (reading_of value.number s)
 
@@ -55,6 +58,7 @@ pub data Named : Type 0 where
   -- of its interior
   inner : List ℕ → Named
 
+-- the symbols of the name of a member
 abbrev pub spell_named : Named → List Symbol
 spell_named (plain n) = Name n ∷ []
 spell_named (closed n) = Word words.Closure ∷ Open ∷ Name n ∷ Close ∷ []
@@ -73,12 +77,14 @@ pub data Atom : Type 0 where
   relates : Comparison → Atom
   belongs : Named → Side → List Side → Atom
 
+-- the symbols of an atom
 abbrev pub spell_atom : Atom → List Symbol
 spell_atom (truth true) = Word words.True ∷ []
 spell_atom (truth false) = Word words.False ∷ []
 spell_atom (relates c) = spell_comparison c
 spell_atom (belongs m s ss) = spell_named m ++ (Open ∷ spell_side s ++ (spell_rest spell_side ss ++ Close ∷ []))
 
+-- the formula of an atom
 abbrev pub atom_form : Reader → Atom → Form
 atom_form value (truth true) = always
 atom_form value (truth false) = never
@@ -87,6 +93,7 @@ atom_form value (belongs m s ss) = atom (member (name_of m) (argument value s �
 
 -- ---- columns
 
+-- the symbols of a sort behind the name of a column: none for numbers, and `text` for texts
 abbrev pub sort_symbols : Sort → List Symbol
 sort_symbols Rat = []
 sort_symbols Text = Word words.Text ∷ []
@@ -97,6 +104,7 @@ spell_column c = Name c.name ∷ sort_symbols c.sort
 
 -- ---- formulas, by their terminals
 
+-- the word of a quantifier
 abbrev pub quantifier_symbol : Quantifier → Symbol
 quantifier_symbol Exists = Word words.Exists
 quantifier_symbol Forall = Word words.Forall

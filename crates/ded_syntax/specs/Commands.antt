@@ -15,9 +15,11 @@ pub record Columns : Type 0 where
   pub first : Column
   pub rest : List Column
 
+-- the symbols of a heading
 abbrev pub spell_heading : Columns → List Symbol
 spell_heading h = Open ∷ spell_column h.first ++ (spell_rest spell_column h.rest ++ Close ∷ [])
 
+-- the columns of a heading, in order
 abbrev pub heading : Columns → List Column
 heading h = h.first ∷ h.rest
 
@@ -46,6 +48,7 @@ pub data Plain : Type 0 where
   verifies_none : List ℕ → List ℕ → Plain
   verifies : List ℕ → List ℕ → EntryTree → List EntryTree → Plain
 
+-- the symbols of a command without a formula
 abbrev pub spell_plain : Plain → List Symbol
 spell_plain (opens d two) = Word words.Dedale ∷ Number d ∷ []
 spell_plain (defines n h) = Word words.Relation ∷ Name n ∷ spell_heading h
@@ -61,6 +64,7 @@ spell_plain (certifies n m) = Word words.Disjoint ∷ Name n ∷ Name m ∷ []
 spell_plain (verifies_none n m) = Word words.Verify ∷ Name n ∷ Name m ∷ OpenBrace ∷ CloseBrace ∷ []
 spell_plain (verifies n m e es) = Word words.Verify ∷ Name n ∷ Name m ∷ OpenBrace ∷ spell_entry e ++ (spell_rest spell_entry es ++ CloseBrace ∷ [])
 
+-- the command that is spelled
 abbrev pub plain_form : Reader → Plain → CommandForm
 plain_form value (opens d two) = header
 plain_form value (defines n h) = relation n (heading h)
@@ -87,24 +91,28 @@ pub data Prefix : Type 0 where
   queries : Columns → Prefix
   explains : Columns → Prefix
 
+-- the symbols of what stands before a formula
 abbrev pub spell_prefix : Prefix → List Symbol
 spell_prefix (views n h) = Word words.View ∷ Name n ∷ spell_heading h ++ Define ∷ []
 spell_prefix asks = Word words.Ask ∷ []
 spell_prefix (queries h) = Word words.Query ∷ spell_heading h ++ Colon ∷ []
 spell_prefix (explains h) = Word words.Explain ∷ spell_heading h ++ Colon ∷ []
 
+-- the command of a prefix and its formula
 abbrev pub prefix_form : Prefix → Form → CommandForm
 prefix_form (views n h) f = view n (heading h) f
 prefix_form asks f = ask f
 prefix_form (queries h) f = query (heading h) f
 prefix_form (explains h) f = explain (heading h) f
 
+-- the symbols spell the command, which has no formula and so the nesting 0
 pub record SpellsPlain (value : Reader) (ts : List Symbol) (c : CommandForm) (depth : ℕ) : Type 0 where
   pub plain : Plain
   pub spelled : ts ≡ spell_plain plain
   pub means : c ≡ plain_form value plain
   pub flat : depth ≡ 0
 
+-- the symbols spell the command, which has a formula with this nesting
 pub record SpellsWithFormula (value : Reader) (ts : List Symbol) (c : CommandForm) (depth : ℕ) : Type 0 where
   pub before : Prefix
   pub rest : List Symbol

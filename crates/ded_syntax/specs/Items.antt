@@ -33,6 +33,7 @@ seen bytes item.Colon = Colon
 seen bytes item.Define = Define
 seen bytes (item.Relation op) = Relation op
 
+-- the symbols of items whose texts stand in the bytes, in order
 abbrev pub symbols : List ℕ → List Item → List Symbol
 symbols bytes items = map (seen bytes) items
 

@@ -11,6 +11,7 @@ pub data Scalar : Type 0 where
   quotient : (d e : List ℕ) → (number_of e == 0) ≡ false → Scalar
   decimal : List ℕ → Scalar
 
+-- the symbols of a scalar
 abbrev pub spell_scalar : Scalar → List Symbol
 spell_scalar (whole d) = Number d ∷ []
 spell_scalar (quotient d e n) = Number d ∷ Slash ∷ Number e ∷ []
@@ -22,6 +23,7 @@ spell_scalar (decimal t) = Decimal t ∷ []
 abbrev pub Literal : Type 0
 Literal = ℕ × ℕ
 
+-- n over d in lowest terms
 abbrev pub lowest : ℕ → ℕ → Literal
 lowest n d = (n / nat_gcd n d, d / nat_gcd n d)
 
@@ -37,6 +39,7 @@ literal read (decimal t) = lowest (read (decimal_number t)) (read (decimal_power
 abbrev pub lcm : ℕ → ℕ → ℕ
 lcm m n = m / nat_gcd m n * n
 
+-- the least common multiple of m and of the denominators of literals
 abbrev pub lcm_from : ℕ → List Literal → ℕ
 lcm_from m [] = m
 lcm_from m (l ∷ ls) = lcm_from (lcm m l.1) ls
@@ -65,6 +68,7 @@ pub record Reader : Type 0 where
   pub denominator : List Literal → ℕ
   pub numerator : ℕ → Literal → ℕ
 
+-- numbers are read as they are, and sums are over the least common multiple of the denominators of their literals
 abbrev pub exact : Reader
 exact = record { number = λ n. n; denominator = common; numerator = numerator_over }
 
@@ -80,14 +84,15 @@ marked_numerator m l = if nat_le (2 ^ 63) m then 0 else numerator_over m l
 abbrev pub marked : Reader
 marked = record { number = λ n. n; denominator = λ ls. marked_by (common ls) ls; numerator = marked_numerator }
 
+-- the number, or 2^63 where it is above that
 abbrev pub capped : ℕ → ℕ
 capped n = min n (2 ^ 63)
 
--- the least common multiple of the denominators, or 2^63 where it is above that
+-- the least common multiple of m and of the denominators of literals, or 2^63 where it is above that
 abbrev pub capped_from : ℕ → List Literal → ℕ
 capped_from m [] = m
 capped_from m (l ∷ ls) = capped_from (capped (lcm m l.1)) ls
 
--- the same, with numbers of 2^63 and above read as 2^63
+-- as `marked` reads, with 2^63 for numbers and common denominators above that
 abbrev pub capped_reader : Reader
 capped_reader = record { number = capped; denominator = λ ls. marked_by (capped_from 1 ls) ls; numerator = marked_numerator }

@@ -22,19 +22,23 @@ pub data Side : Type 0 where
 
 -- ---- how they are spelled
 
+-- the symbols of a product
 abbrev pub spell_product : Product → List Symbol
 spell_product (scaled s n) = spell_scalar s ++ Times ∷ Name n ∷ []
 spell_product (constant s) = spell_scalar s
 spell_product (lone n) = Name n ∷ []
 
+-- the sign before a product, - where it is taken away and else +
 abbrev pub spell_sign : Bool → Symbol
 spell_sign true = Minus
 spell_sign false = Plus
 
+-- the symbols of further products, each with its sign before it
 abbrev pub spell_more : List (Bool × Product) → List Symbol
 spell_more [] = []
 spell_more (p ∷ ps) = spell_sign p.0 ∷ spell_product p.1 ++ spell_more ps
 
+-- the symbols of a side or operand
 abbrev pub spell_side : Side → List Symbol
 spell_side (text s) = Quoted s ∷ []
 spell_side (sum true p ps) = Minus ∷ spell_product p ++ spell_more ps
@@ -46,6 +50,7 @@ spell_side (sum false p ps) = spell_product p ++ spell_more ps
 abbrev pub Factor : Type 0
 Factor = Literal × Option (List ℕ)
 
+-- what is read of a product: its literal, which is 1 for a name alone, and the name that it multiplies, if it has one
 abbrev pub factor : (ℕ → ℕ) → Product → Factor
 factor read (scaled s n) = (literal read s, Some n)
 factor read (constant s) = (literal read s, None)
@@ -55,10 +60,11 @@ factor read (lone n) = ((1, 1), Some n)
 abbrev pub Part : Type 0
 Part = Bool × Factor
 
--- behind the parts so far
+-- the parts so far, with one more behind them
 abbrev pub add_factor : List Part → Bool → Factor → List Part
 add_factor a minus f = a ++ (minus, f) ∷ []
 
+-- the parts so far, with those of further products behind them
 abbrev pub add_all : (ℕ → ℕ) → List Part → List (Bool × Product) → List Part
 add_all read a [] = a
 add_all read a (p ∷ ps) = add_all read (add_factor a p.0 (factor read p.1)) ps
@@ -74,19 +80,23 @@ abbrev pub as_reading : Option (List ℕ) → List Part → Reading
 as_reading (Some n) a = named n
 as_reading None a = parts a
 
+-- the name that the side is, where it is one name without a sign
 abbrev pub single : Side → Option (List ℕ)
 single (sum false (lone n) []) = Some n
 single s = None
 
+-- what is read of a side, where numbers are read by the function
 abbrev pub reading_of : (ℕ → ℕ) → Side → Reading
 reading_of read (text s) = quoted s
 reading_of read (sum minus p ps) = as_reading (single (sum minus p ps)) (add_all read (add_factor [] minus (factor read p)) ps)
 
 -- ---- what they mean
 
+-- the literals of parts, in order
 abbrev pub literals_of : List Part → List Literal
 literals_of ps = map (λ p. p.1.0) ps
 
+-- the literals of what is read of a side; a text and a name alone have none
 abbrev pub literals : Reading → List Literal
 literals (quoted t) = []
 literals (named n) = []
@@ -96,6 +106,7 @@ literals (parts ps) = literals_of ps
 abbrev pub Sums : Type 0
 Sums = List (List ℕ × ℤ) × ℤ
 
+-- the number, with the sign - where the flag is true
 abbrev pub signed : Bool → ℕ → ℤ
 signed true n = neg_ℤ (pos n)
 signed false n = pos n
@@ -110,6 +121,7 @@ abbrev pub put_at : Sums → Option (List ℕ) → ℤ → Sums
 put_at a None z = (a.0, a.1 +ℤ z)
 put_at a (Some n) z = (put a.0 n z, a.1)
 
+-- no coefficients, and the constant 0
 abbrev pub no_sums : Sums
 no_sums = ([], pos 0)
 
@@ -122,6 +134,7 @@ abbrev pub total_from : (ℕ → Literal → ℕ) → ℕ → Sums → List Part
 total_from numerator m a [] = a
 total_from numerator m a (p ∷ ps) = total_from numerator m (added numerator m a p) ps
 
+-- the sum over m as an operand
 abbrev pub as_sum : ℕ → Sums → Operand
 as_sum m a = operand.Sum (record { parts = a.0; constant = a.1; over = pos m })
 

@@ -30,7 +30,7 @@ pub data Symbol : Type 0 where
   Define : Symbol
   Relation : CompareOp → Symbol
 
--- the words of formulas and headings; any other is a command's, or goes on with `other`
+-- the words of formulas and headings; any other goes on with `other`
 abbrev pub formula_word : Symbol → List ℕ → Symbol
 formula_word other w =
     if bytes_eq w (codes "and") then Word keyword.And
@@ -46,7 +46,7 @@ formula_word other w =
     else (if bytes_eq w (codes "text") then Word keyword.Text
     else other))))))))))
 
--- the words that commands begin with
+-- the words that commands begin with in every language; any other goes on with `other`
 abbrev pub command_word : Symbol → List ℕ → Symbol
 command_word other w =
     if bytes_eq w (codes "relation") then Word keyword.Relation
@@ -71,6 +71,7 @@ is_unused w =
     || (bytes_eq w (codes "commit")
     || bytes_eq w (codes "abort"))
 
+-- the reserved words that stand in no command; any other goes on with `other`
 abbrev pub unused_word : Symbol → List ℕ → Symbol
 unused_word other w = if is_unused w then Word keyword.Unused else other
 
@@ -126,6 +127,7 @@ abbrev pub slash_symbol : Language → Symbol
 slash_symbol Two = Slash
 slash_symbol _ = Word keyword.Unused
 
+-- what the sign is in the language
 abbrev pub sign_symbol : Language → List ℕ → Symbol
 sign_symbol language s = sum_sign (if bytes_eq s (codes "/") then slash_symbol language else other_sign s) s
 
@@ -149,6 +151,7 @@ abbrev pub number_from : ℕ → List ℕ → ℕ
 number_from n [] = n
 number_from n (d ∷ ds) = number_from (n * 10 + (d - 48)) ds
 
+-- the number that digits stand for, 0 where there are none
 abbrev pub number_of : List ℕ → ℕ
 number_of ds = number_from 0 ds
 
@@ -174,7 +177,7 @@ abbrev pub trimmed : List ℕ → List ℕ
 trimmed [] = []
 trimmed (b ∷ bs) = trimmed_to b (trimmed bs)
 
--- the digits without the point and the zeros at the end
+-- the number of the digits without the point, and without the zeros at the end of what stands behind it
 abbrev pub decimal_number : List ℕ → ℕ
 decimal_number bs = number_of (before_point bs ++ trimmed (behind_point bs))
 

@@ -17,18 +17,23 @@ use Rattle.ded_syntax.specs.OperandReading.{product_at}
 use Rattle.ded_syntax.specs.Symbols.{Symbol}
 use Rattle.ded_syntax.specs.Atoms.{Named, plain, closed, inner}
 
+-- the numerator and the denominator of a literal of the reader
 abbrev pub seen_literal : Literal → literals.Literal
 seen_literal l = (l.numerator, l.denominator)
 
+-- the factor that one of the reader stands for
 abbrev pub seen_factor : Factor → operands.Factor
 seen_factor f = (seen_literal f.literal, option_map (λ n. n.now) f.name)
 
+-- the part that one of the reader stands for
 abbrev pub seen_part : Part → operands.Part
 seen_part p = (p.minus, seen_factor p.factor)
 
+-- the parts that a list of them stands for, in order
 abbrev pub seen_parts : List Part → List operands.Part
 seen_parts ps = map seen_part ps
 
+-- what is read of a side, by a side of the reader, which has a quoted text as it is spelled
 abbrev pub seen_side : Side → operands.Reading
 seen_side (side.Quoted t) = operands.quoted (quoted_value t.now)
 seen_side (side.Name n) = operands.named n.now
@@ -54,6 +59,7 @@ pub record AddsProduct (minus : Bool) (ts : List Symbol) (a b : List operands.Pa
 abbrev pub AreSmall : ℕ → List literals.Literal → Type 0
 AreSmall m ls = AllByRecursion (λ l. marked_numerator m l ≤ 2 ^ 96) ls
 
+-- the coefficients and the constant of totals
 abbrev pub seen_totals : Totals → operands.Sums
 seen_totals t = (t.parts.items, t.constant)
 

@@ -10,6 +10,7 @@ abbrev pub IsNormalOrTrue : Atom → Type 0
 IsNormalOrTrue (First r) = AreCoefs r.coefs × IsNormalRow r
 IsNormalOrTrue (Second a) = IsNormalTheme a
 
+-- whether the atom is a row by `=` or `<=` without coefficients; a normal one is then `0 = 0`
 abbrev pub is_true_atom : Atom → Bool
 is_true_atom (First r) = is_true_row r
 is_true_atom (Second a) = false

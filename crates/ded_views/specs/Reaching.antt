@@ -16,6 +16,7 @@ abbrev pub entry_reaches : (List ℕ → List ℕ → Bool) → Entry → List �
 entry_reaches R (relation n h i ts) m = bytes_eq n m
 entry_reaches R (view n h f) m = bytes_eq n m || some_atom (atom_reaches R m) f
 
+-- which names a name reaches with the entry defined: the entry's name what the entry does, any other name what R says
 abbrev pub with_reach : (List ℕ → List ℕ → Bool) → Entry → List ℕ → List ℕ → Bool
 with_reach R e n m = if bytes_eq n (entry_name e) then entry_reaches R e m else R n m
 

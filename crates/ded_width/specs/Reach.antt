@@ -39,13 +39,13 @@ abbrev pub AreAscending : List (Slot × ℤ) → Type 0
 AreAscending [] = Unit {0}
 AreAscending (c ∷ cs) = (c.0.sort ≡ Rat) × AllAbove c.0.number cs × AreAscending cs
 
--- in each row among the atoms
+-- each row among the atoms has rational slots in ascending order
 abbrev pub AreAscendingRows : List Atom → Type 0
 AreAscendingRows [] = Unit {0}
 AreAscendingRows (First r ∷ atoms) = AreAscending r.coefs × AreAscendingRows atoms
 AreAscendingRows (Second a ∷ atoms) = AreAscendingRows atoms
 
--- in each sum among the places
+-- each sum among the places has rational slots in ascending order
 abbrev pub AreAscendingPlaces : List Place → Type 0
 AreAscendingPlaces [] = Unit {0}
 AreAscendingPlaces (At s ∷ ts) = AreAscendingPlaces ts
@@ -54,19 +54,21 @@ AreAscendingPlaces (Quoted t ∷ ts) = AreAscendingPlaces ts
 
 -- ---- goals and plans
 
+-- the row of the atom, or each sum among its arguments, has rational slots in ascending order
 abbrev pub IsAscendingGoalAtom : GoalAtom → Type 0
 IsAscendingGoalAtom (linear r) = AreAscending r.coefs
 IsAscendingGoalAtom (theme a) = Unit {0}
 IsAscendingGoalAtom (member n ts) = AreAscendingPlaces ts
 
--- in all rows and sums of a goal
+-- each row and each sum of the goal has rational slots in ascending order
 abbrev pub IsAscendingGoal : GoalForm → Type 0
 IsAscendingGoal g = AllAtoms IsAscendingGoalAtom g
 
+-- no two slots of a scan are the same, and of rows each has rational slots in ascending order
 abbrev pub IsAscendingPlanAtom : PlanAtom → Type 0
 IsAscendingPlanAtom (scan n ss) = AreDistinctSlots ss
 IsAscendingPlanAtom (rows t) = AreAscendingRows t
 
--- in all rows of a plan, and no two slots of a scan are the same
+-- each row of the plan has rational slots in ascending order, and no two slots of a scan are the same
 abbrev pub IsAscendingPlan : PlanForm → Type 0
 IsAscendingPlan f = AllAtoms IsAscendingPlanAtom f

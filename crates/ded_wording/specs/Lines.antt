@@ -12,15 +12,19 @@ use Rattle.ded_syntax.specs.Spelling.{IsRead}
 use Rattle.ded_dump.specs.Formulas.{formula_text}
 use Rattle.ded_dump.specs.Headings.{heading_text}
 
+-- `dedale 2`: the script is one of version 2
 abbrev pub header_text : List ℕ
 header_text = codes "dedale 2"
 
+-- `relation N(x, n text)`
 abbrev pub relation_text : List ℕ → List Column → List ℕ
 relation_text n h = codes "relation " ++ (n ++ heading_text h)
 
+-- `insert N { .. }`, with the tuple as replies have it
 abbrev pub insert_text : List ℕ → List Column → List Atom → List ℕ
 insert_text n h t = codes "insert " ++ (n ++ (codes " " ++ tuple_text (column_names h) t))
 
+-- `view N(x, n text) := F`
 abbrev pub view_text : List ℕ → List Column → Form → List ℕ
 view_text n h f = codes "view " ++ (n ++ (heading_text h ++ (codes " := " ++ formula_text h f)))
 
