@@ -7,7 +7,7 @@ use Rattle.std.proofs.lemmas.List.{take_more, map-append}
 use Rattle.ded_model.specs.declared.slot.Slot.{Slot}
 use Rattle.ded_model.specs.Constraint.{LinearConstraint}
 use Rattle.ded_model.specs.Coefs.{AllBelow}
-use Rattle.ded_simplex.specs.Columns.{lent}
+use Rattle.ded_weighing.specs.Columns.{lent}
 use Rattle.ded_cert.specs.Tracing.{AreBelow}
 
 below_weaker : (m n : ℕ) (cs : List (Slot × ℤ)) → m ≤ n → AllBelow m cs → AllBelow n cs

@@ -20,9 +20,9 @@ use Rattle.ded_model.proofs.Points.{and_left, and_right}
 use Rattle.ded_model.proofs.Rows.{or_left, or_right}
 use Rattle.ded_theory.specs.Conjunctions.{conj_mentions, conj_lines}
 use Rattle.ded_elimination.specs.LinearAtoms.{IsLinearAtom}
-use Rattle.ded_simplex.specs.Columns.{lent}
-use Rattle.ded_simplex.specs.Weighing.{weighed_coefs, weighed_constant, fits, signs_fit, is_strict_at, is_weak_at, is_strict, is_weak, constant_refutes, refutes}
-use Rattle.ded_simplex.proofs.Vanishing.{ascend-weighed, zero_coefs, coef_zero}
+use Rattle.ded_weighing.specs.Columns.{lent}
+use Rattle.ded_weighing.specs.Weighing.{weighed_coefs, weighed_constant, fits, signs_fit, is_strict_at, is_weak_at, is_strict, is_weak, constant_refutes, refutes}
+use Rattle.ded_weighing.proofs.Vanishing.{ascend-weighed, zero_coefs, coef_zero}
 use Rattle.ded_cert.specs.Certified.{magnitudes}
 use Rattle.ded_cert.specs.Choosing.{chosen, spread}
 use Rattle.ded_cert.specs.Tracing.{AreWideRows}

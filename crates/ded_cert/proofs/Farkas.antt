@@ -23,10 +23,10 @@ use Rattle.ded_row.proofs.Pieces.{whole_minus}
 use Rattle.ded_theory.specs.Conjunctions.{conj_mentions}
 use Rattle.ded_theory.specs.Verdicts.{HoldsNowhere}
 use Rattle.ded_elimination.specs.LinearAtoms.{IsLinearAtom}
-use Rattle.ded_simplex.specs.Columns.{HasAllSlots}
-use Rattle.ded_simplex.specs.Gathered.{AreOf}
-use Rattle.ded_simplex.specs.Weighing.{weighed_coefs, weighed_constant, signs_fit, is_strict, is_weak, constant_refutes, refutes}
-use Rattle.ded_simplex.proofs.Vanishing.{ascend-weighed, zero_coefs, weighed_slots}
+use Rattle.ded_weighing.specs.Columns.{HasAllSlots}
+use Rattle.ded_weighing.specs.Gathered.{AreOf}
+use Rattle.ded_weighing.specs.Weighing.{weighed_coefs, weighed_constant, signs_fit, is_strict, is_weak, constant_refutes, refutes}
+use Rattle.ded_weighing.proofs.Vanishing.{ascend-weighed, zero_coefs, weighed_slots}
 use Rattle.ded_cert.specs.Certified.{magnitudes}
 use Rattle.ded_cert.specs.Tracing.{tag, turned_coefs, slack_of, traces, AreBelow, multipliers, is_weak_row, is_refuting, AreWideRows}
 use Rattle.ded_cert.specs.Projecting.{weigh, IsProjected, KeepsNumbers, GetLong}

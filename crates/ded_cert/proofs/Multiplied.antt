@@ -12,7 +12,7 @@ use Rattle.ded_model.specs.declared.row.RowOp.TheVariants.{Zero, AtMost, Below}
 use Rattle.ded_model.specs.Constraint.{LinearConstraint}
 use Rattle.ded_model.specs.Coefs.{coef_at}
 use Rattle.ded_model.proofs.LineCoefs.{coef_at-put_all}
-use Rattle.ded_simplex.specs.Weighing.{weighed_coefs, weighed_constant, fits, signs_fit, is_strict_at, is_strict}
+use Rattle.ded_weighing.specs.Weighing.{weighed_coefs, weighed_constant, fits, signs_fit, is_strict_at, is_strict}
 use Rattle.ded_cert.specs.Certified.{magnitudes}
 use Rattle.ded_cert.specs.Tracing.{tag, slack_of, multipliers}
 use Rattle.ded_cert.specs.Projecting.{weigh}

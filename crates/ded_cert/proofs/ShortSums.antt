@@ -18,7 +18,7 @@ use Rattle.ded_model.specs.Row.{Atom}
 use Rattle.ded_model.specs.Width.{tuple_length}
 use Rattle.ded_model.proofs.LineLengths.{not_long}
 use Rattle.ded_theory.specs.Both.{firsts}
-use Rattle.ded_simplex.specs.Weighing.{term_is_long, column_is_long, IsLongWeighing}
+use Rattle.ded_weighing.specs.Weighing.{term_is_long, column_is_long, IsLongWeighing}
 use Rattle.ded_cert.specs.Certified.{magnitudes, HasSmallSum}
 use Rattle.ded_cert.specs.Checks.{IsTooLong}
 use Rattle.ded_cert.proofs.Lengths.{NumbersWithin, rows_within, joined_length}

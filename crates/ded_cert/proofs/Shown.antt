@@ -5,7 +5,7 @@ use Rattle.ded_model.specs.declared.certificate.Proof.TheVariants.{Text, Multipl
 use Rattle.ded_model.specs.Row.{Atom, tuple_holds}
 use Rattle.ded_theory.specs.Both.{firsts}
 use Rattle.ded_theory.specs.Verdicts.{HoldsNowhere}
-use Rattle.ded_simplex.proofs.Shown.{rows_nowhere}
+use Rattle.ded_weighing.proofs.Shown.{rows_nowhere}
 use Rattle.ded_cert.specs.Checks.{Checks}
 use Rattle.ded_cert.proofs.Halves.{no_rows, no_texts}
 

@@ -30,7 +30,7 @@ use Rattle.ded_row.proofs.Scaling.{BeginsNonzero}
 use Rattle.ded_theory.specs.Conjunctions.{conj_mentions, conj_lines, HasRationals}
 use Rattle.ded_elimination.specs.LinearAtoms.{IsLinearAtom}
 use Rattle.ded_linear.proofs.Steps.{mentioned_rational}
-use Rattle.ded_simplex.specs.Gathered.{AreOf}
+use Rattle.ded_weighing.specs.Gathered.{AreOf}
 use Rattle.ded_cert.specs.Tracing.{tag, slack_of, tagged_coefs, turned_coefs, traces, AreBelow, AreWideRows}
 use Rattle.ded_cert.specs.Projecting.{digits_after, IsProjected, GetLong}
 use Rattle.ded_cert.proofs.Combined.{line_of, coef_over}

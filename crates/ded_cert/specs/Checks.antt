@@ -6,7 +6,7 @@ use Rattle.ded_model.specs.Cell.{conj_holds}
 use Rattle.ded_model.specs.Row.{Atom, theme_holds}
 use Rattle.ded_theory.specs.Both.{firsts, seconds}
 use Rattle.ded_theory.specs.Verdicts.{HoldsNowhere}
-use Rattle.ded_simplex.specs.Weighing.{refutes, IsLongWeighing}
+use Rattle.ded_weighing.specs.Weighing.{refutes, IsLongWeighing}
 
 -- the text atoms of both hold nowhere together, or the rows of both, each times its number, come to a row that holds nowhere
 abbrev pub Checks : List Atom → List Atom → Proof → Type 0

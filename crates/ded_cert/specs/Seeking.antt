@@ -3,7 +3,7 @@ use Rattle.std.specs.Prelude.{◌≡◌, ◌<◌, ◌^◌, true, List}
 use Rattle.ded_model.specs.Constraint.{LinearConstraint}
 use Rattle.ded_model.specs.Cell.{conj_holds, HoldsSomewhere}
 use Rattle.ded_model.specs.Row.{row_holds}
-use Rattle.ded_simplex.specs.Weighing.{refutes}
+use Rattle.ded_weighing.specs.Weighing.{refutes}
 use Rattle.ded_cert.specs.declared.seeking.Sought.{Sought}
 use Rattle.ded_cert.specs.declared.seeking.Sought.TheVariants.{Somewhere, Nowhere, Nothing}
 use Rattle.ded_cert.specs.Certified.{magnitudes}

@@ -9,16 +9,16 @@ ghost use Rattle.ded_model.specs.Normal.{IsNormalTheme, IsNormalTuple};
 ghost use Rattle.ded_theory.specs.Both.{firsts, seconds};
 ghost use Rattle.ded_theory.specs.Verdicts.{HoldsNowhere};
 ghost use Rattle.ded_elimination.specs.LinearAtoms.{IsLinearAtom};
-ghost use Rattle.ded_simplex.specs.Columns.{lent};
+ghost use Rattle.ded_weighing.specs.Columns.{lent};
 ghost use Rattle.ded_cert.specs.Checks.{Checks, IsTooLong};
 
 use ded_model::certificate::Proof;
 use ded_model::memory::{NoMemory, Refused};
 use ded_model::row::Row;
 use ded_model::tuple::{Atom, BothAtom, ThemeAtom, Tuple};
-use ded_simplex::refutes;
 use ded_theme::Theme;
 use ded_theory::{Theory, Verdict};
+use ded_weighing::refutes;
 use std::alloc::Global;
 
 /// Whether the proof shows that the tuples have no common point.

@@ -13,8 +13,8 @@ ghost use Rattle.ded_model.specs.Lines.{In};
 ghost use Rattle.ded_model.specs.Row.{row_holds};
 ghost use Rattle.ded_theory.specs.Verdicts.{HoldsNowhere};
 ghost use Rattle.ded_elimination.specs.LinearAtoms.{IsLinearAtom};
-ghost use Rattle.ded_simplex.specs.Columns.{lent};
-ghost use Rattle.ded_simplex.specs.Weighing.{refutes};
+ghost use Rattle.ded_weighing.specs.Columns.{lent};
+ghost use Rattle.ded_weighing.specs.Weighing.{refutes};
 ghost use Rattle.ded_cert.specs.Certified.{magnitudes};
 ghost use Rattle.ded_cert.specs.Tracing.{tag, multipliers, is_refuting, AreWideRows};
 
@@ -23,7 +23,7 @@ use crate::tracing::{first_free, tag, traces};
 use ded_model::certificate::Multipliers;
 use ded_model::memory::{NoMemory, Refused};
 use ded_model::row::Row;
-use ded_simplex::slots_of;
+use ded_weighing::slots_of;
 use std::alloc::Global;
 
 /// How many slots rows have at most that aren't wide, since their numbers have at least one digit.

@@ -2,14 +2,15 @@
 ghost use Rattle.std.specs.Prelude.{◌≡◌, ◌<◌, ◌^◌, true, IfOk};
 ghost use Rattle.std.specs.List.{AllByRecursion};
 ghost use Rattle.ded_model.specs.Coefs.{AreCoefs};
-ghost use Rattle.ded_simplex.specs.Columns.{lent};
+ghost use Rattle.ded_weighing.specs.Columns.{lent};
 ghost use Rattle.ded_cert.specs.Certified.{magnitudes};
 ghost use Rattle.ded_cert.specs.Seeking.{IsSought};
 
 use ded_model::certificate::Multipliers;
 use ded_model::memory::{NoMemory, Refused};
 use ded_model::row::Row;
-use ded_simplex::{Found, Witness, find, meets, refutes};
+use ded_simplex::{Found, find};
+use ded_weighing::{Witness, meets, refutes};
 use std::alloc::{AllocError, Global};
 
 /// What is found of some rows.

@@ -7,7 +7,7 @@ ghost use Rattle.std.specs.Prelude.{◌≡◌, ◌+◌, ◌≤◌, ◌<◌, ◌+
 ghost use Rattle.ded_num.specs.Length.{IsShort};
 ghost use Rattle.ded_model.specs.Coefs.{AllBelow};
 ghost use Rattle.ded_model.specs.Normal.{normal_row};
-ghost use Rattle.ded_simplex.specs.Columns.{lent};
+ghost use Rattle.ded_weighing.specs.Columns.{lent};
 ghost use Rattle.ded_cert.specs.Tracing.{tag, slack_of, tagged, turned_coefs, forward, backward, traces_by, traces, AreBelow};
 
 use ded_model::memory::NoMemory;

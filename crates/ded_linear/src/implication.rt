@@ -10,7 +10,7 @@ ghost use Rattle.ded_model.specs.Constraint.{LinearConstraint};
 ghost use Rattle.ded_model.specs.Row.{row_holds};
 ghost use Rattle.ded_theory.specs.Verdicts.{HoldsNowhere};
 ghost use Rattle.ded_elimination.specs.LinearAtoms.{IsLinearAtom};
-ghost use Rattle.ded_simplex.specs.Columns.{lent};
+ghost use Rattle.ded_weighing.specs.Columns.{lent};
 ghost use Rattle.ded_linear.specs.Prunings.{Imply};
 
 use crate::kept::Kept;
@@ -18,8 +18,9 @@ use ded_model::memory::NoMemory;
 use ded_model::row::Row;
 use ded_model::tuple::Negated;
 use ded_row::negate;
-use ded_simplex::{Hint, are_refuted, told_from};
+use ded_simplex::{Hint, told_from};
 use ded_theory::Verdict;
+use ded_weighing::are_refuted;
 use std::alloc::Global;
 
 /// How often it may be left open whether a row is implied before no more is looked for: where numbers get too long, looking takes long.

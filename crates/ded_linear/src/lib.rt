@@ -11,7 +11,7 @@
 //! kind, whose combinations are never refused, answers by them too. `Linear` combines any rows.
 //!
 //! It stands on `ded_row` for rows, on `ded_elimination` for one elimination, on `ded_simplex` for what shows the verdict and the bounds of many
-//! rows, and on `ded_box` for the comparison of bounds.
+//! rows, on `ded_weighing` for its check, and on `ded_box` for the comparison of bounds.
 //! What a theory promises is `ded_theory`'s to say.
 #![tactic(auto)]
 

@@ -18,9 +18,9 @@ use Rattle.ded_model.proofs.Eliminating.{meets-decides}
 use Rattle.ded_model.proofs.Points.{and_left, and_right}
 use Rattle.ded_theory.specs.Verdicts.{HoldsNowhere}
 use Rattle.ded_box.proofs.Gaps.{gap_at, outside_decides, chain_at}
+use Rattle.ded_weighing.specs.Meeting.{point_of, number_from, meets_row, meets, leans}
+use Rattle.ded_weighing.proofs.Meetings.{number_is, not_negative_is, is_point, all_hold}
 use Rattle.ded_simplex.specs.Ends.{IsValue, beyond_row, goes}
-use Rattle.ded_simplex.specs.Meeting.{point_of, number_from, meets_row, meets, leans}
-use Rattle.ded_simplex.proofs.Meetings.{number_is, not_negative_is, is_point, all_hold}
 use Rattle.ded_simplex.proofs.Moving.{over, beyond_each}
 
 -- ---- the row that says of a value that it is beyond

@@ -19,8 +19,8 @@ use Rattle.ded_model.proofs.Core.{Meets, meets_scale, meets_add}
 use Rattle.ded_model.proofs.Eliminating.{meets-decides}
 use Rattle.ded_model.proofs.Points.{and_left, and_right, same_slot_is}
 use Rattle.ded_box.proofs.Gaps.{gap_at, outside_decides}
-use Rattle.ded_simplex.specs.Meeting.{point_of, number_from, row_is_long, meets_row, meets, weakly, leans_row, leans}
-use Rattle.ded_simplex.proofs.Meetings.{number_is, not_negative_is, is_point}
+use Rattle.ded_weighing.specs.Meeting.{point_of, number_from, row_is_long, meets_row, meets, weakly, leans_row, leans}
+use Rattle.ded_weighing.proofs.Meetings.{number_is, not_negative_is, is_point}
 
 -- ---- numbers of slots
 

@@ -9,20 +9,19 @@ ghost use Rattle.ded_model.specs.Interval.{IsExactBound};
 ghost use Rattle.ded_model.specs.Row.{row_holds};
 ghost use Rattle.ded_theory.specs.Verdicts.{HoldsNowhere};
 ghost use Rattle.ded_box.specs.Intervals.{end_of};
-ghost use Rattle.ded_simplex.specs.Columns.{lent};
+ghost use Rattle.ded_weighing.specs.Columns.{lent};
+ghost use Rattle.ded_weighing.specs.Meeting.{meets};
 ghost use Rattle.ded_simplex.specs.Ends.{beyond_row, goes};
-ghost use Rattle.ded_simplex.specs.Meeting.{meets};
 
 use crate::extremes::Reach;
 use crate::fraction::fraction;
-use crate::meeting::{leans, meets, number_of};
-use crate::telling::{are_refuted, lent};
-use crate::witness::Witness;
+use crate::telling::lent;
 use ded_box::Side;
 use ded_model::bound::{Bound, Frac};
 use ded_model::memory::NoMemory;
 use ded_model::row::{Coefs, Row, RowOp};
 use ded_model::slot::{Slot, Sort};
+use ded_weighing::{Witness, are_refuted, leans, meets, number_of};
 use std::alloc::Global;
 
 /// The exact bound of the slot on the side, of rows that hold at a point inside; none where what is found doesn't show it.

@@ -6,13 +6,12 @@
 
 use crate::reading::{corner, end_multipliers, multipliers, point, ray};
 use crate::search::{End, helping, solve};
-use crate::slots::slots_of;
 use crate::table::{Line, Table};
 use crate::variable::Variable;
-use crate::witness::Witness;
 use ded_model::memory::NoMemory;
 use ded_model::row::Row;
 use ded_model::slot::{Slot, stands_in};
+use ded_weighing::{Witness, slots_of};
 use std::alloc::Global;
 use std::cmp::Ordering;
 

@@ -4,18 +4,19 @@
 //! if it has some, and those that the point found last breaks most are added, until it breaks none, or the few have no point.
 
 use crate::hint::Hint;
-use crate::meeting::row_at;
 use crate::search::{Found, find_at_once};
-use crate::witness::Witness;
 use ded_model::memory::NoMemory;
 use ded_model::row::Row;
+use ded_weighing::{Witness, row_at};
 use std::alloc::Global;
 
-/// How many rows the search begins with, about, where the hint has fewer.
-const FEW: usize = 8;
+/// How many rows the search begins with, about, where the hint has fewer: some more than there are slots mostly, so that they have a
+/// corner, and few enough that a table of them is made and pivoted at once. It wasn't measured against other numbers.
+const FIRST_ROWS: usize = 8;
 
-/// How many rows are added at a time, about.
-const MORE: usize = 4;
+/// How many rows are added at a time, about: those that the point breaks most, of as many stretches. It wasn't measured against other
+/// numbers.
+const ADDED_ROWS: usize = 4;
 
 /// How often rows are added before all are searched at once.
 const ROUNDS: usize = 64;
@@ -47,7 +48,7 @@ pub(crate) fn find_by_few(
 fn first_places(alloc: Global, count: usize, hint: &Hint) -> Result<Vec<usize>, NoMemory> {
     let last = count.saturating_sub(1);
     let mut places = hint.places_below(alloc, last)?;
-    if places.len() < FEW {
+    if places.len() < FIRST_ROWS {
         add_spaced(&mut places, last)?;
     }
     places.push(last)?;
@@ -59,7 +60,7 @@ fn first_places(alloc: Global, count: usize, hint: &Hint) -> Result<Vec<usize>, 
 /// # Errors
 /// Out of memory.
 fn add_spaced(places: &mut Vec<usize>, end: usize) -> Result<(), NoMemory> {
-    for place in (0..end).step_by((end / FEW).max(1)) {
+    for place in (0..end).step_by((end / FIRST_ROWS).max(1)) {
         if !places.contains(&place) {
             places.push(place)?;
         }
@@ -120,7 +121,7 @@ fn spread(
 
 /// Adds the places of some rows that the point breaks: of each of a few stretches that which it breaks most.
 fn add_broken(rows: &[&Row], witness: &Witness, places: &mut Vec<usize>) -> Result<(), NoMemory> {
-    let stretch = (rows.len() / MORE).max(1);
+    let stretch = (rows.len() / ADDED_ROWS).max(1);
     for start in (0..rows.len()).step_by(stretch) {
         if let Some(place) = most_broken(rows, witness, start, stretch) {
             if !places.contains(&place) {

@@ -3,11 +3,10 @@
 //! Who looks up a point asks whether rows hold together with equalities of one slot each. Where these fix every slot, one point is to be
 //! tried; and where a row doesn't hold there, this row and the equalities of its slots show that there is none.
 
-use crate::meeting::row_at;
-use crate::witness::Witness;
 use ded_model::memory::NoMemory;
 use ded_model::row::{Row, RowOp};
 use ded_model::slot::Slot;
+use ded_weighing::{Witness, row_at};
 use std::alloc::Global;
 
 /// An equality of one slot, by its place among the rows: the coefficient times the slot, and the constant, are 0.

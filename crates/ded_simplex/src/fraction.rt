@@ -1,5 +1,5 @@
 //! The value of a slot at a point, in lowest terms.
-ghost use Rattle.std.specs.Prelude.{[], MatchOption, ◌<ℤ◌, pos};
+ghost use Rattle.std.specs.Prelude.{MatchOption, ◌<ℤ◌, pos};
 ghost use Rattle.ded_simplex.specs.Ends.{IsValue};
 
 use ded_model::bound::Frac;

@@ -3,11 +3,10 @@
 //! Where rows are searched again and again, each time with a few others among them, mostly the same few matter. So a search begins
 //! with those that the last ones came upon. Nothing is promised of which these are, and a wrong one does no harm.
 
-use crate::meeting::row_at;
 use crate::search::Found;
-use crate::witness::Witness;
 use ded_model::memory::NoMemory;
 use ded_model::row::Row;
+use ded_weighing::{Witness, row_at};
 use std::alloc::Global;
 
 /// How many places a search begins with at most.

@@ -2,21 +2,20 @@
 ghost use Rattle.std.specs.Prelude.{IfOk};
 ghost use Rattle.std.specs.List.{AllByRecursion};
 ghost use Rattle.ded_model.specs.Coefs.{AreCoefs};
-ghost use Rattle.ded_simplex.specs.Columns.{lent};
-ghost use Rattle.ded_simplex.specs.Meeting.{meets};
+ghost use Rattle.ded_weighing.specs.Columns.{lent};
+ghost use Rattle.ded_weighing.specs.Meeting.{meets};
 ghost use Rattle.ded_simplex.specs.Sure.{IsSureSpan};
 
 use crate::ends::checked_end;
 use crate::extremes::{Range, Reach, find_range};
-use crate::meeting::meets;
-use crate::telling::{are_refuted, lent};
-use crate::witness::Witness;
+use crate::telling::lent;
 use ded_box::Side;
 use ded_model::bound::Bound;
 use ded_model::memory::NoMemory;
 use ded_model::row::Row;
 use ded_model::slot::Slot;
 use ded_theory::Span;
+use ded_weighing::{Witness, are_refuted, meets};
 use std::alloc::Global;
 
 /// Between which values the slot stands where all the rows hold: `Nothing` and `Exact` are so, as what is found for them is checked.

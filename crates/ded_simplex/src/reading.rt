@@ -2,9 +2,9 @@
 
 use crate::table::{Line, Table};
 use crate::variable::Variable;
-use crate::witness::Witness;
 use ded_model::memory::NoMemory;
 use ded_num::gcd;
+use ded_weighing::Witness;
 use std::alloc::Global;
 use std::cmp::Ordering;
 

@@ -7,12 +7,11 @@
 use crate::few::find_by_few;
 use crate::hint::Hint;
 use crate::reading::{multipliers, point};
-use crate::slots::slots_of;
 use crate::table::{Line, Table};
 use crate::variable::Variable;
-use crate::witness::Witness;
 use ded_model::memory::NoMemory;
 use ded_model::row::Row;
+use ded_weighing::{Witness, slots_of};
 use std::alloc::Global;
 use std::cmp::Ordering;
 
@@ -47,8 +46,10 @@ enum Step {
     Halt(End),
 }
 
-/// How many rows are searched all at once.
-const MANY: usize = 64;
+/// How many rows at most are searched all at once. A pivot goes through the lines of all rows, and of many rows most don't matter, so
+/// that more are searched by few of them: the sum of two polygons of 64 corners took less than half of the time by it. The number
+/// itself wasn't measured against others.
+const MOST_ROWS_AT_ONCE: usize = 64;
 
 /// Looks for a point at which the rows hold, or for numbers that show that there is none. Nothing is promised of either.
 ///
@@ -63,7 +64,7 @@ pub fn find(alloc: Global, rows: &[&Row]) -> Result<Found, NoMemory> {
 /// # Errors
 /// Out of memory.
 pub(crate) fn find_from(alloc: Global, rows: &[&Row], hint: &mut Hint) -> Result<Found, NoMemory> {
-    if rows.len() > MANY {
+    if rows.len() > MOST_ROWS_AT_ONCE {
         find_by_few(alloc, rows, hint)
     } else {
         find_at_once(alloc, rows)

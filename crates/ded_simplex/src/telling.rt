@@ -1,23 +1,18 @@
 //! Whether rows hold somewhere, as far as the search finds what shows it.
-ghost use Rattle.std.specs.Prelude.{◌≡◌, true, IfOk};
+ghost use Rattle.std.specs.Prelude.{◌≡◌, IfOk};
 ghost use Rattle.std.specs.List.{AllByRecursion};
-ghost use Rattle.ded_model.specs.Cell.{conj_holds};
 ghost use Rattle.ded_model.specs.Coefs.{AreCoefs};
-ghost use Rattle.ded_model.specs.Row.{row_holds};
-ghost use Rattle.ded_theory.specs.Verdicts.{HoldsNowhere};
-ghost use Rattle.ded_simplex.specs.Columns.{lent};
+ghost use Rattle.ded_weighing.specs.Columns.{lent};
 ghost use Rattle.ded_simplex.specs.Sure.{IsSure};
 
 use crate::fixed::Fixed;
 use crate::hint::Hint;
-use crate::meeting::meets;
 use crate::search::{Found, find_from};
-use crate::weighing::refutes;
-use crate::witness::Witness;
-use ded_model::memory::{NoMemory, Refused};
+use ded_model::memory::NoMemory;
 use ded_model::row::Row;
 use ded_theory::Verdict;
-use std::alloc::{AllocError, Global};
+use ded_weighing::{Witness, are_refuted, meets};
+use std::alloc::Global;
 
 /// Whether some point satisfies all the rows: `Inhabited` and `Empty` are so, as what is found for them is checked. `Unknown` where
 /// nothing is found, or it doesn't pass its check.
@@ -101,21 +96,6 @@ fn checked_multipliers(
         Ok(Verdict::Empty)
     } else {
         Ok(Verdict::Unknown)
-    }
-}
-
-/// Whether the numbers refute the rows, which then hold nowhere together. A number on the way that is too long counts as no.
-///
-/// # Errors
-/// Out of memory.
-pub fn are_refuted(alloc: Global, multipliers: &[i128], rows: &[&Row]) -> Result<bool, NoMemory>
-    requires { AllByRecursion (λ r. AreCoefs r.coefs) (lent rows.now) }
-    ensures { IfOk result (λ b. b ≡ true → HoldsNowhere (conj_holds row_holds (lent rows.now))) }
-{
-    match refutes(alloc, multipliers, rows) {
-        Ok(refuted) => Ok(refuted),
-        Err(Refused::Wide) => Ok(false),
-        Err(Refused::Memory) => Err(AllocError),
     }
 }
 

@@ -6,7 +6,7 @@ use Rattle.ded_model.specs.Lines.{row_lines}
 use Rattle.ded_theory.specs.declared.answers.Verdict.TheVariants.{Inhabited, Unknown}
 use Rattle.ded_theory.specs.Both.{firsts}
 use Rattle.ded_theory.specs.Verdicts.{IsVerdict}
-use Rattle.ded_simplex.specs.Columns.{lent}
+use Rattle.ded_weighing.specs.Columns.{lent}
 use Rattle.ded_cert.specs.Tracing.{AreWideRows}
 use Rattle.ded_cert.proofs.Lengths.{wide_pair, unknown_wide}
 use Rattle.ded_cert.proofs.Meeting.{common_point}

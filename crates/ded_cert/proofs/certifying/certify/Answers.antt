@@ -1,7 +1,7 @@
 use Rattle.std.proofs.Common.{◌∙◌, ap, subst}
 use Rattle.ded_model.specs.Cell.{conj_holds, HoldsSomewhere}
 use Rattle.ded_model.specs.Row.{row_holds}
-use Rattle.ded_simplex.specs.Columns.{lent}
+use Rattle.ded_weighing.specs.Columns.{lent}
 use Rattle.ded_cert.specs.Seeking.{IsSought}
 use Rattle.ded_cert.proofs.Meeting.{common_point}
 use Rattle.ded_cert.proofs.certifying.certify.Goals as goal

@@ -5,7 +5,7 @@ use Rattle.ded_model.specs.Coefs.{AreCoefs}
 use Rattle.ded_model.specs.Normal.{IsNormalTuple}
 use Rattle.ded_theory.specs.Both.{firsts}
 use Rattle.ded_elimination.specs.LinearAtoms.{IsLinearAtom}
-use Rattle.ded_simplex.specs.Columns.{lent}
+use Rattle.ded_weighing.specs.Columns.{lent}
 use Rattle.ded_cert.proofs.Parts.{firsts_append, rows_with_coefs, linear_rows}
 use Rattle.ded_cert.proofs.checking.rows_of.Goals as goal
 use Rattle.ded_cert.proofs.checking.rows_of.Goals.{In_ok-add_rows-2}

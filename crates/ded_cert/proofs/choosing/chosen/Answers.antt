@@ -1,5 +1,5 @@
 use Rattle.std.proofs.Common.{false, refl, get_or, ◌+◌, ◌++◌, ◌≡◌, sym, subst, drop}
-use Rattle.ded_simplex.specs.Columns.{lent}
+use Rattle.ded_weighing.specs.Columns.{lent}
 use Rattle.ded_cert.specs.Choosing.{chosen}
 use Rattle.ded_cert.proofs.Chosen.{chosen_next}
 use Rattle.ded_cert.proofs.choosing.chosen.Goals as goal

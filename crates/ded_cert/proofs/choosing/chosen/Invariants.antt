@@ -1,5 +1,5 @@
 use Rattle.std.proofs.Common.{◌≡◌, ◌++◌, drop}
-use Rattle.ded_simplex.specs.Columns.{lent}
+use Rattle.ded_weighing.specs.Columns.{lent}
 use Rattle.ded_cert.specs.Choosing.{chosen}
 use Rattle.ded_cert.proofs.choosing.chosen.Given as goal
 

@@ -3,8 +3,8 @@ use Rattle.std.specs.List.{AllByRecursion}
 use Rattle.std.proofs.lemmas.Result.{err_from_is_err_and}
 use Rattle.ded_model.specs.declared.memory.Refused.TheVariants.{Wide}
 use Rattle.ded_elimination.specs.LinearAtoms.{IsLinearAtom}
-use Rattle.ded_simplex.specs.Columns.{lent}
-use Rattle.ded_simplex.specs.Weighing.{refutes}
+use Rattle.ded_weighing.specs.Columns.{lent}
+use Rattle.ded_weighing.specs.Weighing.{refutes}
 use Rattle.ded_cert.specs.Certified.{magnitudes}
 use Rattle.ded_cert.specs.Choosing.{chosen, spread}
 use Rattle.ded_cert.specs.Tracing.{AreWideRows}

@@ -12,9 +12,9 @@ use Rattle.ded_model.specs.Lines.{In}
 use Rattle.ded_model.specs.Point.{AreDistinctSlots}
 use Rattle.ded_model.specs.Row.{row_holds}
 use Rattle.ded_elimination.specs.LinearAtoms.{IsLinearAtom}
-use Rattle.ded_simplex.specs.Columns.{lent, HasAllSlots}
-use Rattle.ded_simplex.specs.Gathered.{AreOf}
-use Rattle.ded_simplex.specs.Weighing.{refutes}
+use Rattle.ded_weighing.specs.Columns.{lent, HasAllSlots}
+use Rattle.ded_weighing.specs.Gathered.{AreOf}
+use Rattle.ded_weighing.specs.Weighing.{refutes}
 use Rattle.ded_cert.specs.Certified.{magnitudes}
 use Rattle.ded_cert.specs.Tracing.{tag, multipliers, traces, AreBelow, is_weak_row, is_refuting}
 use Rattle.ded_cert.specs.Projecting.{IsProjected, GetLong}

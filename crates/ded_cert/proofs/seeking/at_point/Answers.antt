@@ -1,6 +1,6 @@
 use Rattle.std.proofs.Common.{◌∙◌, sym}
-use Rattle.ded_simplex.specs.Columns.{lent}
-use Rattle.ded_simplex.proofs.Meetings.{rows_somewhere}
+use Rattle.ded_weighing.specs.Columns.{lent}
+use Rattle.ded_weighing.proofs.Meetings.{rows_somewhere}
 use Rattle.ded_cert.proofs.seeking.at_point.Goals as goal
 
 pub returns-then-meets : goal.returns-then-meets

@@ -1,5 +1,5 @@
 use Rattle.std.proofs.Common.{◌^◌, ◌<◌, take}
-use Rattle.ded_simplex.specs.Columns.{lent}
+use Rattle.ded_weighing.specs.Columns.{lent}
 use Rattle.ded_cert.specs.Tracing.{AreBelow}
 use Rattle.ded_cert.proofs.tracing.first_free.Given as goal
 

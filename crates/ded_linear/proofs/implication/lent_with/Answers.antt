@@ -3,7 +3,7 @@ use Rattle.std.proofs.lemmas.List.{map-append}
 use Rattle.std.specs.List.{AllByRecursion}
 use Rattle.ded_model.specs.Constraint.{LinearConstraint}
 use Rattle.ded_model.specs.Coefs.{AreCoefs}
-use Rattle.ded_simplex.specs.Columns.{lent}
+use Rattle.ded_weighing.specs.Columns.{lent}
 use Rattle.ded_linear.proofs.Prunes.{all_coefs}
 use Rattle.ded_linear.proofs.implication.lent_with.Goals as goal
 use Rattle.ded_linear.proofs.implication.lent_with.Goals.{In_ok-push}

@@ -1,8 +1,8 @@
 use Rattle.std.proofs.Common.{◌≡◌, true, rules}
 use Rattle.std.specs.Prelude.{pos}
 use Rattle.ded_box.specs.Intervals.{end_of}
+use Rattle.ded_weighing.specs.Meeting.{number_from, meets}
 use Rattle.ded_simplex.specs.Ends.{IsValue}
-use Rattle.ded_simplex.specs.Meeting.{number_from, meets}
 use Rattle.ded_simplex.proofs.Beyond.{included}
 use Rattle.ded_simplex.proofs.ends.attained.Goals as goal
 

@@ -1,5 +1,5 @@
 use Rattle.std.proofs.Common.{◌≡◌, take}
-use Rattle.ded_simplex.specs.Columns.{lent}
+use Rattle.ded_weighing.specs.Columns.{lent}
 use Rattle.ded_simplex.proofs.telling.lent.Given as goal
 
 abbrev pub invariant-loop-row : goal.invariant-loop-row

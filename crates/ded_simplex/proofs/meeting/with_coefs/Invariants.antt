@@ -1,6 +1,0 @@
-use Rattle.std.proofs.Common.{drop}
-use Rattle.ded_simplex.proofs.Meetings.{IsSummedWith}
-use Rattle.ded_simplex.proofs.meeting.with_coefs.Given as goal
-
-abbrev pub invariant-loop-coef : goal.invariant-loop-coef
-invariant-loop-coef l = IsSummedWith l.values l.before l.coefs l.sum (drop l.coef-index l.coefs)

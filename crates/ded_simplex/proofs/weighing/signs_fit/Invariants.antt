@@ -1,7 +1,0 @@
-use Rattle.std.proofs.Common.{◌≡◌, drop}
-use Rattle.ded_simplex.specs.Weighing.{signs_fit}
-use Rattle.ded_simplex.specs.Columns.{lent}
-use Rattle.ded_simplex.proofs.weighing.signs_fit.Given as goal
-
-abbrev pub invariant-loop-i : goal.invariant-loop-i
-invariant-loop-i l = signs_fit (drop l.i l.multipliers) (lent (drop l.i l.rows)) ≡ signs_fit l.multipliers (lent l.rows)

@@ -1,0 +1,4 @@
+pub mod Columns
+pub mod Gathered
+pub mod Meeting
+pub mod Weighing
