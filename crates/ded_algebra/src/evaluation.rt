@@ -7,16 +7,16 @@ ghost use Rattle.ded_model.specs.PlanForm.{plan_form};
 ghost use Rattle.ded_model.specs.Row.{tuple_holds, tuples_hold, tuples_mention};
 ghost use Rattle.ded_model.specs.Lines.{tuples_lines};
 ghost use Rattle.ded_model.specs.Measure.{stored_measures, plan_clashes};
-ghost use Rattle.ded_hull.specs.Windows.{AreLent};
+ghost use Rattle.ded_ranges.specs.Windows.{AreLent};
 ghost use Rattle.ded_packed.specs.Lent.{lent};
 ghost use Rattle.ded_algebra.specs.Evaluation.{AreGiven, given_tuples, IsAnyAtom, IsEvaluable, IsEvaluation, IsEvaluationWithin, IsMet};
 
-use ded_hull::Window;
 use ded_model::memory::{NoMemory, Refused};
 use ded_model::name::Name;
 use ded_model::plan::Plan;
 use ded_model::tuple::{Tuple, Tuples};
 use ded_packed::Lent;
+use ded_ranges::Window;
 use std::alloc::Global;
 
 /// Named lists of tuples that a plan is evaluated over. A value stands for the catalogue in which each of its names is a relation

@@ -3,11 +3,11 @@ ghost use Rattle.std.specs.Prelude.{◌≡◌, ◌++◌, ◌∷◌, [], false, l
 ghost use Rattle.std.specs.Option.{option_map};
 
 use crate::evaluation::Relations;
-use ded_hull::Window;
 use ded_model::memory::NoMemory;
 use ded_model::name::{Heading, Name};
 use ded_model::tuple::{Tuple, Tuples};
 use ded_packed::{Lent, lend};
+use ded_ranges::Window;
 use std::alloc::Global;
 use std::marker::Model;
 

@@ -8,7 +8,7 @@
 //! of a scan are over columns, each of which is read into a slot ([`column_pairs`]); of a closed plan comes [`everywhere`] or [`nowhere`].
 //!
 //! It stands on `ded_model`, which says what goals and plans mean, on `ded_row` for the rows of arguments, on `ded_tuple` and `ded_packed`
-//! for the tuples that a plan is evaluated over, and on `ded_hull` for windows of these. Over every
+//! for the tuples that a plan is evaluated over, and on `ded_ranges` for windows of these. Over every
 //! catalogue the plan holds exactly where the goal does, with lines, lengths and a rank of at most the goal's; so what can be
 //! said of the widths of a formula holds of the work that its plan asks for.
 #![tactic(auto)]

@@ -14,8 +14,8 @@ use Rattle.ded_model.specs.Row.{Atom, row_holds, theme_holds, atom_holds, tuple_
 use Rattle.ded_theory.specs.Both.{by_kind, IsByKind}
 use Rattle.ded_theory.specs.Verdicts.{HoldsNowhere, IsBound}
 use Rattle.ded_elimination.specs.LinearAtoms.{IsLinearAtom}
-use Rattle.ded_hull.specs.declared.reach.Range.{Range}
-use Rattle.ded_hull.specs.Reaches.{NotOutside, IsFloor, IsCeil}
+use Rattle.ded_ranges.specs.declared.reach.Range.{Range}
+use Rattle.ded_ranges.specs.Reaches.{NotOutside, IsFloor, IsCeil}
 use Rattle.ded_catalog.specs.Ends.{IsRangeOf}
 
 -- ---- a tuple as a conjunction

@@ -28,9 +28,9 @@ use Rattle.ded_model.specs.declared.tuple.BothAtom.TheVariants.{First, Second}
 use Rattle.ded_model.specs.Point.{Point, slot, text_at}
 use Rattle.ded_model.specs.Row.{Atom, atom_holds, theme_holds, tuple_holds}
 use Rattle.ded_model.proofs.Points.{same_slot_is}
-use Rattle.ded_hull.specs.Tuples.{is_text_column}
-use Rattle.ded_hull.specs.Windows.{column_text, is_text_met}
-use Rattle.ded_hull.proofs.Sums.{and_first, and_second}
+use Rattle.ded_ranges.specs.Tuples.{is_text_column}
+use Rattle.ded_ranges.specs.Windows.{column_text, is_text_met}
+use Rattle.ded_ranges.proofs.Sums.{and_first, and_second}
 use Rattle.ded_hull.proofs.Found.{Has, has_from}
 use Rattle.ded_catalog.specs.declared.hashing.NameHashing.{NameHashing}
 use Rattle.ded_catalog.specs.Texts.{is_text, is_text_at, theme_text, atom_text, first_of, text_in, code, key, IsThere, Grows, Keeps, IsGone, HasAll, AreWith}

@@ -12,12 +12,12 @@ use Rattle.ded_model.specs.Row.{Atom, tuple_holds}
 use Rattle.ded_model.proofs.Lists.{Every, Some, every-append, every_all, all_every}
 use Rattle.ded_model.proofs.Rows.{or_right}
 use Rattle.ded_hull.specs.declared.entry.Entry.{Entry}
-use Rattle.ded_hull.specs.declared.window.Window.{Window}
+use Rattle.ded_ranges.specs.declared.window.Window.{Window}
 use Rattle.ded_hull.specs.Entries.{of_keys, IsComplete}
-use Rattle.ded_hull.specs.Limits.{are_met}
-use Rattle.ded_hull.specs.Reaches.{Lies}
-use Rattle.ded_hull.specs.Windows.{column_value, is_text_met, IsMissed}
-use Rattle.ded_hull.proofs.Sums.{and_first}
+use Rattle.ded_ranges.specs.Limits.{are_met}
+use Rattle.ded_ranges.specs.Reaches.{Lies}
+use Rattle.ded_ranges.specs.Windows.{column_value, is_text_met, IsMissed}
+use Rattle.ded_ranges.proofs.Sums.{and_first}
 use Rattle.std.specs.List.{list_all}
 use Rattle.ded_catalog.specs.Relations.{IsEntryOf, IsIndex, Indexes}
 use Rattle.ded_catalog.specs.Tuples.{AreUpTo}

@@ -9,12 +9,13 @@ use Rattle.std.specs.Ordering.{nat_cmp}
 use Rattle.ded_model.specs.declared.name.Column.{Column}
 use Rattle.ded_model.specs.Row.{Atom, tuple_holds}
 use Rattle.ded_model.proofs.Lists.{Every, Some, every-append}
-use Rattle.ded_hull.specs.declared.window.Window.{Window}
+use Rattle.ded_ranges.specs.declared.window.Window.{Window}
 use Rattle.ded_hull.specs.declared.entry.Entry.{Entry}
 use Rattle.ded_hull.specs.Entries.{IsComplete}
-use Rattle.ded_hull.specs.declared.reach.Range.{Range}
-use Rattle.ded_hull.specs.Segments.{IsSegment, AreSegments, AreOrdered}
-use Rattle.ded_hull.specs.Tuples.{IsReachOf}
+use Rattle.ded_ranges.specs.declared.reach.Range.{Range}
+use Rattle.ded_hull.specs.Segments.{IsSegment, AreSegments}
+use Rattle.ded_ranges.specs.Reaches.{AreOrdered}
+use Rattle.ded_ranges.specs.Tuples.{IsReachOf}
 use Rattle.ded_hull.proofs.Middles.{every_moved}
 use Rattle.ded_catalog.specs.declared.hashing.NameHashing.{NameHashing}
 use Rattle.ded_catalog.specs.declared.index.Index.{Index}

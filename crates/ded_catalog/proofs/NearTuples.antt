@@ -8,11 +8,11 @@ use Rattle.std.specs.Ordering.{nat_cmp}
 use Rattle.ded_model.specs.Catalogue.{Catalogue, tuples_of}
 use Rattle.ded_model.specs.Entries.{entry_of, relation_in}
 use Rattle.ded_model.specs.Row.{Atom}
-use Rattle.ded_hull.specs.declared.window.Window.{Window}
-use Rattle.ded_hull.specs.Windows.{IsMissed, IsNear, AreLent}
-use Rattle.ded_hull.proofs.Found.{taken_more}
+use Rattle.ded_ranges.specs.declared.window.Window.{Window}
+use Rattle.ded_ranges.specs.Windows.{IsMissed, IsNear, AreLent}
+use Rattle.ded_ranges.proofs.Taken.{taken_more}
 use Rattle.ded_model.proofs.Sublists.{sublist_append}
-use Rattle.ded_hull.proofs.Near.{near_append, near_same}
+use Rattle.ded_ranges.proofs.Near.{near_append, near_same}
 use Rattle.ded_catalog.specs.Changing.{Change, changed, inserted_in, deleted_in, is_left_out, without_number, with_last}
 use Rattle.ded_catalog.specs.Nearby.{AreNear, AreFound, AddsNear, with_number, picked}
 use Rattle.ded_catalog.proofs.SnapshotTuples.{read_with, tuples-changed}

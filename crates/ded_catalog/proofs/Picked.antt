@@ -11,8 +11,8 @@ use Rattle.std.proofs.lemmas.Map.Keys.{sorted_from_strictly_increasing}
 use Rattle.ded_model.proofs.Lists.{Every}
 use Rattle.ded_model.specs.Row.{Atom}
 use Rattle.ded_hull.proofs.Found.{Has, has_from}
-use Rattle.ded_hull.specs.declared.window.Window.{Window}
-use Rattle.ded_hull.specs.Windows.{IsMissed}
+use Rattle.ded_ranges.specs.declared.window.Window.{Window}
+use Rattle.ded_ranges.specs.Windows.{IsMissed}
 use Rattle.ded_catalog.specs.Nearby.{AreNear, with_number, picked}
 use Rattle.ded_catalog.proofs.Numbers.{key_test}
 

@@ -2,9 +2,9 @@
 use Rattle.std.specs.Prelude.{◌≡◌, Bool, true, List}
 use Rattle.ded_model.specs.declared.slot.Slot.{Slot}
 use Rattle.ded_model.specs.Point.{Point, IsPoint, slot, number_at}
-use Rattle.ded_hull.specs.declared.reach.Range.{Range}
-use Rattle.ded_hull.specs.Reaches.{IsIn}
-use Rattle.ded_hull.specs.Tuples.{IsReachOf}
+use Rattle.ded_ranges.specs.declared.reach.Range.{Range}
+use Rattle.ded_ranges.specs.Reaches.{IsIn}
+use Rattle.ded_ranges.specs.Tuples.{IsReachOf}
 
 -- the range contains the value of the slot at each point that passes the test
 abbrev pub IsRangeOf : Range → Slot → (Point → Bool) → Type 0

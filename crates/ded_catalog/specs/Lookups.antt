@@ -1,6 +1,6 @@
 -- What a look-up of a relation's tuples reads, and the reaches by which these are looked up.
 use Rattle.std.specs.Prelude.{◌≡◌, ◌<◌, ◌+◌, ℕ, [], length}
-use Rattle.ded_hull.specs.declared.window.Window.{Window}
+use Rattle.ded_ranges.specs.declared.window.Window.{Window}
 use Rattle.ded_hull.specs.Entries.{ids_in, most_steps}
 use Rattle.ded_hull.specs.Segments.{AreSegments}
 use Rattle.ded_hull.specs.Trees.{AreAlong}

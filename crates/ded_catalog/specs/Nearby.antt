@@ -6,8 +6,8 @@ use Rattle.std.specs.Map.{lookup}
 use Rattle.std.specs.Ordering.{nat_cmp}
 use Rattle.ded_model.specs.Row.{Atom}
 use Rattle.ded_model.specs.Sublists.{IsSublistWithout}
-use Rattle.ded_hull.specs.declared.window.Window.{Window}
-use Rattle.ded_hull.specs.Windows.{IsMissed}
+use Rattle.ded_ranges.specs.declared.window.Window.{Window}
+use Rattle.ded_ranges.specs.Windows.{IsMissed}
 
 -- the tuples behind references, with their numbers
 abbrev pub numbered : List (ℕ × Bor (List Atom)) → List (ℕ × List Atom)

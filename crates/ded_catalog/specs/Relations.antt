@@ -6,11 +6,11 @@ use Rattle.ded_model.specs.declared.name.Column.{Column}
 use Rattle.ded_model.specs.Row.{Atom, tuple_holds}
 use Rattle.ded_model.proofs.Lists.{Every, Some}
 use Rattle.ded_hull.specs.declared.entry.Entry.{Entry}
-use Rattle.ded_hull.specs.declared.window.Window.{Window}
+use Rattle.ded_ranges.specs.declared.window.Window.{Window}
 use Rattle.ded_hull.specs.Entries.{Hulls}
 use Rattle.ded_hull.specs.Segments.{IsSegment, AreSegments}
-use Rattle.ded_hull.specs.Tuples.{IsReachOf}
-use Rattle.ded_hull.specs.Windows.{IsMissed}
+use Rattle.ded_ranges.specs.Tuples.{IsReachOf}
+use Rattle.ded_ranges.specs.Windows.{IsMissed}
 use Rattle.ded_catalog.specs.declared.index.Index.{Index}
 use Rattle.ded_catalog.specs.Texts.{IsThere, Keeps}
 

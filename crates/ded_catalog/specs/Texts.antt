@@ -15,8 +15,8 @@ use Rattle.ded_model.specs.declared.tuple.BothAtom.TheVariants.{First, Second}
 use Rattle.ded_model.specs.Point.{Point}
 use Rattle.ded_model.specs.Row.{Atom, tuple_holds}
 use Rattle.ded_catalog.specs.declared.hashing.NameHashing.{NameHashing}
-use Rattle.ded_hull.specs.Tuples.{is_text_column}
-use Rattle.ded_hull.specs.Windows.{is_text_met}
+use Rattle.ded_ranges.specs.Tuples.{is_text_column}
+use Rattle.ded_ranges.specs.Windows.{is_text_met}
 
 -- ---- the text in a column
 

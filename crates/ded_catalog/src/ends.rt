@@ -6,17 +6,16 @@
 ghost use Rattle.std.specs.Prelude.{◌≡◌, length, IfOk};
 ghost use Rattle.ded_model.specs.declared.slot.Sort.TheVariants.{Rat};
 ghost use Rattle.ded_model.specs.Row.{tuple_holds};
-ghost use Rattle.ded_hull.specs.Reaches.{IsFloor, IsCeil};
-ghost use Rattle.ded_hull.specs.Segments.{AreOrdered};
-ghost use Rattle.ded_hull.specs.Tuples.{IsReachOf};
+ghost use Rattle.ded_ranges.specs.Reaches.{IsFloor, IsCeil, AreOrdered};
+ghost use Rattle.ded_ranges.specs.Tuples.{IsReachOf};
 ghost use Rattle.ded_catalog.specs.Ends.{IsRangeOf, Tightens};
 
-use ded_hull::{Range, Reach, ceil_of, floor_of};
 use ded_linear::Linear;
 use ded_model::bound::Bound;
 use ded_model::memory::NoMemory;
 use ded_model::slot::{Slot, Sort};
 use ded_model::tuple::{Atom, BothAtom, Tuple};
+use ded_ranges::{Range, Reach, ceil_of, floor_of};
 use ded_theme::Theme;
 use ded_theory::{Both, Span, Theory};
 
@@ -29,7 +28,7 @@ pub(crate) fn reach_of(tuple: &Tuple, width: usize) -> Result<Reach, NoMemory>
     ensures width { IfOk result (λ r. length r ≡ width) }
     ensures ends { IfOk result (λ r. AreOrdered r) }
 {
-    let mut reach = ded_hull::reach_of(*tuple.atoms.allocator(), tuple, width)?;
+    let mut reach = ded_ranges::reach_of(*tuple.atoms.allocator(), tuple, width)?;
     tighten_all(&mut reach, tuple, width)?;
     reach.in_order(width)
 }

@@ -4,10 +4,10 @@ ghost use Rattle.std.specs.Prelude.{◌≡◌, ◌≤◌, ◌+◌, ◌<◌, ◌+
 ghost use Rattle.std.specs.Option.{option_map};
 ghost use Rattle.ded_catalog.specs.Nearby.{numbered, AreNear, AddsNear, with_number, picked};
 
-use ded_hull::Sieve;
 use ded_model::memory::NoMemory;
 use ded_model::steps::Steps;
 use ded_packed::Packed;
+use ded_ranges::Sieve;
 use std::alloc::Global;
 use std::collections::BTreeMap;
 use std::marker::Brand;

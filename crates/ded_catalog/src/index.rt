@@ -8,12 +8,13 @@ ghost use Rattle.ded_catalog.specs.Relations.{IsCopied, IsIndexed, IsUndone, IsP
 use crate::ends::reach_of;
 use crate::hashing::NameHashing;
 use crate::texts::Texts;
-use ded_hull::{Hulls, Window};
+use ded_hull::Hulls;
 use ded_model::memory::NoMemory;
 use ded_model::name::Heading;
 use ded_model::steps::Steps;
 use ded_model::tuple::Tuple;
 use ded_packed::Packed;
+use ded_ranges::Window;
 use std::alloc::Global;
 use std::collections::BTreeMap;
 use std::sync::ledger::Ledger;

@@ -17,7 +17,7 @@
 //! that holds somewhere in the window, and how many nodes, entries and tuples a look-up in one column looks at. A region that is bound
 //! by slanted rows alone is kept by its exact bounds.
 //!
-//! It stands on `ded_sorts` for what is known of names and what changes them, on `ded_hull` and `ded_linear` for the reaches, on `lru` for the
+//! It stands on `ded_sorts` for what is known of names and what changes them, on `ded_ranges`, `ded_hull` and `ded_linear` for the reaches, on `lru` for the
 //! linked names, and on `indexmap`.
 #![tactic(auto)]
 

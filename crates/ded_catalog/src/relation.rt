@@ -14,7 +14,6 @@ ghost use Rattle.ded_catalog.specs.Tuples.{AreUpTo, refusal_of, IsSame, Pushes, 
 use crate::finding::{listed, looked_up, picked, sifted};
 use crate::index::Index;
 use crate::stored::Relation;
-use ded_hull::{Sieve, Window};
 use ded_model::command::Refusal;
 use ded_model::limits;
 use ded_model::memory::NoMemory;
@@ -22,6 +21,7 @@ use ded_model::name::Heading;
 use ded_model::steps::Steps;
 use ded_model::tuple::Tuple;
 use ded_packed::Packed;
+use ded_ranges::{Sieve, Window};
 use std::alloc::{AllocError, Global};
 use std::collections::BTreeMap;
 use std::sync::ledger::Ledger;

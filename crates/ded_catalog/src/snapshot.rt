@@ -6,12 +6,12 @@ ghost use Rattle.std.specs.Option.{option_map};
 use crate::catalogue::Catalogue;
 use crate::change::{Change, left_of, with_inserted};
 use crate::finding::all;
-use ded_hull::Window;
 use ded_model::goal::Goal;
 use ded_model::memory::NoMemory;
 use ded_model::name::{Heading, Name};
 use ded_model::tuple::Tuple;
 use ded_packed::Lent;
+use ded_ranges::Window;
 use std::alloc::Global;
 use std::marker::Model;
 
@@ -50,7 +50,7 @@ impl<'a> Snapshot<'a> {
     ghost use Rattle.ded_model.specs.Width.{tuple_length};
     ghost use Rattle.ded_sorts.specs.Causes.{insert_refusal, is_relation_with};
     ghost use Rattle.ded_sorts.specs.Changes.{Inserts, Deletes};
-    ghost use Rattle.ded_hull.specs.Windows.{AreLent};
+    ghost use Rattle.ded_ranges.specs.Windows.{AreLent};
     ghost use Rattle.ded_packed.specs.Lent.{lent};
     ghost use Rattle.ded_catalog.specs.State.{catalogue_of};
     ghost use Rattle.ded_catalog.specs.Snapshots.{snapshot_of};

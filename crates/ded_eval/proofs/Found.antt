@@ -15,9 +15,9 @@ use Rattle.ded_model.specs.Lines.{Line, tuples_lines}
 use Rattle.ded_model.specs.Catalogue.{Entry, relation, view, Catalogue, entry_name, tuples_of, at_slots, with_entry, meaning_from, stored}
 use Rattle.ded_model.specs.Measure.{Measures, with_measure, measures_from, stored_measures}
 use Rattle.ded_model.specs.Entries.{entry_of, relation_in}
-use Rattle.ded_hull.specs.declared.window.Window.{Window}
-use Rattle.ded_hull.specs.Windows.{IsNear, AreLent}
-use Rattle.ded_hull.proofs.Near.{near_all}
+use Rattle.ded_ranges.specs.declared.window.Window.{Window}
+use Rattle.ded_ranges.specs.Windows.{IsNear, AreLent}
+use Rattle.ded_ranges.proofs.Near.{near_all}
 use Rattle.ded_genrel.proofs.Items.{all_weaker}
 use Rattle.ded_algebra.specs.Evaluation.{AreGiven, HaveSorts, IsScannedFrom, given_tuples}
 

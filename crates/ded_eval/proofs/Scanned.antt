@@ -26,8 +26,8 @@ use Rattle.ded_genrel.specs.Lists.{AreNormal, conjs_hold, conjs_mention, conjs_l
 use Rattle.ded_genrel.specs.Operations.{IsRenaming}
 use Rattle.ded_genrel.proofs.Laws.{conjs_line_slots}
 use Rattle.ded_algebra.specs.Evaluation.{IsEvaluationWithin}
-use Rattle.ded_hull.specs.declared.window.Window.{Window}
-use Rattle.ded_hull.proofs.Near.{near_all, near_holds, near_lines}
+use Rattle.ded_ranges.specs.declared.window.Window.{Window}
+use Rattle.ded_ranges.proofs.Near.{near_all, near_holds, near_lines}
 use Rattle.ded_atoms.specs.Reading.{IsListOf}
 use Rattle.ded_algebra.specs.Columns.{column_pairs}
 use Rattle.ded_eval.specs.Within.{IsWindowOf}

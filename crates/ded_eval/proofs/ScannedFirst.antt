@@ -20,11 +20,11 @@ use Rattle.ded_model.proofs.Rows.{or_left, or_right}
 use Rattle.ded_genrel.specs.Lists.{conjs_hold, conjs_mention, conjs_lines}
 use Rattle.ded_genrel.specs.Operations.{IsRenaming}
 use Rattle.ded_genrel.proofs.Items.{all_weaker}
-use Rattle.ded_hull.specs.declared.window.Window.{Window}
-use Rattle.ded_hull.specs.Windows.{IsNear}
+use Rattle.ded_ranges.specs.declared.window.Window.{Window}
+use Rattle.ded_ranges.specs.Windows.{IsNear}
 use Rattle.ded_packed.specs.declared.lent.Lent.{Lent}
 use Rattle.ded_packed.specs.Lent.{tuple_of, lent}
-use Rattle.ded_hull.proofs.Near.{near_all}
+use Rattle.ded_ranges.proofs.Near.{near_all}
 use Rattle.ded_eval.specs.Finding.{IsFoundIn}
 use Rattle.ded_atoms.specs.Reading.{IsListOf}
 use Rattle.ded_algebra.specs.Columns.{column_pairs}

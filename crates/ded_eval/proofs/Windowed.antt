@@ -13,10 +13,10 @@ use Rattle.ded_model.specs.Constraint.{LinearConstraint}
 use Rattle.ded_model.specs.Point.{slot, Point, number_at, text_at}
 use Rattle.ded_model.specs.Row.{sum_at, row_holds, sign_meets}
 use Rattle.ded_algebra.specs.Evaluation.{HaveSorts}
-use Rattle.ded_hull.specs.declared.limit.Limit.{Limit}
-use Rattle.ded_hull.specs.declared.window.Window.{Window}
-use Rattle.ded_hull.specs.Limits.{sum_of, is_met, are_met}
-use Rattle.ded_hull.specs.Windows.{column_value, column_text, is_text_met, is_within}
+use Rattle.ded_ranges.specs.declared.limit.Limit.{Limit}
+use Rattle.ded_ranges.specs.declared.window.Window.{Window}
+use Rattle.ded_ranges.specs.Limits.{sum_of, is_met, are_met}
+use Rattle.ded_ranges.specs.Windows.{column_value, column_text, is_text_met, is_within}
 use Rattle.ded_eval.specs.Within.{StandsAt, AreTermsOf, IsLimitOf, IsAskedRow, IsAskedText, IsWindowOf}
 use Rattle.ded_algebra.proofs.Columns.{IsRead}
 use Rattle.ded_algebra.proofs.ColumnPoints.{column_point, number_there, text_there, same_number, same_text, overs_one}

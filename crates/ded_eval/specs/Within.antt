@@ -13,8 +13,8 @@ use Rattle.ded_model.specs.Measure.{Measures, plan_atom_lines}
 use Rattle.ded_model.specs.PlanForm.{scan, rows, PlanForm, in_plan_atom}
 use Rattle.ded_theory.specs.Conjunctions.{conj_mentions, conj_lines}
 use Rattle.ded_genrel.specs.Lists.{conjs_hold, conjs_mention, conjs_lines}
-use Rattle.ded_hull.specs.declared.limit.Limit.{Limit}
-use Rattle.ded_hull.specs.declared.window.Window.{Window}
+use Rattle.ded_ranges.specs.declared.limit.Limit.{Limit}
+use Rattle.ded_ranges.specs.declared.window.Window.{Window}
 
 -- ---- columns
 

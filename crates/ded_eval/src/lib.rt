@@ -20,7 +20,7 @@
 //!
 //! It stands on `ded_atoms` for tuples as conjunctions of a theory, on `ded_algebra` for what a plan is evaluated over and what an
 //! evaluation promises, on `ded_join`, `ded_complement` and `ded_genrel` for the operations, on `ded_theory` for the atoms, on
-//! `ded_tuple` and `ded_packed` for normal and stored tuples, on `ded_hull` for windows, and on `ded_index` for the index over boxes.
+//! `ded_tuple` and `ded_packed` for normal and stored tuples, on `ded_ranges` for windows, and on `ded_index` for the index over boxes.
 #![tactic(auto)]
 
 mod across;

@@ -5,12 +5,12 @@ use crate::window::columns_window;
 use ded_algebra::Relations;
 use ded_atoms::OfTuples;
 use ded_genrel::GenRel;
-use ded_hull::Window;
 use ded_model::memory::NoMemory;
 use ded_model::name::Name;
 use ded_model::plan::Plan;
 use ded_model::slot::Slots;
 use ded_packed::Lent;
+use ded_ranges::Window;
 use std::alloc::Global;
 
 /// An index has to pass over three of four tuples.

@@ -10,12 +10,12 @@ ghost use Rattle.ded_atoms.specs.Reading.{atom_of};
 ghost use Rattle.ded_eval.specs.Within.{StandsAt, IsLimitOf, IsWindowOf};
 
 use ded_atoms::{AtomRef, OfTuples};
-use ded_hull::{Limit, Window};
 use ded_model::memory::NoMemory;
 use ded_model::name::Name;
 use ded_model::row::Row;
 use ded_model::slot::{Slot, Sort};
 use ded_model::tuple::ThemeAtom;
+use ded_ranges::{Limit, Window};
 use std::alloc::Global;
 
 /// What the window asks of the columns that are read into the slots.

@@ -8,9 +8,9 @@ use Rattle.ded_model.specs.declared.command.Language.TheVariants.{One}
 use Rattle.ded_model.specs.declared.formula.CompareOp.TheVariants as op
 use Rattle.ded_model.specs.Command.{dump}
 use Rattle.ded_model.specs.Form.{Form}
-use Rattle.ded_syntax.specs.declared.item.Keyword.TheVariants as words
-use Rattle.ded_syntax.specs.Symbols.{Symbol, Word, Name, Plus, Minus, Times, Open, Close, OpenBrace, CloseBrace, Comma, Colon, Define, Relation, is_unused, unused_word, dedale_symbol, dump_symbol, word_symbol, slash_symbol, sign_symbol, symbol}
-use Rattle.ded_syntax.specs.Literals.{Reader, exact}
+use Rattle.ded_terminals.specs.declared.item.Keyword.TheVariants as words
+use Rattle.ded_terminals.specs.Symbols.{Symbol, Word, Name, Plus, Minus, Times, Open, Close, OpenBrace, CloseBrace, Comma, Colon, Define, Relation, is_unused, unused_word, dedale_symbol, dump_symbol, word_symbol, slash_symbol, sign_symbol, symbol}
+use Rattle.ded_terminals.specs.Literals.{Reader, exact}
 use Rattle.ded_syntax.specs.Commands.{Plain, opens, defines, inserts_none, inserts, deletes, drops, keeps, shows, boxes, dumps, certifies, verifies_none, verifies, spell_plain, plain_form, Prefix, views, asks, queries, explains, prefix_form, SpellsCommand}
 use Rattle.ded_syntax.specs.Spelling.{Spells}
 

@@ -7,12 +7,13 @@ use Rattle.std.proofs.lemmas.List.{take-append-drop, take-set, set-get_or, lengt
 use Rattle.ded_num.specs.Length.{length_of}
 use Rattle.ded_num.proofs.Lengths.{within_length}
 use Rattle.ded_model.proofs.Lists.{Every, every-left, every-right}
-use Rattle.ded_hull.specs.declared.limit.Limit.{Limit}
+use Rattle.ded_ranges.specs.declared.limit.Limit.{Limit}
 use Rattle.ded_hull.specs.declared.entry.Entry.{Entry}
 use Rattle.ded_hull.specs.Entries.{ids_in, most_nodes, Hulls, most_steps}
 use Rattle.ded_hull.specs.Segments.{IsSegment, AreSegments}
 use Rattle.ded_hull.specs.Trees.{all_of, AreAlong, IsCost, IsCostOfAll, AreFalling, IsRoomFor}
-use Rattle.ded_hull.proofs.Found.{ids_in-append, taken_more}
+use Rattle.ded_hull.proofs.Found.{ids_in-append}
+use Rattle.ded_ranges.proofs.Taken.{taken_more}
 use Rattle.ded_hull.proofs.Merged.{all_of-append, tree_more}
 
 -- ---- the first of them

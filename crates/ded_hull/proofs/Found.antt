@@ -1,8 +1,7 @@
 -- The numbers of the entries in whose reaches limits may hold, and hulls of lists of entries.
-use Rattle.std.proofs.Common.{◌≡◌, ℕ, zero, suc, ◌+◌, ◌<◌, Bool, true, false, cond, List, [], ◌∷◌, ◌++◌, take, length, get_or, ◌⊎◌, inl, inr, arith, refl, sym, ap, ◌∙◌, subst, add-one, append_assoc, true≢false}
+use Rattle.std.proofs.Common.{◌≡◌, ℕ, zero, suc, ◌+◌, ◌<◌, Bool, true, false, cond, List, [], ◌∷◌, ◌++◌, take, length, get_or, ◌⊎◌, inl, inr, arith, refl, sym, ap, ◌∙◌, subst, append_assoc, true≢false}
 use Rattle.std.specs.Prelude.{ℤ}
 use lib.Dec.{eqb}
-use Rattle.std.proofs.Math.Seq.{take-suc}
 use Rattle.std.proofs.lemmas.Map.Keys.{IsStrictlyIncreasing-dedup}
 use Rattle.std.proofs.lemmas.List.Kept.{Contains-dedup_nat, Contains-from_dedup}
 use Rattle.std.proofs.lemmas.List.Sorted.{Contains-permutation, IsPermutation-sym, All-permutation}
@@ -10,19 +9,17 @@ use Rattle.std.specs.List.{Contains, dedup}
 use Rattle.std.specs.List.Sorted.{IsPermutation, IsSorted, IsStrictlyIncreasing}
 use Rattle.std.specs.Ordering.{nat_cmp}
 use Rattle.ded_model.proofs.Lists.{Every, Some, every-append, some-right, every_all, all_every}
-use Rattle.ded_hull.specs.declared.reach.Range.{Range}
-use Rattle.ded_hull.specs.declared.limit.Limit.{Limit}
+use Rattle.ded_ranges.specs.declared.reach.Range.{Range}
+use Rattle.ded_ranges.specs.declared.limit.Limit.{Limit}
 use Rattle.ded_hull.specs.declared.entry.Entry.{Entry}
-use Rattle.ded_hull.specs.Reaches.{Lies, IsWithin}
-use Rattle.ded_hull.specs.Limits.{are_met, may_hold}
+use Rattle.ded_ranges.specs.Reaches.{Lies, IsWithin}
+use Rattle.ded_ranges.specs.Limits.{are_met, may_hold}
 use Rattle.ded_hull.specs.Entries.{ids_in, IsPassing, AreFound, IsComplete, Covers}
-use Rattle.ded_hull.proofs.Sums.{may_hold_sound, may_hold_wider}
-use Rattle.ded_hull.proofs.Widened.{within_trans}
+use Rattle.ded_ranges.proofs.Sums.{may_hold_sound, may_hold_wider}
+use Rattle.ded_ranges.proofs.Taken.{taken_more}
+use Rattle.ded_ranges.proofs.Widened.{within_trans}
 
 -- ---- one entry more
-
-pub taken_more : {A : Type 0} (xs : List A) (i : ℕ) (d : A) → i < length xs → take (i + 1) xs ≡ take i xs ++ get_or xs i d ∷ []
-taken_more xs i d h = ap (λ k. take k xs) (add-one i) ∙ take-suc xs i d h
 
 pub ids_in-append : (ls : List Limit) (xs ys : List Entry) → ids_in ls (xs ++ ys) ≡ ids_in ls xs ++ ids_in ls ys
 ids_in-append ls [] ys = refl

@@ -11,16 +11,17 @@ use Rattle.std.proofs.lemmas.List.{drop_at}
 use Rattle.std.specs.List.Sorted.{IsPermutation}
 use Rattle.std.proofs.lemmas.List.Sorted.{length_permutation, IsPermutation-sym}
 use Rattle.ded_model.proofs.Lists.{Some as SomeOf, every-append, every-left, every-right, some-left, some-right}
-use Rattle.ded_hull.specs.declared.reach.Range.{Range}
-use Rattle.ded_hull.specs.declared.limit.Limit.{Limit}
+use Rattle.ded_ranges.specs.declared.reach.Range.{Range}
+use Rattle.ded_ranges.specs.declared.limit.Limit.{Limit}
 use Rattle.ded_hull.specs.declared.entry.Entry.{Entry}
 use Rattle.ded_hull.specs.declared.tree.Node.{Node}
-use Rattle.ded_hull.specs.Reaches.{range_at, lower_of, higher_of, joined, hull}
-use Rattle.ded_hull.specs.Limits.{may_hold}
+use Rattle.ded_ranges.specs.Reaches.{range_at, lower_of, higher_of, joined, hull}
+use Rattle.ded_ranges.specs.Limits.{may_hold}
 use Rattle.ded_hull.specs.Entries.{ids_in}
 use Rattle.ded_hull.specs.Segments.{first_range, IsSegment, AreSegments, InOrder, IsHull, IsFirst}
 use Rattle.ded_hull.specs.Trees.{IsLeaf, IsFork, IsHalved, IsBalanced, AreNarrow, HullsJoined, looked_at, AreAlong, IsCost}
-use Rattle.ded_hull.proofs.Found.{ids_in-append, taken_more}
+use Rattle.ded_hull.proofs.Found.{ids_in-append}
+use Rattle.ded_ranges.proofs.Taken.{taken_more}
 use Rattle.ded_hull.proofs.Middles.{floor_at, IsAside, aside_found, one_aside, aside_left, aside_right, every_moved, inorder-left, inorder-right, inorder-before, before_moved}
 
 -- ---- nodes that are passed over

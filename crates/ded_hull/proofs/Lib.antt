@@ -1,14 +1,6 @@
-pub mod Around
-pub mod Columns
-pub mod Ends
 pub mod Falling
 pub mod Found
 pub mod Halved
 pub mod Merged
 pub mod Middles
-pub mod Near
-pub mod Numbers
 pub mod Rooted
-pub mod Sums
-pub mod Terms
-pub mod Widened

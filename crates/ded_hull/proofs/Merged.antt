@@ -4,11 +4,12 @@ use Rattle.std.proofs.Math.Seq.{take-length}
 use Rattle.std.proofs.lemmas.List.{take-set, set-get_or}
 use Rattle.std.specs.List.Sorted.{IsPermutation}
 use Rattle.std.proofs.lemmas.List.Sorted.{IsPermutation-sym, IsPermutation-append_right, IsPermutation-middle}
-use Rattle.ded_hull.specs.declared.limit.Limit.{Limit}
+use Rattle.ded_ranges.specs.declared.limit.Limit.{Limit}
 use Rattle.ded_hull.specs.declared.entry.Entry.{Entry}
 use Rattle.ded_hull.specs.Entries.{ids_in}
 use Rattle.ded_hull.specs.Trees.{all_of}
-use Rattle.ded_hull.proofs.Found.{ids_in-append, taken_more}
+use Rattle.ded_hull.proofs.Found.{ids_in-append}
+use Rattle.ded_ranges.proofs.Taken.{taken_more}
 
 pub all_of-append : (ts us : List (List Entry)) → all_of (ts ++ us) ≡ all_of ts ++ all_of us
 all_of-append [] us = refl

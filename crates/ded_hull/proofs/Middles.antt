@@ -10,18 +10,18 @@ use Rattle.std.proofs.lemmas.List.Sorted.{All-permutation, sorted_far}
 use Rattle.ded_model.specs.declared.row.RowOp.{RowOp}
 use Rattle.ded_model.specs.declared.row.RowOp.TheVariants.{Zero, AtMost, Below}
 use Rattle.ded_model.proofs.Lists.{Every, Some as SomeOf, every_all, all_every, every-left, every-right}
-use Rattle.ded_hull.specs.declared.reach.Range.{Range}
-use Rattle.ded_hull.specs.declared.limit.Limit.{Limit}
+use Rattle.ded_ranges.specs.declared.reach.Range.{Range}
+use Rattle.ded_ranges.specs.declared.limit.Limit.{Limit}
 use Rattle.ded_hull.specs.declared.entry.Entry.{Entry}
-use Rattle.ded_hull.specs.Codes.{fine, is_up_to}
-use Rattle.ded_hull.specs.Reaches.{range_at, everywhere, Lies, NotAbove, NotBelow, IsPart, IsWithin}
-use Rattle.ded_hull.specs.Limits.{Term, kept, plus, times, least_end, turned, least_of, at_most_zero, below_zero, may_stand, may_meet, may_hold}
+use Rattle.ded_ranges.specs.Codes.{fine, is_up_to}
+use Rattle.ded_ranges.specs.Reaches.{range_at, everywhere, Lies, NotAbove, NotBelow, IsPart, IsWithin}
+use Rattle.ded_ranges.specs.Limits.{Term, kept, plus, times, least_end, turned, least_of, at_most_zero, below_zero, may_stand, may_meet, may_hold}
 use Rattle.ded_hull.specs.Entries.{ids_in}
-use Rattle.ded_hull.specs.Scaling.{of_le_true, le_self, commute, quotient_up_to, quotient_next}
+use Rattle.ded_ranges.specs.Scaling.{of_le_true, le_self, commute, quotient_up_to, quotient_next}
 use Rattle.ded_hull.specs.Segments.{first_range, IsSegment, AreSegments, middle_between, middle, middle_order, NotLater, InOrder, AreBefore, IsHull}
 use Rattle.ded_hull.specs.Trees.{AreAlong}
-use Rattle.ded_hull.proofs.Ends.{part_self}
-use Rattle.ded_hull.proofs.Sums.{and_both, and_first, and_second, may_hold_sound, may_hold_wider}
+use Rattle.ded_ranges.proofs.Ends.{part_self}
+use Rattle.ded_ranges.proofs.Sums.{and_both, and_first, and_second, may_hold_sound, may_hold_wider}
 
 -- ---- limits of one term: what they let through is told at one end
 

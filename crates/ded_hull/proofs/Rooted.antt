@@ -8,12 +8,12 @@ use Rattle.std.specs.Option.{unwrap_or}
 use Rattle.std.specs.List.Sorted.{IsPermutation}
 use Rattle.std.proofs.lemmas.List.Sorted.{IsPermutation-trans, IsPermutation-append_left, IsPermutation-append_right}
 use Rattle.ded_model.proofs.Lists.{every-append}
-use Rattle.ded_hull.specs.declared.reach.Range.{Range}
-use Rattle.ded_hull.specs.declared.limit.Limit.{Limit}
+use Rattle.ded_ranges.specs.declared.reach.Range.{Range}
+use Rattle.ded_ranges.specs.declared.limit.Limit.{Limit}
 use Rattle.ded_hull.specs.declared.entry.Entry.{Entry}
 use Rattle.ded_hull.specs.declared.tree.Node.{Node}
-use Rattle.ded_hull.specs.Reaches.{IsWithin}
-use Rattle.ded_hull.specs.Limits.{may_hold}
+use Rattle.ded_ranges.specs.Reaches.{IsWithin}
+use Rattle.ded_ranges.specs.Limits.{may_hold}
 use Rattle.ded_hull.specs.Entries.{ids_in, Covers}
 use Rattle.ded_hull.specs.Trees.{owns, owned, IsRoot, IsTree, IsOver, AreNarrow, looked_at, IsStep}
 use Rattle.ded_hull.proofs.Found.{ids_in-append, covers_wider, nothing_found}

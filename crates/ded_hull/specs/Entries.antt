@@ -7,11 +7,11 @@ use Rattle.std.specs.Map.{lookup}
 use Rattle.std.specs.Ordering.{nat_cmp}
 use Rattle.ded_num.specs.Length.{length_of}
 use Rattle.ded_model.proofs.Lists.{Every, Some}
-use Rattle.ded_hull.specs.declared.reach.Range.{Range}
-use Rattle.ded_hull.specs.declared.limit.Limit.{Limit}
+use Rattle.ded_ranges.specs.declared.reach.Range.{Range}
+use Rattle.ded_ranges.specs.declared.limit.Limit.{Limit}
 use Rattle.ded_hull.specs.declared.entry.Entry.{Entry}
-use Rattle.ded_hull.specs.Reaches.{Lies, IsWithin}
-use Rattle.ded_hull.specs.Limits.{are_met, may_hold}
+use Rattle.ded_ranges.specs.Reaches.{Lies, IsWithin}
+use Rattle.ded_ranges.specs.Limits.{are_met, may_hold}
 
 -- the numbers of the entries in whose reaches the limits may hold, in order
 abbrev pub ids_in : List Limit → List Entry → List ℕ

@@ -1,11 +1,3 @@
-pub mod Boxes
-pub mod Codes
-pub mod Coding
 pub mod Entries
-pub mod Limits
-pub mod Reaches
-pub mod Scaling
 pub mod Segments
 pub mod Trees
-pub mod Tuples
-pub mod Windows

@@ -3,10 +3,10 @@ use Rattle.std.specs.Prelude.{◌≡◌, ◌+ℤ◌, ◌≤ℤ◌, ℕ, ℤ, pos
 use Rattle.std.specs.declared.cmp.Ordering.{Ordering}
 use Rattle.std.specs.Ordering.{int_cmp}
 use Rattle.ded_model.proofs.Lists.{Every, Some as SomeOf}
-use Rattle.ded_hull.specs.declared.reach.Range.{Range}
+use Rattle.ded_ranges.specs.declared.reach.Range.{Range}
 use Rattle.ded_hull.specs.declared.entry.Entry.{Entry}
-use Rattle.ded_hull.specs.Codes.{is_up_to}
-use Rattle.ded_hull.specs.Reaches.{range_at}
+use Rattle.ded_ranges.specs.Codes.{is_up_to}
+use Rattle.ded_ranges.specs.Reaches.{range_at}
 
 -- the first range of an entry
 abbrev pub first_range : Entry → Range
@@ -20,10 +20,6 @@ pub record IsSegment (e : Entry) : Type 0 where
 -- each entry is a segment
 abbrev pub AreSegments : List Entry → Type 0
 AreSegments es = Every IsSegment es
-
--- no range ends before it begins
-abbrev pub AreOrdered : List Range → Type 0
-AreOrdered rs = Every (λ r. is_up_to r.low r.high ≡ true) rs
 
 -- ---- middles
 

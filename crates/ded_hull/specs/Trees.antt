@@ -1,13 +1,13 @@
 -- Trees in lists: behind each node stand those below it, and the entries under a node stand side by side.
 use Rattle.std.specs.Prelude.{◌≡◌, ◌<◌, ◌≤◌, ◌+◌, ◌*◌, ◌^◌, ◌⊎◌, ℕ, zero, suc, ℤ, true, List, [], ◌∷◌, ◌++◌, take, drop, length, if◌then◌else◌}
 use Rattle.ded_model.proofs.Lists.{flat, Every}
-use Rattle.ded_hull.specs.declared.reach.Range.{Range}
-use Rattle.ded_hull.specs.declared.limit.Limit.{Limit}
+use Rattle.ded_ranges.specs.declared.reach.Range.{Range}
+use Rattle.ded_ranges.specs.declared.limit.Limit.{Limit}
 use Rattle.ded_hull.specs.declared.entry.Entry.{Entry}
 use Rattle.ded_hull.specs.declared.tree.Node.{Node}
 use Rattle.ded_hull.specs.Entries.{ids_in, Covers}
-use Rattle.ded_hull.specs.Reaches.{hull}
-use Rattle.ded_hull.specs.Limits.{are_met, may_hold}
+use Rattle.ded_ranges.specs.Reaches.{hull}
+use Rattle.ded_ranges.specs.Limits.{are_met, may_hold}
 use Rattle.ded_hull.specs.Segments.{AreSegments, AreBefore, IsHull}
 
 -- how many entries a node has for its own: all of its count where no nodes are below it, else none

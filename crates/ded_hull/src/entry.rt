@@ -5,10 +5,9 @@ ghost use Rattle.ded_hull.specs.declared.entry.Entry.{Entry};
 ghost use Rattle.ded_hull.specs.Entries.{ids_in, of_keys, Covers};
 ghost use Rattle.ded_hull.specs.Segments.{middle, middle_order, AreSegments, InOrder, IsHull, IsFirst};
 
-use crate::probe::Probe;
-use crate::reach::{Range, Reach};
 use ded_model::memory::NoMemory;
 use ded_model::steps::Steps;
+use ded_ranges::{Probe, Range, Reach};
 use std::alloc::Global;
 use std::cmp::Ordering;
 use std::collections::BTreeMap;

@@ -9,19 +9,19 @@ ghost use Rattle.ded_hull.specs.Segments.{AreSegments};
 ghost use Rattle.ded_hull.specs.Trees.{all_of, AreAlong, AreFalling, IsRoomFor, IsCostOfAll};
 
 use crate::entry::{Entry, copy_all, keep_present, push_passing};
-use crate::limit::Limit;
-use crate::probe::Probe;
-use crate::reach::Reach;
 use crate::tree::Tree;
 use ded_model::memory::NoMemory;
 use ded_model::steps::Steps;
+use ded_ranges::{Limit, Probe, Reach};
 use std::alloc::Global;
 use std::collections::BTreeMap;
 use std::marker::Model;
 use std::sync::ledger::Ledger;
 
-/// How many new entries stand beside the trees before they become one.
-const FEW: usize = 32;
+/// With how many new entries the list beside the trees is full, and a tree is made of it. A look-up asks each entry of the list by itself,
+/// so a longer one makes look-ups slower; a shorter one makes trees more often, so that entries move more often. It is the number of which
+/// [`Hulls::insert`] promises that no more stand in no tree.
+const FULL_LIST: usize = 32;
 
 /// Reaches under numbers. Contracts see the list of the entries, and how many of them stand in no tree.
 ///
@@ -191,7 +191,7 @@ fn settle(trees: &mut Vec<Tree>, tail: &mut Vec<Entry>) -> Result<(), NoMemory>
     ensures room { OnOk result (length tail.new.items < 32) }
     ensures falling { AreFalling trees.old.items → AreFalling trees.new.items }
 {
-    if tail.len() < FEW {
+    if tail.len() < FULL_LIST {
         return Ok(());
     }
     let keep = kept(trees, tail.len());

@@ -17,10 +17,9 @@ ghost use Rattle.ded_hull.specs.Segments.{AreSegments, InOrder};
 ghost use Rattle.ded_hull.specs.Trees.{IsTree, IsOver, IsHalved, AreNarrow, HullsJoined, IsStep, IsCost, looked_at};
 
 use crate::entry::{Entry, arrange, copy_all, hull_of, push_passing};
-use crate::probe::Probe;
-use crate::reach::Reach;
 use ded_model::memory::NoMemory;
 use ded_model::steps::Steps;
+use ded_ranges::{Probe, Reach};
 use std::alloc::Global;
 use std::marker::Model;
 use std::mem;

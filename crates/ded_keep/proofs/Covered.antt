@@ -12,7 +12,7 @@ use Rattle.ded_model.proofs.Bools.{or_known, or_assoc}
 use Rattle.ded_model.proofs.Members.{In-left, or_split, subset_append, subset_refl}
 use Rattle.ded_model.proofs.Points.{and_right}
 use Rattle.ded_model.proofs.Rows.{or_left, or_right}
-use Rattle.ded_hull.proofs.Found.{taken_more}
+use Rattle.ded_ranges.proofs.Taken.{taken_more}
 use Rattle.ded_keep.specs.Behind.{IsPartOf, IsCovered, IsPutBehind}
 use Rattle.ded_keep.proofs.Appended.{tuples_hold-append, tuples_mention-append, tuples_lines-append}
 

@@ -10,12 +10,12 @@ ghost use Rattle.ded_algebra.specs.Evaluation.{IsAnyAtom, IsEvaluable, IsEvaluat
 ghost use Rattle.ded_keep.specs.Adding.{with_alone};
 
 use ded_algebra::{Evaluate, Relations};
-use ded_hull::Window;
 use ded_model::memory::{NoMemory, Refused};
 use ded_model::name::{Heading, Name};
 use ded_model::plan::Plan;
 use ded_model::tuple::{Tuple, Tuples};
 use ded_packed::{Lent, lend};
+use ded_ranges::Window;
 use std::alloc::Global;
 
 /// The tuples alone under the name, which the other relations don't give, and these as they are.

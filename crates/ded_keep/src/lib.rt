@@ -9,7 +9,7 @@
 //! tuples, exactly where it did or where it does for these alone. All other names that it scans have to mean the same, among them the
 //! closure and the interior of the name, to which an insert does more than add.
 //!
-//! It stands on `ded_algebra` for what evaluates plans, on `ded_hull` for windows of tuples, and on `ded_views` for plans over catalogues
+//! It stands on `ded_algebra` for what evaluates plans, on `ded_ranges` for windows of tuples, and on `ded_views` for plans over catalogues
 //! that agree. What evaluates is a type that the caller names.
 #![tactic(auto)]
 

@@ -15,12 +15,12 @@ use Rattle.ded_polygon.proofs.RowPlanes.{in_either}
 use Rattle.ded_strokes.specs.Strokes.{between}
 use Rattle.ded_strokes.specs.Cuts.{LiesBetween}
 use Rattle.ded_strokes.proofs.Between.{level_is, between_positive}
-use Rattle.ded_hull.specs.declared.reach.Range.{Range}
-use Rattle.ded_hull.specs.declared.limit.Limit.{Limit as Bound}
-use Rattle.ded_hull.specs.Codes.{fine}
-use Rattle.ded_hull.specs.Reaches.{IsAbove, IsBelow, IsIn, Lies, range_at, IsWithin}
-use Rattle.ded_hull.specs.Limits.{are_met}
-use Rattle.ded_hull.proofs.Ends.{above_lower, below_higher}
+use Rattle.ded_ranges.specs.declared.reach.Range.{Range}
+use Rattle.ded_ranges.specs.declared.limit.Limit.{Limit as Bound}
+use Rattle.ded_ranges.specs.Codes.{fine}
+use Rattle.ded_ranges.specs.Reaches.{IsAbove, IsBelow, IsIn, Lies, range_at, IsWithin}
+use Rattle.ded_ranges.specs.Limits.{are_met}
+use Rattle.ded_ranges.proofs.Ends.{above_lower, below_higher}
 use Rattle.ded_layers.specs.Indexed.{coordinates, LieIn, MeetBetween}
 
 above_pos : (n : ℕ) → 0 < n → pos 0 <ℤ pos n

@@ -10,7 +10,7 @@ use Rattle.ded_polygon.specs.Plane.{In}
 use Rattle.ded_polygon.specs.Windows.{Frame}
 use Rattle.ded_polygon.proofs.Places.{place_in, in_read}
 use Rattle.ded_strokes.specs.Bounds.{Limit}
-use Rattle.ded_hull.specs.declared.reach.Range.{Range}
+use Rattle.ded_ranges.specs.declared.reach.Range.{Range}
 use Rattle.ded_hull.specs.declared.entry.Entry.{Entry}
 use Rattle.ded_layers.specs.declared.part.Part.{Part}
 use Rattle.ded_layers.specs.Layers.{pieces_of}

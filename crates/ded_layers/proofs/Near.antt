@@ -13,10 +13,10 @@ use Rattle.ded_polygon.proofs.Places.{in_at, place_in, in_read}
 use Rattle.ded_polygon.proofs.RowPlanes.{in_left, in_right, in_either}
 use Rattle.ded_strokes.specs.Bounds.{Limit}
 use Rattle.ded_strokes.specs.Stretches.{is_idle, IsIdle}
-use Rattle.ded_hull.specs.declared.reach.Range.{Range}
-use Rattle.ded_hull.specs.declared.limit.Limit.{Limit as Bound}
+use Rattle.ded_ranges.specs.declared.reach.Range.{Range}
+use Rattle.ded_ranges.specs.declared.limit.Limit.{Limit as Bound}
 use Rattle.ded_hull.specs.declared.entry.Entry.{Entry}
-use Rattle.ded_hull.specs.Reaches.{Lies}
+use Rattle.ded_ranges.specs.Reaches.{Lies}
 use Rattle.ded_hull.specs.Entries.{IsComplete}
 use Rattle.ded_layers.specs.declared.part.Part.{Part}
 use Rattle.ded_layers.specs.Layers.{pieces_of, AreCornersWithin, AreAllEnough}

@@ -11,11 +11,11 @@ use Rattle.ded_polygon.specs.Windows.{Frame, window_planes}
 use Rattle.ded_strokes.specs.Bounds.{Limit}
 use Rattle.ded_strokes.specs.Cuts.{LiesBetween}
 use Rattle.ded_strokes.specs.Stretches.{is_idle}
-use Rattle.ded_hull.specs.declared.reach.Range.{Range}
-use Rattle.ded_hull.specs.declared.limit.Limit.{Limit as Bound}
+use Rattle.ded_ranges.specs.declared.reach.Range.{Range}
+use Rattle.ded_ranges.specs.declared.limit.Limit.{Limit as Bound}
 use Rattle.ded_hull.specs.declared.entry.Entry.{Entry}
-use Rattle.ded_hull.specs.Reaches.{Lies}
-use Rattle.ded_hull.specs.Limits.{are_met}
+use Rattle.ded_ranges.specs.Reaches.{Lies}
+use Rattle.ded_ranges.specs.Limits.{are_met}
 use Rattle.ded_layers.specs.declared.part.Part.{Part}
 use Rattle.ded_layers.specs.Layers.{pieces_of}
 

@@ -7,10 +7,11 @@ ghost use Rattle.ded_layers.specs.Indexed.{IsIndex, piece_at, pieces_at};
 
 use crate::part::Part;
 use crate::query::query;
-use ded_hull::{Hulls, Limit};
+use ded_hull::Hulls;
 use ded_model::memory::NoMemory;
 use ded_model::steps::Steps;
 use ded_polygon::Corner;
+use ded_ranges::Limit;
 use ded_strokes::Piece;
 use std::alloc::Global;
 use std::marker::Brand;

@@ -1,7 +1,7 @@
 //! The index of the parts, by ranges in which their points within the window lie.
 ghost use Rattle.std.specs.Prelude.{◌≡◌, ◌++◌, pos, ◌<ℤ◌, unsigned_abs, IfOk, OnOk};
 ghost use Rattle.ded_polygon.specs.Plane.{Spot};
-ghost use Rattle.ded_hull.specs.Reaches.{IsAbove, IsBelow};
+ghost use Rattle.ded_ranges.specs.Reaches.{IsAbove, IsBelow};
 ghost use Rattle.ded_polygon.specs.Windows.{window_planes};
 ghost use Rattle.ded_strokes.specs.Bounds.{closed_limits};
 ghost use Rattle.ded_layers.specs.Indexed.{IsIndex, IsReachOf, closed, closed_of, LiesInAll};
@@ -9,10 +9,11 @@ ghost use Rattle.ded_layers.specs.Indexed.{IsIndex, IsReachOf, closed, closed_of
 use crate::part::Part;
 use crate::query::{ceil_at, floor_at, x_of, y_of};
 use crate::support::support;
-use ded_hull::{End, Hulls, Range, Reach};
+use ded_hull::Hulls;
 use ded_model::memory::NoMemory;
 use ded_model::row::RowOp;
 use ded_polygon::{Corner, Window};
+use ded_ranges::{End, Range, Reach};
 use ded_strokes::{Limit, Piece, window_limits};
 use std::alloc::Global;
 

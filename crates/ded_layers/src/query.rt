@@ -1,14 +1,14 @@
 //! Limits that all points between the corners of a part meet.
 ghost use Rattle.std.specs.Prelude.{◌≡◌, ◌≤ℤ◌, ◌+ℤ◌, ◌*ℤ◌, ℕ, ℤ, pos, ◌<ℤ◌, true, unsigned_abs, IfOk, OnOk};
-ghost use Rattle.ded_hull.specs.Reaches.{IsAbove, IsBelow, Lies, IsIn};
-ghost use Rattle.ded_hull.specs.Limits.{are_met};
+ghost use Rattle.ded_ranges.specs.Reaches.{IsAbove, IsBelow, Lies, IsIn};
+ghost use Rattle.ded_ranges.specs.Limits.{are_met};
 ghost use Rattle.ded_layers.specs.Indexed.{coordinates, MeetBetween, LieIn};
 
-use ded_hull::{End, Limit, Range, Reach, ceil_of, floor_of};
 use ded_model::bound::{Bound, Frac};
 use ded_model::memory::NoMemory;
 use ded_model::row::RowOp;
 use ded_polygon::Corner;
+use ded_ranges::{End, Limit, Range, Reach, ceil_of, floor_of};
 use std::alloc::Global;
 
 /// How many units of ends of ranges are 1.

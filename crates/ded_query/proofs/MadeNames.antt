@@ -28,9 +28,9 @@ use Rattle.ded_algebra.specs.Evaluation.{given_tuples}
 use Rattle.ded_algebra.specs.declared.given.GivenRelation.{GivenRelation}
 use Rattle.ded_algebra.specs.Given.{given_catalogue, given_entry, has_name}
 use Rattle.ded_algebra.proofs.Names.{tuples-unnumbered}
-use Rattle.ded_hull.specs.declared.window.Window.{Window}
-use Rattle.ded_hull.specs.Limits.{are_met}
-use Rattle.ded_hull.specs.Windows.{column_value, is_text_met, is_within, IsMissed, IsNear, AreLent}
+use Rattle.ded_ranges.specs.declared.window.Window.{Window}
+use Rattle.ded_ranges.specs.Limits.{are_met}
+use Rattle.ded_ranges.specs.Windows.{column_value, is_text_met, is_within, IsMissed, IsNear, AreLent}
 use Rattle.ded_query.specs.Gathering.{IsGivenOf}
 use Rattle.ded_query.specs.Made.{IsStanding, HoldsNear, IsMadeBy, IsTooWide}
 use Rattle.ded_query.proofs.GivenNames.{found_of}

@@ -17,7 +17,7 @@
 //!
 //! It stands on `ded_goals` for the goals of formulas, on `ded_plan` for plans and their scans, on `ded_algebra` for what they are
 //! evaluated over and by, on `ded_topology` for closures and interiors, on `ded_atoms` for reduced tuples, on `ded_theory` and
-//! `ded_tuple` for tuples over other slots, on `ded_catalog` for what names stand for, on `ded_hull` for windows of tuples, and on
+//! `ded_tuple` for tuples over other slots, on `ded_catalog` for what names stand for, on `ded_ranges` for windows of tuples, and on
 //! `ded_views` for what views mean. What evaluates is a type that the caller names.
 #![tactic(auto)]
 

@@ -15,11 +15,11 @@ ghost use Rattle.ded_query.specs.Over.{over_relations};
 use crate::over::Over;
 use ded_algebra::{Given, GivenRelation, Relations};
 use ded_catalog::Snapshot;
-use ded_hull::Window;
 use ded_model::memory::{NoMemory, Refused};
 use ded_model::name::Name;
 use ded_model::tuple::{Tuple, Tuples};
 use ded_packed::Lent;
+use ded_ranges::Window;
 use ded_topology::{closed_tuples, inner_tuples, laws};
 use std::alloc::Global;
 

@@ -3,10 +3,10 @@ ghost use Rattle.std.specs.Prelude.{◌≡◌};
 
 use ded_algebra::{Given, Relations};
 use ded_catalog::Snapshot;
-use ded_hull::Window;
 use ded_model::memory::NoMemory;
 use ded_model::name::Name;
 use ded_packed::Lent;
+use ded_ranges::Window;
 use std::alloc::Global;
 
 /// What is given, and the relations of a catalogue under all other names but the hidden one. Nothing is copied.

@@ -9,7 +9,7 @@ use Rattle.ded_model.specs.declared.certificate.Proof.{Proof}
 use Rattle.ded_model.specs.declared.certificate.Proof.TheVariants.{Text, Multipliers}
 use Rattle.ded_print.specs.Certificates.{multipliers_text, proof_text, entry_line}
 use Rattle.ded_print.specs.Numbers.{number_text, integer_text}
-use Rattle.ded_syntax.specs.Symbols.{Number, Minus, Colon}
+use Rattle.ded_terminals.specs.Symbols.{Number, Minus, Colon}
 use Rattle.ded_syntax.specs.Certificates.{spell_integer, spell_integers, spell_proof, spell_entry}
 use Rattle.ded_cert.specs.Certified.{magnitudes, HasSmallSum}
 use Rattle.ded_wording.proofs.Digits.{number_worded, number_begins}

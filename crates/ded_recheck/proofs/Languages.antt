@@ -9,10 +9,10 @@ use Rattle.ded_model.specs.declared.certificate.Entry.{Entry}
 use Rattle.ded_model.specs.declared.command.Language.{Language}
 use Rattle.ded_model.specs.declared.command.Language.TheVariants.{Opening, One, Two}
 use Rattle.ded_model.specs.declared.formula.CompareOp.TheVariants as op
-use Rattle.ded_syntax.specs.declared.item.Keyword.{Keyword}
-use Rattle.ded_syntax.specs.declared.item.Keyword.TheVariants as words
-use Rattle.ded_syntax.specs.Symbols.{Symbol, Word, Name, Decimal, Plus, Minus, Times, Slash, CloseBrace, Relation, formula_word, command_word, unused_word, dedale_symbol, dump_symbol, language_word, word_symbol, sum_sign, other_sign, slash_symbol, symbol}
-use Rattle.ded_syntax.specs.Atoms.{spell_rest}
+use Rattle.ded_terminals.specs.declared.item.Keyword.{Keyword}
+use Rattle.ded_terminals.specs.declared.item.Keyword.TheVariants as words
+use Rattle.ded_terminals.specs.Symbols.{Symbol, Word, Name, Decimal, Plus, Minus, Times, Slash, CloseBrace, Relation, formula_word, command_word, unused_word, dedale_symbol, dump_symbol, language_word, word_symbol, sum_sign, other_sign, slash_symbol, symbol}
+use Rattle.ded_terminals.specs.Atoms.{spell_rest}
 use Rattle.ded_syntax.specs.Certificates.{Integer, spell_integers, ProofTree, by_text, by_rows, spell_proof, EntryTree, spell_entry}
 use Rattle.ded_syntax.specs.Commands.{spell_plain}
 use Rattle.ded_syntax.specs.Spelling.{is_long_number}

@@ -6,8 +6,8 @@ use Rattle.ded_model.specs.declared.command.Language.{Language}
 use Rattle.ded_model.specs.declared.command.Refusal.TheVariants.{LongName}
 use Rattle.ded_model.specs.Command.{CommandForm, disjoint}
 use Rattle.ded_model.specs.Form.{Form}
-use Rattle.ded_syntax.specs.Symbols.{Symbol, symbol}
-use Rattle.ded_syntax.specs.Literals.{Reader, exact}
+use Rattle.ded_terminals.specs.Symbols.{Symbol, symbol}
+use Rattle.ded_terminals.specs.Literals.{Reader, exact}
 use Rattle.ded_syntax.specs.Commands.{Plain, opens, defines, inserts_none, inserts, deletes, drops, keeps, shows, boxes, dumps, certifies, verifies_none, verifies, spell_plain, plain_form, Prefix, views, asks, queries, explains, prefix_form, SpellsCommand}
 use Rattle.ded_syntax.specs.Spelling.{Spells, AppliesIn, is_long_word}
 use Rattle.ded_wording.specs.Words.{IsName}

@@ -8,8 +8,8 @@ use Rattle.ded_model.specs.declared.certificate.Entry.{Entry}
 use Rattle.ded_model.specs.declared.command.Language.{Language}
 use Rattle.ded_model.specs.Command.{verify}
 use Rattle.ded_print.specs.Certificates.{entry_line}
-use Rattle.ded_syntax.specs.Symbols.{Symbol}
-use Rattle.ded_syntax.specs.Literals.{Reader, exact, marked}
+use Rattle.ded_terminals.specs.Symbols.{Symbol}
+use Rattle.ded_terminals.specs.Literals.{Reader, exact, marked}
 use Rattle.ded_syntax.specs.Commands.{spell_plain, SpellsCommand}
 use Rattle.ded_syntax.specs.Spelling.{IsRead}
 use Rattle.ded_wording.specs.Words.{IsName}

@@ -4,9 +4,9 @@ use Rattle.std.specs.Prelude.{codes}
 use Rattle.std.specs.List.{AllByRecursion}
 use Rattle.ded_model.specs.declared.certificate.Entry.{Entry}
 use Rattle.ded_print.specs.Certificates.{entry_line}
-use Rattle.ded_syntax.specs.declared.item.Keyword.TheVariants as words
-use Rattle.ded_syntax.specs.Symbols.{Symbol, Word, Name, OpenBrace, CloseBrace, Comma}
-use Rattle.ded_syntax.specs.Atoms.{spell_rest}
+use Rattle.ded_terminals.specs.declared.item.Keyword.TheVariants as words
+use Rattle.ded_terminals.specs.Symbols.{Symbol, Word, Name, OpenBrace, CloseBrace, Comma}
+use Rattle.ded_terminals.specs.Atoms.{spell_rest}
 use Rattle.ded_syntax.specs.Certificates.{spell_entry}
 use Rattle.ded_syntax.specs.Commands.{spell_plain}
 use Rattle.ded_wording.specs.Words.{IsName}

@@ -6,9 +6,9 @@ use Rattle.ded_model.specs.declared.certificate.Proof.{Proof}
 use Rattle.ded_model.specs.declared.certificate.Proof.TheVariants.{Text, Multipliers}
 use Rattle.ded_model.specs.Command.{verify}
 use Rattle.ded_print.specs.Numbers.{number_text}
-use Rattle.ded_syntax.specs.Symbols.{number_of}
-use Rattle.ded_syntax.specs.Literals.{Reader}
-use Rattle.ded_syntax.specs.Operands.{signed}
+use Rattle.ded_terminals.specs.Symbols.{number_of}
+use Rattle.ded_terminals.specs.Literals.{Reader}
+use Rattle.ded_terminals.specs.Operands.{signed}
 use Rattle.ded_syntax.specs.Certificates.{Integer, integer_of, ProofTree, by_text, by_rows, proof_of, EntryTree, entry_of}
 use Rattle.ded_syntax.specs.Commands.{Plain, verifies_none, verifies, plain_form}
 use Rattle.ded_wording.proofs.Digits.{number_back}

@@ -26,7 +26,7 @@ use Rattle.ded_sorts.specs.Causes.{is_relation_with, is_view_with}
 use Rattle.ded_sorts.specs.Checks.{HasNoCause, forms_of}
 use Rattle.ded_resolve.specs.Resolved.{IsResolved}
 use Rattle.ded_model.specs.Entries.{known, tuples_in, columns_in, entry_uses}
-use Rattle.ded_syntax.proofs.MemberNames.{unmade_word}
+use Rattle.ded_terminals.proofs.MemberNames.{unmade_word}
 use Rattle.ded_session.specs.Carrying.{IsReady, Carries}
 use Rattle.ded_session.specs.PlainNames.{NamesPlainly}
 use Rattle.ded_session.specs.Replies.{ReplyForm}

@@ -34,7 +34,7 @@ use Rattle.ded_sorts.specs.Changes.{AddsEntry, DropsEntry, Inserts, Deletes}
 use Rattle.ded_sorts.specs.Checks.{HasNoCause, forms_of}
 use Rattle.ded_sorts.proofs.KnownEntries.{columns_there}
 use Rattle.ded_syntax.specs.Spelling.{IsRead}
-use Rattle.ded_syntax.proofs.MemberNames.{unmade_word}
+use Rattle.ded_terminals.proofs.MemberNames.{unmade_word}
 use Rattle.ded_views.proofs.Changing.{entry_there}
 use Rattle.ded_views.proofs.Placing.{none_known, known-is}
 use Rattle.ded_wording.proofs.WordsRead.{inserts_good}

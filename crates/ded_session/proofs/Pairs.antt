@@ -30,7 +30,7 @@ use Rattle.ded_model.specs.Row.{Atom, tuples_hold}
 use Rattle.ded_model.specs.Width.{rational_columns}
 use Rattle.ded_model.proofs.Members.{or_split}
 use Rattle.ded_plan.specs.Plans.{IsScanOf}
-use Rattle.ded_syntax.specs.MemberNames.{IsMemberName}
+use Rattle.ded_terminals.specs.MemberNames.{IsMemberName}
 use Rattle.ded_syntax.proofs.One.{one_command}
 use Rattle.ded_session.specs.Pairs.{FitsHeading, IsSlotKey, IsPlainScan, IsPlainPlan, ArePlainPlans, SpeaksPlainly, AreOfOneBox, AreOfOne}
 use Rattle.ded_session.specs.PlainNames.{ArePlainColumns, HasPlainNames, IsPlainUse, UsesPlainNames, NamesPlainly}

@@ -17,16 +17,16 @@ use Rattle.ded_model.specs.Command.{CommandForm}
 use Rattle.ded_model.specs.Form.{Form}
 use Rattle.ded_grammar.specs.Trees.{TerminalForm, nay, conjunct, disjunct, arrow, opening, closing, binder, leaf}
 use Rattle.ded_grammar.proofs.Carried.{TerminalHas, TerminalsHave, spelled_has}
-use Rattle.ded_syntax.specs.declared.item.Keyword.{Keyword}
-use Rattle.ded_syntax.specs.declared.item.Keyword.TheVariants as words
-use Rattle.ded_syntax.specs.Symbols.{Symbol, Word, Name, Plus, Minus, Times, Open, Close, OpenBrace, CloseBrace, Comma, Colon, Define, Relation, formula_word, command_word, is_unused, unused_word, dedale_symbol, dump_symbol, language_word, word_symbol, sum_sign, other_sign, slash_symbol, decimal_symbol, symbol}
-use Rattle.ded_syntax.specs.Literals.{Reader, exact}
-use Rattle.ded_syntax.specs.Atoms.{spell_rest, Named, plain, closed, inner, spell_named, Atom, truth, relates, belongs, spell_atom, atom_form, spell_column, sort_symbols, IsTerminal, AreTerminals, SpellsFormula}
+use Rattle.ded_terminals.specs.declared.item.Keyword.{Keyword}
+use Rattle.ded_terminals.specs.declared.item.Keyword.TheVariants as words
+use Rattle.ded_terminals.specs.Symbols.{Symbol, Word, Name, Plus, Minus, Times, Open, Close, OpenBrace, CloseBrace, Comma, Colon, Define, Relation, formula_word, command_word, is_unused, unused_word, dedale_symbol, dump_symbol, language_word, word_symbol, sum_sign, other_sign, slash_symbol, decimal_symbol, symbol}
+use Rattle.ded_terminals.specs.Literals.{Reader, exact}
+use Rattle.ded_terminals.specs.Atoms.{spell_rest, Named, plain, closed, inner, spell_named, Atom, truth, relates, belongs, spell_atom, atom_form, spell_column, sort_symbols, IsTerminal, AreTerminals, SpellsFormula}
 use Rattle.ded_syntax.specs.Commands.{Columns, spell_heading, heading, Plain, opens, defines, inserts_none, inserts, deletes, drops, keeps, shows, boxes, dumps, certifies, verifies_none, verifies, spell_plain, plain_form, Prefix, views, asks, queries, explains, spell_prefix, prefix_form, SpellsCommand}
-use Rattle.ded_syntax.specs.MemberNames.{IsWordName, word_of}
-use Rattle.ded_syntax.specs.Operands.{spell_side}
+use Rattle.ded_terminals.specs.MemberNames.{IsWordName, word_of}
+use Rattle.ded_terminals.specs.Operands.{spell_side}
 use Rattle.ded_syntax.specs.Spelling.{Spells}
-use Rattle.ded_syntax.proofs.MemberNames.{named_member}
+use Rattle.ded_terminals.proofs.MemberNames.{named_member}
 use Rattle.ded_session.specs.PlainNames.{IsPlainName, ArePlainColumns, IsPlainUse, UsesPlainNames, NamesPlainly}
 
 abbrev IsPlainSymbol : Symbol → Type 0

@@ -33,7 +33,7 @@ use Rattle.ded_print.proofs.QuotedTexts.{one_answer, one_box, one_plan}
 use Rattle.ded_print.proofs.CertificatesTold.{no_meeting, one_list}
 use Rattle.ded_print.proofs.RefusalsApart.{no_answer, no_apart, no_box, no_nowhere, no_plan, no_rational, no_script}
 use Rattle.ded_print.proofs.Telling.{no_line}
-use Rattle.ded_syntax.specs.MemberNames.{IsMemberName}
+use Rattle.ded_terminals.specs.MemberNames.{IsMemberName}
 use Rattle.ded_session.specs.Pairs.{FitsHeading, IsSlotKey, IsPlainPlan, ArePlainPlans, SpeaksPlainly, AreOfOneBox, AreOfOne}
 use Rattle.ded_session.specs.PlainNames.{ArePlainColumns, HasPlainNames}
 use Rattle.ded_session.specs.Replies.{ReplyForm, done, number, truth, tuples, stored, boxes, steps, script, apart, meeting, refused}

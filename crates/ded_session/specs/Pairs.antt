@@ -7,7 +7,7 @@ use Rattle.ded_model.specs.Logic.{atom, always, never, negation, every_of, some_
 use Rattle.ded_model.specs.PlanForm.{PlanAtom, scan, rows, PlanForm}
 use Rattle.ded_model.specs.Point.{Key, slot, name}
 use Rattle.ded_model.specs.Width.{rational_columns}
-use Rattle.ded_syntax.specs.MemberNames.{IsMemberName}
+use Rattle.ded_terminals.specs.MemberNames.{IsMemberName}
 use Rattle.ded_session.specs.PlainNames.{ArePlainColumns}
 use Rattle.ded_session.specs.Replies.{ReplyForm, done, number, truth, tuples, stored, boxes, steps, script, apart, meeting, refused}
 

@@ -7,7 +7,7 @@ use Rattle.ded_model.specs.Catalogue.{Entry, Catalogue, entry_name, entry_column
 use Rattle.ded_model.specs.Command.{CommandForm, header, relation, insert, delete, drop, view, keep, ask, query, show, box_of, explain, dump, disjoint, verify}
 use Rattle.ded_model.specs.Form.{Form, FormAtom, compare, member}
 use Rattle.ded_model.specs.Logic.{AllAtoms}
-use Rattle.ded_syntax.specs.MemberNames.{IsMemberName}
+use Rattle.ded_terminals.specs.MemberNames.{IsMemberName}
 
 -- a letter or `_`, and then letters, digits and `_`
 abbrev pub IsPlainName : List ℕ → Type 0

@@ -1,7 +1,7 @@
 -- The value of digits as a loop finds it, up to a cap.
 use Rattle.std.proofs.Common.{◌≡◌, ℕ, ◌+◌, ◌-◌, ◌*◌, ◌<◌, List, [], ◌∷◌, length, drop, get_or, sym, ap, ◌∙◌, arith, add-one, drop-cons}
 use Rattle.std.specs.Prelude.{min}
-use Rattle.ded_syntax.specs.Symbols.{number_from}
+use Rattle.ded_terminals.specs.Symbols.{number_from}
 
 -- a value at the cap or above stays there
 capped_same : (n m : ℕ) (ds : List ℕ) → min n 65 ≡ min m 65 → min (number_from n ds) 65 ≡ min (number_from m ds) 65

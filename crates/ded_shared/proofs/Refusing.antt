@@ -11,10 +11,10 @@ use Rattle.ded_model.specs.Catalogue.{Catalogue}
 use Rattle.ded_model.specs.Command.{CommandForm}
 use Rattle.ded_model.specs.Refusals.{refusal_number}
 use Rattle.ded_syntax.specs.Commands.{Plain, opens, defines, inserts_none, inserts, deletes, drops, keeps, shows, boxes, dumps, certifies, verifies_none, verifies, Prefix, views, asks, queries, explains, spell_plain, spell_prefix, SpellsCommand as SpellsSymbols}
-use Rattle.ded_syntax.specs.Literals.{exact}
+use Rattle.ded_terminals.specs.Literals.{exact}
 use Rattle.ded_syntax.specs.Spelling.{Spells, AppliesIn, IsLeastIn, IsRead}
-use Rattle.ded_syntax.specs.Symbols.{Symbol, symbol}
-use Rattle.ded_syntax.proofs.Seen.{one_list}
+use Rattle.ded_terminals.specs.Symbols.{Symbol, symbol}
+use Rattle.ded_terminals.proofs.Seen.{one_list}
 use Rattle.ded_frame.specs.Touching.{depends_on_names}
 use Rattle.ded_session.specs.Replies.{ReplyForm, refused}
 use Rattle.ded_session.specs.Steps.{MayRefuse}

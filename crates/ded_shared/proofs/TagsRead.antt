@@ -10,7 +10,7 @@ use Rattle.ded_lex.specs.Lexemes.{Lexeme, Sign, lexeme_bytes}
 use Rattle.ded_lex.specs.Tokens.{Cell, GapCell, LexemeCell, cell_bytes, AreCells, tokens_from, lexemes_of, AreTokens, AreLexemes, AreInOrder, lexeme}
 use Rattle.ded_lex.proofs.Said.{tokens_say}
 use Rattle.ded_lex.proofs.Spans.{in_order}
-use Rattle.ded_syntax.proofs.Seen.{few_tokens, one_list}
+use Rattle.ded_terminals.proofs.Seen.{few_tokens, one_list}
 use Rattle.ded_shared.specs.Tags.{HasTag, IsSessionOf}
 use Rattle.ded_shared.specs.TagTokens.{AreTokensIn, AreTokensOf}
 

@@ -6,7 +6,7 @@ use Rattle.ded_lex.specs.declared.token.TokenKind.TheVariants as kind
 use Rattle.ded_lex.specs.Lexemes.{Lexeme, Word}
 use Rattle.ded_lex.specs.Tokens.{AreLexemes, lexeme, kind_of}
 use Rattle.std.proofs.lemmas.List.{length-map}
-use Rattle.ded_syntax.proofs.Seen.{one_list}
+use Rattle.ded_terminals.proofs.Seen.{one_list}
 use Rattle.ded_shared.specs.declared.tag.Verb.{Verb}
 use Rattle.ded_shared.specs.declared.tag.Verb.TheVariants.{Begin, Commit, Abort}
 use Rattle.ded_shared.specs.Deciding.{no_word, word_same}

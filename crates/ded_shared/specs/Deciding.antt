@@ -17,9 +17,9 @@ use Rattle.ded_lex.proofs.FrontReads.{front_sound}
 use Rattle.ded_lex.proofs.Said.{tokens_say}
 use Rattle.ded_lex.proofs.TokenLists.{TokensAt, forth, back, no_tokens, none_left, one_token_list}
 use Rattle.ded_model.specs.declared.command.Language.TheVariants.{One}
-use Rattle.ded_syntax.specs.Symbols.{number_of}
+use Rattle.ded_terminals.specs.Symbols.{number_of}
 use Rattle.ded_syntax.proofs.Decided.{SomeCommand, NoCommand, spelling_decided}
-use Rattle.ded_syntax.proofs.Seen.{no_lexemes, one_list}
+use Rattle.ded_terminals.proofs.Seen.{no_lexemes, one_list}
 use Rattle.ded_shared.specs.Tags.{Tagged, begins, commits, aborts, commands, other, IsSessionOf, HasTag, IsWord, SpellsCommand, Tags, TagsCommand, HasNoTag, IsTaggedPiece, IsTagged}
 
 -- it is so, or it isn't

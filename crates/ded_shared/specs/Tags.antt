@@ -8,7 +8,7 @@ use Rattle.ded_lex.specs.Tokens.{AreTokens, AreLexemes, lexeme}
 use Rattle.ded_model.specs.declared.command.Language.TheVariants.{One}
 use Rattle.ded_model.specs.Command.{CommandForm}
 use Rattle.ded_syntax.specs.Spelling.{Spells}
-use Rattle.ded_syntax.specs.Symbols.{number_of}
+use Rattle.ded_terminals.specs.Symbols.{number_of}
 
 -- A session begins, commits or gives up a transaction; or it has a command, given by the bytes behind the colon; or the
 -- statement is none of these, and stands for what is refused in its place.

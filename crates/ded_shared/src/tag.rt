@@ -2,7 +2,7 @@
 ghost use Rattle.std.specs.Prelude.{◌≡◌, ◌≤◌, ◌↔◌, ℕ, List, Some, true, min, length, drop, MatchOption, codes};
 ghost use Rattle.ded_lex.specs.Tokens.{AreTokens, lexeme, token_text};
 ghost use Rattle.ded_lex.specs.Lexemes.{Sign, Word};
-ghost use Rattle.ded_syntax.specs.Symbols.{number_of};
+ghost use Rattle.ded_terminals.specs.Symbols.{number_of};
 ghost use Rattle.ded_shared.specs.Tags.{HasTag, IsSessionOf, IsWord};
 ghost use Rattle.ded_shared.specs.TagTokens.{AreTokensIn, AreTokensOf};
 ghost use Rattle.ded_shared.specs.Verbs.{verb_word};

@@ -10,13 +10,13 @@ use Rattle.ded_model.specs.Command.{CommandForm, insert, delete, verify}
 use Rattle.ded_model.specs.Form.{Form, compare, member}
 use Rattle.ded_model.specs.Logic.{atom, logics}
 use Rattle.ded_grammar.specs.Trees.{TerminalForm, nay, conjunct, disjunct, arrow, opening, closing, binder, leaf}
-use Rattle.ded_syntax.specs.Symbols.{Symbol, Name, Number, Decimal, Times, Open, Close, CloseBrace, Relation, number_of, decimal_number, decimal_power}
-use Rattle.ded_syntax.specs.Literals.{Scalar, whole, quotient, decimal, spell_scalar, Literal, lowest, literal, marked, capped, capped_reader}
-use Rattle.ded_syntax.specs.Operands.{Product, scaled, constant, lone, Side, text, sum, spell_product, spell_more, spell_side, Part, Factor, factor, add_factor, add_all, Reading, as_reading, single, reading_of, literals, signed, operand_over, argument_of}
-use Rattle.ded_syntax.specs.Atoms.{compared, argument, spell_rest, Comparison, spell_comparison, comparison_form, spell_named, name_of, Atom, truth, relates, belongs, spell_atom, atom_form, IsTerminal, AreTerminals}
+use Rattle.ded_terminals.specs.Symbols.{Symbol, Name, Number, Decimal, Times, Open, Close, CloseBrace, Relation, number_of, decimal_number, decimal_power}
+use Rattle.ded_terminals.specs.Literals.{Scalar, whole, quotient, decimal, spell_scalar, Literal, lowest, literal, marked, capped, capped_reader}
+use Rattle.ded_terminals.specs.Operands.{Product, scaled, constant, lone, Side, text, sum, spell_product, spell_more, spell_side, Part, Factor, factor, add_factor, add_all, Reading, as_reading, single, reading_of, literals, signed, operand_over, argument_of}
+use Rattle.ded_terminals.specs.Atoms.{compared, argument, spell_rest, Comparison, spell_comparison, comparison_form, spell_named, name_of, Atom, truth, relates, belongs, spell_atom, atom_form, IsTerminal, AreTerminals}
 use Rattle.ded_syntax.specs.Certificates.{Integer, spell_integers, integer_of, ProofTree, by_text, by_rows, spell_proof, proof_of, EntryTree, spell_entry, entry_of}
 use Rattle.ded_syntax.specs.Commands.{Plain, opens, defines, inserts_none, inserts, deletes, drops, keeps, shows, boxes, dumps, certifies, verifies_none, verifies, spell_plain, plain_form, spell_prefix, SpellsCommand}
-use Rattle.ded_syntax.proofs.Denominators.{side_some, both_some, denominators_same}
+use Rattle.ded_terminals.proofs.Denominators.{side_some, both_some, denominators_same}
 
 -- the two read the number as one
 abbrev pub Alike : (ℕ → ℕ) → (ℕ → ℕ) → Symbol → Type 0

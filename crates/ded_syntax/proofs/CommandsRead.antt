@@ -9,18 +9,18 @@ use Rattle.ded_model.specs.Form.{Form}
 use Rattle.ded_model.specs.Logic.{logics}
 use Rattle.ded_grammar.specs.Trees.{TerminalForm}
 use Rattle.ded_grammar.specs.Building.{◌>>=◌}
-use Rattle.ded_syntax.specs.Symbols.{Symbol, Open, Close, OpenBrace, CloseBrace, Colon, Define, Relation}
-use Rattle.ded_syntax.specs.Literals.{whole, quotient, decimal, Reader}
-use Rattle.ded_syntax.specs.Operands.{scaled, constant, lone, Side, text, sum, spell_side}
-use Rattle.ded_syntax.specs.Atoms.{spell_rest, Comparison, spell_comparison, comparison_form, spell_column}
+use Rattle.ded_terminals.specs.Symbols.{Symbol, Open, Close, OpenBrace, CloseBrace, Colon, Define, Relation}
+use Rattle.ded_terminals.specs.Literals.{whole, quotient, decimal, Reader}
+use Rattle.ded_terminals.specs.Operands.{scaled, constant, lone, Side, text, sum, spell_side}
+use Rattle.ded_terminals.specs.Atoms.{spell_rest, Comparison, spell_comparison, comparison_form, spell_column}
 use Rattle.ded_syntax.specs.Commands.{Columns, spell_heading, heading, Plain, opens, defines, inserts_none, inserts, deletes, drops, keeps, shows, boxes, dumps, certifies, verifies_none, verifies, spell_plain, plain_form, Prefix, views, asks, queries, explains, spell_prefix, prefix_form, SpellsCommand}
-use Rattle.ded_syntax.specs.AtomReading.{comma_at, brace_at, list_at, compare_at, column_at, terminals_at}
+use Rattle.ded_terminals.specs.AtomReading.{comma_at, brace_at, list_at, compare_at, column_at, terminals_at}
 use Rattle.ded_syntax.specs.CommandReading.{Head, view_head, ask_head, query_head, explain_head, head_form, Draft, plain, formed, heading_at, braces_at, ended, colon_at, define_at, formed_at, draft_at}
 use Rattle.ded_syntax.specs.Meaning.{Means}
-use Rattle.ded_syntax.proofs.ListsRead.{list_read, few_items, list_tail}
-use Rattle.ded_syntax.proofs.AtomsRead.{comparisons_listed, columns_listed}
+use Rattle.ded_terminals.proofs.ListsRead.{list_read, few_items, list_tail}
+use Rattle.ded_terminals.proofs.AtomsRead.{comparisons_listed, columns_listed}
 use Rattle.ded_syntax.proofs.EntriesRead.{certificate_read}
-use Rattle.ded_syntax.proofs.TerminalsRead.{terminals_read, spelled_scans}
+use Rattle.ded_terminals.proofs.TerminalsRead.{terminals_read, spelled_scans}
 
 pub same_list : {A : Type 0} (xs : List A) → map (λ (x : A). x) xs ≡ xs
 same_list [] = refl

@@ -8,22 +8,22 @@ use Rattle.ded_model.specs.Command.{CommandForm, header, relation, insert, delet
 use Rattle.ded_model.specs.Form.{Form}
 use Rattle.ded_model.specs.Logic.{logics}
 use Rattle.ded_grammar.specs.Building.{◌>>=◌}
-use Rattle.ded_syntax.specs.declared.item.Keyword.{Keyword}
-use Rattle.ded_syntax.specs.declared.item.Keyword.TheVariants as words
-use Rattle.ded_syntax.specs.Symbols.{Symbol, number_of, Word, Name, Number, Open, Close, OpenBrace, CloseBrace, Colon, Define}
-use Rattle.ded_syntax.specs.Literals.{Reader}
-use Rattle.ded_syntax.specs.Atoms.{spell_comparison, comparison_form, spell_column, AreTerminals}
+use Rattle.ded_terminals.specs.declared.item.Keyword.{Keyword}
+use Rattle.ded_terminals.specs.declared.item.Keyword.TheVariants as words
+use Rattle.ded_terminals.specs.Symbols.{Symbol, number_of, Word, Name, Number, Open, Close, OpenBrace, CloseBrace, Colon, Define}
+use Rattle.ded_terminals.specs.Literals.{Reader}
+use Rattle.ded_terminals.specs.Atoms.{spell_comparison, comparison_form, spell_column, AreTerminals}
 use Rattle.ded_syntax.specs.Certificates.{spell_entry, entry_of}
 use Rattle.ded_syntax.specs.CertificateReading.{entry_at, entries_at}
 use Rattle.ded_syntax.specs.Commands.{Columns, spell_heading, heading, Plain, opens, defines, inserts_none, inserts, deletes, drops, keeps, shows, boxes, dumps, certifies, verifies_none, verifies, spell_plain, plain_form, Prefix, views, asks, queries, explains, spell_prefix, SpellsCommand}
-use Rattle.ded_syntax.specs.OperandReading.{name_at, number_at}
-use Rattle.ded_syntax.specs.AtomReading.{comma_at, brace_at, list_at, compare_at, column_at, terminals_at}
+use Rattle.ded_terminals.specs.OperandReading.{name_at, number_at}
+use Rattle.ded_terminals.specs.AtomReading.{comma_at, brace_at, list_at, compare_at, column_at, terminals_at}
 use Rattle.ded_syntax.specs.CommandReading.{Head, view_head, ask_head, query_head, explain_head, head_form, Draft, plain, formed, heading_at, braces_at, certificate_at, ended, colon_at, define_at, formed_at, last_name, named_draft, header_by, header_draft, relation_draft, insert_draft, delete_draft, disjoint_draft, verify_draft, view_draft, over_draft, draft_behind, draft_at}
 use Rattle.ded_syntax.specs.Meaning.{Means}
-use Rattle.ded_syntax.proofs.Binds.{bind_some, some_same}
-use Rattle.ded_syntax.proofs.ListsRead.{list_sound, list_tail}
+use Rattle.ded_terminals.proofs.Binds.{bind_some, some_same}
+use Rattle.ded_terminals.proofs.ListsRead.{list_sound, list_tail}
 use Rattle.ded_syntax.proofs.EntriesSound.{number_sound, entries_sound}
-use Rattle.ded_syntax.proofs.TerminalsSound.{comparisons_sound, columns_sound, terminals_sound}
+use Rattle.ded_terminals.proofs.TerminalsSound.{comparisons_sound, columns_sound, terminals_sound}
 use Rattle.ded_syntax.proofs.CommandsRead.{same_list, head_of, prefix_is_head, IsDrafted}
 
 name_sound : (ts : List Symbol) (x : List ℕ × List Symbol) → name_at ts ≡ Some x → ts ≡ Name x.0 ∷ x.1

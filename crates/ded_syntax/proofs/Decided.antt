@@ -13,14 +13,14 @@ use Rattle.ded_model.specs.declared.command.Language.{Language}
 use Rattle.ded_model.specs.declared.command.Refusal.{Refusal}
 use Rattle.ded_model.specs.declared.command.Refusal.TheVariants.{Syntax}
 use Rattle.ded_model.specs.Command.{CommandForm}
-use Rattle.ded_syntax.specs.Symbols.{Symbol, symbol}
+use Rattle.ded_terminals.specs.Symbols.{Symbol, symbol}
 use Rattle.ded_syntax.specs.CommandReading.{Draft, draft_at, scans}
 use Rattle.ded_syntax.specs.Drafts.{HasDraft}
-use Rattle.ded_syntax.specs.Items.{AreSymbols}
-use Rattle.ded_syntax.specs.Literals.{Reader, capped_reader}
+use Rattle.ded_terminals.specs.Items.{AreSymbols}
+use Rattle.ded_terminals.specs.Literals.{Reader, capped_reader}
 use Rattle.ded_syntax.specs.Spelling.{Spells, AppliesIn, IsRead}
-use Rattle.ded_syntax.proofs.Seen.{no_lexemes}
-use Rattle.ded_syntax.proofs.Binds.{some_same}
+use Rattle.ded_terminals.proofs.Seen.{no_lexemes}
+use Rattle.ded_terminals.proofs.Binds.{some_same}
 use Rattle.ded_syntax.proofs.Refused.{no_token, not_drafted, some_spelled}
 
 -- ---- tokens

@@ -8,18 +8,18 @@ use Rattle.ded_grammar.specs.Trees.{meaning, nesting}
 use Rattle.ded_grammar.proofs.Sound.{spelled}
 use Rattle.ded_grammar.proofs.Told.{one_spelled}
 use Rattle.ded_grammar.proofs.Leaves.{spelled_atoms}
-use Rattle.ded_syntax.specs.Symbols.{Symbol}
-use Rattle.ded_syntax.specs.Literals.{Reader}
+use Rattle.ded_terminals.specs.Symbols.{Symbol}
+use Rattle.ded_terminals.specs.Literals.{Reader}
 use Rattle.ded_syntax.specs.Commands.{plain_form}
 use Rattle.ded_model.specs.Logic.{some_atom}
 use Rattle.ded_syntax.specs.Marks.{some_in}
 use Rattle.ded_syntax.specs.CommandReading.{Head, view_head, ask_head, query_head, explain_head, head_form, Draft, plain, formed, draft_at, scans}
 use Rattle.ded_syntax.specs.Drafts.{HasDraft, some_in_draft}
 use Rattle.ded_syntax.specs.Meaning.{Means}
-use Rattle.ded_syntax.proofs.TerminalsRead.{terminals_read, spelled_scans}
+use Rattle.ded_terminals.proofs.TerminalsRead.{terminals_read, spelled_scans}
 use Rattle.ded_syntax.proofs.CommandsRead.{plain_read, prefix_read, head_of}
 use Rattle.ded_syntax.proofs.CommandsSound.{IsDraft, draft_sound}
-use Rattle.ded_syntax.proofs.AnyValue.{reshapes}
+use Rattle.ded_terminals.proofs.AnyValue.{reshapes}
 
 -- ---- what a draft stands for
 

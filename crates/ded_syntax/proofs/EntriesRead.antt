@@ -3,15 +3,15 @@ use Rattle.std.proofs.Common.{◌≡◌, true, false, List, [], ◌∷◌, ◌++
 use Rattle.std.specs.Prelude.{ℤ, Option, Some}
 use Rattle.ded_model.specs.declared.certificate.Proof.{Proof}
 use Rattle.ded_grammar.specs.Building.{◌>>=◌}
-use Rattle.ded_syntax.specs.Symbols.{Symbol, number_of, OpenBrace, CloseBrace, Comma}
-use Rattle.ded_syntax.specs.Literals.{Reader}
-use Rattle.ded_syntax.specs.Operands.{signed}
-use Rattle.ded_syntax.specs.Atoms.{spell_rest}
-use Rattle.ded_syntax.specs.AtomReading.{brace_at}
+use Rattle.ded_terminals.specs.Symbols.{Symbol, number_of, OpenBrace, CloseBrace, Comma}
+use Rattle.ded_terminals.specs.Literals.{Reader}
+use Rattle.ded_terminals.specs.Operands.{signed}
+use Rattle.ded_terminals.specs.Atoms.{spell_rest}
+use Rattle.ded_terminals.specs.AtomReading.{brace_at}
 use Rattle.ded_syntax.specs.Certificates.{Integer, spell_integers, integer_of, ProofTree, by_text, by_rows, spell_proof, proof_of, EntryTree, spell_entry, entry_of}
 use Rattle.ded_syntax.specs.CertificateReading.{before, integers_at, as_proof, proof_at, entry_by, entry_at}
 use Rattle.ded_syntax.specs.CommandReading.{certificate_at}
-use Rattle.ded_syntax.proofs.ListsRead.{ReadsItems, list_read, few_items}
+use Rattle.ded_terminals.proofs.ListsRead.{ReadsItems, list_read, few_items}
 
 -- before a symbol with which no integer begins
 module _ (value : Reader) (t : Symbol) (rest : List Symbol) (stops : integers_at value (t ∷ rest) ≡ ([], t ∷ rest)) where

@@ -5,17 +5,17 @@ use Rattle.ded_model.specs.declared.certificate.Entry.{Entry}
 use Rattle.ded_model.specs.declared.certificate.Proof.{Proof}
 use Rattle.ded_model.specs.declared.certificate.Proof.TheVariants.{Multipliers}
 use Rattle.ded_grammar.specs.Building.{◌>>=◌}
-use Rattle.ded_syntax.specs.declared.item.Keyword.TheVariants as words
-use Rattle.ded_syntax.specs.Symbols.{Symbol, number_of, Word, Number, Minus, Colon, CloseBrace}
-use Rattle.ded_syntax.specs.Literals.{Reader}
-use Rattle.ded_syntax.specs.Operands.{signed}
-use Rattle.ded_syntax.specs.OperandReading.{number_at}
-use Rattle.ded_syntax.specs.AtomReading.{brace_at}
+use Rattle.ded_terminals.specs.declared.item.Keyword.TheVariants as words
+use Rattle.ded_terminals.specs.Symbols.{Symbol, number_of, Word, Number, Minus, Colon, CloseBrace}
+use Rattle.ded_terminals.specs.Literals.{Reader}
+use Rattle.ded_terminals.specs.Operands.{signed}
+use Rattle.ded_terminals.specs.OperandReading.{number_at}
+use Rattle.ded_terminals.specs.AtomReading.{brace_at}
 use Rattle.ded_syntax.specs.Certificates.{Integer, spell_integers, integer_of, ProofTree, by_text, by_rows, spell_proof, proof_of, EntryTree, spell_entry, entry_of}
 use Rattle.ded_syntax.specs.CertificateReading.{integers_at, proof_at, entry_by, entry_at}
-use Rattle.ded_syntax.proofs.Binds.{bind_some, some_same}
-use Rattle.ded_syntax.proofs.ListsRead.{SoundItems}
-use Rattle.ded_syntax.proofs.TerminalsSound.{brace_end}
+use Rattle.ded_terminals.proofs.Binds.{bind_some, some_same}
+use Rattle.ded_terminals.proofs.ListsRead.{SoundItems}
+use Rattle.ded_terminals.proofs.TerminalsSound.{brace_end}
 
 pub number_sound : (ts : List Symbol) (x : List ℕ × List Symbol) → number_at ts ≡ Some x → ts ≡ Number x.0 ∷ x.1
 number_sound (Number d ∷ ts) x e = ap (λ (y : List ℕ × List Symbol). Number y.0 ∷ y.1) (some_same _ x e)

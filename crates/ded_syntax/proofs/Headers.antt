@@ -15,19 +15,19 @@ use Rattle.ded_model.specs.Command.{CommandForm, header}
 use Rattle.ded_model.specs.Form.{Form}
 use Rattle.ded_syntax.specs.declared.header.Progress.{Progress}
 use Rattle.ded_syntax.specs.declared.header.Progress.TheVariants.{Nothing, Named, Whole}
-use Rattle.ded_syntax.specs.declared.item.Keyword.TheVariants as words
-use Rattle.ded_syntax.specs.Symbols.{Symbol, Word, Number, symbol, number_of}
-use Rattle.ded_syntax.specs.Literals.{Reader, exact, capped_reader}
+use Rattle.ded_terminals.specs.declared.item.Keyword.TheVariants as words
+use Rattle.ded_terminals.specs.Symbols.{Symbol, Word, Number, symbol, number_of}
+use Rattle.ded_terminals.specs.Literals.{Reader, exact, capped_reader}
 use Rattle.ded_syntax.specs.Commands.{Plain, opens, defines, inserts_none, inserts, deletes, drops, keeps, shows, boxes, dumps, certifies, verifies_none, verifies, spell_plain, plain_form, Prefix, views, asks, queries, explains, prefix_form, SpellsCommand}
 use Rattle.ded_syntax.specs.Headers.{is_dedale, is_two, header_step, header_walk, opening_symbols}
 use Rattle.ded_syntax.specs.Spelling.{Spells, IsHeader, IsRead}
 use Rattle.ded_syntax.specs.CommandReading.{plain}
-use Rattle.ded_syntax.proofs.Binds.{some_same}
+use Rattle.ded_terminals.proofs.Binds.{some_same}
 use Rattle.ded_syntax.proofs.CommandsRead.{plain_read}
 use Rattle.ded_syntax.proofs.Decided.{spelling_decided}
 use Rattle.ded_syntax.proofs.One.{one_command}
 use Rattle.ded_syntax.proofs.Refused.{is_read}
-use Rattle.ded_syntax.proofs.Seen.{one_list, no_lexemes}
+use Rattle.ded_terminals.proofs.Seen.{one_list, no_lexemes}
 
 -- ---- symbols
 

@@ -1,19 +1,10 @@
--- Tests and divisors of lists that are put together, and how long a coefficient is.
-use Rattle.std.proofs.Common.{◌≡◌, ℕ, ◌<◌, Bool, true, false, List, [], ◌∷◌, ◌++◌, refl, ap, ◌∙◌, arith}
-use Rattle.std.specs.Prelude.{◌||◌, ◌^◌, ℤ, unsigned_abs, if◌then◌else◌}
-use Rattle.std.specs.List.{list_any}
+-- Divisors of lists that are put together, and how long a coefficient is.
+use Rattle.std.proofs.Common.{◌≡◌, ℕ, ◌<◌, Bool, true, false, List, [], ◌∷◌, ◌++◌, refl, arith}
+use Rattle.std.specs.Prelude.{◌^◌, ℤ, unsigned_abs, if◌then◌else◌}
 use Rattle.std.specs.Str.{bytes_eq}
 use Rattle.ded_num.specs.Gcd.{nat_gcd, gcd_from}
 use Rattle.ded_model.specs.Sum.{ArePartsWithin}
 use Rattle.ded_model.specs.LongRows.{coefficient}
-
-or_assoc : (a b c : Bool) → (a || (b || c)) ≡ ((a || b) || c)
-or_assoc true b c = refl
-or_assoc false b c = refl
-
-pub any_split : {A : Type 0} (f : A → Bool) (xs ys : List A) → list_any f (xs ++ ys) ≡ (list_any f xs || list_any f ys)
-any_split f [] ys = refl
-any_split f (x ∷ xs) ys = ap (λ (b : Bool). f x || b) (any_split f xs ys) ∙ or_assoc (f x) (list_any f xs) (list_any f ys)
 
 pub gcd_split : (g : ℕ) (xs ys : List ℤ) → gcd_from g (xs ++ ys) ≡ gcd_from (gcd_from g xs) ys
 gcd_split g [] ys = refl

@@ -9,11 +9,11 @@ use Rattle.ded_model.specs.declared.command.Language.TheVariants.{Opening, One, 
 use Rattle.ded_lex.specs.Lexemes.{Lexeme}
 use Rattle.ded_lex.specs.Lexemes as lexeme
 use Rattle.ded_model.specs.declared.formula.CompareOp.TheVariants as op
-use Rattle.ded_syntax.specs.declared.item.Keyword.{Keyword}
-use Rattle.ded_syntax.specs.declared.item.Keyword.TheVariants as words
-use Rattle.ded_syntax.specs.Symbols.{Symbol, Word, Name, Number, Decimal, Plus, Minus, Times, Open, Close, OpenBrace, CloseBrace, Comma, Colon, Define, Relation, formula_word, command_word, is_unused, unused_word, dedale_symbol, dump_symbol, language_word, word_symbol, slash_symbol, sign_symbol, decimal_symbol, symbol, number_of, decimal_number, decimal_power}
-use Rattle.ded_syntax.specs.Items.{is_long_name, is_long_literal}
-use Rattle.ded_syntax.specs.Literals.{capped}
+use Rattle.ded_terminals.specs.declared.item.Keyword.{Keyword}
+use Rattle.ded_terminals.specs.declared.item.Keyword.TheVariants as words
+use Rattle.ded_terminals.specs.Symbols.{Symbol, Word, Name, Number, Decimal, Plus, Minus, Times, Open, Close, OpenBrace, CloseBrace, Comma, Colon, Define, Relation, formula_word, command_word, is_unused, unused_word, dedale_symbol, dump_symbol, language_word, word_symbol, slash_symbol, sign_symbol, decimal_symbol, symbol, number_of, decimal_number, decimal_power}
+use Rattle.ded_terminals.specs.Items.{is_long_name, is_long_literal}
+use Rattle.ded_terminals.specs.Literals.{capped}
 use Rattle.ded_syntax.specs.Spelling.{is_long_word, is_long_decimal, is_long_number}
 use Rattle.ded_syntax.proofs.Agrees.{Alike, AllAlike}
 use Rattle.std.proofs.lemmas.Slice.Eq.{bytes_eq-Decides}

@@ -10,10 +10,10 @@ use Rattle.ded_model.specs.Form.{Form, compare, member}
 use Rattle.ded_model.specs.Logic.{atom, logics, some_atom, some_atom_of}
 use Rattle.ded_grammar.specs.Trees.{TerminalForm, nay, conjunct, disjunct, arrow, opening, closing, binder, leaf, terminal_atom}
 use Rattle.ded_grammar.proofs.Leaves.{spelled_atoms}
-use Rattle.ded_syntax.specs.Symbols.{Symbol}
-use Rattle.ded_syntax.specs.Literals.{Literal, common, exact, marked, are_long_over, numerator_over, marked_numerator}
-use Rattle.ded_syntax.specs.Operands.{Side, Part, Reading, quoted, named, parts, literals, Sums, signed, put_at, no_sums, total_from, as_sum, operand_over, reading_of}
-use Rattle.ded_syntax.specs.Atoms.{compared, Comparison, comparison_form, argument, name_of, Atom, truth, relates, belongs, atom_form, IsTerminal, AreTerminals}
+use Rattle.ded_terminals.specs.Symbols.{Symbol}
+use Rattle.ded_terminals.specs.Literals.{Literal, common, exact, marked, are_long_over, numerator_over, marked_numerator}
+use Rattle.ded_terminals.specs.Operands.{Side, Part, Reading, quoted, named, parts, literals, Sums, signed, put_at, no_sums, total_from, as_sum, operand_over, reading_of}
+use Rattle.ded_terminals.specs.Atoms.{compared, Comparison, comparison_form, argument, name_of, Atom, truth, relates, belongs, atom_form, IsTerminal, AreTerminals}
 use Rattle.ded_syntax.specs.Commands.{Plain, opens, defines, inserts_none, inserts, deletes, drops, keeps, shows, boxes, dumps, certifies, verifies_none, verifies, plain_form, views, asks, queries, explains, prefix_form, SpellsCommand}
 use Rattle.ded_syntax.specs.Marks.{is_marked, is_marked_atom, has_mark}
 

@@ -3,14 +3,14 @@ use Rattle.std.proofs.Common.{◌≡◌, ℕ, List, map, sym, subst, ◌∙◌}
 use Rattle.ded_model.specs.declared.command.Language.{Language}
 use Rattle.ded_model.specs.Command.{CommandForm}
 use Rattle.ded_lex.specs.Lexemes.{Lexeme}
-use Rattle.ded_syntax.specs.Symbols.{Symbol, symbol}
-use Rattle.ded_syntax.specs.Literals.{Reader, exact}
+use Rattle.ded_terminals.specs.Symbols.{Symbol, symbol}
+use Rattle.ded_terminals.specs.Literals.{Reader, exact}
 use Rattle.ded_syntax.specs.Commands.{SpellsCommand}
 use Rattle.ded_syntax.specs.CommandReading.{Draft}
 use Rattle.ded_syntax.specs.Meaning.{Means}
 use Rattle.ded_syntax.specs.Spelling.{Spells}
-use Rattle.ded_syntax.proofs.Binds.{some_same}
-use Rattle.ded_syntax.proofs.Seen.{one_list}
+use Rattle.ded_terminals.proofs.Binds.{some_same}
+use Rattle.ded_terminals.proofs.Seen.{one_list}
 use Rattle.ded_syntax.proofs.CommandsRead.{command_read}
 use Rattle.ded_syntax.proofs.DraftsAlike.{one_meaning}
 

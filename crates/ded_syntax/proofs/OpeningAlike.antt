@@ -14,13 +14,13 @@ use Rattle.ded_model.specs.declared.command.Language.TheVariants.{Opening, One}
 use Rattle.ded_model.specs.declared.command.Refusal.{Refusal}
 use Rattle.ded_model.specs.declared.command.Refusal.TheVariants.{Syntax, LongName, LongNumber, Deep}
 use Rattle.ded_model.specs.Command.{CommandForm}
-use Rattle.ded_syntax.specs.Symbols.{Symbol, Name, formula_word, command_word, unused_word, dedale_symbol, dump_symbol, word_symbol, symbol}
-use Rattle.ded_syntax.specs.Literals.{exact, marked}
+use Rattle.ded_terminals.specs.Symbols.{Symbol, Name, formula_word, command_word, unused_word, dedale_symbol, dump_symbol, word_symbol, symbol}
+use Rattle.ded_terminals.specs.Literals.{exact, marked}
 use Rattle.ded_syntax.specs.Commands.{SpellsCommand}
 use Rattle.ded_syntax.specs.Headers.{is_dedale}
 use Rattle.ded_syntax.specs.Spelling.{Spells, IsHeader, is_long_number, AppliesIn}
 use Rattle.ded_syntax.proofs.Headers.{AreHeader, header_symbols}
-use Rattle.ded_syntax.proofs.Seen.{one_list}
+use Rattle.ded_terminals.proofs.Seen.{one_list}
 use Rattle.ded_syntax.proofs.UsedWords.{IsUsed, AreUsed, command_used, no_dedale}
 
 -- ---- lexemes

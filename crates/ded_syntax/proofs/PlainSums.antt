@@ -13,13 +13,13 @@ use Rattle.ded_model.specs.Logic.{AllAtomsOf, logics}
 use Rattle.ded_model.specs.Plain.{AreOnce, IsPlainOperand, ArePlainOperands, ShareDenominator, IsPlainAtom, IsPlain, IsPlainCommand}
 use Rattle.ded_grammar.specs.Trees.{TerminalForm, nay, conjunct, disjunct, arrow, opening, closing, binder, leaf}
 use Rattle.ded_grammar.proofs.Carried.{TerminalHas, TerminalsHave, spelled_has}
-use Rattle.ded_syntax.specs.Symbols.{Symbol}
-use Rattle.ded_syntax.specs.Literals.{common, exact, numerator_over}
-use Rattle.ded_syntax.specs.Operands.{Side, Part, Reading, quoted, named, parts, reading_of, literals, Sums, signed, put, put_at, no_sums, total_from, operand_over}
-use Rattle.ded_syntax.specs.Atoms.{argument, Comparison, comparison_form, Atom, truth, relates, belongs, atom_form, IsTerminal, AreTerminals, SpellsFormula}
+use Rattle.ded_terminals.specs.Symbols.{Symbol}
+use Rattle.ded_terminals.specs.Literals.{common, exact, numerator_over}
+use Rattle.ded_terminals.specs.Operands.{Side, Part, Reading, quoted, named, parts, reading_of, literals, Sums, signed, put, put_at, no_sums, total_from, operand_over}
+use Rattle.ded_terminals.specs.Atoms.{argument, Comparison, comparison_form, Atom, truth, relates, belongs, atom_form, IsTerminal, AreTerminals, SpellsFormula}
 use Rattle.ded_syntax.specs.Commands.{Plain, opens, defines, inserts_none, inserts, deletes, drops, keeps, shows, boxes, dumps, certifies, verifies_none, verifies, plain_form, Prefix, views, asks, queries, explains, prefix_form, SpellsCommand}
 use Rattle.ded_syntax.specs.Spelling.{Spells}
-use Rattle.ded_syntax.proofs.Denominators.{common_some, side_some, both_some}
+use Rattle.ded_terminals.proofs.Denominators.{common_some, side_some, both_some}
 use Rattle.std.proofs.lemmas.Bool.{or_from}
 use Rattle.ded_model.proofs.Bools.{or_false_left, or_false_right}
 

@@ -10,17 +10,17 @@ use Rattle.ded_model.specs.declared.command.Refusal.TheVariants.{Syntax, LongNam
 use Rattle.ded_model.specs.Command.{CommandForm, header, relation, insert, delete, drop, view, keep, ask, query, show, box_of, explain, dump, disjoint, verify}
 use Rattle.ded_model.specs.LongRows.{is_long_atom, has_long_row}
 use Rattle.ded_model.specs.Refusals.{refusal_number}
-use Rattle.ded_syntax.specs.Symbols.{Symbol, symbol}
+use Rattle.ded_terminals.specs.Symbols.{Symbol, symbol}
 use Rattle.ded_syntax.specs.Commands.{SpellsCommand}
 use Rattle.ded_syntax.specs.CommandReading.{Draft, draft_at, scans}
 use Rattle.ded_syntax.specs.Drafts.{HasDraft, some_in_draft}
-use Rattle.ded_syntax.specs.Literals.{exact, marked, capped_reader}
+use Rattle.ded_terminals.specs.Literals.{exact, marked, capped_reader}
 use Rattle.ded_syntax.specs.Marks.{is_marked_atom, is_unfit_atom, some_in}
-use Rattle.ded_syntax.specs.Items.{is_long_name, is_long_literal, AreSymbols}
+use Rattle.ded_terminals.specs.Items.{is_long_name, is_long_literal, AreSymbols}
 use Rattle.ded_syntax.specs.Spelling.{Spells, is_long_word, is_long_number, SomeLexeme, AppliesIn, IsLeastIn, IsRead}
 use Rattle.ded_syntax.specs.Meaning.{Means}
-use Rattle.ded_syntax.proofs.Binds.{some_same}
-use Rattle.ded_syntax.proofs.Seen.{one_list}
+use Rattle.ded_terminals.proofs.Binds.{some_same}
+use Rattle.ded_terminals.proofs.Seen.{one_list}
 use Rattle.ded_syntax.proofs.LongSymbols.{long_names, long_literals, all_alike}
 use Rattle.ded_syntax.proofs.Agrees.{command_alike}
 use Rattle.ded_syntax.proofs.CommandsRead.{command_read}

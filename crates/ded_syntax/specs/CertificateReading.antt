@@ -4,12 +4,12 @@ use Rattle.ded_model.specs.declared.certificate.Entry.{Entry}
 use Rattle.ded_model.specs.declared.certificate.Proof.{Proof}
 use Rattle.ded_model.specs.declared.certificate.Proof.TheVariants.{Text, Multipliers}
 use Rattle.ded_grammar.specs.Building.{◌>>=◌}
-use Rattle.ded_syntax.specs.declared.item.Keyword.TheVariants as words
-use Rattle.ded_syntax.specs.Symbols.{Symbol, number_of, Word, Number, Minus, Colon}
-use Rattle.ded_syntax.specs.Literals.{Reader}
-use Rattle.ded_syntax.specs.Operands.{signed}
-use Rattle.ded_syntax.specs.OperandReading.{number_at}
-use Rattle.ded_syntax.specs.AtomReading.{brace_at, list_at}
+use Rattle.ded_terminals.specs.declared.item.Keyword.TheVariants as words
+use Rattle.ded_terminals.specs.Symbols.{Symbol, number_of, Word, Number, Minus, Colon}
+use Rattle.ded_terminals.specs.Literals.{Reader}
+use Rattle.ded_terminals.specs.Operands.{signed}
+use Rattle.ded_terminals.specs.OperandReading.{number_at}
+use Rattle.ded_terminals.specs.AtomReading.{brace_at, list_at}
 
 -- reads an integer
 abbrev pub integer_at : Reader → List Symbol → Option (ℤ × List Symbol)

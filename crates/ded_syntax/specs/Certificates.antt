@@ -3,10 +3,10 @@ use Rattle.std.specs.Prelude.{ℕ, ℤ, Bool, true, false, List, [], ◌∷◌, 
 use Rattle.ded_model.specs.declared.certificate.Entry.{Entry}
 use Rattle.ded_model.specs.declared.certificate.Proof.{Proof}
 use Rattle.ded_model.specs.declared.certificate.Proof.TheVariants.{Text, Multipliers}
-use Rattle.ded_syntax.specs.declared.item.Keyword.TheVariants as words
-use Rattle.ded_syntax.specs.Symbols.{Symbol, number_of, Word, Number, Minus, Colon}
-use Rattle.ded_syntax.specs.Literals.{Reader}
-use Rattle.ded_syntax.specs.Operands.{signed}
+use Rattle.ded_terminals.specs.declared.item.Keyword.TheVariants as words
+use Rattle.ded_terminals.specs.Symbols.{Symbol, number_of, Word, Number, Minus, Colon}
+use Rattle.ded_terminals.specs.Literals.{Reader}
+use Rattle.ded_terminals.specs.Operands.{signed}
 
 -- integer = [ "-" ] number
 -- A number with true has the sign.

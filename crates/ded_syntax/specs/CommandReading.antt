@@ -9,12 +9,12 @@ use Rattle.ded_grammar.specs.declared.scan.Spot.TheVariants.{Start}
 use Rattle.ded_grammar.specs.Trees.{TerminalForm}
 use Rattle.ded_grammar.specs.Scanning.{scan}
 use Rattle.ded_grammar.specs.Building.{◌>>=◌}
-use Rattle.ded_syntax.specs.declared.item.Keyword.{Keyword}
-use Rattle.ded_syntax.specs.declared.item.Keyword.TheVariants as words
-use Rattle.ded_syntax.specs.Symbols.{Symbol, number_of, Open, CloseBrace, OpenBrace, Colon, Define}
-use Rattle.ded_syntax.specs.Literals.{Reader}
-use Rattle.ded_syntax.specs.OperandReading.{name_at, number_at}
-use Rattle.ded_syntax.specs.AtomReading.{comma_at, brace_at, list_at, compare_at, column_at, keyword_at, terminals_at}
+use Rattle.ded_terminals.specs.declared.item.Keyword.{Keyword}
+use Rattle.ded_terminals.specs.declared.item.Keyword.TheVariants as words
+use Rattle.ded_terminals.specs.Symbols.{Symbol, number_of, Open, CloseBrace, OpenBrace, Colon, Define}
+use Rattle.ded_terminals.specs.Literals.{Reader}
+use Rattle.ded_terminals.specs.OperandReading.{name_at, number_at}
+use Rattle.ded_terminals.specs.AtomReading.{comma_at, brace_at, list_at, compare_at, column_at, keyword_at, terminals_at}
 use Rattle.ded_syntax.specs.CertificateReading.{entries_at}
 
 -- what stands before a formula

@@ -4,9 +4,9 @@ use Rattle.std.specs.List.{list_any}
 use Rattle.ded_grammar.specs.Trees.{terminal_atom}
 use Rattle.ded_model.specs.Form.{FormAtom}
 use Rattle.ded_model.specs.LongRows.{is_long_atom}
-use Rattle.ded_syntax.specs.Symbols.{Symbol}
-use Rattle.ded_syntax.specs.Items.{is_long_name, is_long_literal}
-use Rattle.ded_syntax.specs.Literals.{Reader}
+use Rattle.ded_terminals.specs.Symbols.{Symbol}
+use Rattle.ded_terminals.specs.Items.{is_long_name, is_long_literal}
+use Rattle.ded_terminals.specs.Literals.{Reader}
 use Rattle.ded_syntax.specs.Marks.{is_marked_atom, some_in}
 use Rattle.ded_syntax.specs.CommandReading.{Draft, plain, formed, draft_at, scans}
 

@@ -6,8 +6,8 @@ use Rattle.ded_lex.specs.Tokens.{lexeme}
 use Rattle.ded_model.specs.declared.command.Language.TheVariants.{Opening}
 use Rattle.ded_syntax.specs.declared.header.Progress.{Progress}
 use Rattle.ded_syntax.specs.declared.header.Progress.TheVariants.{Nothing, Named, Whole}
-use Rattle.ded_syntax.specs.declared.item.Keyword.TheVariants as words
-use Rattle.ded_syntax.specs.Symbols.{Symbol, Word, Number, symbol, number_of}
+use Rattle.ded_terminals.specs.declared.item.Keyword.TheVariants as words
+use Rattle.ded_terminals.specs.Symbols.{Symbol, Word, Number, symbol, number_of}
 
 -- the word of the header
 abbrev pub is_dedale : Symbol → Bool

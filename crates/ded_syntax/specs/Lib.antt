@@ -1,5 +1,3 @@
-pub mod AtomReading
-pub mod Atoms
 pub mod CertificateReading
 pub mod Certificates
 pub mod CommandReading
@@ -7,14 +5,6 @@ pub mod Commands
 pub mod DraftViews
 pub mod Drafts
 pub mod Headers
-pub mod Items
-pub mod Literals
 pub mod Marks
 pub mod Meaning
-pub mod MemberNames
-pub mod OperandReading
-pub mod Operands
-pub mod Reserved
 pub mod Spelling
-pub mod Symbols
-pub mod Views

@@ -9,8 +9,8 @@ use Rattle.ded_model.specs.declared.command.Refusal.{Refusal}
 use Rattle.ded_model.specs.declared.command.Refusal.TheVariants.{Syntax, LongName, LongNumber, Deep}
 use Rattle.ded_model.specs.Command.{CommandForm, header}
 use Rattle.ded_model.specs.Refusals.{refusal_number}
-use Rattle.ded_syntax.specs.Symbols.{symbol, number_of, decimal_number, decimal_power}
-use Rattle.ded_syntax.specs.Literals.{exact, marked}
+use Rattle.ded_terminals.specs.Symbols.{symbol, number_of, decimal_number, decimal_power}
+use Rattle.ded_terminals.specs.Literals.{exact, marked}
 use Rattle.ded_syntax.specs.Marks.{has_mark}
 use Rattle.ded_syntax.specs.Commands.{SpellsCommand}
 use Rattle.ded_model.specs.LongRows.{has_long_row}

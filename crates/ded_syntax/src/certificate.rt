@@ -5,16 +5,16 @@ ghost use Rattle.ded_grammar.specs.declared.fault.ReadFault.TheVariants.{NotRead
 ghost use Rattle.ded_num.specs.Length.{IsShort};
 ghost use Rattle.ded_syntax.specs.CertificateReading.{integer_at, integers_at, as_proof, proof_at, entry_at, entries_at};
 ghost use Rattle.ded_syntax.specs.CommandReading.{certificate_at};
-ghost use Rattle.ded_syntax.specs.Items.{capped_of, left};
-ghost use Rattle.ded_syntax.specs.Literals.{capped_reader};
-ghost use Rattle.ded_syntax.specs.Operands.{signed};
+ghost use Rattle.ded_terminals.specs.Items.{capped_of, left};
+ghost use Rattle.ded_terminals.specs.Literals.{capped_reader};
+ghost use Rattle.ded_terminals.specs.Operands.{signed};
 
 use crate::draft::{brace, empty, open_brace};
-use crate::item::{Item, Keyword, Rest, text, value_of};
-use crate::side::number;
 use ded_grammar::ReadFault;
 use ded_model::certificate::{Entry, Multipliers, Proof};
 use ded_model::memory::NoMemory;
+use ded_terminals::item::{Item, Keyword, Rest, text, value_of};
+use ded_terminals::side::number;
 use std::alloc::Global;
 
 /// The number for which the digits stand, or its negative.

@@ -9,19 +9,19 @@ ghost use Rattle.ded_model.specs.Form.{form};
 ghost use Rattle.ded_syntax.specs.CommandReading.{draft_at, scans, head_form};
 ghost use Rattle.ded_syntax.specs.Drafts.{HasDraft, IsShort};
 ghost use Rattle.ded_syntax.specs.DraftViews.{seen_head, seen_draft};
-ghost use Rattle.ded_syntax.specs.Items.{left, AreSymbols};
-ghost use Rattle.ded_syntax.specs.Literals.{capped_reader};
+ghost use Rattle.ded_terminals.specs.Items.{left, AreSymbols};
+ghost use Rattle.ded_terminals.specs.Literals.{capped_reader};
 ghost use Rattle.ded_syntax.specs.Meaning.{Means, MeansDeep};
 ghost use Rattle.ded_syntax.specs.Spelling.{IsRead, IsLeastIn};
 
 use crate::draft::{Draft, Head};
-use crate::item::{Rest, has_long_literal, has_long_name, items_of};
 use crate::long::is_unfit;
 use crate::statement::draft;
 use ded_grammar::{ReadFault, formula_of, is_formula};
 use ded_lex::{LexFault, Token, tokens};
 use ded_model::command::{Command, Language, Refusal};
 use ded_model::formula::Formula;
+use ded_terminals::item::{Rest, has_long_literal, has_long_name, items_of};
 use std::alloc::Global;
 
 /// Whether the terminals of the draft spell a formula, where it has terminals.

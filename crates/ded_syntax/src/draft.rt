@@ -3,19 +3,19 @@ ghost use Rattle.std.specs.Prelude.{◌≡◌, ◌≤◌, ◌<◌, length, map, 
 ghost use Rattle.ded_grammar.specs.declared.fault.ReadFault.TheVariants.{NotRead};
 ghost use Rattle.ded_model.specs.Command.{command_form};
 ghost use Rattle.ded_model.specs.Form.{form};
-ghost use Rattle.ded_syntax.specs.Items.{left};
-ghost use Rattle.ded_syntax.specs.Literals.{capped_reader};
-ghost use Rattle.ded_syntax.specs.AtomReading.{brace_at};
+ghost use Rattle.ded_terminals.specs.Items.{left};
+ghost use Rattle.ded_terminals.specs.Literals.{capped_reader};
+ghost use Rattle.ded_terminals.specs.AtomReading.{brace_at};
 ghost use Rattle.ded_syntax.specs.CommandReading.{plain, ended, open_at, columns_at, heading_at, empty_at, open_brace_at, forms_at, braces_at, colon_at, define_at, formed_at};
 ghost use Rattle.ded_syntax.specs.DraftViews.{seen_head, seen_draft};
 
-use crate::atom::{column, comma, comparison};
-use crate::item::{Item, Rest};
-use crate::terminals::terminals;
 use ded_grammar::{ReadFault, Terminal};
 use ded_model::command::Command;
 use ded_model::formula::Formula;
 use ded_model::name::{Column, Heading, Name};
+use ded_terminals::atom::{column, comma, comparison};
+use ded_terminals::item::{Item, Rest};
+use ded_terminals::terminals::terminals;
 use std::alloc::Global;
 
 /// What stands before the formula of a command.

@@ -2,12 +2,12 @@
 ghost use Rattle.std.specs.Prelude.{◌≡◌, ◌≤◌, ◌<◌, ◌+◌, ◌↔◌, true, Some, length};
 ghost use Rattle.ded_lex.specs.Fronts.{front_tokens};
 ghost use Rattle.ded_syntax.specs.Headers.{is_dedale, is_two, header_step, header_walk, opening_symbols};
-ghost use Rattle.ded_syntax.specs.Items.{seen};
+ghost use Rattle.ded_terminals.specs.Items.{seen};
 ghost use Rattle.ded_syntax.specs.Spelling.{IsHeader};
 
-use crate::item::{Item, Keyword, item_of, text, value_of};
 use ded_lex::{Front, Token, front_of};
 use ded_model::command::Language;
+use ded_terminals::item::{Item, Keyword, item_of, text, value_of};
 
 /// How much of the header is read.
 #[derive(Clone, Copy, Debug, PartialEq, Eq)]

@@ -6,8 +6,6 @@ ghost use Rattle.ded_model.specs.declared.command.Refusal.{Refusal};
 ghost use Rattle.ded_model.specs.declared.command.Refusal.TheVariants.{Syntax};
 ghost use Rattle.ded_model.specs.Command.{CommandForm, header};
 ghost use Rattle.ded_model.specs.Plain.{IsPlainCommand};
-ghost use Rattle.ded_syntax.specs.Atoms.{Named, name_of};
-ghost use Rattle.ded_syntax.specs.MemberNames.{IsWordName, IsMemberName, word_of};
 ghost use Rattle.ded_syntax.specs.Spelling.{Spells, IsHeader, AppliesIn, IsRead};
 
 /// Bytes spell one command at most, with one nesting.
@@ -38,13 +36,6 @@ pub fn opening_language()
         (refusal : Refusal) → AppliesIn refusal Opening bytes → AppliesIn refusal One bytes }
     ensures read { (bytes : List ℕ) → IsHeader bytes → IsRead Opening bytes header }
     ensures decided { (bytes : List ℕ) → IsHeader bytes ⊎ (IsHeader bytes → ⊥) }
-{}
-
-/// The name of a member is a word, or that of the closure or of the interior of one, where the name in it is a word; and each
-/// such name is that of a member.
-pub fn member_names()
-    ensures made { (m : Named) → IsWordName (word_of m) → IsMemberName (name_of m) }
-    ensures spelled { (n : List ℕ) → IsMemberName n → (m : Named) × IsWordName (word_of m) × (n ≡ name_of m) }
 {}
 
 /// In a command that is spelled each sum has each name once, and the sums of a comparison are over one denominator.

@@ -194,7 +194,7 @@ fn long_coefficient(
 // ---- rows
 
 /// Whether some name has a coefficient other than 0 in the difference of the two sides.
-#[tactic(auto, using(crate::proofs::LongLists::any_split))]
+#[tactic(auto, using(ded_terminals::proofs::Tests::any_split))]
 fn has_coefficient(over: i128, left: &Operand, right: &Operand) -> bool
     requires within { IsWithin 112 over }
     ensures { result ≡ list_any is_nonzero (row_coefs_over over left.now right.now) }
@@ -215,7 +215,7 @@ fn row_divisor(constant: i128, over: i128, left: &Operand, right: &Operand) -> u
 
 /// Whether some coefficient in the difference of the two sides is above 2^63 - 1 in magnitude when it is divided by the
 /// divisor.
-#[tactic(auto, using(crate::proofs::LongLists::any_split))]
+#[tactic(auto, using(ded_terminals::proofs::Tests::any_split))]
 fn has_long_coefficient(by: u128, over: i128, left: &Operand, right: &Operand) -> bool
     requires within { IsWithin 112 over }
     ensures { result ≡ list_any (is_long_over by) (row_coefs_over over left.now right.now) }

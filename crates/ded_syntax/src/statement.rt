@@ -1,20 +1,20 @@
 //! What a statement is, up to the tree of its formula.
 ghost use Rattle.std.specs.Prelude.{◌≡◌, ◌≤◌, length, Some, None, IfOk, IfErr};
 ghost use Rattle.ded_grammar.specs.declared.fault.ReadFault.TheVariants.{NotRead};
-ghost use Rattle.ded_syntax.specs.Items.{left};
-ghost use Rattle.ded_syntax.specs.Literals.{capped_reader};
+ghost use Rattle.ded_terminals.specs.Items.{left};
+ghost use Rattle.ded_terminals.specs.Literals.{capped_reader};
 ghost use Rattle.ded_syntax.specs.CommandReading.{query_head, explain_head, last_name, header_draft, relation_draft, insert_draft, delete_draft, disjoint_draft, verify_draft, view_draft, over_draft, draft_behind, draft_at};
 ghost use Rattle.ded_syntax.specs.DraftViews.{seen_draft};
 
 use crate::certificate::certificate;
 use crate::draft::{Draft, Head, braces, colon, define, ended, formed, heading};
-use crate::item::{Keyword, Rest, value_of};
-use crate::operand::name_of;
-use crate::side::{name, number};
-use crate::terminals::keyword;
 use ded_grammar::ReadFault;
 use ded_model::command::Command;
 use ded_model::name::Name;
+use ded_terminals::item::{Keyword, Rest, value_of};
+use ded_terminals::operand::name_of;
+use ded_terminals::side::{name, number};
+use ded_terminals::terminals::keyword;
 use std::alloc::Global;
 
 /// The name with which the rest begins, where nothing stands behind it.

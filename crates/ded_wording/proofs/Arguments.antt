@@ -19,9 +19,9 @@ use Rattle.ded_model.specs.Plain.{AreOnce, IsPlainOperand}
 use Rattle.ded_model.proofs.CoefLemmas.{not_zero}
 use Rattle.ded_print.proofs.Signs.{plus}
 use Rattle.ded_dump.specs.Operands.{parts_text, operand_text}
-use Rattle.ded_syntax.specs.Literals.{Literal, lowest, lcm_from, common, numerator_over, is_long_over, are_long_over, exact, marked}
-use Rattle.ded_syntax.specs.Operands.{Side, spell_side, Part, Reading, quoted, named, parts, literals_of, signed, no_sums, total_from, as_sum, operand_over, argument_of}
-use Rattle.ded_syntax.specs.Atoms.{argument}
+use Rattle.ded_terminals.specs.Literals.{Literal, lowest, lcm_from, common, numerator_over, is_long_over, are_long_over, exact, marked}
+use Rattle.ded_terminals.specs.Operands.{Side, spell_side, Part, Reading, quoted, named, parts, literals_of, signed, no_sums, total_from, as_sum, operand_over, argument_of}
+use Rattle.ded_terminals.specs.Atoms.{argument}
 use Rattle.ded_syntax.specs.Marks.{is_marked}
 use Rattle.ded_restored.specs.Operands.{parts_by, restored_operand}
 use Rattle.ded_restored.specs.Words.{HasWords}

@@ -27,11 +27,11 @@ use Rattle.ded_print.specs.Numbers.{integer_text}
 use Rattle.ded_print.specs.Tuples.{Names, term_text, later_terms_text, signed, op_text, row_with_text, theme_text, atom_text}
 use Rattle.ded_dump.specs.Comparisons.{compare_text, constant_text, stated_text, denied_text, row_comparison_text, compared_text}
 use Rattle.ded_dump.specs.Operands.{operand_text, operands_text, member_text}
-use Rattle.ded_syntax.specs.Symbols.{Open, Close, Comma}
-use Rattle.ded_syntax.specs.Literals.{exact, marked}
-use Rattle.ded_syntax.specs.Operands.{Side, spell_side}
-use Rattle.ded_syntax.specs.Atoms.{Named, spell_named, name_of, belongs, spell_rest, argument}
-use Rattle.ded_syntax.specs.MemberNames.{word_of}
+use Rattle.ded_terminals.specs.Symbols.{Open, Close, Comma}
+use Rattle.ded_terminals.specs.Literals.{exact, marked}
+use Rattle.ded_terminals.specs.Operands.{Side, spell_side}
+use Rattle.ded_terminals.specs.Atoms.{Named, spell_named, name_of, belongs, spell_rest, argument}
+use Rattle.ded_terminals.specs.MemberNames.{word_of}
 use Rattle.ded_syntax.specs.Marks.{is_marked}
 use Rattle.ded_restored.specs.Formulas.{tuple_compare, theme_compare}
 use Rattle.ded_restored.specs.Operands.{zero, op_of, row_compared, constant_compare, stated, denied, restored_row, restored_compare, restored_operand}

@@ -5,7 +5,7 @@ use Rattle.std.proofs.lemmas.Bool.Decides.{nat_tests}
 use Rattle.ded_lex.specs.Lexemes.{digit_byte, BeginsWith, Each}
 use Rattle.ded_print.specs.Numbers.{number_text}
 use Rattle.ded_print.proofs.Numerals.{by_digits}
-use Rattle.ded_syntax.specs.Symbols.{Number, number_from, number_of}
+use Rattle.ded_terminals.specs.Symbols.{Number, number_from, number_of}
 use Rattle.ded_wording.proofs.Worded.{Worded, number}
 
 is_digit : (d : ℕ) → d < 10 → digit_byte (48 + d) ≡ true

@@ -17,11 +17,11 @@ use Rattle.ded_model.specs.Row.{Atom}
 use Rattle.ded_model.specs.Width.{tuple_length}
 use Rattle.ded_print.specs.Tuples.{column_names, tuple_text}
 use Rattle.ded_dump.specs.Headings.{heading_text}
-use Rattle.ded_syntax.specs.declared.item.Keyword.TheVariants as words
-use Rattle.ded_syntax.specs.Symbols.{Symbol, Name, word_symbol}
-use Rattle.ded_syntax.specs.Symbols as symbols
-use Rattle.ded_syntax.specs.Literals.{Reader, exact, marked}
-use Rattle.ded_syntax.specs.Atoms.{Comparison}
+use Rattle.ded_terminals.specs.declared.item.Keyword.TheVariants as words
+use Rattle.ded_terminals.specs.Symbols.{Symbol, Name, word_symbol}
+use Rattle.ded_terminals.specs.Symbols as symbols
+use Rattle.ded_terminals.specs.Literals.{Reader, exact, marked}
+use Rattle.ded_terminals.specs.Atoms.{Comparison}
 use Rattle.ded_syntax.specs.Commands.{Plain, opens, defines, inserts_none, inserts, spell_plain, plain_form, spell_heading, SpellsCommand}
 use Rattle.ded_syntax.specs.Marks.{has_mark}
 use Rattle.ded_syntax.specs.Spelling.{IsHeader}

@@ -7,7 +7,7 @@ use Rattle.std.proofs.lemmas.Nat.Gcd.{dvd_refl, dvd-zero, dvd_trans, dvd_antisym
 use Prim.Native.Nat.{◌∣◌}
 use Rattle.ded_num.specs.Gcd.{nat_gcd, gcd_from, gcd_all}
 use Rattle.ded_num.proofs.Gcds.{IsGcd-nat_gcd, nat_gcd_is}
-use Rattle.ded_syntax.specs.Literals.{Literal, lowest, lcm, lcm_from, common, numerator_over}
+use Rattle.ded_terminals.specs.Literals.{Literal, lowest, lcm, lcm_from, common, numerator_over}
 
 -- ---- products and divisors
 

@@ -2,11 +2,11 @@
 use Rattle.std.proofs.Common.{ℕ, List, [], ◌∷◌, ◌++◌, inl, inr, refl, arith}
 use Rattle.std.specs.Prelude.{codes}
 use Rattle.ded_lex.specs.Lexemes.{word_byte}
-use Rattle.ded_syntax.specs.declared.item.Keyword.{Keyword}
-use Rattle.ded_syntax.specs.declared.item.Keyword.TheVariants as words
-use Rattle.ded_syntax.specs.Atoms.{Named, plain, closed, inner, spell_named, name_of}
-use Rattle.ded_syntax.specs.MemberNames.{word_of}
-use Rattle.ded_syntax.specs.Symbols.{Word, Name, Open, Close}
+use Rattle.ded_terminals.specs.declared.item.Keyword.{Keyword}
+use Rattle.ded_terminals.specs.declared.item.Keyword.TheVariants as words
+use Rattle.ded_terminals.specs.Atoms.{Named, plain, closed, inner, spell_named, name_of}
+use Rattle.ded_terminals.specs.MemberNames.{word_of}
+use Rattle.ded_terminals.specs.Symbols.{Word, Name, Open, Close}
 use Rattle.ded_wording.specs.Words.{IsName}
 use Rattle.ded_wording.proofs.Worded.{Worded, Loose, Fits, then_any, then_fitting, as_worded, lone_sign, word, name, each_of}
 

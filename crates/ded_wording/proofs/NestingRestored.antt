@@ -11,9 +11,9 @@ use Rattle.ded_model.specs.Form.{Form, FormAtom}
 use Rattle.ded_model.specs.Goal.{GoalAtom, GoalForm}
 use Rattle.ded_model.specs.Logic.{atom, always, never, negation, every_of, some_of, implies, minus, exists, forall, Logics, none, also}
 use Rattle.ded_grammar.specs.Trees.{TerminalForm, nay, conjunct, disjunct, arrow, opening, closing, binder, leaf, Both, One, nesting, nesting_either, nesting_both, nesting_one}
-use Rattle.ded_syntax.specs.Symbols.{Symbol}
-use Rattle.ded_syntax.specs.Literals.{Reader, exact}
-use Rattle.ded_syntax.specs.Atoms.{Atom, truth, relates, belongs, atom_form, IsTerminal, AreTerminals, SpellsFormula}
+use Rattle.ded_terminals.specs.Symbols.{Symbol}
+use Rattle.ded_terminals.specs.Literals.{Reader, exact}
+use Rattle.ded_terminals.specs.Atoms.{Atom, truth, relates, belongs, atom_form, IsTerminal, AreTerminals, SpellsFormula}
 use Rattle.ded_syntax.specs.Commands.{Plain, opens, defines, inserts_none, inserts, deletes, drops, keeps, shows, boxes, dumps, certifies, verifies_none, verifies, plain_form, Prefix, views, asks, queries, explains, prefix_form, SpellsCommand}
 use Rattle.ded_syntax.specs.Spelling.{IsRead}
 use Rattle.ded_print.specs.Tuples.{Names}

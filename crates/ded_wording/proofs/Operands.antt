@@ -16,8 +16,8 @@ use Rattle.ded_print.specs.Numbers.{number_text, lowest_text}
 use Rattle.ded_print.specs.Tuples as turned
 use Rattle.ded_print.proofs.Signs.{plus}
 use Rattle.ded_dump.specs.Operands.{number_over, magnitude, later_products_text, later_constant_text, parts_text}
-use Rattle.ded_syntax.specs.Literals.{Literal, lowest}
-use Rattle.ded_syntax.specs.Operands.{Part, parts, literals_of}
+use Rattle.ded_terminals.specs.Literals.{Literal, lowest}
+use Rattle.ded_terminals.specs.Operands.{Part, parts, literals_of}
 use Rattle.ded_wording.specs.Words.{IsName}
 use Rattle.ded_wording.proofs.Lowest.{factor_pos, lowest_all, gcd_last, gcd_of_zero, lowest_apart}
 use Rattle.ded_wording.proofs.Products.{sign_codes, dash_codes, IsNumeral, numeral_by, IsMultiple, any_product, scaled_product, constant_product, AreMore, no_more, one_more, IsSide, sum_side}

@@ -7,9 +7,9 @@ use Rattle.ded_num.specs.Gcd.{nat_gcd}
 use Rattle.ded_lex.specs.Lexemes.{digit_byte, BeginsWith, BeginsNot, dash_byte}
 use Rattle.ded_model.specs.Quoting.{quoted as quoted_bytes}
 use Rattle.ded_print.specs.Numbers.{number_text}
-use Rattle.ded_syntax.specs.Symbols.{Name, Number, Slash, Plus, Minus, Times}
-use Rattle.ded_syntax.specs.Literals.{Scalar, whole, quotient, spell_scalar, Literal, literal, lowest}
-use Rattle.ded_syntax.specs.Operands.{Product, scaled, constant, lone, Side, text, sum, spell_product, spell_sign, spell_more, spell_side, Factor, factor, Part, add_factor, add_all, Reading, quoted, named, parts, as_reading, single, reading_of}
+use Rattle.ded_terminals.specs.Symbols.{Name, Number, Slash, Plus, Minus, Times}
+use Rattle.ded_terminals.specs.Literals.{Scalar, whole, quotient, spell_scalar, Literal, literal, lowest}
+use Rattle.ded_terminals.specs.Operands.{Product, scaled, constant, lone, Side, text, sum, spell_product, spell_sign, spell_more, spell_side, Factor, factor, Part, add_factor, add_all, Reading, quoted, named, parts, as_reading, single, reading_of}
 use Rattle.ded_wording.specs.Words.{IsName, IsText}
 use Rattle.ded_wording.proofs.Digits.{number_worded, number_back, number_begins, some_number}
 use Rattle.ded_wording.proofs.Worded.{Worded, Loose, Fits, Any, append, then_fitting, then_any, nothing, blank, dash, lone_sign, name, quoted_text}

@@ -25,10 +25,10 @@ use Rattle.ded_print.specs.Tuples as turning
 use Rattle.ded_print.proofs.Numerals.{number_one}
 use Rattle.ded_print.proofs.Signs.{plus}
 use Rattle.ded_dump.specs.Comparisons.{compare_text}
-use Rattle.ded_syntax.specs.Symbols.{Symbol, Relation}
-use Rattle.ded_syntax.specs.Literals.{Literal, lcm, lcm_from, common, numerator_over, is_long_over, exact, marked}
-use Rattle.ded_syntax.specs.Operands.{Side, spell_side, Part, Reading, quoted, named, parts, reading_of, literals, literals_of, signed, as_sum, operand_over}
-use Rattle.ded_syntax.specs.Atoms.{compared}
+use Rattle.ded_terminals.specs.Symbols.{Symbol, Relation}
+use Rattle.ded_terminals.specs.Literals.{Literal, lcm, lcm_from, common, numerator_over, is_long_over, exact, marked}
+use Rattle.ded_terminals.specs.Operands.{Side, spell_side, Part, Reading, quoted, named, parts, reading_of, literals, literals_of, signed, as_sum, operand_over}
+use Rattle.ded_terminals.specs.Atoms.{compared}
 use Rattle.ded_syntax.specs.Marks.{is_marked}
 use Rattle.ded_restored.specs.Operands.{whole_sum, terms_of, left_of}
 use Rattle.ded_wording.specs.Words.{IsName, IsText}

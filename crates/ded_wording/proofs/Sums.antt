@@ -5,8 +5,8 @@ use Rattle.std.specs.List.{list_any}
 use Rattle.std.proofs.lemmas.Bool.{or_parts}
 use Rattle.std.proofs.lemmas.Bool.Decides.{nat_tests}
 use Rattle.ded_model.specs.Plain.{AreOnce}
-use Rattle.ded_syntax.specs.Literals.{Literal, numerator_over, marked}
-use Rattle.ded_syntax.specs.Operands.{Part, Reading, quoted, named, parts, Sums, signed, put, put_at, no_sums, total_from, operand_over}
+use Rattle.ded_terminals.specs.Literals.{Literal, numerator_over, marked}
+use Rattle.ded_terminals.specs.Operands.{Part, Reading, quoted, named, parts, Sums, signed, put, put_at, no_sums, total_from, operand_over}
 use Rattle.ded_syntax.specs.Marks.{is_marked}
 
 -- the parts have these names, and these numerators over m

@@ -17,10 +17,10 @@ use Rattle.ded_model.specs.Point.{Key}
 use Rattle.ded_model.specs.Slotted.{SlotScope, heading_scope, goal_below, goals_below, goal_of}
 use Rattle.ded_model.proofs.Bools.{or_false_left, or_false_right}
 use Rattle.ded_grammar.specs.Trees.{leaf, spell}
-use Rattle.ded_syntax.specs.Literals.{exact, marked}
+use Rattle.ded_terminals.specs.Literals.{exact, marked}
 use Rattle.ded_syntax.specs.Marks.{is_marked, is_marked_atom}
-use Rattle.ded_syntax.specs.Operands.{Side, text}
-use Rattle.ded_syntax.specs.Atoms.{argument, name_of, Atom, truth, relates, belongs, spell_atom, atom_form}
+use Rattle.ded_terminals.specs.Operands.{Side, text}
+use Rattle.ded_terminals.specs.Atoms.{argument, name_of, Atom, truth, relates, belongs, spell_atom, atom_form}
 use Rattle.ded_syntax.proofs.Marked.{comparison_exact}
 use Rattle.ded_print.specs.Plans.{key_text}
 use Rattle.ded_print.specs.Tuples.{Names, column_names}

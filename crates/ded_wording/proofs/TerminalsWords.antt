@@ -11,10 +11,10 @@ use Rattle.ded_model.specs.Logic.{always, never}
 use Rattle.ded_grammar.specs.declared.terminal.Quantifier.TheVariants.{Exists, Forall}
 use Rattle.ded_grammar.specs.Trees.{TerminalForm, nay, conjunct, disjunct, arrow, opening, closing, binder, leaf}
 use Rattle.ded_print.specs.Plans.{key_text, sort_text}
-use Rattle.ded_syntax.specs.declared.item.Keyword.TheVariants as words
-use Rattle.ded_syntax.specs.Symbols.{Symbol, Word, Name, Open, Close, word_symbol}
-use Rattle.ded_syntax.specs.Literals.{Reader, exact, marked}
-use Rattle.ded_syntax.specs.Atoms.{truth, IsTerminal, AreTerminals, spell_column, sort_symbols}
+use Rattle.ded_terminals.specs.declared.item.Keyword.TheVariants as words
+use Rattle.ded_terminals.specs.Symbols.{Symbol, Word, Name, Open, Close, word_symbol}
+use Rattle.ded_terminals.specs.Literals.{Reader, exact, marked}
+use Rattle.ded_terminals.specs.Atoms.{truth, IsTerminal, AreTerminals, spell_column, sort_symbols}
 use Rattle.ded_dump.specs.Headings.{column_text, variable}
 use Rattle.ded_wording.specs.Words.{IsName}
 use Rattle.ded_wording.proofs.Worded.{WordedBefore, Worded, Loose, Any, Fits, append, then_any, then_fitting, as_worded, nothing, blank, word, name, lone_sign, each_of}

@@ -9,9 +9,9 @@ use Rattle.ded_model.specs.Normal.{IsNormalTuple}
 use Rattle.ded_model.specs.Plain.{IsPlainAtom}
 use Rattle.ded_model.specs.Row.{Atom}
 use Rattle.ded_print.specs.Tuples.{Names, atom_text, later_atoms_text, tuple_text}
-use Rattle.ded_syntax.specs.Symbols.{Symbol, OpenBrace, CloseBrace, Comma}
-use Rattle.ded_syntax.specs.Literals.{exact, marked}
-use Rattle.ded_syntax.specs.Atoms.{Comparison, spell_comparison, comparison_form, spell_rest}
+use Rattle.ded_terminals.specs.Symbols.{Symbol, OpenBrace, CloseBrace, Comma}
+use Rattle.ded_terminals.specs.Literals.{exact, marked}
+use Rattle.ded_terminals.specs.Atoms.{Comparison, spell_comparison, comparison_form, spell_rest}
 use Rattle.ded_syntax.specs.Marks.{is_marked_atom}
 use Rattle.ded_syntax.proofs.Marked.{comparison_exact}
 use Rattle.ded_restored.specs.Formulas.{tuple_compare, tuple_compares}

@@ -12,9 +12,9 @@ use Rattle.ded_model.specs.LongRows.{is_long_atom}
 use Rattle.ded_model.specs.Plain.{IsPlain}
 use Rattle.ded_grammar.specs.Trees.{TerminalForm, nay, conjunct, disjunct, arrow, opening, closing, binder, leaf, spell, meaning, nesting}
 use Rattle.ded_grammar.proofs.Carried.{TerminalHas, TerminalsHave, spelled_has}
-use Rattle.ded_syntax.specs.Symbols.{Symbol, symbol}
-use Rattle.ded_syntax.specs.Literals.{Reader, exact, marked}
-use Rattle.ded_syntax.specs.Atoms.{Atom, truth, relates, belongs, atom_form, IsTerminal, AreTerminals}
+use Rattle.ded_terminals.specs.Symbols.{Symbol, symbol}
+use Rattle.ded_terminals.specs.Literals.{Reader, exact, marked}
+use Rattle.ded_terminals.specs.Atoms.{Atom, truth, relates, belongs, atom_form, IsTerminal, AreTerminals}
 use Rattle.ded_syntax.specs.Commands.{views, spell_prefix, SpellsCommand}
 use Rattle.ded_syntax.specs.Spelling.{IsRead}
 use Rattle.ded_syntax.proofs.PlainSums.{spelled_plain}

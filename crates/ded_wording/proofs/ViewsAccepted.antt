@@ -9,12 +9,12 @@ use Rattle.ded_model.specs.declared.command.Refusal.{Refusal}
 use Rattle.ded_model.specs.declared.command.Refusal.TheVariants.{Syntax, LongName, LongNumber, Deep}
 use Rattle.ded_model.specs.Command.{CommandForm}
 use Rattle.ded_model.specs.LongRows.{has_long_row}
-use Rattle.ded_syntax.specs.Symbols.{symbol}
-use Rattle.ded_syntax.specs.Literals.{exact, marked}
+use Rattle.ded_terminals.specs.Symbols.{symbol}
+use Rattle.ded_terminals.specs.Literals.{exact, marked}
 use Rattle.ded_syntax.specs.Marks.{has_mark}
 use Rattle.ded_syntax.specs.Commands.{SpellsCommand}
 use Rattle.ded_syntax.specs.Spelling.{Spells, IsRead, AppliesIn, SomeLexeme, SpellsLongLiteral, is_long_word, is_long_number}
-use Rattle.ded_syntax.proofs.Seen.{one_list}
+use Rattle.ded_terminals.proofs.Seen.{one_list}
 use Rattle.ded_syntax.proofs.One.{same_symbols, one_command}
 
 module _ (bytes : List ℕ) (lexemes : List Lexeme) (are : AreLexemes bytes lexemes) (c : CommandForm) (depth : ℕ) (exactly : SpellsCommand exact (map (symbol Two) lexemes) c depth) where

@@ -2,9 +2,9 @@
 use Rattle.std.proofs.Common.{◌≡◌, inl, inr, ℕ, List, [], ◌∷◌, ◌++◌, refl, sym, subst, append_assoc, arith}
 use Rattle.std.specs.Prelude.{codes}
 use Rattle.ded_model.specs.declared.name.Column.{Column}
-use Rattle.ded_syntax.specs.declared.item.Keyword.TheVariants as words
-use Rattle.ded_syntax.specs.Symbols.{Symbol, Word, Name, Open, Close, Comma, Define}
-use Rattle.ded_syntax.specs.Atoms.{spell_rest, spell_column}
+use Rattle.ded_terminals.specs.declared.item.Keyword.TheVariants as words
+use Rattle.ded_terminals.specs.Symbols.{Symbol, Word, Name, Open, Close, Comma, Define}
+use Rattle.ded_terminals.specs.Atoms.{spell_rest, spell_column}
 use Rattle.ded_syntax.specs.Commands.{Columns, spell_heading, heading, views, spell_prefix}
 use Rattle.ded_dump.specs.Headings.{column_text, columns_text, heading_text}
 use Rattle.ded_restored.specs.Words.{AreNamed}

@@ -18,8 +18,8 @@ use Rattle.ded_lex.specs.Pieces as piece
 use Rattle.ded_lex.proofs.Cases.{is_not}
 use Rattle.ded_model.specs.declared.command.Language.TheVariants.{Two}
 use Rattle.ded_model.specs.Quoting.{doubled, quoted}
-use Rattle.ded_syntax.specs.Symbols.{Symbol, Name, symbol, word_symbol, sign_symbol, number_of}
-use Rattle.ded_syntax.specs.Symbols as symbols
+use Rattle.ded_terminals.specs.Symbols.{Symbol, Name, symbol, word_symbol, sign_symbol, number_of}
+use Rattle.ded_terminals.specs.Symbols as symbols
 use Rattle.ded_syntax.specs.Spelling.{is_long_word, is_long_number}
 use Rattle.ded_wording.specs.Words.{IsName, IsText}
 

@@ -2,8 +2,8 @@
 use Rattle.std.proofs.Common.{◌≡◌, ℕ, false, List}
 use Rattle.ded_model.specs.Form.{FormAtom}
 use Rattle.ded_model.specs.Logic.{atom, some_atom}
-use Rattle.ded_syntax.specs.Atoms.{Atom, relates, spell_atom, atom_form, Comparison, spell_comparison, comparison_form}
-use Rattle.ded_syntax.specs.Literals.{exact, marked}
+use Rattle.ded_terminals.specs.Atoms.{Atom, relates, spell_atom, atom_form, Comparison, spell_comparison, comparison_form}
+use Rattle.ded_terminals.specs.Literals.{exact, marked}
 use Rattle.ded_syntax.specs.Marks.{is_marked_atom}
 use Rattle.ded_wording.proofs.Worded.{Worded}
 

@@ -4,10 +4,10 @@ use Rattle.std.specs.Prelude.{ℤ, ◌+ℤ◌, Option, Some, None, if◌then◌e
 use Rattle.std.specs.List.{AllByRecursion}
 use Rattle.ded_model.proofs.Lists.{Every, every-append, every-left, every-right}
 use Rattle.ded_model.specs.Logic.{AllAtomsOf, logics}
-use Rattle.ded_syntax.specs.Symbols.{Symbol, Name, Times, Open, Close, Relation}
-use Rattle.ded_syntax.specs.Literals.{Literal, Reader, spell_scalar}
-use Rattle.ded_syntax.specs.Operands.{Product, scaled, constant, lone, Side, text, sum, spell_product, spell_more, spell_side, factor, Part, add_factor, add_all, Reading, quoted, named, parts, as_reading, single, reading_of, Sums, signed, put, put_at, no_sums, total_from, operand_over}
-use Rattle.ded_syntax.specs.Atoms.{spell_rest, Comparison, spell_comparison, comparison_form, argument, Named, plain, closed, inner, spell_named, name_of, Atom, truth, relates, belongs, spell_atom, atom_form}
+use Rattle.ded_terminals.specs.Symbols.{Symbol, Name, Times, Open, Close, Relation}
+use Rattle.ded_terminals.specs.Literals.{Literal, Reader, spell_scalar}
+use Rattle.ded_terminals.specs.Operands.{Product, scaled, constant, lone, Side, text, sum, spell_product, spell_more, spell_side, factor, Part, add_factor, add_all, Reading, quoted, named, parts, as_reading, single, reading_of, Sums, signed, put, put_at, no_sums, total_from, operand_over}
+use Rattle.ded_terminals.specs.Atoms.{spell_rest, Comparison, spell_comparison, comparison_form, argument, Named, plain, closed, inner, spell_named, name_of, Atom, truth, relates, belongs, spell_atom, atom_form}
 use Rattle.ded_restored.specs.Words.{HasWords, HaveWords, AtomHasWords, IsWritten}
 use Rattle.ded_wording.specs.Words.{IsName, IsMember, IsText}
 use Rattle.ded_wording.proofs.WordsSymbols.{IsGoodSymbol}

@@ -9,9 +9,9 @@ use Rattle.ded_model.specs.declared.command.Refusal.TheVariants.{LongName}
 use Rattle.ded_model.specs.Command.{CommandForm, relation, insert, view}
 use Rattle.ded_model.specs.Form.{Form}
 use Rattle.ded_model.specs.Logic.{AllAtomsOf}
-use Rattle.ded_syntax.specs.Symbols.{Symbol, symbol, Close, CloseBrace, Define}
-use Rattle.ded_syntax.specs.Literals.{Reader, exact}
-use Rattle.ded_syntax.specs.Atoms.{spell_rest, spell_column, sort_symbols}
+use Rattle.ded_terminals.specs.Symbols.{Symbol, symbol, Close, CloseBrace, Define}
+use Rattle.ded_terminals.specs.Literals.{Reader, exact}
+use Rattle.ded_terminals.specs.Atoms.{spell_rest, spell_column, sort_symbols}
 use Rattle.ded_syntax.specs.Commands.{Columns, spell_heading, heading, Plain, opens, defines, inserts_none, inserts, deletes, drops, keeps, shows, boxes, dumps, certifies, verifies_none, verifies, spell_plain, plain_form, Prefix, views, asks, queries, explains, spell_prefix, prefix_form, SpellsCommand}
 use Rattle.ded_syntax.specs.Spelling.{IsRead, is_long_word}
 use Rattle.ded_restored.specs.Words.{AreNamed, AtomHasWords}

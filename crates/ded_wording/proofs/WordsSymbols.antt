@@ -12,9 +12,9 @@ use Rattle.ded_model.specs.declared.command.Language.TheVariants.{Opening, One, 
 use Rattle.ded_model.specs.declared.formula.CompareOp.TheVariants as op
 use Rattle.ded_model.proofs.Bools.{or_false_left, or_false_right}
 use Rattle.ded_model.proofs.Lists.{Every}
-use Rattle.ded_syntax.specs.declared.item.Keyword.{Keyword}
-use Rattle.ded_syntax.specs.declared.item.Keyword.TheVariants as words
-use Rattle.ded_syntax.specs.Symbols.{Symbol, Word, Name, Quoted, Plus, Minus, Times, Open, Close, OpenBrace, CloseBrace, Comma, Colon, Define, Relation, formula_word, command_word, is_unused, unused_word, dedale_symbol, dump_symbol, language_word, word_symbol, sum_sign, other_sign, slash_symbol, decimal_symbol, symbol}
+use Rattle.ded_terminals.specs.declared.item.Keyword.{Keyword}
+use Rattle.ded_terminals.specs.declared.item.Keyword.TheVariants as words
+use Rattle.ded_terminals.specs.Symbols.{Symbol, Word, Name, Quoted, Plus, Minus, Times, Open, Close, OpenBrace, CloseBrace, Comma, Colon, Define, Relation, formula_word, command_word, is_unused, unused_word, dedale_symbol, dump_symbol, language_word, word_symbol, sum_sign, other_sign, slash_symbol, decimal_symbol, symbol}
 use Rattle.ded_syntax.specs.Spelling.{is_long_word}
 use Rattle.ded_wording.specs.Words.{IsName, IsText}
 

@@ -7,9 +7,9 @@ use Rattle.ded_model.specs.Logic.{logics}
 use Rattle.ded_grammar.specs.declared.terminal.Quantifier.{Quantifier}
 use Rattle.ded_grammar.specs.declared.terminal.Quantifier.TheVariants.{Exists, Forall}
 use Rattle.ded_grammar.specs.Trees.{TerminalForm, nay, conjunct, disjunct, arrow, opening, closing, binder, leaf, Whole, only, follows, Either, either_last, either_more, Both, both_last, both_more, One, negated, bound, grouped, plain, Body, bound_again, around, spell, spell_either, spell_both, spell_one, spell_body, meaning, members_either, members_both, meaning_one, meaning_body, quantified, all_of, any_of}
-use Rattle.ded_syntax.specs.Symbols.{Symbol}
-use Rattle.ded_syntax.specs.Literals.{Reader}
-use Rattle.ded_syntax.specs.Atoms.{IsTerminal, AreTerminals, SpellsFormula}
+use Rattle.ded_terminals.specs.Symbols.{Symbol}
+use Rattle.ded_terminals.specs.Literals.{Reader}
+use Rattle.ded_terminals.specs.Atoms.{IsTerminal, AreTerminals, SpellsFormula}
 use Rattle.ded_restored.specs.Words.{IsWritten, AreWritten}
 use Rattle.ded_wording.specs.Words.{IsName, IsMember, IsText}
 use Rattle.ded_wording.proofs.WordsSymbols.{IsGoodSymbol}

@@ -3,9 +3,9 @@ use Rattle.std.specs.Prelude.{◌≡◌, ◌≤◌, ℕ, List, length}
 use Rattle.ded_lex.specs.Lexemes.{BeginsWith, Each, letter_byte, word_byte, text_byte}
 use Rattle.ded_model.specs.declared.command.Language.TheVariants.{Two}
 use Rattle.ded_model.specs.declared.name.Column.{Column}
-use Rattle.ded_syntax.specs.Atoms.{Named, name_of}
-use Rattle.ded_syntax.specs.MemberNames.{word_of}
-use Rattle.ded_syntax.specs.Symbols.{word_symbol, Name}
+use Rattle.ded_terminals.specs.Atoms.{Named, name_of}
+use Rattle.ded_terminals.specs.MemberNames.{word_of}
+use Rattle.ded_terminals.specs.Symbols.{word_symbol, Name}
 use Rattle.ded_restored.specs.Words.{AreNamed}
 
 -- a word of at most 64 bytes that isn't reserved

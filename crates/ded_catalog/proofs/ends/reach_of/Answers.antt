@@ -1,6 +1,6 @@
 use Rattle.ded_model.specs.Row.{tuple_holds}
-use Rattle.ded_hull.specs.Tuples.{IsReachOf}
-use Rattle.ded_hull.specs.Windows.{column_value}
+use Rattle.ded_ranges.specs.Tuples.{IsReachOf}
+use Rattle.ded_ranges.specs.Windows.{column_value}
 use Rattle.ded_catalog.proofs.Results.{if_ok_by}
 use Rattle.ded_catalog.proofs.ends.reach_of.Goals as goal
 

@@ -1,4 +1,4 @@
-use Rattle.ded_hull.specs.Windows.{column_value}
+use Rattle.ded_ranges.specs.Windows.{column_value}
 use Rattle.ded_catalog.proofs.ends.tighten.Goals as goal
 
 pub returns-in_ok-range_of : goal.returns-in_ok-range_of

@@ -1,7 +1,7 @@
 use Rattle.std.proofs.Common.{rules, ◌≡◌, ◌∙◌, ◌++◌, ◌<◌, length, take, ap, sym, subst}
 use Rattle.std.proofs.lemmas.List.{take_all}
 use Rattle.ded_hull.specs.declared.entry.Entry.{Entry}
-use Rattle.ded_hull.specs.Reaches.{IsWithin, hull}
+use Rattle.ded_ranges.specs.Reaches.{IsWithin, hull}
 use Rattle.ded_hull.specs.Segments.{AreSegments, IsHull}
 use Rattle.ded_hull.proofs.Found.{covers_more}
 use Rattle.ded_hull.proofs.Halved.{hull_more, front_segments}

@@ -1,8 +1,8 @@
 use Rattle.std.specs.Prelude.{List}
 use Rattle.std.proofs.Common.{rules, ◌≡◌, ◌∙◌, Some, inl, inr, ◌++◌, ap, sym, subst}
 use Rattle.std.specs.List.{slice_get}
-use Rattle.ded_hull.specs.declared.reach.Range.{Range}
-use Rattle.ded_hull.specs.Reaches.{IsWithin, hull}
+use Rattle.ded_ranges.specs.declared.reach.Range.{Range}
+use Rattle.ded_ranges.specs.Reaches.{IsWithin, hull}
 use Rattle.ded_hull.specs.Entries.{Covers}
 use Rattle.ded_hull.proofs.Rooted.{over_first, over_both, over_none}
 use Rattle.ded_hull.proofs.Halved.{joined_first, joined_none}

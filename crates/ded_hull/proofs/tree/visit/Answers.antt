@@ -1,6 +1,6 @@
 use Rattle.std.proofs.Common.{rules, ◌≡◌, ◌<◌, true, false, take, refl, sym, ◌∙◌}
-use Rattle.ded_hull.specs.Limits.{may_hold}
-use Rattle.ded_hull.proofs.Columns.{contrary}
+use Rattle.ded_ranges.specs.Limits.{may_hold}
+use Rattle.ded_ranges.proofs.Columns.{contrary}
 use Rattle.ded_hull.proofs.Rooted.{whole_rest, step_past, step_into, step_own, own_few}
 use Rattle.ded_hull.proofs.tree.visit.Goals as goal
 

@@ -1,5 +1,5 @@
 use Rattle.std.proofs.Common.{List, subst, ◌^◌}
-use Rattle.ded_hull.specs.declared.limit.Limit.{Limit}
+use Rattle.ded_ranges.specs.declared.limit.Limit.{Limit}
 use Rattle.ded_hull.specs.Entries.{IsComplete}
 use Rattle.ded_layers.specs.Layers.{pieces_of}
 use Rattle.ded_layers.proofs.Near.{added, enough_of}

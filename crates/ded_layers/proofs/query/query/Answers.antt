@@ -1,7 +1,7 @@
 use Rattle.std.proofs.Common.{◌≡◌, true, sym, ap, subst}
-use Rattle.ded_hull.specs.declared.reach.Range.{Range}
-use Rattle.ded_hull.specs.Reaches.{IsIn}
-use Rattle.ded_hull.specs.Limits.{are_met}
+use Rattle.ded_ranges.specs.declared.reach.Range.{Range}
+use Rattle.ded_ranges.specs.Reaches.{IsIn}
+use Rattle.ded_ranges.specs.Limits.{are_met}
 use Rattle.ded_layers.proofs.Convex.{meet_between}
 use Rattle.ded_layers.proofs.query.query.Goals as goal
 

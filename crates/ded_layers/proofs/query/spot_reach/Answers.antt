@@ -1,7 +1,7 @@
 use Rattle.std.proofs.Common.{subst}
 use Rattle.std.specs.Prelude.{unsigned_abs}
 use Rattle.ded_model.specs.Bound.{Fraction}
-use Rattle.ded_hull.specs.Reaches.{IsIn}
+use Rattle.ded_ranges.specs.Reaches.{IsIn}
 use Rattle.ded_layers.proofs.Convex.{two_pushed}
 use Rattle.ded_layers.proofs.query.spot_reach.Goals as goal
 

@@ -4,7 +4,7 @@ use Rattle.std.proofs.lemmas.Result.{IfOk-weaker}
 use Rattle.ded_algebra.specs.Evaluation.{given_tuples}
 use Rattle.ded_catalog.specs.Snapshots.{snapshot_of}
 use Rattle.ded_algebra.specs.Given.{given_catalogue}
-use Rattle.ded_hull.specs.Windows.{AreLent}
+use Rattle.ded_ranges.specs.Windows.{AreLent}
 use Rattle.ded_packed.specs.Lent.{lent}
 use Rattle.ded_query.specs.Made.{IsStanding}
 use Rattle.ded_query.specs.Over.{over_relations}

@@ -1,6 +1,6 @@
 use Rattle.std.proofs.Common.{◌≡◌, ◌≤◌, drop}
 use Rattle.std.specs.Prelude.{min}
-use Rattle.ded_syntax.specs.Symbols.{number_of, number_from}
+use Rattle.ded_terminals.specs.Symbols.{number_of, number_from}
 use Rattle.ded_shared.proofs.tag.value_of.Given as goal
 
 -- the digits so far and those to come are the number

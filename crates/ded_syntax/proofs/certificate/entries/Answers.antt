@@ -2,11 +2,11 @@ use Rattle.std.proofs.Common.{sym, ap, ◌∙◌, arith, length}
 use Rattle.std.specs.Prelude.{Bool, Some}
 use Rattle.std.proofs.lemmas.List.{length-map}
 use Rattle.std.proofs.lemmas.Result.{err_from_is_err_and}
-use Rattle.ded_syntax.specs.Items.{seen, left}
-use Rattle.ded_syntax.specs.AtomReading.{brace_at}
+use Rattle.ded_terminals.specs.Items.{seen, left}
+use Rattle.ded_terminals.specs.AtomReading.{brace_at}
 use Rattle.ded_syntax.specs.CertificateReading.{entry_at}
-use Rattle.ded_syntax.specs.Literals.{capped_reader}
-use Rattle.ded_syntax.proofs.ListLoops.{list_on, list_done, list_fails, list_breaks, list_out}
+use Rattle.ded_terminals.specs.Literals.{capped_reader}
+use Rattle.ded_terminals.proofs.ListLoops.{list_on, list_done, list_fails, list_breaks, list_out}
 use Rattle.ded_syntax.proofs.certificate.entries.Goals as goal
 
 pub returns-in_default-clause-unread : goal.returns-in_default-clause-unread

@@ -1,9 +1,9 @@
 use Rattle.std.proofs.Common.{◌≡◌, ◌≤◌, ◌+◌, length}
-use Rattle.ded_syntax.specs.AtomReading.{brace_at}
+use Rattle.ded_terminals.specs.AtomReading.{brace_at}
 use Rattle.ded_syntax.specs.CertificateReading.{entry_at, entries_at}
-use Rattle.ded_syntax.specs.Items.{left}
-use Rattle.ded_syntax.specs.Literals.{capped_reader}
-use Rattle.ded_syntax.proofs.ListLoops.{list_left}
+use Rattle.ded_terminals.specs.Items.{left}
+use Rattle.ded_terminals.specs.Literals.{capped_reader}
+use Rattle.ded_terminals.proofs.ListLoops.{list_left}
 use Rattle.ded_syntax.proofs.certificate.entries.Given as goal
 
 abbrev pub invariant-loop : goal.invariant-loop

@@ -2,8 +2,8 @@ use Rattle.std.proofs.Common.{◌≡◌, ◌≤◌, ◌++◌, length}
 use Rattle.std.specs.List.{AllByRecursion}
 use Rattle.ded_num.specs.Length.{IsShort}
 use Rattle.ded_syntax.specs.CertificateReading.{integers_at}
-use Rattle.ded_syntax.specs.Items.{left}
-use Rattle.ded_syntax.specs.Literals.{capped_reader}
+use Rattle.ded_terminals.specs.Items.{left}
+use Rattle.ded_terminals.specs.Literals.{capped_reader}
 use Rattle.ded_syntax.proofs.certificate.integers.Given as goal
 
 -- the integers so far and those to come

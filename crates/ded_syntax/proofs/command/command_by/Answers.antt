@@ -4,7 +4,7 @@ use Rattle.ded_model.specs.declared.command.Refusal.{Refusal}
 use Rattle.ded_model.specs.declared.command.Refusal.TheVariants.{Deep, Memory}
 use Rattle.ded_model.specs.declared.command.Command.{Command}
 use Rattle.ded_model.specs.Command.{command_form}
-use Rattle.ded_syntax.specs.Items.{left, AreSymbols}
+use Rattle.ded_terminals.specs.Items.{left, AreSymbols}
 use Rattle.ded_syntax.specs.DraftViews.{seen_draft}
 use Rattle.ded_syntax.specs.Meaning.{Means, MeansDeep}
 use Rattle.ded_syntax.specs.Spelling.{IsRead, IsLeastIn}

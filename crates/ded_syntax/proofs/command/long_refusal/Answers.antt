@@ -1,6 +1,6 @@
 use Rattle.std.proofs.Common.{sym, ◌∙◌}
 use Rattle.std.proofs.lemmas.Bool.{or_parts}
-use Rattle.ded_syntax.specs.Items.{left}
+use Rattle.ded_terminals.specs.Items.{left}
 use Rattle.ded_syntax.specs.DraftViews.{seen_draft}
 use Rattle.ded_syntax.proofs.Refused.{long_name, has_literal, is_unfit}
 use Rattle.ded_syntax.proofs.Unfit.{unfit_draft}

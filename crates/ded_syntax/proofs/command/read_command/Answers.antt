@@ -7,7 +7,7 @@ use Rattle.ded_model.specs.declared.command.Command.{Command}
 use Rattle.ded_model.specs.Command.{command_form}
 use Rattle.ded_syntax.specs.Spelling.{IsRead, IsLeastIn}
 use Rattle.ded_syntax.proofs.Drafted.{if_ok, if_err}
-use Rattle.ded_syntax.proofs.Seen.{no_lexemes, few_tokens, slice_says}
+use Rattle.ded_terminals.proofs.Seen.{no_lexemes, few_tokens, slice_says}
 use Rattle.ded_syntax.proofs.Refused.{no_token}
 use Rattle.ded_syntax.proofs.command.read_command.Goals as goal
 

@@ -7,10 +7,10 @@ use Rattle.ded_model.specs.declared.command.Refusal.{Refusal}
 use Rattle.ded_model.specs.declared.command.Refusal.TheVariants.{Memory}
 use Rattle.ded_model.specs.declared.command.Command.{Command}
 use Rattle.ded_model.specs.Command.{command_form}
-use Rattle.ded_syntax.specs.Items.{seen, symbols, AreSymbols}
+use Rattle.ded_terminals.specs.Items.{seen, symbols, AreSymbols}
 use Rattle.ded_syntax.specs.Spelling.{IsRead, IsLeastIn}
 use Rattle.ded_syntax.proofs.Drafted.{if_ok, if_err}
-use Rattle.ded_syntax.proofs.Seen.{symbols_are, few_items}
+use Rattle.ded_terminals.proofs.Seen.{symbols_are, few_items}
 use Rattle.ded_syntax.proofs.command.read_tokens.Goals as goal
 
 pub command_by-requires : goal.command_by-requires

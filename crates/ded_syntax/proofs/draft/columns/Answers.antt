@@ -2,9 +2,9 @@ use Rattle.std.proofs.Common.{sym, ap, ◌∙◌, arith, length}
 use Rattle.std.specs.Prelude.{Bool, Some}
 use Rattle.std.proofs.lemmas.List.{length-map}
 use Rattle.std.proofs.lemmas.Result.{err_from_is_err_and}
-use Rattle.ded_syntax.specs.Items.{seen, left}
-use Rattle.ded_syntax.specs.AtomReading.{comma_at, column_at}
-use Rattle.ded_syntax.proofs.ListLoops.{list_on, list_done, list_fails, list_breaks, list_out}
+use Rattle.ded_terminals.specs.Items.{seen, left}
+use Rattle.ded_terminals.specs.AtomReading.{comma_at, column_at}
+use Rattle.ded_terminals.proofs.ListLoops.{list_on, list_done, list_fails, list_breaks, list_out}
 use Rattle.ded_syntax.proofs.draft.columns.Goals as goal
 
 pub returns-in_default-clause-unread : goal.returns-in_default-clause-unread

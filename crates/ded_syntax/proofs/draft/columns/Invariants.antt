@@ -1,8 +1,8 @@
 use Rattle.std.proofs.Common.{◌≡◌, ◌≤◌, ◌+◌, length}
-use Rattle.ded_syntax.specs.Items.{left}
-use Rattle.ded_syntax.specs.AtomReading.{comma_at, column_at}
+use Rattle.ded_terminals.specs.Items.{left}
+use Rattle.ded_terminals.specs.AtomReading.{comma_at, column_at}
 use Rattle.ded_syntax.specs.CommandReading.{columns_at}
-use Rattle.ded_syntax.proofs.ListLoops.{list_left}
+use Rattle.ded_terminals.proofs.ListLoops.{list_left}
 use Rattle.ded_syntax.proofs.draft.columns.Given as goal
 
 abbrev pub invariant-loop : goal.invariant-loop

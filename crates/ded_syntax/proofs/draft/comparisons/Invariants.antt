@@ -1,11 +1,11 @@
 use Rattle.std.proofs.Common.{◌≡◌, ◌≤◌, ◌+◌, length}
-use Rattle.ded_syntax.specs.Items.{left}
+use Rattle.ded_terminals.specs.Items.{left}
 use Rattle.std.specs.Prelude.{map}
 use Rattle.ded_model.specs.Form.{form}
-use Rattle.ded_syntax.specs.AtomReading.{brace_at, compare_at}
+use Rattle.ded_terminals.specs.AtomReading.{brace_at, compare_at}
 use Rattle.ded_syntax.specs.CommandReading.{forms_at}
-use Rattle.ded_syntax.specs.Literals.{capped_reader}
-use Rattle.ded_syntax.proofs.ListLoops.{list_left}
+use Rattle.ded_terminals.specs.Literals.{capped_reader}
+use Rattle.ded_terminals.proofs.ListLoops.{list_left}
 use Rattle.ded_syntax.proofs.draft.comparisons.Given as goal
 
 abbrev pub invariant-loop : goal.invariant-loop

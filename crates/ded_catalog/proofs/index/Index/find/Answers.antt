@@ -1,5 +1,5 @@
 use Rattle.std.proofs.Common.{List, subst}
-use Rattle.ded_hull.specs.declared.limit.Limit.{Limit}
+use Rattle.ded_ranges.specs.declared.limit.Limit.{Limit}
 use Rattle.ded_hull.specs.Entries.{IsComplete}
 use Rattle.ded_catalog.proofs.Indexing.{finds_reaches}
 use Rattle.ded_catalog.proofs.index.Index.find.Goals as goal

@@ -2,7 +2,7 @@ use Rattle.std.proofs.Common.{◌≡◌, None, Some, sym, ap, ◌∙◌, subst}
 use Rattle.std.specs.Option.{option_map}
 use Rattle.ded_model.specs.Catalogue.{tuples_of}
 use Rattle.ded_model.specs.Entries.{entry_of, relation_in}
-use Rattle.ded_hull.specs.Windows.{AreLent}
+use Rattle.ded_ranges.specs.Windows.{AreLent}
 use Rattle.ded_packed.specs.Lent.{lent}
 use Rattle.ded_catalog.specs.State.{catalogue_of}
 use Rattle.ded_catalog.specs.Changing.{changed, inserted_in, deleted_in, without_number, with_last}

@@ -1,7 +1,7 @@
 use Rattle.std.proofs.Common.{rules, ◌≡◌, List, ℕ, sym, ap, ◌∙◌, subst}
 use Rattle.ded_model.specs.Row.{Atom}
-use Rattle.ded_hull.specs.declared.window.Window.{Window}
-use Rattle.ded_hull.specs.Windows.{IsMissed}
+use Rattle.ded_ranges.specs.declared.window.Window.{Window}
+use Rattle.ded_ranges.specs.Windows.{IsMissed}
 use Rattle.ded_model.proofs.Sublists.{sublist_refl, sublist_trans}
 use Rattle.ded_catalog.specs.Nearby.{numbered, AreNear, picked}
 use Rattle.ded_catalog.specs.Relations.{Relation, Finds}

@@ -1,7 +1,7 @@
 use Rattle.std.proofs.Common.{Some, sym, ◌∙◌, subst}
 use Rattle.std.specs.Prelude.{IfOk}
 use Rattle.std.specs.Option.{option_map}
-use Rattle.ded_hull.specs.Windows.{AreLent}
+use Rattle.ded_ranges.specs.Windows.{AreLent}
 use Rattle.ded_packed.specs.Lent.{lent}
 use Rattle.ded_keep.proofs.AloneMeanings.{own_tuples, other_tuples}
 use Rattle.ded_keep.proofs.alone.AloneRelations.near.Goals as goal

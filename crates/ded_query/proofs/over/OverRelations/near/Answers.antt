@@ -2,7 +2,7 @@ use Rattle.std.proofs.Common.{None, sym, ◌∙◌, subst}
 use Rattle.std.specs.Prelude.{IfOk}
 use Rattle.std.specs.Option.{option_map}
 use Rattle.ded_catalog.specs.Snapshots.{snapshot_of}
-use Rattle.ded_hull.specs.Windows.{AreLent}
+use Rattle.ded_ranges.specs.Windows.{AreLent}
 use Rattle.ded_packed.specs.Lent.{lent}
 use Rattle.ded_query.proofs.Standing.{found_given, found_hidden, found_stored}
 use Rattle.ded_query.proofs.over.OverRelations.near.Goals as goal

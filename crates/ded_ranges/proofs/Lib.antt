@@ -1,0 +1,9 @@
+pub mod Around
+pub mod Columns
+pub mod Ends
+pub mod Near
+pub mod Numbers
+pub mod Sums
+pub mod Taken
+pub mod Terms
+pub mod Widened

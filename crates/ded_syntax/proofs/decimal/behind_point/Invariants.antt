@@ -1,6 +1,0 @@
-use Rattle.std.proofs.Common.{◌≡◌, drop}
-use Rattle.ded_syntax.specs.Symbols.{behind_point}
-use Rattle.ded_syntax.proofs.decimal.behind_point.Given as goal
-
-abbrev pub invariant-loop-i : goal.invariant-loop-i
-invariant-loop-i l = behind_point l.text ≡ behind_point (drop l.i l.text)

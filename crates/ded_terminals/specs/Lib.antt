@@ -1,0 +1,10 @@
+pub mod AtomReading
+pub mod Atoms
+pub mod Items
+pub mod Literals
+pub mod MemberNames
+pub mod OperandReading
+pub mod Operands
+pub mod Reserved
+pub mod Symbols
+pub mod Views
