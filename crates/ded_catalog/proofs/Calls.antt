@@ -24,7 +24,7 @@ use Rattle.ded_model.specs.Width.{tuple_length}
 use Rattle.ded_sorts.specs.Causes.{insert_refusal, is_relation_with}
 use Rattle.ded_sorts.specs.Changes.{ChangesEntry, DropsEntry, Inserts, Deletes}
 use Rattle.ded_model.specs.Entries.{entry_of, stored_in, inserts_in, tuples_in, known, columns_in, entry_uses}
-use Rattle.ded_catalog.specs.declared.stored.Relation.{Relation}
+use Rattle.ded_relation.specs.declared.relation.Relation.{Relation}
 use Rattle.ded_catalog.specs.declared.stored.View.{View}
 use Rattle.ded_catalog.specs.declared.stored.Stored.{Stored}
 use Rattle.ded_catalog.specs.declared.stored.Stored.TheVariants as stored
@@ -32,10 +32,10 @@ use Rattle.ded_catalog.specs.Changed.{ChangesRelation}
 use Rattle.ded_catalog.specs.Conditions.{IsRight, AreKept, IsKept}
 use Rattle.ded_catalog.specs.Mentions.{AreMentions}
 use Rattle.ded_catalog.specs.State.{Table, entry_form, entry_forms, catalogue_of, stored_known, known_with, relation_at, level_at, atom_level_in}
-use Rattle.ded_catalog.specs.Tuples.{AreUpTo, refusal_of, IsSame, Pushes, Removes}
+use Rattle.ded_relation.specs.Tuples.{AreUpTo, refusal_of, IsSame, Pushes, Removes}
 use Rattle.ded_catalog.proofs.Keeping.{kept-add, kept-change, changes, kept-drop, drops}
 use Rattle.ded_catalog.proofs.Lookups.{Split, split, forms-append, entry_of-lookup, known_of-lookup, absent_unknown, present_known}
-use Rattle.ded_catalog.proofs.Numbers.{stored-push, stored-remove, stored-upto, length-remove}
+use Rattle.ded_relation.proofs.Numbers.{stored-push, stored-remove, stored-upto, length-remove}
 use Rattle.ded_model.proofs.Bools.{or_false_left}
 
 -- ---- names

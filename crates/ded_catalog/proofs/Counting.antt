@@ -9,7 +9,7 @@ use Rattle.std.proofs.lemmas.Option.{none-some, same_Some}
 use Rattle.ded_model.proofs.Bools.{bytes_eq-refl}
 use Rattle.ded_model.specs.Form.{Form, speaks_of}
 use Rattle.ded_catalog.specs.declared.entries.Entry.{Entry}
-use Rattle.ded_catalog.specs.declared.stored.Relation.{Relation}
+use Rattle.ded_relation.specs.declared.relation.Relation.{Relation}
 use Rattle.ded_catalog.specs.declared.stored.Stored.{Stored}
 use Rattle.ded_catalog.specs.declared.stored.Stored.TheVariants as stored
 use Rattle.ded_catalog.specs.Mentions.{AreMentions, AreOnce}

@@ -8,7 +8,7 @@ use Rattle.std.proofs.lemmas.Slice.Eq.{bytes_eq-Decides}
 use Rattle.ded_model.specs.Catalogue.{entry_name}
 use Rattle.ded_model.specs.Known.{KnownNames, entry_known, with_known, known_from, known_of}
 use Rattle.ded_model.specs.Entries.{entry_of}
-use Rattle.ded_catalog.specs.declared.stored.Relation.{Relation}
+use Rattle.ded_relation.specs.declared.relation.Relation.{Relation}
 use Rattle.ded_catalog.specs.declared.stored.Stored.{Stored}
 use Rattle.ded_catalog.specs.declared.stored.Stored.TheVariants.{View}
 use Rattle.ded_catalog.specs.declared.stored.Stored.TheVariants as stored

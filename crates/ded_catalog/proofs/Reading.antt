@@ -11,7 +11,7 @@ use Rattle.ded_model.specs.LongRows.{is_long_atom}
 use Rattle.ded_model.specs.Plain.{IsPlain}
 use Rattle.ded_model.specs.Slotted.{goal_of}
 use Rattle.ded_model.specs.Entries.{entry_of, stored_in, relation_in, view_in, known, entry_uses}
-use Rattle.ded_catalog.specs.declared.stored.Relation.{Relation}
+use Rattle.ded_relation.specs.declared.relation.Relation.{Relation}
 use Rattle.ded_catalog.specs.declared.stored.Stored.{Stored}
 use Rattle.ded_catalog.specs.declared.stored.View.{View}
 use Rattle.ded_catalog.specs.declared.stored.Stored.TheVariants as stored

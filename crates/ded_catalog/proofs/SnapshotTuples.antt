@@ -14,7 +14,7 @@ use Rattle.ded_model.specs.Known.{KnownNames, AreStored, IsTupleOver, IsEntryOve
 use Rattle.ded_model.specs.Row.{Atom}
 use Rattle.ded_sorts.specs.Changes.{Inserts, Deletes}
 use Rattle.ded_sorts.proofs.KnownEntries.{relation_there, columns_there}
-use Rattle.ded_catalog.proofs.Numbers.{stored-push, stored-remove, length-remove}
+use Rattle.ded_relation.proofs.Numbers.{stored-push, stored-remove, length-remove}
 use Rattle.ded_catalog.specs.Changing.{Change, none, insertion, deletion, changed_under, entry_with, entry_without, without_number, with_tuple, without_tuple, changed, MayInsert, MayChange, inserted_in, deleted_in, with_last}
 use Rattle.ded_catalog.proofs.SnapshotEntries.{split, over_at, known_from-changed, own_entry, other_entry, over-changed}
 use Rattle.ded_catalog.proofs.Calls.{has_room}

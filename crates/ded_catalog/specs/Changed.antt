@@ -4,7 +4,7 @@ use Rattle.std.specs.Map.{lookup, set_value}
 use Rattle.std.specs.Str.{bytes_eq}
 use Rattle.ded_catalog.specs.declared.stored.Stored.{Stored}
 use Rattle.ded_catalog.specs.declared.stored.Stored.TheVariants as stored
-use Rattle.ded_catalog.specs.declared.stored.Relation.{Relation}
+use Rattle.ded_relation.specs.declared.relation.Relation.{Relation}
 
 -- both are relations, of which the fact is so
 pub record AreRelations (s w : Stored) (Fact : Relation → Relation → Type 0) : Type 0 where

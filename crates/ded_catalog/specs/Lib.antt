@@ -2,14 +2,8 @@ pub mod Changed
 pub mod Changing
 pub mod Conditions
 pub mod Copies
-pub mod Ends
 pub mod Forms
-pub mod Lookups
 pub mod Mentions
-pub mod Nearby
-pub mod Relations
 pub mod Snapshots
 pub mod State
-pub mod Texts
-pub mod Tuples
 pub mod Users

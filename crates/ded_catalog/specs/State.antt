@@ -8,7 +8,7 @@ use Rattle.std.specs.Str.{bytes_eq}
 use Rattle.ded_model.specs.Form.{FormAtom, compare, member, form, speaks_of}
 use Rattle.ded_model.specs.Made.{base}
 use Rattle.ded_model.specs.Known.{Known}
-use Rattle.ded_catalog.specs.declared.stored.Relation as declared
+use Rattle.ded_relation.specs.declared.relation.Relation as declared
 use Rattle.ded_catalog.specs.declared.stored.View as declared_view
 use Rattle.ded_catalog.specs.declared.stored.Stored.{Stored}
 use Rattle.ded_catalog.specs.declared.stored.Stored.TheVariants.{Relation, View}

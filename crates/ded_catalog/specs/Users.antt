@@ -6,7 +6,7 @@ use Rattle.std.specs.Option.{option_map}
 use Rattle.std.specs.Str.{bytes_eq}
 use Rattle.ded_model.specs.Form.{form}
 use Rattle.ded_catalog.specs.declared.entries.Entry.{Entry}
-use Rattle.ded_catalog.specs.declared.stored.Relation as declared
+use Rattle.ded_relation.specs.declared.relation.Relation as declared
 use Rattle.ded_catalog.specs.declared.stored.Stored.{Stored}
 use Rattle.ded_catalog.specs.declared.stored.Stored.TheVariants.{Relation, View}
 use Rattle.ded_catalog.specs.Changed.{AreRelations}

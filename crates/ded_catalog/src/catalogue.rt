@@ -5,9 +5,7 @@ ghost use Rattle.std.specs.List.{list_any};
 mod names;
 mod reads;
 
-use crate::index::Index;
-use crate::shared::SharedRelation;
-use crate::stored::{Relation, Stored, View};
+use crate::stored::{Stored, View};
 use crate::table::{Table, add, delete_from, insert_into, spoken, take_out};
 use ded_model::command::Refusal;
 use ded_model::formula::Formula;
@@ -15,8 +13,8 @@ use ded_model::goal::Goal;
 use ded_model::memory::NoMemory;
 use ded_model::name::{Heading, Name};
 use ded_model::tuple::Tuple;
+use ded_relation::{Relation, SharedRelation};
 use std::alloc::Global;
-use std::collections::BTreeMap;
 use std::marker::Model;
 
 /// Relations and views in order of definition, and the limit of tuples of a relation. Contracts see the catalogue that it
@@ -60,7 +58,7 @@ impl Catalogue {
     ghost use Rattle.ded_model.specs.Entries.{known, tuples_in, columns_in, entry_uses};
     ghost use Rattle.std.specs.Map.{lookup};
     ghost use Rattle.std.specs.Str.{bytes_eq};
-    ghost use Rattle.ded_catalog.specs.Relations.{Relation};
+    ghost use Rattle.ded_relation.specs.Relations.{Relation};
     ghost use Rattle.ded_catalog.specs.State.{catalogue_of, relation_at};
 
     /// A catalogue without entries, whose relations may have `limit` tuples, 1 to 1,000,000. It does not allocate yet.
@@ -115,13 +113,7 @@ impl Catalogue {
         ensures err { OnErr result (catalogue_of self.new ≡ catalogue_of self.old) }
     {
         let alloc = self.names.alloc();
-        let tuples = BTreeMap::new(alloc);
-        let relation = Relation {
-            heading,
-            inserts,
-            tuples,
-            index: Index::new(alloc, self.names.hashing()),
-        };
+        let relation = Relation::new(alloc, heading, inserts, self.names.hashing());
         let stored = Stored::Relation(SharedRelation::new(alloc, relation)?);
         add(&mut self.names, name, stored)
     }

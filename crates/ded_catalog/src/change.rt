@@ -3,7 +3,7 @@ ghost use Rattle.std.specs.Prelude.{◌≡◌, IfOk};
 ghost use Rattle.std.specs.Option.{option_map};
 ghost use Rattle.ded_model.specs.Catalogue.{tuples_of};
 ghost use Rattle.ded_packed.specs.Lent.{lent};
-ghost use Rattle.ded_catalog.specs.Nearby.{numbered};
+ghost use Rattle.ded_relation.specs.Nearby.{numbered};
 ghost use Rattle.ded_catalog.specs.Changing.{inserted_in, deleted_in, is_left_out, without_number, with_last};
 
 use ded_model::memory::NoMemory;

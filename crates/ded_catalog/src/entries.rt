@@ -5,15 +5,15 @@ ghost use Rattle.std.specs.Map.{lookup, remove_entry};
 ghost use Rattle.std.specs.Option.{option_map, unwrap_or};
 ghost use Rattle.std.specs.Str.{bytes_eq};
 ghost use Rattle.ded_model.specs.declared.command.Refusal.TheVariants.{Memory};
-ghost use Rattle.ded_catalog.specs.Tuples.{AreUpTo, refusal_of, IsSame, Pushes, Removes};
+ghost use Rattle.ded_relation.specs.Tuples.{AreUpTo, refusal_of, IsSame, Pushes, Removes};
 ghost use Rattle.ded_catalog.specs.Users.{Alters, AreCopied, Raises, users_at};
 
-use crate::hashing::NameHashing;
 use crate::stored::Stored;
 use ded_model::command::Refusal;
 use ded_model::memory::NoMemory;
 use ded_model::name::Name;
 use ded_model::tuple::Tuple;
+use ded_relation::NameHashing;
 use lru::LruCache;
 use std::alloc::{AllocError, Global};
 use std::marker::Model;
@@ -139,7 +139,7 @@ impl Entries {
     /// Inserts a tuple into the relation of the name, and gives the tuple's number.
     ///
     /// # Errors
-    /// `Full` or `Spent` as [`Relation::refusal`](crate::stored::Relation::refusal) says, otherwise out of memory. The
+    /// `Full` or `Spent` as [`Relation::refusal`](ded_relation::Relation::refusal) says, otherwise out of memory. The
     /// relation stays as it is then.
     pub(crate) fn insert(&mut self, name: &Name, limit: u32, tuple: Tuple) -> Result<u32, Refusal>
         requires { Alters self.old.entries self.old.entries name.now (λ old new. AreUpTo old.inserts old.tuples.entries) }

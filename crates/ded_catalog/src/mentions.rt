@@ -6,10 +6,10 @@ ghost use Rattle.ded_model.specs.Logic.{some_atom_of};
 ghost use Rattle.ded_model.specs.Made.{base};
 ghost use Rattle.ded_catalog.specs.Mentions.{AreMentions, Gathers};
 
-use crate::hashing::NameHashing;
 use ded_model::formula::Formula;
 use ded_model::memory::NoMemory;
 use ded_model::name::Name;
+use ded_relation::NameHashing;
 use indexmap::IndexSet;
 use std::alloc::Global;
 

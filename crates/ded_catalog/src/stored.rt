@@ -4,38 +4,14 @@ ghost use Rattle.std.specs.List.{list_any};
 ghost use Rattle.std.specs.Option.{unwrap_or};
 ghost use Rattle.ded_model.specs.declared.command.Refusal.TheVariants.{Memory};
 
-use crate::index::Index;
-use crate::shared::SharedRelation;
 use ded_model::command::Refusal;
 use ded_model::formula::Formula;
 use ded_model::goal::Goal;
 use ded_model::memory::NoMemory;
 use ded_model::name::{Heading, Name};
 use ded_model::tuple::Tuple;
-use ded_packed::Packed;
-use std::collections::BTreeMap;
-use std::marker::Model;
-
-/// A relation: its heading, how many inserts it has accepted, its tuples by their numbers, packed, and an index of these, in which each
-/// tuple has its reach under its number, and the keys of its texts. Contracts see all but the keys. Of the reaches they see the entries,
-/// and how many of them stand in no tree.
-#[derive(Drop)]
-pub(crate) struct Relation {
-    pub(crate) heading: Heading,
-    pub(crate) inserts: u32,
-    pub(crate) tuples: BTreeMap<u32, Packed>,
-    pub(crate) index: Index,
-}
-
-impl Model for Relation {
-    ghost use Rattle.ded_catalog.specs.Relations.{Relation, IsIndexOf};
-
-    ghost Value = { Relation };
-
-    ghost view = { λ r. record { heading = r.heading; inserts = r.inserts; tuples = record { entries = r.tuples.entries }; reaches = r.index.hulls } };
-
-    ghost invariant = { λ r. IsIndexOf r.heading r.index r.tuples.entries };
-}
+use ded_relation::SharedRelation;
+use std::alloc::AllocError;
 
 /// A view: its heading, its formula as written, the goal of that, its level, and the names that the formula speaks of, each
 /// once.
@@ -57,12 +33,12 @@ pub(crate) enum Stored {
 
 impl Stored {
     ghost use Rattle.ded_catalog.specs.Changed.{AreRelations};
-    ghost use Rattle.ded_catalog.specs.Tuples.{AreUpTo, refusal_of, IsSame, Pushes, Removes};
+    ghost use Rattle.ded_relation.specs.Tuples.{AreUpTo, refusal_of, IsSame, Pushes, Removes};
 
     /// Inserts a tuple into the relation, and gives the tuple's number.
     ///
     /// # Errors
-    /// `Full` or `Spent` as [`Relation::refusal`] says, otherwise out of memory. All but the index is as it was then.
+    /// `Full` or `Spent` as [`Relation::refusal`](ded_relation::Relation::refusal) says, otherwise out of memory. All but the index is as it was then.
     pub(crate) fn insert(&mut self, limit: u32, tuple: Tuple) -> Result<u32, Refusal>
         requires { AreRelations self.old self.old (λ old new. AreUpTo old.inserts old.tuples.entries) }
         ensures ok { IfOk result (λ k. AreRelations self.old self.new (λ old new. Pushes old new tuple k × (refusal_of limit old ≡ None))) }
@@ -86,6 +62,25 @@ impl Stored {
         match self {
             Stored::Relation(relation) => relation.remove(number),
             Stored::View(_) => unreachable!(),
+        }
+    }
+}
+
+impl Clone for Stored {
+    ghost use Rattle.ded_catalog.specs.Copies.{IsCopy};
+
+    ghost is_clone = { IsCopy };
+
+    fn clone(&self) -> Result<Stored, AllocError> {
+        match self {
+            Stored::Relation(relation) => Ok(Stored::Relation(relation.share()?)),
+            Stored::View(view) => Ok(Stored::View(View {
+                level: view.level,
+                heading: view.heading.copy()?,
+                mentions: view.mentions.clone()?,
+                formula: view.formula.copy()?,
+                goal: view.goal.copy()?,
+            })),
         }
     }
 }

@@ -8,24 +8,24 @@ ghost use Rattle.ded_model.specs.declared.command.Refusal.TheVariants.{Memory};
 ghost use Rattle.ded_model.specs.Form.{form, forms};
 ghost use Rattle.ded_model.specs.Logic.{greatest, greatest_of};
 ghost use Rattle.ded_sorts.specs.Checks.{known_form};
-ghost use Rattle.ded_catalog.specs.declared.stored.Relation.{Relation};
+ghost use Rattle.ded_relation.specs.declared.relation.Relation.{Relation};
 ghost use Rattle.ded_catalog.specs.Changed.{ChangesRelation};
 ghost use Rattle.ded_catalog.specs.Copies.{AreCopies};
 ghost use Rattle.ded_catalog.specs.Mentions.{AreMentions};
 ghost use Rattle.ded_catalog.specs.State.{known_with, relation_at, view_at, heading_at, level_at, stored_uses, atom_level_in};
-ghost use Rattle.ded_catalog.specs.Tuples.{AreUpTo, refusal_of, IsSame, Pushes, Removes};
+ghost use Rattle.ded_relation.specs.Tuples.{AreUpTo, refusal_of, IsSame, Pushes, Removes};
 ghost use Rattle.ded_catalog.specs.Users.{HasMentions};
 
 use crate::entries::{Entries, Entry};
-use crate::hashing::NameHashing;
 use crate::mentions::mentioned;
-use crate::stored::{Relation, Stored, View};
+use crate::stored::{Stored, View};
 use crate::users::{count, discount};
 use ded_model::command::Refusal;
 use ded_model::formula::Formula;
 use ded_model::memory::NoMemory;
 use ded_model::name::{Heading, Name};
 use ded_model::tuple::Tuple;
+use ded_relation::{NameHashing, Relation};
 use ded_sorts::Known;
 use std::alloc::{AllocError, Global};
 use std::marker::Model;
@@ -142,7 +142,7 @@ pub(crate) fn known_of<'a>(table: &'a Table, name: &Name) -> Option<Known<'a>>
     ensures { known_form result ≡ known_with (lookup (bytes_eq name.now) table.now.entries) None }
 {
     match table.get(name) {
-        Some(Stored::Relation(relation)) => Some(Known::Relation(&relation.get().heading)),
+        Some(Stored::Relation(relation)) => Some(Known::Relation(relation.get().heading())),
         Some(Stored::View(view)) => Some(Known::View(&view.heading, view.level)),
         None => None,
     }
@@ -153,7 +153,7 @@ pub(crate) fn heading_of<'a>(table: &'a Table, name: &Name) -> Option<&'a Headin
     ensures { option_map (λ h. h.now) result ≡ heading_at (lookup (bytes_eq name.now) table.now.entries) }
 {
     match table.get(name) {
-        Some(Stored::Relation(relation)) => Some(&relation.get().heading),
+        Some(Stored::Relation(relation)) => Some(relation.get().heading()),
         Some(Stored::View(view)) => Some(&view.heading),
         None => None,
     }
@@ -172,7 +172,7 @@ pub(crate) fn view_of<'a>(table: &'a Table, name: &Name) -> Option<&'a View>
 /// Inserts a tuple into the relation of the name, and gives the tuple's number.
 ///
 /// # Errors
-/// `Full` or `Spent` as [`Relation::refusal`](crate::stored::Relation::refusal) says, otherwise out of memory. The
+/// `Full` or `Spent` as [`Relation::refusal`](ded_relation::Relation::refusal) says, otherwise out of memory. The
 /// relation stays as it is then.
 pub(crate) fn insert_into(
     table: &mut Table,

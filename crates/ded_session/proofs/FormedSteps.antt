@@ -22,7 +22,7 @@ use Rattle.ded_model.specs.Row.{Atom}
 use Rattle.ded_model.specs.Slotted.{goal_of, tuple_of}
 use Rattle.ded_model.specs.Width.{tuple_length}
 use Rattle.ded_model.specs.NormalGoal.{IsNormalGoal}
-use Rattle.ded_catalog.proofs.Numbers.{stored-push, stored-remove, length-remove}
+use Rattle.ded_relation.proofs.Numbers.{stored-push, stored-remove, length-remove}
 use Rattle.ded_resolve.proofs.Readiness.{insert_ready}
 use Rattle.ded_session.specs.Causes.{Commands}
 use Rattle.ded_session.specs.Replies.{ReplyForm, done, number, truth, tuples, stored, boxes, steps, script, apart, meeting, refused}

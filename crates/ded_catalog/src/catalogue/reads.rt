@@ -31,10 +31,10 @@ impl Catalogue {
     ghost use Rattle.ded_model.specs.Slotted.{goal_of};
     ghost use Rattle.ded_sorts.specs.Causes.{insert_refusal, is_relation_with};
     ghost use Rattle.ded_model.specs.Entries.{known, entry_of, relation_in, view_in};
-    ghost use Rattle.ded_catalog.specs.Lookups.{IsLookup, HasReaches, most_reads};
+    ghost use Rattle.ded_relation.specs.Lookups.{IsLookup, HasReaches, most_reads};
     ghost use Rattle.ded_catalog.specs.Mentions.{AreMentions};
-    ghost use Rattle.ded_catalog.specs.Nearby.{numbered, AreFound};
-    ghost use Rattle.ded_catalog.specs.Relations.{Relation};
+    ghost use Rattle.ded_relation.specs.Nearby.{numbered, AreFound};
+    ghost use Rattle.ded_relation.specs.Relations.{Relation};
     ghost use Rattle.ded_catalog.specs.State.{catalogue_of, relation_at};
 
     /// Every catalogue is well formed: each entry has a new name, the tuples of a relation are normal, over its columns
@@ -57,7 +57,7 @@ impl Catalogue {
         ensures { option_map (λ ts. ts.now.entries) result ≡ relation_in (entry_of (catalogue_of self.now).entries name.now) }
     {
         match relation_of(&self.names, name) {
-            Some(relation) => Some(&relation.tuples),
+            Some(relation) => Some(relation.tuples()),
             None => None,
         }
     }

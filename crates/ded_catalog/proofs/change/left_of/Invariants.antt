@@ -2,7 +2,7 @@ use Rattle.std.proofs.Common.{◌≡◌, ◌++◌, drop}
 use Rattle.ded_model.specs.Catalogue.{tuples_of}
 use Rattle.ded_packed.specs.Lent.{lent}
 use Rattle.ded_catalog.specs.Changing.{without_number}
-use Rattle.ded_catalog.specs.Nearby.{numbered}
+use Rattle.ded_relation.specs.Nearby.{numbered}
 use Rattle.ded_catalog.proofs.change.left_of.Given as goal
 
 abbrev pub invariant-loop-number : goal.invariant-loop-number

@@ -4,7 +4,7 @@ use Rattle.ded_model.specs.declared.formula.Formula.TheViews.{the_lemmas}
 use Rattle.ded_model.specs.Form.{form}
 use Rattle.ded_model.specs.Logic.{implies}
 use Rattle.ded_catalog.proofs.Gathering.{gathers_both}
-use Rattle.ded_catalog.proofs.Results.{on_ok}
+use Rattle.ded_relation.proofs.Results.{on_ok}
 use Rattle.ded_catalog.proofs.mentions.+gathering.Goals as goal
 
 pub gather-returns-in_ok-gather-in-Implies : goal.gather-returns-in_ok-gather-in-Implies

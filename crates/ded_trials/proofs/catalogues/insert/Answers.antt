@@ -1,4 +1,4 @@
-use Rattle.ded_catalog.proofs.Simplest.{whole_over}
+use Rattle.ded_relation.proofs.Simplest.{whole_over}
 use Rattle.ded_trials.proofs.catalogues.insert.Goals as goal
 
 pub insert-requires-clause-over : goal.insert-requires-clause-over

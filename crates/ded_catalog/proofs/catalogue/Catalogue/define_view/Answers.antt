@@ -5,7 +5,7 @@ use Rattle.ded_model.specs.Entries.{known}
 use Rattle.ded_catalog.specs.Conditions.{IsKept}
 use Rattle.ded_catalog.specs.State.{catalogue_of}
 use Rattle.ded_catalog.proofs.Calls.{new_name, kept-viewed, level_there}
-use Rattle.ded_catalog.proofs.Results.{after}
+use Rattle.ded_relation.proofs.Results.{after}
 use Rattle.ded_catalog.proofs.Unused.{unspoken, unused_there}
 use Rattle.ded_catalog.proofs.catalogue.Catalogue.define_view.Goals as goal
 

@@ -4,7 +4,7 @@ use Rattle.ded_sorts.specs.Changes.{Deletes}
 use Rattle.ded_model.specs.Entries.{tuples_in}
 use Rattle.ded_catalog.specs.State.{catalogue_of}
 use Rattle.ded_catalog.proofs.Calls.{tuple_there, kept-removed, kept-same, deletes, same_catalogue}
-use Rattle.ded_catalog.proofs.Results.{either, on_answer, on_err}
+use Rattle.ded_relation.proofs.Results.{either, on_answer, on_err}
 use Rattle.ded_catalog.proofs.catalogue.Catalogue.delete.Goals as goal
 
 pub delete_from-requires : goal.delete_from-requires

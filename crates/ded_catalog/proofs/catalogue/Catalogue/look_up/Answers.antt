@@ -1,7 +1,7 @@
 use Rattle.std.proofs.Common.{None, Some, ap, ◌∙◌, subst}
 use Rattle.std.specs.Option.{option_map}
 use Rattle.ded_model.specs.Entries.{entry_of, relation_in}
-use Rattle.ded_catalog.specs.Nearby.{numbered, AreFound}
+use Rattle.ded_relation.specs.Nearby.{numbered, AreFound}
 use Rattle.ded_catalog.specs.State.{catalogue_of}
 use Rattle.ded_catalog.proofs.Reading.{tuples_there}
 use Rattle.ded_catalog.proofs.catalogue.Catalogue.look_up.Goals as goal

@@ -6,7 +6,7 @@ use Rattle.ded_packed.specs.Lent.{lent}
 use Rattle.ded_catalog.specs.State.{catalogue_of}
 use Rattle.ded_catalog.specs.Changing.{inserted_in, deleted_in, without_number, with_last}
 use Rattle.ded_catalog.specs.Forms.{change_form}
-use Rattle.ded_catalog.specs.Nearby.{numbered}
+use Rattle.ded_relation.specs.Nearby.{numbered}
 use Rattle.ded_catalog.specs.Snapshots.{snapshot_of}
 use Rattle.ded_catalog.proofs.SnapshotTuples.{read_with, tuples-changed}
 use Rattle.ded_catalog.proofs.snapshot.Snapshot.all.Goals as goal

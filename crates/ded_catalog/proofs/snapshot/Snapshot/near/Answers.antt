@@ -7,9 +7,9 @@ use Rattle.ded_packed.specs.Lent.{lent}
 use Rattle.ded_catalog.specs.State.{catalogue_of}
 use Rattle.ded_catalog.specs.Changing.{changed, inserted_in, deleted_in, without_number, with_last}
 use Rattle.ded_catalog.specs.Forms.{change_form}
-use Rattle.ded_catalog.specs.Nearby.{numbered, AreFound}
+use Rattle.ded_relation.specs.Nearby.{numbered, AreFound}
 use Rattle.ded_catalog.specs.Snapshots.{snapshot_of}
-use Rattle.ded_catalog.proofs.NearTuples.{lent_some, lent_none}
+use Rattle.ded_catalog.proofs.LentTuples.{lent_some, lent_none}
 use Rattle.ded_catalog.proofs.snapshot.Snapshot.near.Goals as goal
 
 pub returns-in_default : goal.returns-in_default

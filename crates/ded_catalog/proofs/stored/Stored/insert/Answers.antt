@@ -1,5 +1,5 @@
 use Rattle.std.proofs.Common.{refl}
-use Rattle.ded_catalog.proofs.Results.{if_ok, if_err}
+use Rattle.ded_relation.proofs.Results.{if_ok, if_err}
 use Rattle.ded_catalog.proofs.stored.Stored.insert.Goals as goal
 
 pub returns-clause-ok : goal.returns-clause-ok

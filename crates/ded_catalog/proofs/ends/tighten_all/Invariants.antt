@@ -1,6 +1,0 @@
-use Rattle.ded_model.specs.Row.{tuple_holds}
-use Rattle.ded_catalog.specs.Ends.{Tightens}
-use Rattle.ded_catalog.proofs.ends.tighten_all.Given as goal
-
-abbrev pub invariant-loop-place : goal.invariant-loop-place
-invariant-loop-place l = Tightens (tuple_holds l.tuple) l.initial.reach l.reach

@@ -1,6 +1,0 @@
-use Rattle.std.proofs.Common.{◌≡◌, ◌+◌, ◌≤◌, take}
-use Rattle.ded_catalog.specs.Nearby.{numbered, picked}
-use Rattle.ded_catalog.proofs.finding.picked.Given as goal
-
-abbrev pub invariant-loop-number : goal.invariant-loop-number
-invariant-loop-number g l = (numbered l.found.items ≡ picked (take l.number-index l.numbers) l.tuples.entries) × (l.steps ≤ l.initial.steps + l.number-index)

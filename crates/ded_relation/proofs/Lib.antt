@@ -1,0 +1,9 @@
+pub mod Bounded
+pub mod Coded
+pub mod Indexed
+pub mod Indexing
+pub mod NearTuples
+pub mod Numbers
+pub mod Picked
+pub mod Results
+pub mod Simplest

@@ -1,0 +1,6 @@
+pub mod Ends
+pub mod Lookups
+pub mod Nearby
+pub mod Relations
+pub mod Texts
+pub mod Tuples
