@@ -1,12 +1,13 @@
 -- Slots of which no two are the same, one more at the end.
 use Rattle.std.proofs.Common.{◌≡◌, ℕ, ◌+◌, ◌≤◌, ◌<◌, Bool, true, false, ◌||◌, List, [], ◌∷◌, ◌++◌, arith, inl, inr, refl, sym, ap, subst, ◌∙◌, true≢false}
+use Rattle.ded_num.proofs.Tests.{or_neither_last}
 use Rattle.ded_model.specs.declared.slot.Slot.{Slot}
 use Rattle.ded_model.specs.Point.{same_slot, stands_in, AreDistinctSlots}
 use Rattle.ded_model.proofs.Points.{same_slot_is}
 use Rattle.ded_model.proofs.Members.{or_split}
 use Rattle.ded_algebra.specs.Gathering.{IsApart}
-use Rattle.ded_algebra.proofs.Projections.{other_slot}
 use Rattle.ded_model.proofs.Bools.{or_false_left, or_false_right}
+use Rattle.ded_model.proofs.SlotLists.{same_slot-turned}
 
 stands_more : (ss : List Slot) (u t : Slot) → stands_in (ss ++ u ∷ []) t ≡ (stands_in ss t || (same_slot u t || false))
 stands_more [] u t = refl
@@ -16,13 +17,10 @@ stands_more (s ∷ ss) u t = ap (λ b. same_slot s t || b) (stands_more ss u t) 
     assoc true b c = refl
     assoc false b c = refl
 
-or_fails : (a b : Bool) → a ≡ false → b ≡ false → (a || (b || false)) ≡ false
-or_fails a b h k = rw (h, k) refl
-
 distinct_more : (ss : List Slot) (u : Slot) → AreDistinctSlots ss → stands_in ss u ≡ false → AreDistinctSlots (ss ++ u ∷ [])
 distinct_more [] u a h = (refl, tt)
 distinct_more (s ∷ ss) u a h =
-    (stands_more ss u s ∙ or_fails (stands_in ss s) (same_slot u s) a.0 (other_slot s u (or_false_left _ _ h)), distinct_more ss u a.1 (or_false_right (same_slot s u) _ h))
+    (stands_more ss u s ∙ or_neither_last (stands_in ss s) (same_slot u s) a.0 (same_slot-turned s u (or_false_left _ _ h)), distinct_more ss u a.1 (or_false_right (same_slot s u) _ h))
 
 below_more : (n m : ℕ) (ss : List Slot) (u : Slot) → n ≤ m → u.number < m → ((s : Slot) → stands_in ss s ≡ true → s.number < n) → (s : Slot) → stands_in (ss ++ u ∷ []) s ≡ true → s.number < m
 below_more n m ss u i j h s e = elim (or_split (stands_in ss s) _ (sym (stands_more ss u s) ∙ e)) [

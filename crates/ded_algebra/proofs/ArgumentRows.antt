@@ -1,28 +1,20 @@
 -- The row of an argument as it is made: signs turned, and the slot behind those of the sum.
-use Rattle.std.proofs.Common.{◌≡◌, ℕ, suc, ◌≤◌, ◌<◌, Bool, true, false, cond, List, [], ◌∷◌, ◌++◌, arith, refl, sym, ap, ap₂, subst, ◌∙◌, map, get_or, Fits, w8}
+use Rattle.std.proofs.Common.{◌≡◌, ℕ, ◌≤◌, ◌<◌, Bool, true, false, cond, List, [], ◌∷◌, ◌++◌, arith, refl, sym, ap, ap₂, subst, ◌∙◌, map}
 use Rattle.std.specs.Prelude.{ℤ, pos, negsuc, ◌+ℤ◌, ◌*ℤ◌, ◌<ℤ◌, nat_lt}
 use lib.IntN.{neg_ℤ}
-use Rattle.std.proofs.lemmas.Int.{ints, to_z-of_z, fits_signed_from_abs}
-use Rattle.std.proofs.lemmas.Bool.Decides.{nat_tests}
-use Rattle.std.specs.Int.{w128}
-use Rattle.std.proofs.Common.{to_z, of_z}
-use Rattle.ded_num.specs.Length.{IsShort}
 use Rattle.ded_model.specs.declared.slot.Slot.{Slot}
 use Rattle.ded_model.specs.declared.row.RowOp.{RowOp}
 use Rattle.ded_model.specs.declared.row.RowOp.TheVariants.{Zero}
 use Rattle.ded_model.specs.Constraint.{LinearConstraint}
 use Rattle.ded_model.specs.Sum.{denominator}
 use Rattle.ded_model.specs.Coefs.{AllAbove, AllBelow, AreCoefs, put, put_all}
-use Rattle.ded_model.specs.Point.{AllBytes, same_slot}
+use Rattle.ded_model.specs.Point.{same_slot}
 use Rattle.ded_model.specs.Normal.{coefs_over, normal_with, normal_row, is_true_with, is_true_row}
 use Rattle.ded_model.specs.Scanned.{above_coefs}
 use Rattle.ded_model.proofs.CoefLemmas.{put-above, lesser_slot}
+use Rattle.ded_model.proofs.Given.{denominator_is}
 use Rattle.ded_row.proofs.Pieces.{neg_is, coefs_over_minus}
-
--- what a slice of bytes has
-pub all_bytes : (xs : List ℕ) → ((i : ℕ) → Fits w8 (get_or xs i 0)) → AllBytes xs
-all_bytes [] h = tt
-all_bytes (x ∷ xs) h = let k : Fits w8 x = h 0 in (omega (arith, k), all_bytes xs (λ i. h (suc i)))
+use Rattle.ded_row.proofs.Walks.{not_less}
 
 -- ---- signs
 
@@ -44,13 +36,10 @@ turned_put (c ∷ cs) h =
 put_last_step : (u : Slot) (a : ℤ) (c : Slot × ℤ) (cs ds : List (Slot × ℤ)) (b b' : Bool) → b ≡ false → b' ≡ false → put u a cs ≡ ds → cond b ((c.0, a +ℤ c.1) ∷ cs) (cond b' ((u, a) ∷ c ∷ cs) (c ∷ put u a cs)) ≡ c ∷ ds
 put_last_step u a c cs ds b b' e f h = rw (e, f) (ap (λ xs. c ∷ xs) h)
 
-not_below : (m n : ℕ) → n < m → nat_lt m n ≡ false
-not_below m n h = grind (arith, nat_tests)
-
 put_last : (u : Slot) (a : ℤ) (cs : List (Slot × ℤ)) → AllBelow u.number cs → put u a cs ≡ cs ++ (u, a) ∷ []
 put_last u a [] h = refl
 put_last u a (c ∷ cs) h =
-    put_last_step u a c cs (cs ++ (u, a) ∷ []) (same_slot c.0 u) (nat_lt u.number c.0.number) (lesser_slot c.0 u h.0) (not_below u.number c.0.number h.0) (put_last u a cs h.1)
+    put_last_step u a c cs (cs ++ (u, a) ∷ []) (same_slot c.0 u) (nat_lt u.number c.0.number) (lesser_slot c.0 u h.0) (not_less u.number c.0.number h.0) (put_last u a cs h.1)
 
 below_turned : (n : ℕ) (cs : List (Slot × ℤ)) → above_coefs cs ≤ n → AllBelow n (turned cs)
 below_turned n [] h = tt
@@ -62,10 +51,6 @@ below_made n cs h = subst (AllBelow n) (sym (coefs_over_minus cs)) (below_turned
 -- a list that was copied and divided by -1
 pub made_below : (n : ℕ) (cs ds es : List (Slot × ℤ)) → above_coefs cs ≤ n → ds ≡ cs → es ≡ coefs_over (negsuc 0) ds → AllBelow n es
 made_below n cs ds es h e f = subst (AllBelow n) (sym (f ∙ ap (coefs_over (negsuc 0)) e)) (below_made n cs h)
-
-denominator_is : (m : ℤ) → pos 0 <ℤ m → pos (denominator m) ≡ m
-unfolding denominator
-denominator_is m h = omega (arith, ints, h)
 
 -- and then the slot
 pub made_is : (u : Slot) (m over : ℤ) (cs ds es fs : List (Slot × ℤ)) → AreCoefs cs → above_coefs cs ≤ u.number → pos 0 <ℤ over → m ≡ over → ds ≡ cs → es ≡ coefs_over (negsuc 0) ds
@@ -97,7 +82,3 @@ pub argument_not_true : (u : Slot) (a constant : ℤ) (cs ds : List (Slot × ℤ
 argument_not_true u a constant cs ds r e f =
     let p = put_some u a cs in
     ap (λ (q : LinearConstraint). is_true_row q) f ∙ not_true (record { coefs = ds; constant = constant; op = Zero }) p.0 p.1 (e ∙ p.2)
-
--- a short number in the code
-pub short_in_code : (z : ℤ) → IsShort z → to_z w128 (of_z w128 z) ≡ z
-short_in_code z h = to_z-of_z w128 z (fits_signed_from_abs w128 z h)

@@ -6,6 +6,7 @@ use Rattle.std.proofs.Common.{◌≡◌, ◌≢◌, ℕ, nat_lt, zero, suc, ◌+
 use Rattle.std.specs.Prelude.{ℤ, pos, ◌+ℤ◌}
 use Rattle.std.proofs.lemmas.Bool.{cases_order, false_from_ne_true}
 use lib.IntN.{+ℤ_idl, +ℤ_idr}
+use Rattle.ded_num.proofs.Signs.{plus_swap}
 use Rattle.ded_model.specs.declared.slot.Slot.{Slot}
 use Rattle.ded_model.specs.declared.slot.Sort.TheVariants.{Rat}
 use Rattle.ded_model.specs.declared.name.Column.{Column}
@@ -19,7 +20,7 @@ use Rattle.ded_model.proofs.Rows.{or_left, or_right}
 use Rattle.ded_model.proofs.CoefLemmas.{same_number, equal_by_number, not_zero, nonzero-coefs, above_lesser, AreCoefs-with_coef, coef_at-above, coef_at-here, coef_at-past}
 use Rattle.ded_model.proofs.LineCoefs.{coef_at-put}
 use Rattle.ded_model.proofs.LineSlots.{has_slot}
-use Rattle.ded_row.proofs.Targets.{swap_law, AreFree, free_step, cut-absent, with_coef_slots, absent-below, coef_at-with_coef}
+use Rattle.ded_row.proofs.Targets.{AreFree, free_step, cut-absent, with_coef_slots, absent-below, coef_at-with_coef}
 use Rattle.ded_algebra.specs.Evaluation.{HaveSorts}
 use Rattle.ded_algebra.specs.Columns.{column_pairs}
 use Rattle.ded_algebra.proofs.Columns.{IsRead, read, read_sort, read_number, read_once}
@@ -141,7 +142,7 @@ module _ (h : List Column) (ss : List Slot) (j : HaveSorts h ss) (d : AreDistinc
       let u = renamed (column_pairs 0 ss) c.0 in
       onto_at (with_coef u c.1 out) cs t (free_step (column_pairs 0 ss) out c cs f k) k.4 (rest_columns c cs o)
       ∙ ap (λ z. z +ℤ coef_at (renamed_coefs ss cs) t) (coef_at-with_coef u c.1 out t (f.free c.0 (or_left _ _ (same_slot_refl c.0))))
-      ∙ swap_law (cond (same_slot u t) c.1 (pos 0)) (coef_at out t) (coef_at (renamed_coefs ss cs) t)
+      ∙ plus_swap (cond (same_slot u t) c.1 (pos 0)) (coef_at out t) (coef_at (renamed_coefs ss cs) t)
       ∙ ap (λ z. coef_at out t +ℤ z) (sym (ap (λ xs. coef_at xs t) (put_first c cs k o) ∙ coef_at-put u c.1 (renamed_coefs ss cs) t))
 
   free_columns : (cs : List (Slot × ℤ)) → AreColumns cs → AreFree (column_pairs 0 ss) [] cs

@@ -1,7 +1,7 @@
 -- Points at which the columns of a relation have the values of the slots that they are read into.
 use Rattle.std.proofs.Common.{◌≡◌, ℕ, ◌+◌, ◌*◌, ◌<◌, Bool, true, cond, List, [], ◌∷◌, inl, inr, arith, refl, sym, ap, ap₂, ◌∙◌, subst, map}
 use Rattle.std.specs.Prelude.{ℤ, pos, ◌*ℤ◌}
-use Rattle.std.proofs.Math.IntN.{*ℤ-one}
+use Rattle.ded_num.proofs.Signs.{once}
 use Rattle.ded_model.specs.declared.slot.Slot.{Slot}
 use Rattle.ded_model.specs.declared.slot.Sort.{Sort}
 use Rattle.ded_model.specs.declared.slot.Sort.TheVariants.{Rat, Text}
@@ -13,7 +13,7 @@ use Rattle.ded_model.specs.Catalogue.{argument_coordinate, at_slots}
 use Rattle.ded_model.specs.Renaming.{renamed, HaveOneValue, IsRenamedPoint}
 use Rattle.ded_model.proofs.Points.{same_slot_refl}
 use Rattle.ded_model.proofs.PointTexts.{point-bytes}
-use Rattle.ded_model.proofs.CoefLemmas.{lesser_slot}
+use Rattle.ded_model.proofs.SlotLists.{passed}
 use Rattle.ded_algebra.specs.Evaluation.{HaveSorts}
 use Rattle.ded_algebra.specs.Columns.{column_pairs}
 use Rattle.ded_algebra.proofs.Columns.{IsRead, read, read_sort}
@@ -36,10 +36,6 @@ overs_one q (s ∷ ss) = ap₂ (λ m n. m * n) (over_one q s) (overs_one q ss)
 abbrev slot_argument : Point → Slot → Argument
 slot_argument q s = ((slot_value q s).number, (slot_value q s).text)
 
-once : (z : ℤ) → z *ℤ pos 1 ≡ z
-unfolding lib.IntN.one
-once z = *ℤ-one z
-
 times_one : (xs : List Argument) → map (argument_times 1) xs ≡ xs
 times_one [] = refl
 times_one (x ∷ xs) = ap₂ (λ (z : ℤ) (ys : List Argument). (z, x.1) ∷ ys) (once x.0) (times_one xs)
@@ -52,13 +48,6 @@ slot_arguments q (s ∷ ss) =
     (ap (λ m. map (argument_times m) (arguments (map (slot_value q) ss))) (over_one q s) ∙ times_one (arguments (map (slot_value q) ss)) ∙ slot_arguments q ss)
 
 -- ---- what stands at a column
-
--- no later column has a slot of a lesser number
-passed : (k : ℕ) (h : List Column) (xs : List Argument) (s : Slot) (v : Value) → s.number < k → last_from v (at_slots k h xs) (slot s) ≡ v
-passed k [] xs s v l = refl
-passed k (c ∷ h) [] s v l = refl
-passed k (c ∷ h) (x ∷ xs) s v l =
-    ap (λ b. last_from (cond b (argument_coordinate c.sort x) v) (at_slots (k + 1) h xs) (slot s)) (lesser_slot s (record { number = k; sort = c.sort }) l) ∙ passed (k + 1) h xs s v (omega (arith, l))
 
 -- at a column's slot stands the value of the slot that it is read into
 column_value : (q : Point) (k : ℕ) (h : List Column) (ss : List Slot) (s u : Slot) (v : Value) → IsRead k h ss s u → last_from v (at_slots k h (map (slot_argument q) ss)) (slot s) ≡ argument_coordinate s.sort (slot_argument q u)

@@ -16,7 +16,7 @@ use Rattle.ded_model.specs.Catalogue.{Catalogue, meaning, GoalHolds, PlanHolds}
 use Rattle.ded_model.proofs.Points.{and_left}
 use Rattle.ded_model.proofs.Sats.{meaning-respects}
 use Rattle.ded_laws.proofs.Classical.{goal_forall_is, goal_implies_is}
-use Rattle.ded_row.proofs.Normals.{constant_row-holds}
+use Rattle.ded_model.proofs.Normals.{constant_row-holds}
 use Rattle.ded_algebra.specs.Compile.{plan_of, plans_of, atom_plan}
 use Rattle.ded_model.specs.NormalGoal.{IsNormalGoalAtom, IsNormalGoal}
 use Rattle.ded_algebra.specs.Compiled.{HasByteTexts, IsOfBytes}

@@ -34,11 +34,11 @@ use Rattle.ded_row.proofs.Forms.{row_mentions-normal}
 use Rattle.ded_algebra.specs.Compile.{row_plan, joined, projected, plan_of, plans_of, atom_plan}
 use Rattle.ded_algebra.specs.Compiled.{place_sort, same_sorts, same_rows, comes_from, ComesFrom, is_member_of, is_scan_of, IsConjunctivePlan}
 use Rattle.ded_algebra.proofs.Ties.{tie}
-use Rattle.ded_algebra.proofs.Projections.{other_slot}
 use Rattle.ded_algebra.proofs.SameRows.{same_rows_refl}
 use Rattle.ded_algebra.proofs.Scans.{IsScannedAs, AreScannedAs, scanned-are}
 use Rattle.std.proofs.lemmas.Bool.{and_from}
 use Rattle.ded_model.proofs.Bools.{or_false_left, or_false_right}
+use Rattle.ded_model.proofs.SlotLists.{same_slot-turned}
 
 -- ---- what is mentioned
 
@@ -140,7 +140,7 @@ projected_slots (s ∷ ss) f k h =
 turned_slots : (ss : List Slot) (s : Slot) → list_any (λ t. same_key (slot s) (slot t)) ss ≡ false → stands_in ss s ≡ true → false ≡ true
 turned_slots [] s h k = k
 turned_slots (t ∷ ss) s h k = elim (or_split (same_slot t s) _ k) [
-  | inl e ↦ sym (other_slot s t (or_false_left _ _ h)) ∙ e
+  | inl e ↦ sym (same_slot-turned s t (or_false_left _ _ h)) ∙ e
   | inr e ↦ turned_slots ss s (or_false_right (same_slot s t) _ h) e
 ]
 

@@ -1,6 +1,6 @@
 -- Projections of several slots: a point that satisfies one has extensions, one after another, that satisfy what is projected, and
 -- slots may be given any values.
-use Rattle.std.proofs.Common.{◌≡◌, ℕ, ◌*◌, ◌<◌, Bool, true, false, List, [], ◌∷◌, ◌++◌, arith, refl, sym, ap, subst, ◌∙◌, map, mul-pos}
+use Rattle.std.proofs.Common.{◌≡◌, ℕ, ◌*◌, ◌<◌, false, List, [], ◌∷◌, ◌++◌, arith, refl, sym, ap, subst, ◌∙◌, map, mul-pos}
 use Rattle.std.specs.Prelude.{ℤ, pos, ◌*ℤ◌}
 use Rattle.std.proofs.Math.IntN.{zero-*ℤ}
 use Rattle.ded_model.specs.declared.slot.Slot.{Slot}
@@ -11,24 +11,18 @@ use Rattle.ded_model.specs.Logic.{Sat, exists}
 use Rattle.ded_model.specs.PlanForm.{PlanAtom, PlanForm}
 use Rattle.ded_model.specs.Value.{OperandValue, slot_value}
 use Rattle.ded_num.proofs.Ring.{parts, ring, diff-pos, diff_same}
-use Rattle.ded_model.proofs.Points.{same_slot_is, same_slot_refl, number_at-extended, text_at-extended, positive-extension}
+use Rattle.ded_model.proofs.Points.{same_slot_refl, number_at-extended, text_at-extended, positive-extension}
 use Rattle.ded_model.proofs.Unused.{extension_same}
 use Rattle.ded_model.proofs.Values.{slot_value-same, slot_value-positive}
 use Rattle.ded_algebra.specs.Compile.{projected}
-use Rattle.ded_algebra.proofs.SamePoints.{same_trans, same_self}
+use Rattle.ded_algebra.proofs.SamePoints.{same_trans}
 use Rattle.ded_algebra.proofs.EqualValues.{IsEqualValue, same-equal, equal_trans}
 use Rattle.ded_algebra.proofs.Ties.{number_value, text_value, rational_slot, text_slot}
 use Rattle.ded_model.proofs.Bools.{or_false_left, or_false_right}
+use Rattle.ded_model.proofs.SlotLists.{same_slot-turned}
+use Rattle.ded_model.proofs.Given.{same_self}
 
 -- ---- slots
-
--- another slot is another one the other way round
-pub other_slot : (s t : Slot) → same_slot s t ≡ false → same_slot t s ≡ false
-other_slot s t h = by (same_slot t s) refl
-  where
-    by : (b : Bool) → same_slot t s ≡ b → same_slot t s ≡ false
-    by false e = e
-    by true e = ap (λ (u : Slot). same_slot t u) (sym (same_slot_is t s e)) ∙ ap (λ (u : Slot). same_slot u t) (same_slot_is t s e) ∙ h
 
 -- ---- a value more
 
@@ -110,7 +104,7 @@ module _ (H : PlanAtom → Point → Type 0) where
           positive = j;
           chain = λ f h. r.1.chain (exists v.0.sort (slot v.0) f) (y.0, y.1.extends, h);
           same = λ t n. same_trans p r.0 y.0 (slot t) r.1.positive (r.1.same t (or_false_right (same_slot v.0 t) _ n))
-              (extension_same v.0.sort r.0 y.0 (slot v.0) (slot t) y.1.extends (other_slot v.0 t (or_false_left _ _ n)));
+              (extension_same v.0.sort r.0 y.0 (slot v.0) (slot t) y.1.extends (same_slot-turned v.0 t (or_false_left _ _ n)));
           values = (y.1.value, kept_values p.den v.0 r.0 y.0 vs r.1.positive y.1.extends a.0 r.1.values);
         },
       )
@@ -130,7 +124,7 @@ module _ (H : PlanAtom → Point → Type 0) where
         record {
           positive = positive-extension s.sort r.0 (slot s) x.0 r.1.positive x.1;
           same = λ t n. same_trans p r.0 x.0 (slot t) r.1.positive (r.1.same t (or_false_right (same_slot s t) _ n))
-              (extension_same s.sort r.0 x.0 (slot s) (slot t) x.1 (other_slot s t (or_false_left _ _ n)));
+              (extension_same s.sort r.0 x.0 (slot s) (slot t) x.1 (same_slot-turned s t (or_false_left _ _ n)));
           holds = x.2;
         },
       )

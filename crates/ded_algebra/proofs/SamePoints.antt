@@ -1,5 +1,5 @@
 -- Points: the same value from one point to the next.
-use Rattle.std.proofs.Common.{◌≡◌, ◌≢◌, ℕ, ◌<◌, arith, refl, ap, ◌∙◌}
+use Rattle.std.proofs.Common.{◌≡◌, ◌≢◌, ℕ, ◌<◌, arith, ap, ◌∙◌}
 use Rattle.std.specs.Prelude.{ℤ, pos, ◌*ℤ◌}
 use Rattle.std.proofs.lemmas.Int.{ints}
 use Rattle.std.proofs.Math.IntN.{*ℤ_comm}
@@ -22,7 +22,3 @@ same_trans p q r k i a b = record {
       ∙ ap (λ z. z *ℤ pos p.den) b.number ∙ swap_law (number_at r k) (pos q.den) (pos p.den));
   text = a.text ∙ b.text;
 }
-
--- the same point
-pub same_self : (p : Point) (k : Key) → IsSameAt p p k
-same_self p k = record { number = refl; text = refl }

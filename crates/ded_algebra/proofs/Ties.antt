@@ -1,12 +1,11 @@
 -- The atom that ties a new slot to the value of an argument holds exactly where the two are equal.
 use Rattle.std.proofs.Common.{◌≡◌, ℕ, ◌*◌, ◌<◌, List, [], arith, refl, sym, ap, subst, ◌∙◌}
 use Rattle.std.specs.Prelude.{ℤ, pos, ◌+ℤ◌, ◌-ℤ◌, ◌*ℤ◌, IsTrue, ◌↔◌}
-use lib.IntN.{neg_ℤ, +ℤ_idr, one}
+use lib.IntN.{neg_ℤ, +ℤ_idr}
 use Rattle.std.specs.Ordering.{int_eq}
-use Rattle.std.proofs.lemmas.Int.{ints}
 use Rattle.std.proofs.lemmas.Bool.Decides.{Decides-int_eq}
 use Rattle.std.proofs.lemmas.Slice.Eq.{bytes_eq-Decides}
-use Rattle.std.proofs.Math.IntN.{zero-*ℤ, *ℤ-one, *ℤ_comm}
+use Rattle.std.proofs.Math.IntN.{zero-*ℤ}
 use Rattle.ded_model.specs.declared.slot.Slot.{Slot}
 use Rattle.ded_model.specs.declared.slot.Sort.{Sort}
 use Rattle.ded_model.specs.declared.slot.Sort.TheVariants.{Rat, Text}
@@ -23,8 +22,11 @@ use Rattle.ded_model.specs.Row.{Atom, sum_at, row_at, row_holds, theme_holds, at
 use Rattle.ded_model.specs.Scanned.{argument_row, of_slot, same_atom}
 use Rattle.ded_model.specs.Value.{OperandValue, sorted_value, slot_value, place_value}
 use Rattle.ded_num.proofs.Ring.{parts, ring, diff-pos, diff_same}
-use Rattle.ded_row.proofs.Normals.{normal_row-holds, turned_law}
-use Rattle.ded_row.proofs.Sums.{sum_at-put, sum_at-put_all}
+use Rattle.ded_num.proofs.Signs.{one_times, neg_times_first, no_gap, from_no_gap}
+use Rattle.ded_model.proofs.Given.{one}
+use Rattle.ded_model.proofs.Points.{scaled_law}
+use Rattle.ded_model.proofs.Normals.{normal_row-holds}
+use Rattle.ded_model.proofs.Sums.{sum_at-put, sum_at-put_all}
 use Rattle.ded_algebra.specs.Compiled.{place_sort}
 use Rattle.ded_algebra.proofs.SamePoints.{cancelled}
 use Rattle.ded_algebra.proofs.EqualValues.{IsEqualValue}
@@ -37,28 +39,15 @@ tie u (Quoted x) = Second (EqText u x)
 
 -- ---- sums
 
-one_times : (z : ℤ) → pos 1 *ℤ z ≡ z
-unfolding one
-one_times z = *ℤ_comm (pos 1) z ∙ *ℤ-one z
-
 minus_one : (z : ℤ) → neg_ℤ (pos 1) *ℤ z +ℤ pos 0 ≡ neg_ℤ z
-minus_one z = +ℤ_idr (neg_ℤ (pos 1) *ℤ z) ∙ turned_law (pos 1) z ∙ ap neg_ℤ (one_times z)
+minus_one z = +ℤ_idr (neg_ℤ (pos 1) *ℤ z) ∙ neg_times_first (pos 1) z ∙ ap neg_ℤ (one_times z)
 
 -- the sum of the row is 0 where the slot's number over d is that of the sum over d times m
 sums_law : (m d : ℕ) (n s c : ℤ) → (pos m *ℤ n +ℤ neg_ℤ s) +ℤ neg_ℤ c *ℤ pos d ≡ n *ℤ pos m -ℤ (s +ℤ c *ℤ pos d)
 sums_law m d n s c = rw (diff-pos m, diff-pos d, parts n, parts s, parts c) (simp ring (diff_same _ _ _ _ (omega arith)))
 
-equal_from : (a b : ℤ) → a -ℤ b ≡ pos 0 → a ≡ b
-equal_from a b h = omega (arith, ints)
-
-equal_to : (a b : ℤ) → a ≡ b → a -ℤ b ≡ pos 0
-equal_to a b h = omega (arith, ints)
-
 over_left : (n : ℤ) (d : ℕ) → n *ℤ pos (d * 1) ≡ n *ℤ pos d
 over_left n d = rw (parts n, diff-pos (d * 1), diff-pos d) (simp ring (diff_same _ _ _ _ (omega arith)))
-
-over_right : (n : ℤ) (d m : ℕ) → n *ℤ pos (d * m) ≡ (n *ℤ pos m) *ℤ pos d
-over_right n d m = rw (parts n, diff-pos (d * m), diff-pos d, diff-pos m) (simp ring (diff_same _ _ _ _ (omega arith)))
 
 -- the row before it is brought into normal form
 abbrev untied : Slot → SlotSum → LinearConstraint
@@ -78,10 +67,10 @@ argument_row-holds u t q i = normal_row-holds (untied u t) q i ∙ ap (λ z. int
 
 -- a number n is that of the sum z over m
 from_equal : (d m : ℕ) (n z : ℤ) → n *ℤ pos m ≡ z → z *ℤ pos (d * 1) ≡ n *ℤ pos (d * m)
-from_equal d m n z h = over_left z d ∙ ap (λ x. x *ℤ pos d) (sym h) ∙ sym (over_right n d m)
+from_equal d m n z h = over_left z d ∙ ap (λ x. x *ℤ pos d) (sym h) ∙ sym (scaled_law n d m)
 
 to_equal : (d m : ℕ) (n z : ℤ) → 0 < d → z *ℤ pos (d * 1) ≡ n *ℤ pos (d * m) → n *ℤ pos m ≡ z
-to_equal d m n z i h = cancelled d (n *ℤ pos m) z i (sym (over_right n d m) ∙ sym h ∙ over_left z d)
+to_equal d m n z i h = cancelled d (n *ℤ pos m) z i (sym (scaled_law n d m) ∙ sym h ∙ over_left z d)
 
 -- ---- slots
 
@@ -102,10 +91,6 @@ rational_slot q s e = ap (λ x. sorted_value x (number_at q (slot s)) (text_at q
 pub text_slot : (q : Point) (s : Slot) → s.sort ≡ Text → slot_value q s ≡ text_value (text_at q (slot s))
 text_slot q s e = ap (λ x. sorted_value x (number_at q (slot s)) (text_at q (slot s))) e
 
-one_over : denominator (pos 1) ≡ 1
-unfolding denominator
-one_over = refl
-
 one_slot : (n : ℤ) (d : ℕ) → (pos 1 *ℤ n +ℤ pos 0) +ℤ pos 0 *ℤ pos d ≡ n
 one_slot n d = ap (λ z. (pos 1 *ℤ n +ℤ pos 0) +ℤ z) (zero-*ℤ (pos d)) ∙ +ℤ_idr (pos 1 *ℤ n +ℤ pos 0) ∙ +ℤ_idr (pos 1 *ℤ n) ∙ one_times n
 
@@ -117,11 +102,11 @@ tie_slot n Rat s e q i =
     let m = number_at q (slot u) in
     let z = number_at q (slot s) in
     let holds : row_holds (argument_row u (of_slot s)) q ≡ int_eq (m *ℤ pos 1 -ℤ z) (pos 0) =
-    argument_row-holds u (of_slot s) q i ∙ rw (one_over, one_slot z q.den) refl in
+    argument_row-holds u (of_slot s) q i ∙ rw (one, one_slot z q.den) refl in
     let d = Decides-int_eq (m *ℤ pos 1 -ℤ z) (pos 0) in
     rw (rational_slot q s e) (
-      (λ h. record { number = from_equal q.den 1 m z (equal_from (m *ℤ pos 1) z (d.0 (sym holds ∙ h))); text = refl }),
-      (λ v. holds ∙ d.1 (equal_to (m *ℤ pos 1) z (to_equal q.den 1 m z i v.number))),
+      (λ h. record { number = from_equal q.den 1 m z (from_no_gap (m *ℤ pos 1) z (d.0 (sym holds ∙ h))); text = refl }),
+      (λ v. holds ∙ d.1 (no_gap (m *ℤ pos 1) z (to_equal q.den 1 m z i v.number))),
     )
 tie_slot n Text s e q i =
     let u : Slot = record { number = n; sort = Text } in
@@ -137,8 +122,8 @@ tie_sum u t e q i =
     let d = Decides-int_eq (n *ℤ pos m -ℤ z) (pos 0) in
     let holds = argument_row-holds u t q i in
     rw (rational_slot q u e) (
-      (λ h. record { number = from_equal q.den m n z (equal_from (n *ℤ pos m) z (d.0 (sym holds ∙ h))); text = refl }),
-      (λ v. holds ∙ d.1 (equal_to (n *ℤ pos m) z (to_equal q.den m n z i v.number))),
+      (λ h. record { number = from_equal q.den m n z (from_no_gap (n *ℤ pos m) z (d.0 (sym holds ∙ h))); text = refl }),
+      (λ v. holds ∙ d.1 (no_gap (n *ℤ pos m) z (to_equal q.den m n z i v.number))),
     )
 
 tie_text : (u : Slot) (x : List ℕ) → u.sort ≡ Text → (q : Point) → IsTrue (atom_holds (Second (EqText u x)) q) ↔ IsEqualValue q.den q.den (place_value (Quoted x) q) (slot_value q u)

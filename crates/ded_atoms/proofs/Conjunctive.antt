@@ -1,24 +1,17 @@
 -- A tuple, as a conjunction of rows and text atoms.
-use Rattle.std.proofs.Common.{◌≡◌, ◌&&◌, ◌||◌, List, [], ◌∷◌, ◌++◌, refl, ap}
+use Rattle.std.proofs.Common.{◌≡◌, ◌||◌, List, [], ◌∷◌, ◌++◌, refl, ap}
 use Rattle.std.specs.List.{AllByRecursion}
 use Rattle.ded_model.specs.declared.slot.Slot.{Slot}
 use Rattle.ded_model.specs.declared.tuple.BothAtom.TheVariants.{First, Second}
 use Rattle.ded_model.specs.Point.{Point}
-use Rattle.ded_model.specs.Row.{Atom, row_holds, theme_holds, atom_holds, tuple_holds, row_mentions, theme_mentions, atom_mentions, tuple_mentions}
-use Rattle.ded_model.specs.Cell.{conj_holds, row_cell, theme_cell, atom_cell}
+use Rattle.ded_model.specs.Row.{Atom, row_mentions, theme_mentions, atom_mentions, tuple_mentions}
+use Rattle.ded_model.specs.Cell.{row_cell, theme_cell, atom_cell}
 use Rattle.ded_model.specs.Lines.{row_lines, atoms_lines}
-use Rattle.ded_model.specs.Normal.{IsNormalTheme, IsNormalTuple}
+use Rattle.ded_model.specs.Normal.{IsNormalTheme}
 use Rattle.ded_theory.specs.Both.{by_kind, IsByKind}
 use Rattle.ded_theory.specs.Conjunctions.{conj_mentions, conj_lines}
 use Rattle.ded_elimination.specs.LinearAtoms.{IsLinearAtom}
 use Rattle.ded_tuple.specs.TrueRows.{IsNormalOrTrue}
-
--- it holds alike
-pub tuple_holds-is : (t : List Atom) (p : Point) → conj_holds (by_kind row_holds theme_holds) t p ≡ tuple_holds t p
-unfolding tuple_holds atom_holds
-tuple_holds-is [] p = refl
-tuple_holds-is (First r ∷ t) p = ap (λ b. row_holds r p && b) (tuple_holds-is t p)
-tuple_holds-is (Second a ∷ t) p = ap (λ b. theme_holds a p && b) (tuple_holds-is t p)
 
 -- mentions the same slots
 pub tuple_mentions-is : (t : List Atom) (s : Slot) → conj_mentions (by_kind row_mentions theme_mentions) t s ≡ tuple_mentions t s
@@ -32,12 +25,6 @@ pub atoms_lines-is : (t : List Atom) → conj_lines (by_kind row_lines (λ a. []
 atoms_lines-is [] = refl
 atoms_lines-is (First r ∷ t) = ap (λ ls. row_lines r ++ ls) (atoms_lines-is t)
 atoms_lines-is (Second a ∷ t) = atoms_lines-is t
-
--- and its atoms are normal where it is
-pub normal-is : (t : List Atom) → IsNormalTuple t → AllByRecursion (IsByKind IsLinearAtom IsNormalTheme) t
-normal-is [] n = tt
-normal-is (First r ∷ t) n = (record { coefs = n.0.0; row = n.0.1 }, normal-is t n.2)
-normal-is (Second a ∷ t) n = (n.0, normal-is t n.2)
 
 -- atoms that are normal for the theory are what the making of a normal tuple asks for
 pub normal_or_true : (atoms : List Atom) → AllByRecursion (IsByKind IsLinearAtom IsNormalTheme) atoms → AllByRecursion IsNormalOrTrue atoms

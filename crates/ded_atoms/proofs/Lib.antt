@@ -14,3 +14,4 @@ pub mod TupleParts
 pub mod TuplesRead
 pub mod TuplesWritten
 pub mod WideTuples
+pub mod Shared

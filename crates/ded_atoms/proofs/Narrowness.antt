@@ -2,10 +2,9 @@
 --
 -- The lines of normal atoms have no more digits than their numbers, and the rational slots that their rows mention are all those
 -- that they mention: a text atom in normal form mentions text slots alone.
-use Rattle.std.proofs.Common.{◌≡◌, ◌≤◌, ℕ, Bool, true, false, cond, List, [], ◌∷◌, map, ⊎_elim, arith, refl, sym, ap, ◌∙◌, subst, true≢false}
+use Rattle.std.proofs.Common.{◌≡◌, ◌≤◌, ℕ, Bool, true, false, cond, List, [], ◌∷◌, ⊎_elim, arith, refl, sym, ap, ◌∙◌, subst, true≢false}
 use Rattle.std.specs.Prelude.{ℤ}
 use Rattle.std.specs.List.{list_any, AllByRecursion}
-use Rattle.ded_num.specs.Length.{IsWithin}
 use Rattle.ded_num.proofs.Lengths.{within_from_length}
 use Rattle.ded_model.specs.declared.slot.Slot.{Slot}
 use Rattle.ded_model.specs.declared.slot.Sort.{Sort}
@@ -15,31 +14,23 @@ use Rattle.ded_model.specs.declared.tuple.ThemeAtom.TheVariants.{EqText, NeText,
 use Rattle.ded_model.specs.declared.tuple.BothAtom.TheVariants.{First, Second}
 use Rattle.ded_model.specs.Constraint.{LinearConstraint}
 use Rattle.ded_model.specs.Point.{same_slot, stands_in}
-use Rattle.ded_model.specs.Coefs.{AreCoefs, coef_at}
+use Rattle.ded_model.specs.Coefs.{AreCoefs}
 use Rattle.ded_model.specs.Row.{Atom, row_mentions, theme_mentions}
 use Rattle.ded_model.specs.Lines.{In, row_lines, AreWithin}
 use Rattle.ded_model.specs.Normal.{IsNormalTheme, IsNormalTuple}
-use Rattle.ded_model.specs.Width.{greatest_length, row_length, tuple_length, with_slots, rational_slots_after, rational_slots, IsNarrowList}
+use Rattle.ded_model.specs.Width.{row_length, tuple_length, with_slots, rational_slots_after, rational_slots, IsNarrowList}
 use Rattle.ded_model.proofs.Points.{same_slot_is, same_slot_refl}
-use Rattle.ded_model.proofs.Rows.{or_left, or_right}
+use Rattle.ded_model.proofs.Rows.{or_left}
 use Rattle.ded_model.proofs.Members.{or_split, In-split}
-use Rattle.ded_model.proofs.CoefLemmas.{coef_at-here, coef_at-past}
-use Rattle.ded_model.proofs.LineLengths.{zero_within, line_with-within}
+use Rattle.ded_model.proofs.LineLengths.{line_with-within}
+use Rattle.ded_model.proofs.CoefLists.{coef_within, with_slots-kept}
+use Rattle.ded_model.proofs.SlotLists.{slots-kept}
 use Rattle.ded_theory.specs.Both.{by_kind, IsByKind}
 use Rattle.ded_theory.specs.Conjunctions.{conj_mentions, conj_lines, IsWide}
 use Rattle.ded_elimination.specs.LinearAtoms.{IsLinearAtom}
-use Rattle.ded_atoms.proofs.Conjunctive.{normal-is}
+use Rattle.ded_elimination.proofs.Shared.{atoms_normal}
 
 -- ---- lengths
-
--- the coefficient of a slot is one of the numbers, or 0
-coef_within : (cs : List (Slot × ℤ)) (s : Slot) (k : ℕ) → AreCoefs cs → greatest_length (map (λ c. c.1) cs) ≤ k → IsWithin k (coef_at cs s)
-coef_within [] s k c h = zero_within k
-coef_within (x ∷ cs) s k c h = go (same_slot x.0 s) refl (coef_within cs s k c.4 (omega (arith, h)))
-  where
-    go : (b : Bool) → same_slot x.0 s ≡ b → IsWithin k (coef_at cs s) → IsWithin k (coef_at (x ∷ cs) s)
-    go true e ih = subst (IsWithin k) (sym (coef_at-here s x cs e c.3)) (within_from_length x.1 k (omega (arith, h)))
-    go false e ih = subst (IsWithin k) (sym (coef_at-past s x cs e)) ih
 
 -- the line of a row has no more digits than the row
 row_within : (r : LinearConstraint) (k : ℕ) → AreCoefs r.coefs → row_length r ≤ k → AreWithin k (row_lines r)
@@ -55,15 +46,6 @@ lines_within (Second a ∷ t) k n h l i = lines_within t k n.1 h l i
 
 -- ---- slots
 
--- a slot stays in the list
-with_slots-kept : (cs : List (Slot × ℤ)) (ss : List Slot) (s : Slot) → stands_in ss s ≡ true → stands_in (with_slots cs ss) s ≡ true
-with_slots-kept [] ss s h = h
-with_slots-kept (c ∷ cs) ss s h = go (λ xs i. with_slots-kept cs xs s i) (stands_in ss c.0)
-  where
-    go : ((xs : List Slot) → stands_in xs s ≡ true → stands_in (with_slots cs xs) s ≡ true) → (b : Bool) → stands_in (with_slots cs (cond b ss (c.0 ∷ ss))) s ≡ true
-    go ih true = ih ss h
-    go ih false = ih (c.0 ∷ ss) (or_right (same_slot c.0 s) (stands_in ss s) h)
-
 -- and each slot of the coefficients is there
 with_slots-has : (cs : List (Slot × ℤ)) (ss : List Slot) (s : Slot) → list_any (λ c. same_slot c.0 s) cs ≡ true → stands_in (with_slots cs ss) s ≡ true
 with_slots-has [] ss s h = absurd (true≢false (sym h))
@@ -75,11 +57,6 @@ with_slots-has (c ∷ cs) ss s h = ⊎_elim
     here : c.0 ≡ s → (b : Bool) → stands_in ss c.0 ≡ b → stands_in (with_slots cs (cond b ss (c.0 ∷ ss))) s ≡ true
     here e true f = with_slots-kept cs ss s (subst (λ t. stands_in ss t ≡ true) e f)
     here e false f = with_slots-kept cs (c.0 ∷ ss) s (or_left (same_slot c.0 s) (stands_in ss s) (subst (λ t. same_slot c.0 t ≡ true) e (same_slot_refl c.0)))
-
-slots-kept : (t : List Atom) (ss : List Slot) (s : Slot) → stands_in ss s ≡ true → stands_in (rational_slots_after ss t) s ≡ true
-slots-kept [] ss s h = h
-slots-kept (First r ∷ t) ss s h = slots-kept t (with_slots r.coefs ss) s (with_slots-kept r.coefs ss s h)
-slots-kept (Second a ∷ t) ss s h = slots-kept t ss s h
 
 not_rational : (s t : Slot) → s.sort ≡ Text → same_slot s t ≡ true → t.sort ≡ Rat → ⊥
 not_rational s t x e r = sorts_apart (sym x ∙ ap (λ u. u.sort) (same_slot_is s t e) ∙ r)
@@ -119,4 +96,4 @@ narrow_atoms t n narrow w =
     omega (arith, above, narrow)
 
 pub narrow_is : (t : List Atom) → IsNormalTuple t → IsNarrowList t → IsWide (by_kind row_mentions theme_mentions) (by_kind row_lines (λ a. [])) t → ⊥
-narrow_is t n = narrow_atoms t (normal-is t n)
+narrow_is t n = narrow_atoms t (atoms_normal t n)

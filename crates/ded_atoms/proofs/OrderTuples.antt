@@ -12,10 +12,10 @@ use Rattle.ded_model.specs.Sublists.{IsSublist}
 use Rattle.ded_model.proofs.Points.{and_left, and_right}
 use Rattle.ded_model.proofs.Sublists.{sublist_refl, sublist_trans}
 use Rattle.ded_theory.specs.Both.{by_kind, IsByKind}
+use Rattle.ded_theory.proofs.Shared.{holds_alike}
 use Rattle.ded_order.specs.OrderRows.{is_order_row, IsOrderAtom}
 use Rattle.ded_atoms.specs.Kept.{IsReducedTuple, IsSiftedPart, IsReducedPart}
 use Rattle.ded_atoms.specs.Orders.{are_orders, AreOrderAtoms}
-use Rattle.ded_atoms.proofs.Conjunctive.{tuple_holds-is}
 use Rattle.ded_atoms.proofs.Sifted.{reduced_is}
 use Rattle.ded_atoms.proofs.TupleParts.{normal_part, part_slots, part_lines}
 
@@ -31,7 +31,7 @@ order_normal (Second a ∷ t) n o = (n.0, order_normal t n.2 o)
 pub orders_kept : (t kept : List Atom) → IsNormalTuple t → ((p : Point) → IsPoint p → conj_holds (by_kind row_holds theme_holds) kept p ≡ conj_holds (by_kind row_holds theme_holds) t p) → IsSublist kept t → IsReduced (by_kind row_holds theme_holds) kept
     → IsReducedPart t (Some kept)
 orders_kept t kept n h s k = (
-  λ p i. sym (tuple_holds-is kept p) ∙ h p i ∙ tuple_holds-is t p,
+  λ p i. sym (holds_alike kept p) ∙ h p i ∙ holds_alike t p,
   s,
   normal_part kept t s n,
   λ narrow. reduced_is kept k,

@@ -17,7 +17,7 @@ use Rattle.ded_model.specs.declared.tuple.ThemeAtom.{ThemeAtom}
 use Rattle.ded_model.specs.declared.tuple.ThemeAtom.TheVariants.{EqText, NeText, EqSlot, NeSlot}
 use Rattle.ded_model.specs.declared.tuple.BothAtom.TheVariants.{First, Second}
 use Rattle.ded_model.specs.Constraint.{LinearConstraint}
-use Rattle.ded_model.specs.Point.{slot, same_slot, Key, Value, text, Point, IsPoint, AllBytes, IsValue, AreValues, IsExtension, IsNumberExtension, IsTextExtension, text_at}
+use Rattle.ded_model.specs.Point.{slot, same_slot, text, Point, IsPoint, AllBytes, AreValues, IsExtension, IsNumberExtension, IsTextExtension, text_at}
 use Rattle.ded_model.specs.Coefs.{AreCoefs, coef_at}
 use Rattle.ded_model.specs.Row.{Atom, sign_meets, row_holds, theme_holds, atom_holds, tuple_holds, row_mentions, theme_mentions, atom_mentions, tuple_mentions}
 use Rattle.ded_model.specs.Cell.{HoldsSomewhere, IsReduced}
@@ -29,16 +29,17 @@ use Rattle.ded_model.proofs.CoefLemmas.{coef_at-here, coef_at-past, greater_slot
 use Rattle.ded_model.proofs.Numbers.{linear-extended, extended, extended_is}
 use Rattle.ded_model.proofs.Atoms.{row_linear, row_linear-at}
 use Rattle.ded_model.proofs.Eliminating.{coef_of, rest_of}
-use Rattle.ded_row.proofs.Normals.{sign_meets-times}
+use Rattle.ded_model.proofs.Normals.{sign_meets-times}
 use Rattle.ded_theory.proofs.Conjunctions.{conj_holds-extended}
 use Rattle.ded_elimination.proofs.Bridge.{coef-is}
-use Rattle.ded_linear.proofs.Shadows.{extension_point}
+use Rattle.ded_linear.proofs.Shadows.{extension_point, append_value}
 use Rattle.ded_theme.proofs.Extending.{point-bytes, other-text, extended_by}
 use Rattle.std.proofs.lemmas.List.Folds.{list_any-append}
 use Rattle.ded_reduce.proofs.Sublists.{after_taken, parted_at, parted_others, parted_length}
 use Rattle.ded_atoms.specs.Own.{last_slot, HasOwnSlot, HaveOwnSlots}
 use Rattle.ded_model.proofs.Bools.{or_false_right}
 use Rattle.std.proofs.lemmas.Bool.{and_from}
+use Rattle.ded_num.proofs.Tests.{not_twice}
 
 -- ---- rows
 
@@ -133,10 +134,6 @@ chosen-right false t = go (bytes_eq t (0 ∷ t)) refl
     go true e = absurd (no_longer t (sym ((bytes_eq-Decides t (0 ∷ t)).0 e)))
     go false e = refl
 
-append_value : (cs : List (Key × Value)) (c : Key × Value) → AreValues cs → IsValue c.1 → AreValues (cs ++ c ∷ [])
-append_value [] c h v = (v, tt)
-append_value (b ∷ cs) c h v = (h.0, append_value cs c h.1 v)
-
 text_point : (s : Slot) (p q : Point) → s.sort ≡ Text → IsPoint p → IsExtension s.sort p (slot s) q → IsPoint q
 text_point s p q e i x = let y : IsTextExtension p (slot s) q = subst (λ z. IsExtension z p (slot s) q) e x in record {
   positive = positive-extension s.sort p (slot s) q i.positive x;
@@ -180,12 +177,8 @@ slots_move s u v p b e f lt m i = ⊎_elim (λ (k : same_slot s v ≡ true). fir
               ∙ ap (λ w. bytes_eq w (chosen b (text_at p (slot s)))) (other-text v p y.0 y.1 s apart) ∙ chosen-right b (text_at p (slot s)),
         )
 
-not_not : (b : Bool) → not (not b) ≡ b
-not_not true = refl
-not_not false = refl
-
 denied : (s : Slot) (p : Point) (test : Point → Bool) (b : Bool) → Moved s p test (not b) → Moved s p (λ q. not (test q)) b
-denied s p test b w = (w.0, w.1, w.2, ap not w.3 ∙ not_not b)
+denied s p test b w = (w.0, w.1, w.2, ap not w.3 ∙ not_twice b)
 
 theme_moves : (a : ThemeAtom) (s : Slot) (p : Point) (b : Bool) → IsNormalTheme a → theme_mentions a s ≡ true → IsPoint p → Moved s p (theme_holds a) b
 unfolding theme_holds theme_mentions

@@ -10,17 +10,17 @@ use Rattle.indexmap.specs.IndexSet.{insert_all}
 use Rattle.ded_model.specs.Point.{Point}
 use Rattle.ded_model.specs.Row.{Atom, tuple_holds, tuples_hold}
 use Rattle.ded_model.specs.Normal.{IsNormalTuple}
-use Rattle.ded_theory.specs.Verdicts.{HoldsNowhere}
+use Rattle.ded_model.specs.Cell.{HoldsNowhere}
 use Rattle.ded_theme.proofs.Lists.{all-append}
 use Rattle.std.proofs.Math.Bool.{or-false}
 use Rattle.ded_model.specs.Sublists.{IsSublist}
 use Rattle.ded_model.proofs.Sublists.{sublist_refl}
+use Rattle.ded_model.proofs.TupleLists.{tuples_hold-push}
 use Rattle.ded_genrel.proofs.Items.{all_weaker}
 use Rattle.ded_atoms.specs.Kept.{ArePartsOf, IsReducedTuple, IsReducedOrder, IsReducedPart, AreReducedParts}
 use Rattle.ded_atoms.specs.Own.{HaveOwnSlots}
 use Rattle.ded_atoms.proofs.Once.{once_all, told}
 use Rattle.ded_atoms.proofs.OwnSlots.{own_reduced}
-use Rattle.ded_atoms.proofs.TuplesRead.{tuples_hold-push}
 use Rattle.ded_atoms.proofs.TupleParts.{parts_push, parts_skip, parts_after, parts_before, sublist_parts}
 
 -- ---- tuples that are known

@@ -3,14 +3,13 @@ use Rattle.std.proofs.Common.{◌≡◌, Some, List, [], ◌++◌, refl, sym, ap
 use Rattle.ded_model.specs.declared.tuple.BothAtom.TheVariants.{First, Second}
 use Rattle.ded_model.specs.Point.{Point, IsPoint}
 use Rattle.ded_model.specs.Row.{Atom, row_holds, theme_holds, row_mentions, theme_mentions, atom_holds, tuple_holds}
-use Rattle.ded_model.specs.Cell.{conj_holds, IsReduced}
+use Rattle.ded_model.specs.Cell.{conj_holds, IsReduced, HoldsNowhere}
 use Rattle.ded_model.specs.Lines.{row_lines}
 use Rattle.ded_model.specs.Normal.{IsNormalTuple}
 use Rattle.ded_theory.specs.Both.{by_kind}
 use Rattle.ded_theory.specs.Conjunctions.{IsWide}
-use Rattle.ded_theory.specs.Verdicts.{HoldsNowhere}
 use Rattle.ded_model.specs.Sublists.{IsSublist}
-use Rattle.ded_atoms.proofs.Conjunctive.{tuple_holds-is}
+use Rattle.ded_theory.proofs.Shared.{holds_alike}
 use Rattle.ded_atoms.proofs.Narrowness.{narrow_is}
 use Rattle.ded_atoms.specs.Kept.{IsSiftedPart}
 use Rattle.ded_atoms.proofs.TupleParts.{normal_part}
@@ -24,15 +23,15 @@ atom_holds-is (Second a) p = refl
 pub reduced_is : (t : List Atom) → IsReduced (by_kind row_holds theme_holds) t → IsReduced atom_holds t
 unfolding tuple_holds
 reduced_is t r = record {
-  inhabited = (r.inhabited.0, r.inhabited.1, sym (tuple_holds-is t r.inhabited.0) ∙ r.inhabited.2);
+  inhabited = (r.inhabited.0, r.inhabited.1, sym (holds_alike t r.inhabited.0) ∙ r.inhabited.2);
   needed = λ before a after e.
       let w = r.needed before a after e in
-      (w.0, w.1, sym (tuple_holds-is (before ++ after) w.0) ∙ w.2, sym (atom_holds-is a w.0) ∙ w.3);
+      (w.0, w.1, sym (holds_alike (before ++ after) w.0) ∙ w.2, sym (atom_holds-is a w.0) ∙ w.3);
 }
 
 -- the atoms are those of a tuple that holds nowhere
 pub sifted_gone : (conj t : List Atom) → conj ≡ t → HoldsNowhere (conj_holds (by_kind row_holds theme_holds) conj) → HoldsNowhere (tuple_holds t)
-sifted_gone conj t e z p i = sym (tuple_holds-is t p) ∙ ap (λ u. conj_holds (by_kind row_holds theme_holds) u p) (sym e) ∙ z p i
+sifted_gone conj t e z p i = sym (holds_alike t p) ∙ ap (λ u. conj_holds (by_kind row_holds theme_holds) u p) (sym e) ∙ z p i
 
 -- what is kept of the atoms of a normal tuple
 pub sifted_kept : (conj t kept : List Atom) → conj ≡ t → IsNormalTuple t
@@ -42,7 +41,7 @@ pub sifted_kept : (conj t kept : List Atom) → conj ≡ t → IsNormalTuple t
 sifted_kept conj t kept e n h s k =
     let part : IsSublist kept t = subst (IsSublist kept) e s in
     let normal = normal_part kept t part n in (
-      λ p i. sym (tuple_holds-is kept p) ∙ h p i ∙ tuple_holds-is conj p ∙ ap (λ u. tuple_holds u p) e,
+      λ p i. sym (holds_alike kept p) ∙ h p i ∙ holds_alike conj p ∙ ap (λ u. tuple_holds u p) e,
       part,
       normal,
       λ narrow. reduced_is kept (k (narrow_is kept normal narrow)),

@@ -13,9 +13,9 @@ use Rattle.ded_model.specs.Row.{Atom, sign_meets, row_holds, atom_holds, tuple_h
 use Rattle.ded_model.specs.Normal.{normal_row, normal_with, IsNormalRow, constant_row, is_true_with, is_true_row, IsNormalTuple}
 use Rattle.ded_model.proofs.Points.{same_slot_refl}
 use Rattle.ded_model.proofs.Rows.{or_left, or_right}
-use Rattle.ded_row.proofs.Normals.{constant_row-holds}
-use Rattle.ded_atoms.proofs.TuplesRead.{tuples_hold-push}
+use Rattle.ded_model.proofs.Normals.{constant_row-holds}
 use Rattle.ded_model.proofs.Bools.{or_false_left, or_false_right}
+use Rattle.ded_model.proofs.TupleLists.{tuples_hold-push}
 
 -- whether the tuple has no atoms
 abbrev pub has_no_atoms : List Atom → Bool
@@ -79,8 +79,3 @@ unfolding tuples_hold
 known_holds [] t p k e = absurd (omega (arith, k.1))
 known_holds (u ∷ ts) t p (zero, l, i) e = or_left (tuple_holds u p) (tuples_hold ts p) (ap (λ v. tuple_holds v p) i ∙ e)
 known_holds (u ∷ ts) t p (suc k, l, i) e = or_right (tuple_holds u p) (tuples_hold ts p) (known_holds ts t p (k, omega (arith, l), i) e)
-
--- no tuple holds nowhere
-pub none_hold : (p : Point) → tuples_hold [] p ≡ false
-unfolding tuples_hold
-none_hold p = refl

@@ -6,7 +6,6 @@ use Rattle.ded_model.specs.declared.tuple.BothAtom.TheVariants.{First, Second}
 use Rattle.ded_model.specs.Point.{Point}
 use Rattle.ded_model.specs.Row.{Atom, atom_holds, atom_mentions, tuple_holds, tuple_mentions, tuples_hold, tuples_mention}
 use Rattle.ded_model.specs.Cell.{conj_holds}
-use Rattle.ded_model.specs.Normal.{IsNormalAtom, IsNormalTuple}
 use Rattle.ded_model.specs.Lines.{Line, IsSubset, row_lines, atoms_lines, tuples_lines}
 use Rattle.ded_model.proofs.Members.{subset_append, subset_none}
 use Rattle.ded_theory.specs.Conjunctions.{conj_mentions, conj_lines}
@@ -14,6 +13,8 @@ use Rattle.ded_theory.proofs.Conjunctions.{conj_holds-append, conj_mentions-appe
 use Rattle.ded_genrel.specs.Lists.{conjs_lines}
 use Rattle.ded_genrel.proofs.Laws.{conj_lines-append, conjs_hold-append, conjs_mention-append, conjs_lines-append}
 use Rattle.std.specs.List.{AllByRecursion}
+use Rattle.ded_model.proofs.TupleLists.{tuples_hold-push, tuples_lines-push}
+use Rattle.ded_model.proofs.SlotLists.{tuples_mention-push}
 use Rattle.ded_packed.specs.declared.lent.Lent.{Lent}
 use Rattle.ded_packed.specs.Lent.{tuple_of, lent}
 use Rattle.ded_atoms.specs.Reading.{StandsFor, IsConjunctionOf, IsListOf}
@@ -35,27 +36,7 @@ atoms_lines-append [] u = refl
 atoms_lines-append (First r ∷ t) u = ap (λ ls. row_lines r ++ ls) (atoms_lines-append t u) ∙ sym (append_assoc (row_lines r) (atoms_lines t) (atoms_lines u))
 atoms_lines-append (Second a ∷ t) u = atoms_lines-append t u
 
-pub tuples_hold-push : (ts : List (List Atom)) (t : List Atom) (p : Point) → tuples_hold (ts ++ t ∷ []) p ≡ (tuples_hold ts p || tuple_holds t p)
-unfolding tuples_hold
-tuples_hold-push [] t p = or-false (tuple_holds t p)
-tuples_hold-push (x ∷ ts) t p = ap (λ z. tuple_holds x p || z) (tuples_hold-push ts t p) ∙ sym (or_assoc (tuple_holds x p) _ _)
-
-pub tuples_mention-push : (ts : List (List Atom)) (t : List Atom) (s : Slot) → tuples_mention (ts ++ t ∷ []) s ≡ (tuples_mention ts s || tuple_mentions t s)
-unfolding tuples_mention
-tuples_mention-push [] t s = or-false (tuple_mentions t s)
-tuples_mention-push (x ∷ ts) t s = ap (λ z. tuple_mentions x s || z) (tuples_mention-push ts t s) ∙ sym (or_assoc (tuple_mentions x s) _ _)
-
-pub tuples_lines-push : (ts : List (List Atom)) (t : List Atom) → tuples_lines (ts ++ t ∷ []) ≡ tuples_lines ts ++ atoms_lines t
-tuples_lines-push [] t = append-nil (atoms_lines t)
-tuples_lines-push (x ∷ ts) t = ap (λ ls. atoms_lines x ++ ls) (tuples_lines-push ts t) ∙ sym (append_assoc (atoms_lines x) (tuples_lines ts) (atoms_lines t))
-
 -- ---- what they are made of
-
--- an atom of a normal tuple is normal
-pub normal-atom : (t : List Atom) (i : ℕ) (a : Atom) → i < length t → a ≡ get_or t i a → IsNormalTuple t → IsNormalAtom a
-normal-atom [] i a l e n = absurd (omega (arith, l))
-normal-atom (b ∷ t) zero a l e n = subst IsNormalAtom (sym e) n.0
-normal-atom (b ∷ t) (suc i) a l e n = normal-atom t i a (omega (arith, l)) e n.2
 
 -- what is so of all tuples behind references is so of each
 pub lent_at : (P : List Atom → Type 0) (us : List Lent) (i : ℕ) (u : Lent) → i < length us → u ≡ get_or us i u → AllByRecursion P (lent us) → P (tuple_of u)

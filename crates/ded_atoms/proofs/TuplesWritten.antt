@@ -2,12 +2,13 @@
 use Rattle.std.proofs.Common.{◌≡◌, true, ◌||◌, List, [], ◌∷◌, ◌++◌, ⊎_elim, refl, sym, ap₂, ◌∙◌, subst}
 use Rattle.ded_model.specs.declared.slot.Slot.{Slot}
 use Rattle.ded_model.specs.Point.{Point}
-use Rattle.ded_model.specs.Row.{Atom, tuple_holds, tuple_mentions, tuples_hold, tuples_mention}
+use Rattle.ded_model.specs.Row.{Atom, tuple_holds, tuple_mentions, tuples_mention}
 use Rattle.ded_model.specs.Lines.{IsSubset, atoms_lines, tuples_lines}
 use Rattle.ded_model.proofs.Rows.{or_left, or_right}
 use Rattle.ded_model.proofs.Members.{subset_none, subset_append, or_split}
+use Rattle.ded_model.proofs.TupleLists.{tuples_hold-push, tuples_lines-push}
+use Rattle.ded_model.proofs.SlotLists.{tuples_mention-push}
 use Rattle.ded_atoms.specs.Written.{IsWrittenAs}
-use Rattle.ded_atoms.proofs.TuplesRead.{tuples_hold-push, tuples_mention-push, tuples_lines-push}
 
 -- ---- one tuple more
 

@@ -10,7 +10,8 @@ use Rattle.ded_model.specs.Width.{tuple_length, tuples_length, rational_columns,
 use Rattle.ded_model.proofs.RationalColumns.{rational_heading, rational_heading-length, rational_heading-has}
 use Rattle.ded_theory.specs.Both.{by_kind}
 use Rattle.ded_theory.specs.Conjunctions.{IsWide}
-use Rattle.ded_atoms.proofs.Conjunctive.{tuple_mentions-is, normal-is}
+use Rattle.ded_elimination.proofs.Shared.{atoms_normal}
+use Rattle.ded_atoms.proofs.Conjunctive.{tuple_mentions-is}
 use Rattle.ded_atoms.proofs.Narrowness.{lines_within}
 
 -- ---- one tuple
@@ -19,7 +20,7 @@ pub wide_tuple : (h : List Column) (t : List Atom) → IsTupleOver h t → IsWid
 unfolding IsBoxNarrow
 wide_tuple h t o w n =
     let b = tuples_length (t ∷ []) in
-    let above = w.above b (lines_within t b (normal-is t o.normal) (omega arith)) (rational_heading 0 h) (λ s m r. rational_heading-has 0 h s (o.slots s (sym (tuple_mentions-is t s) ∙ m)) r) in
+    let above = w.above b (lines_within t b (atoms_normal t o.normal) (omega arith)) (rational_heading 0 h) (λ s m r. rational_heading-has 0 h s (o.slots s (sym (tuple_mentions-is t s) ∙ m)) r) in
     let more : 128 < (b + 1) * 2 ^ rational_columns h = subst (λ k. 128 < (b + 1) * 2 ^ k) (rational_heading-length 0 h) above in
     beyond ((b + 1) * 2 ^ rational_columns h) more n
   where

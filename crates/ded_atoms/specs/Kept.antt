@@ -1,12 +1,11 @@
 -- What is kept of a list of tuples.
 use Rattle.std.specs.Prelude.{◌≡◌, ◌⊎◌, Option, None, Some, List, [], ◌∷◌}
 use Rattle.std.specs.List.{AllByRecursion}
-use Rattle.ded_model.specs.Cell.{IsReduced}
+use Rattle.ded_model.specs.Cell.{IsReduced, HoldsNowhere}
 use Rattle.ded_model.specs.Point.{Point, IsPoint}
 use Rattle.ded_model.specs.Row.{Atom, atom_holds, tuple_holds, tuples_hold}
 use Rattle.ded_model.specs.Normal.{IsNormalTuple}
 use Rattle.ded_model.specs.Width.{IsNarrowList}
-use Rattle.ded_theory.specs.Verdicts.{HoldsNowhere}
 use Rattle.ded_model.specs.Sublists.{IsSublist}
 use Rattle.ded_atoms.specs.Orders.{AreOrderAtoms}
 

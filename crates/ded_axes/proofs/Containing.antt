@@ -1,10 +1,10 @@
 -- The default window has each corner in it that counts.
-use Rattle.std.proofs.Common.{◌≡◌, ◌<◌, ◌≤◌, ◌^◌, ℕ, zero, suc, ◌*◌, Bool, true, false, true≢false, List, [], ◌∷◌, Option, Some, None, inl, inr, refl, sym, subst, arith}
-use Rattle.std.specs.Prelude.{nat_le, nat_lt, ◌&&◌, ◌||◌, ℤ, pos, negsuc, ◌+ℤ◌, ◌-ℤ◌, ◌*ℤ◌, ◌<ℤ◌, ◌≤ℤ◌, neg_ℤ, unsigned_abs, if◌then◌else◌}
+use Rattle.std.proofs.Common.{◌≡◌, ◌<◌, ◌≤◌, ◌^◌, ℕ, zero, suc, ◌*◌, Bool, true, false, List, [], ◌∷◌, Option, Some, None, inl, inr, refl, sym, subst, arith}
+use Rattle.std.specs.Prelude.{nat_le, ℤ, pos, negsuc, ◌+ℤ◌, ◌-ℤ◌, ◌*ℤ◌, ◌<ℤ◌, ◌≤ℤ◌, neg_ℤ, unsigned_abs, if◌then◌else◌}
 use Rattle.std.proofs.lemmas.Bool.Decides.{nat_tests}
 use Rattle.std.proofs.lemmas.Int.{ints, unsigned_abs-mul}
 use Rattle.std.proofs.lemmas.Nat.{mul-le}
-use Rattle.std.proofs.Math.Nat.{mul-le-mul_right, pow-le-pow_right}
+use Rattle.std.proofs.Math.Nat.{pow-le-pow_right}
 use Rattle.ded_polygon.specs.Plane.{HalfPlane, Spot, In, level}
 use Rattle.ded_polygon.specs.Vertices.{LiesIn}
 use Rattle.ded_polygon.specs.Windows.{window_planes}
@@ -14,6 +14,12 @@ use Rattle.ded_axes.specs.Around.{is_near, counts, floor, ceiling, least, greate
 use Rattle.ded_axes.proofs.Floors.{is_floor, least_left, least_right, greatest_left, greatest_right}
 use Rattle.ded_axes.proofs.Exponents.{exponent_most}
 use Rattle.ded_num.proofs.Ring.{parts, diff_same, ring_pos}
+use Rattle.ded_num.proofs.Tests.{both}
+use Rattle.ded_num.proofs.Signs.{once}
+use Rattle.ded_model.proofs.CoefLemmas.{less}
+use Rattle.ded_model.proofs.Bools.{or_false_left, or_false_right}
+use Rattle.ded_ranges.proofs.Ends.{times_den}
+use Rattle.ded_ranges.proofs.Sums.{le_trans}
 
 -- ---- spans that have others in them
 pub record Covers (s t : Span) : Type 0 where
@@ -28,14 +34,11 @@ abbrev pub CoversIn : Option Reaches → Reaches → Type 0
 CoversIn None t = ⊥
 CoversIn (Some s) t = CoversBoth s t
 
-at_most : (a b c : ℤ) → a ≤ℤ b → b ≤ℤ c → a ≤ℤ c
-at_most a b c h k = omega (arith, ints, h, k)
-
 same : (a : ℤ) → a ≤ℤ a
 same a = omega (arith, ints)
 
 joined_left : (a b c d l h : ℤ) → a ≤ℤ l → h ≤ℤ b → Covers (record { low = least a c; high = greatest b d }) (record { low = l; high = h })
-joined_left a b c d l h p q = record { low = at_most _ _ _ (least_left a c) p; high = at_most _ _ _ q (greatest_left b d) }
+joined_left a b c d l h p q = record { low = le_trans _ _ _ (least_left a c) p; high = le_trans _ _ _ q (greatest_left b d) }
 
 joined_right : (a b c d : ℤ) → Covers (record { low = least a c; high = greatest b d }) (record { low = c; high = d })
 joined_right a b c d = record { low = least_right a c; high = greatest_right b d }
@@ -68,23 +71,11 @@ covers_from den (b ∷ cs) found c (inl p) e = stay den cs (reached den found b)
 covers_from den (b ∷ cs) found c (inr i) e = covers_from den cs (reached den found b) c i e
 
 -- ---- products of numbers in order
-times : (a b : ℤ) (n : ℕ) → a ≤ℤ b → (a *ℤ pos n) ≤ℤ (b *ℤ pos n)
-times (pos a) (pos b) n h = let k = mul-le-mul_right n (lower a b h) in omega (arith, ints, k)
-  where
-    lower : (a b : ℕ) → pos a ≤ℤ pos b → a ≤ b
-    lower a b h = omega (arith, ints, h)
-times (negsuc a) (pos b) n h = omega (arith, ints)
-times (pos a) (negsuc b) n h = absurd (omega (arith, ints, h))
-times (negsuc a) (negsuc b) n h = let k = mul-le-mul_right n (lower a b h) in omega (arith, ints, k)
-  where
-    lower : (a b : ℕ) → negsuc a ≤ℤ negsuc b → suc b ≤ suc a
-    lower a b h = omega (arith, ints, h)
-
 -- a number that is at most the floor of w / n is so often n at most w
 low_times : (w l : ℤ) (n : ℕ) → 0 < n → l ≤ℤ floor w (pos n) → (l *ℤ pos n) ≤ℤ w
 low_times w l n some h =
     let f = is_floor w n some in
-    let k = times l (floor w (pos n)) n h in
+    let k = times_den l (floor w (pos n)) n h in
     by (floor w (pos n)) f.rest k f.is
   where
     by : (q : ℤ) (r : ℕ) → (l *ℤ pos n) ≤ℤ (q *ℤ pos n) → w ≡ q *ℤ pos n +ℤ pos r → (l *ℤ pos n) ≤ℤ w
@@ -114,51 +105,24 @@ not_far : (z : ℤ) → nat_le 1073741824 (unsigned_abs z) ≡ false → (neg_�
 not_far (pos n) e = let h : n < 1073741824 = grind (arith, nat_tests, e) in (omega (arith, ints, h), omega (arith, ints, h))
 not_far (negsuc n) e = let h : suc n < 1073741824 = grind (arith, nat_tests, e) in (omega (arith, ints, h), omega (arith, ints, h))
 
-or_first : (a b : Bool) → (a || b) ≡ false → a ≡ false
-or_first true b e = e
-or_first false b e = refl
-
-or_second : (a b : Bool) → (a || b) ≡ false → b ≡ false
-or_second true b e = absurd (true≢false e)
-or_second false b e = e
-
-and_first : (a b : Bool) → (a && b) ≡ true → a ≡ true
-and_first true b e = refl
-and_first false b e = e
-
-and_second : (a b : Bool) → (a && b) ≡ true → b ≡ true
-and_second true b e = e
-and_second false b e = absurd (true≢false (sym e))
-
-both : (a b : Bool) → a ≡ true → b ≡ true → (a && b) ≡ true
-both true b e f = f
-both false b e f = e
-
-is_less : (a b : ℕ) → a < b → nat_lt a b ≡ true
-is_less a b h = grind (arith, nat_tests, h)
-
 small : (w : ℤ) (n : ℕ) → (neg_ℤ (pos 1073741823) *ℤ pos n) ≤ℤ w → w ≤ℤ (pos 1073741823 *ℤ pos n) → unsigned_abs w ≤ 1073741823 * n
 small w n h k = omega (arith, ints, h, k)
 
 scaled_below : (z n p : ℕ) → 0 < n → p ≤ 1000000000 → z ≤ 1073741823 * n → z * p < 1152921504606846976 * n
 scaled_below z n p some h k = let l = mul-le z p (1073741823 * n) 1000000000 k h in omega (arith, l, some)
 
-times_one : (z : ℤ) → z *ℤ pos 1 ≡ z
-times_one (pos n) = omega (arith, ints)
-times_one (negsuc n) = omega (arith, ints)
-
 power_most : (k : ℕ) → k ≤ 9 → 10 ^ k ≤ 1000000000
 power_most k h = pow-le-pow_right (omega arith) h
 
 near_still : (s : Span) (z : ℤ) (n k : ℕ) → 0 < n → k ≤ 9 → is_far_span s ≡ false → Covers s (span_of (pos 1) z (pos n)) → is_near (pos (10 ^ k)) z (pos n) ≡ true
 near_still s z n k some most near h =
-    let low = not_far s.low (or_first _ (nat_le 1073741824 (unsigned_abs s.high)) near) in
-    let high = not_far s.high (or_second (nat_le 1073741824 (unsigned_abs s.low)) _ near) in
+    let low = not_far s.low (or_false_left _ (nat_le 1073741824 (unsigned_abs s.high)) near) in
+    let high = not_far s.high (or_false_right (nat_le 1073741824 (unsigned_abs s.low)) _ near) in
     let w = z *ℤ pos 1 in
-    let l = low_times w (neg_ℤ (pos 1073741823)) n some (at_most _ _ _ low.0 h.low) in
-    let u = high_times w (pos 1073741823) n some (at_most _ _ _ h.high high.1) in
-    let size : unsigned_abs z ≤ 1073741823 * n = subst (λ x. unsigned_abs x ≤ 1073741823 * n) (times_one z) (small w n l u) in
-    is_less (unsigned_abs (z *ℤ pos (10 ^ k))) (1152921504606846976 * n)
+    let l = low_times w (neg_ℤ (pos 1073741823)) n some (le_trans _ _ _ low.0 h.low) in
+    let u = high_times w (pos 1073741823) n some (le_trans _ _ _ h.high high.1) in
+    let size : unsigned_abs z ≤ 1073741823 * n = subst (λ x. unsigned_abs x ≤ 1073741823 * n) (once z) (small w n l u) in
+    less (unsigned_abs (z *ℤ pos (10 ^ k))) (1152921504606846976 * n)
     (subst (λ x. x < 1152921504606846976 * n) (sym (unsigned_abs-mul z (pos (10 ^ k)))) (scaled_below (unsigned_abs z) n (10 ^ k) some (power_most k most) size))
 
 -- ---- the window
@@ -216,8 +180,8 @@ module _ (cs : List Spot) (x y : ℤ) (n : ℕ) (some : 0 < n) (e : counts (pos 
       let k = exponent_from 10 cs in
       let most = exponent_most 10 cs in
       both (is_near (pos (10 ^ k)) x (pos n)) (is_near (pos (10 ^ k)) y (pos n))
-      (near_still s.x x n k some most (or_first (is_far_span s.x) (is_far_span s.y) f) h.x)
-      (near_still s.y y n k some most (or_second (is_far_span s.x) (is_far_span s.y) f) h.y)
+      (near_still s.x x n k some most (or_false_left (is_far_span s.x) (is_far_span s.y) f) h.x)
+      (near_still s.y y n k some most (or_false_right (is_far_span s.x) (is_far_span s.y) f) h.y)
 
   still_counts : (o : Option Reaches) → CoversIn o (spans_of (pos 1) (record { x = x; y = y; den = pos n })) → counts (pos (10 ^ exponent_at o cs)) (record { x = x; y = y; den = pos n }) ≡ true
   still_counts None h = absurd h

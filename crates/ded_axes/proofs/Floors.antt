@@ -1,13 +1,13 @@
 -- Whole numbers around fractions, and spans of them.
 use Rattle.std.proofs.Common.{◌≡◌, ◌<◌, ◌≤◌, ℕ, zero, suc, ◌+◌, ◌*◌, Bool, true, false, refl, sym, ap₂, ◌∙◌, subst, arith, to_z, of_z}
-use Rattle.std.specs.Prelude.{ℤ, pos, negsuc, ◌+ℤ◌, ◌*ℤ◌, ◌<ℤ◌, ◌≤ℤ◌, neg_ℤ, int_le, nat_lt, unsigned_abs, if◌then◌else◌}
+use Rattle.std.specs.Prelude.{ℤ, pos, negsuc, ◌+ℤ◌, ◌*ℤ◌, ◌<ℤ◌, ◌≤ℤ◌, neg_ℤ, int_le, unsigned_abs, if◌then◌else◌}
 use Rattle.std.specs.Int.{w128, int_rem_euclid}
-use Rattle.std.proofs.lemmas.Bool.Decides.{nat_tests}
 use Rattle.std.proofs.lemmas.Int.{ints}
 use Rattle.std.proofs.Math.Nat.{lt_of_mul-lt-mul_right}
 use Rattle.ded_num.specs.Length.{IsWithin}
-use Rattle.ded_polygon.proofs.Short.{read}
 use Rattle.ded_num.proofs.Fractions.{whole_and_rest_is}
+use Rattle.ded_num.proofs.Signs.{short_in_code}
+use Rattle.ded_model.proofs.CoefLemmas.{is_lesser}
 use Rattle.ded_axes.specs.Spans.{IsSpan}
 use Rattle.ded_axes.specs.Around.{floor, ceiling, is_near, least, greatest}
 
@@ -94,8 +94,8 @@ pub span_read : (l h : ℤ) → IsSpan (record { low = l; high = h }) → IsSpan
 span_read l h s =
     let low = s.low in
     let high = s.high in
-    subst (λ x. IsSpan (record { low = x; high = to_z w128 (of_z w128 h) })) (sym (read l (omega (arith, low))))
-    (subst (λ x. IsSpan (record { low = l; high = x })) (sym (read h (omega (arith, high)))) s)
+    subst (λ x. IsSpan (record { low = x; high = to_z w128 (of_z w128 h) })) (sym (short_in_code l (omega (arith, low))))
+    (subst (λ x. IsSpan (record { low = l; high = x })) (sym (short_in_code h (omega (arith, high)))) s)
 
 -- ---- two spans
 is_one : (P : ℤ → Type 0) (b : Bool) (x y : ℤ) → P x → P y → P (if b then x else y)
@@ -156,21 +156,18 @@ joined_read a b c d l g s t e f =
     let u = t.low in
     let v = t.high in
     span_read l g
-    (subst (λ x. IsSpan (record { low = x; high = g })) (sym (e ∙ ap₂ least (read a (omega (arith, p))) (read c (omega (arith, u)))))
-    (subst (λ y. IsSpan (record { low = least a c; high = y })) (sym (f ∙ ap₂ greatest (read b (omega (arith, q))) (read d (omega (arith, v))))) (joined_spans a b c d s t)))
-
-pub lt_true : (a b : ℕ) → nat_lt a b ≡ true → a < b
-lt_true a b e = grind (arith, nat_tests, e)
+    (subst (λ x. IsSpan (record { low = x; high = g })) (sym (e ∙ ap₂ least (short_in_code a (omega (arith, p))) (short_in_code c (omega (arith, u)))))
+    (subst (λ y. IsSpan (record { low = least a c; high = y })) (sym (f ∙ ap₂ greatest (short_in_code b (omega (arith, q))) (short_in_code d (omega (arith, v))))) (joined_spans a b c d s t)))
 
 -- the span of a number that is near
 pub found_span : (den z d w f g : ℤ) → IsWithin 30 den → IsWithin 94 z → IsWithin 63 d → pos 0 <ℤ d → is_near den z d ≡ true → w ≡ to_z w128 (of_z w128 z) *ℤ to_z w128 (of_z w128 den)
     → f ≡ floor (to_z w128 (of_z w128 w)) (to_z w128 (of_z w128 d)) → g ≡ ceiling (to_z w128 (of_z w128 w)) (to_z w128 (of_z w128 d)) → IsSpan (record { low = to_z w128 (of_z w128 f); high = to_z w128 (of_z w128 g) })
 found_span den z d w f g hden hz hd positive near is_w is_f is_g =
-    let w_is : w ≡ z *ℤ den = is_w ∙ ap₂ (λ (x y : ℤ). x *ℤ y) (read z (omega (arith, hz))) (read den (omega (arith, hden))) in
-    let close : unsigned_abs (z *ℤ den) < 1152921504606846976 * unsigned_abs d = lt_true (unsigned_abs (z *ℤ den)) (1152921504606846976 * unsigned_abs d) near in
+    let w_is : w ≡ z *ℤ den = is_w ∙ ap₂ (λ (x y : ℤ). x *ℤ y) (short_in_code z (omega (arith, hz))) (short_in_code den (omega (arith, hden))) in
+    let close : unsigned_abs (z *ℤ den) < 1152921504606846976 * unsigned_abs d = is_lesser (unsigned_abs (z *ℤ den)) (1152921504606846976 * unsigned_abs d) near in
     let close_w : unsigned_abs w < 1152921504606846976 * unsigned_abs d = subst (λ x. unsigned_abs x < 1152921504606846976 * unsigned_abs d) (sym w_is) close in
-    let same_w = read w (omega (arith, close_w, hd)) in
-    let same_d = read d (omega (arith, hd)) in
+    let same_w = short_in_code w (omega (arith, close_w, hd)) in
+    let same_d = short_in_code d (omega (arith, hd)) in
     span_read f g
     (subst (λ x. IsSpan (record { low = x; high = g })) (sym (is_f ∙ ap₂ floor same_w same_d))
     (subst (λ y. IsSpan (record { low = floor w d; high = y })) (sym (is_g ∙ ap₂ ceiling same_w same_d)) (around_span w d positive close_w)))

@@ -1,27 +1,21 @@
 -- The hundredths of a place are near to it.
-use Rattle.std.proofs.Common.{◌≡◌, ◌<◌, ◌≤◌, ℕ, ◌+◌, ◌*◌, ◌/◌, ◌%◌, Bool, true, false, inl, inr, refl, sym, subst, arith, leb-true, leb-false}
-use Rattle.std.specs.Prelude.{nat_le, ℤ, pos, negsuc, ◌*ℤ◌, ◌-ℤ◌, ◌<ℤ◌, ◌≤ℤ◌, int_lt, unsigned_abs, if◌then◌else◌}
+use Rattle.std.proofs.Common.{◌≡◌, ◌<◌, ◌≤◌, ℕ, ◌*◌, Bool, true, false, inl, inr, refl, sym, subst, arith, leb-true}
+use Rattle.std.specs.Prelude.{nat_le, ℤ, pos, negsuc, ◌*ℤ◌, ◌-ℤ◌, ◌<ℤ◌, ◌≤ℤ◌, unsigned_abs, if◌then◌else◌}
 use lib.IntN.{neg_ℤ}
-use Rattle.std.proofs.Math.Nat.{div-add-mod, mod-lt}
 use Rattle.std.proofs.lemmas.Int.{ints}
 use Rattle.ded_num.proofs.Ring.{parts, diff_same, ring_pos}
 use Rattle.ded_polygon.specs.Plane.{Spot, level}
 use Rattle.ded_polygon.specs.Vertices.{LiesIn}
 use Rattle.ded_polygon.specs.Windows.{Frame, IsFrame, window_planes}
+use Rattle.ded_print.proofs.Signs.{plus}
 use Rattle.ded_svg.specs.Coordinates.{nearest}
 use Rattle.ded_axes.specs.Places.{rise, clamped, portion, place, offset_x, offset_y, extent_x, extent_y, IsNearPortion}
 use Rattle.ded_axes.proofs.Sizes.{above}
-use Rattle.ded_svg.proofs.Coordinates.{nearest_rounds}
-
-apart : (a b k : ℕ) → 2 * a ≤ 2 * b + k → 2 * b ≤ 2 * a + k → 2 * unsigned_abs (pos a -ℤ pos b) ≤ k
-apart a b k h i = omega (arith, ints, h, i)
-
-not_negative : (m : ℕ) → int_lt (pos m) (pos 0) ≡ false
-not_negative m = grind (arith, ints)
+use Rattle.ded_svg.proofs.Coordinates.{nearest_rounds, apart}
 
 -- a number from 0 to m is left as it is
 not_clamped : (n m : ℕ) → n ≤ m → clamped (pos n) m ≡ n
-not_clamped n m h = rw (not_negative n) (by (nat_le m n) refl)
+not_clamped n m h = rw (plus n) (by (nat_le m n) refl)
   where
     by : (b : Bool) → nat_le m n ≡ b → (if b then m else n) ≡ n
     by true e = let k = leb-true m n e in omega (arith, h, k)

@@ -5,7 +5,8 @@ use Rattle.std.specs.Int.{w128}
 use Rattle.std.proofs.lemmas.Int.{ints}
 use Rattle.std.proofs.lemmas.Nat.{mul-le}
 use Rattle.ded_num.specs.Length.{IsShort, IsWithin}
-use Rattle.ded_polygon.proofs.Short.{product_below, difference_below, read}
+use Rattle.ded_num.proofs.Signs.{short_in_code}
+use Rattle.ded_polygon.proofs.Short.{product_below, difference_below}
 
 -- products of a corner's number by a window's denominator, and the other way round
 pub of_corner : (z d : ℤ) → IsWithin 94 z → IsWithin 31 d → IsWithin 125 (z *ℤ d)
@@ -31,7 +32,7 @@ above low high d h k = positive (high -ℤ low) d (omega (arith, ints, h)) k
 
 module _ (low high d : ℤ) (hl : IsWithin 62 low) (hh : IsWithin 62 high) (hd : IsWithin 63 d) where
   is_extent : (to_z w128 (of_z w128 high) -ℤ to_z w128 (of_z w128 low)) *ℤ to_z w128 (of_z w128 d) ≡ (high -ℤ low) *ℤ d
-  is_extent = ap₂ (λ (x y : ℤ). x *ℤ y) (ap₂ (λ (x y : ℤ). x -ℤ y) (read high (omega arith)) (read low (omega arith))) (read d (omega arith))
+  is_extent = ap₂ (λ (x y : ℤ). x *ℤ y) (ap₂ (λ (x y : ℤ). x -ℤ y) (short_in_code high (omega arith)) (short_in_code low (omega arith))) (short_in_code d (omega arith))
 
   pub extent_read : IsWithin 126 ((to_z w128 (of_z w128 high) -ℤ to_z w128 (of_z w128 low)) *ℤ to_z w128 (of_z w128 d))
   extent_read = subst (IsWithin 126) (sym is_extent) (of_extent low high d hl hh hd)
@@ -44,7 +45,7 @@ module _ (low high d : ℤ) (hl : IsWithin 62 low) (hh : IsWithin 62 high) (hd :
     within_r = subst (IsWithin 126) (sym is_r) (of_extent low high d hl hh hd)
 
     read_r : r ≡ to_z w128 (of_z w128 r)
-    read_r = sym (read r (let h = within_r in omega arith))
+    read_r = sym (short_in_code r (let h = within_r in omega arith))
 
     pub result_within : IsWithin 126 (to_z w128 (of_z w128 r))
     result_within = subst (IsWithin 126) read_r within_r
@@ -54,10 +55,10 @@ module _ (low high d : ℤ) (hl : IsWithin 62 low) (hh : IsWithin 62 high) (hd :
 
 -- products as they are read
 pub corner_read : (z d : ℤ) → IsWithin 94 z → IsWithin 31 d → IsWithin 125 (to_z w128 (of_z w128 z) *ℤ to_z w128 (of_z w128 d))
-corner_read z d h k = subst (IsWithin 125) (sym (ap₂ (λ (x y : ℤ). x *ℤ y) (read z (omega arith)) (read d (omega arith)))) (of_corner z d h k)
+corner_read z d h k = subst (IsWithin 125) (sym (ap₂ (λ (x y : ℤ). x *ℤ y) (short_in_code z (omega arith)) (short_in_code d (omega arith)))) (of_corner z d h k)
 
 pub window_read : (z d : ℤ) → IsWithin 62 z → IsWithin 63 d → IsWithin 125 (to_z w128 (of_z w128 z) *ℤ to_z w128 (of_z w128 d))
-window_read z d h k = subst (IsWithin 125) (sym (ap₂ (λ (x y : ℤ). x *ℤ y) (read z (omega arith)) (read d (omega arith)))) (of_window z d h k)
+window_read z d h k = subst (IsWithin 125) (sym (ap₂ (λ (x y : ℤ). x *ℤ y) (short_in_code z (omega arith)) (short_in_code d (omega arith)))) (of_window z d h k)
 
 -- and their differences
 pub differ : (a b : ℤ) → IsWithin 125 a → IsWithin 125 b → IsShort (a -ℤ b)

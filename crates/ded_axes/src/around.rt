@@ -1,6 +1,6 @@
 //! The default window of a picture.
 ghost use Rattle.std.specs.Prelude.{◌≡◌, ◌≤◌, ◌<◌, ◌^◌, ◌-◌, pos, ◌<ℤ◌};
-ghost use Rattle.ded_axes.specs.Around.{exponent, exponent_at, exponent_from, extent_of, frame_around, frame_at, framed, margin, spans, usual_frame, widened, widened_if_some};
+ghost use Rattle.ded_axes.specs.Around.{exponent, exponent_from, extent_of, frame_around, framed, margin, spans, usual_frame, widened};
 ghost use Rattle.ded_num.specs.Length.{IsWithin};
 
 use crate::power::power;

@@ -1,5 +1,5 @@
 //! Parts of a length, in hundredths of a unit.
-ghost use Rattle.std.specs.Prelude.{◌≡◌, ◌<◌, ◌≤◌, ◌^◌, ◌*◌, ◌/◌, ◌%◌, pos, ◌<ℤ◌, nat_le, if◌then◌else◌};
+ghost use Rattle.std.specs.Prelude.{◌≡◌, ◌<◌, ◌≤◌, ◌^◌, ◌*◌, ◌/◌, ◌%◌, pos, ◌<ℤ◌};
 ghost use Rattle.ded_svg.specs.Coordinates.{nearest};
 ghost use Rattle.ded_axes.specs.Places.{clamped, portion};
 ghost use Rattle.ded_num.specs.Length.{IsWithin};

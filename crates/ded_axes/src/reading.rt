@@ -1,6 +1,6 @@
 //! Windows that are read from texts.
-ghost use Rattle.std.specs.Prelude.{◌≡◌, ◌≤◌, ◌<◌, ◌^◌, ◌+◌, ◌-◌, ◌*◌, true, pos, Some, None, IfSome, IfNone, MatchOption};
-ghost use Rattle.ded_axes.specs.WindowReading.{behind, decimal_at, digits_at, frame_of, frame_spelled, in_units, is_digit, item_at, magnitude_at, most_places, places_at, some_digits, whole_decimal};
+ghost use Rattle.std.specs.Prelude.{◌≡◌, ◌≤◌, ◌<◌, ◌^◌, ◌+◌, ◌-◌, ◌*◌, true, Some, None, IfSome, IfNone, MatchOption};
+ghost use Rattle.ded_axes.specs.WindowReading.{behind, decimal_at, digits_at, frame_of, frame_spelled, in_units, is_digit, item_at, magnitude_at, most_places, some_digits, whole_decimal};
 ghost use Rattle.ded_num.specs.Length.{IsWithin};
 ghost use Rattle.ded_polygon.specs.Windows.{Frame, IsFrame};
 

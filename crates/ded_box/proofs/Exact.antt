@@ -17,6 +17,7 @@ use Rattle.ded_box.specs.Intervals.{IsPositive, OnFraction, HasPositive, wider}
 use Rattle.ded_box.proofs.Gaps.{gap_at, gap_self, gap_turned, outside_decides, not_outside_decides, chain_at, middle, middle-positive, middle-after, middle-before, beyond, beyond-positive, beyond-outside}
 use Rattle.ded_box.proofs.Insides.{Inside, wider-one, wider-is}
 use Rattle.std.proofs.lemmas.Bool.{not-true}
+use Rattle.ded_num.proofs.Signs.{no_gap}
 
 -- some value is at g, or outside of it
 pub record AtOrOutside (test : Point → Bool) (s : Slot) (e : End) (g : Fraction) : Type 0 where
@@ -42,17 +43,14 @@ value-positive s p h = positive p.den h.positive
 difference_zero : (x y : ℤ) → x -ℤ y ≡ pos 0 → y ≡ x
 difference_zero x y h = omega (arith, ints)
 
-zero_difference : (x y : ℤ) → x ≡ y → x -ℤ y ≡ pos 0
-zero_difference x y h = omega (arith, ints)
-
 -- no difference is to have the same value
 same_value : (e : End) (f v : Fraction) → gap_at e f v ≡ pos 0 → v.num *ℤ f.den ≡ f.num *ℤ v.den
 same_value lower f v h = difference_zero (f.num *ℤ v.den) (v.num *ℤ f.den) h
 same_value upper f v h = sym (difference_zero (v.num *ℤ f.den) (f.num *ℤ v.den) h)
 
 no_difference : (e : End) (f v : Fraction) → v.num *ℤ f.den ≡ f.num *ℤ v.den → gap_at e f v ≡ pos 0
-no_difference lower f v h = zero_difference (f.num *ℤ v.den) (v.num *ℤ f.den) (sym h)
-no_difference upper f v h = zero_difference (v.num *ℤ f.den) (f.num *ℤ v.den) h
+no_difference lower f v h = no_gap (f.num *ℤ v.den) (v.num *ℤ f.den) (sym h)
+no_difference upper f v h = no_gap (v.num *ℤ f.den) (f.num *ℤ v.den) h
 
 not_true : (b : Bool) → b ≡ false → not b ≡ true
 not_true b h = ap not h

@@ -3,7 +3,7 @@
 -- Two intervals share a value exactly where neither is empty and each begins before the other ends: the narrower of the two
 -- lower bounds and the narrower of the two upper bounds are among the four, so they leave a value between them, and it is
 -- inside of all four. Two boxes share values where each two intervals at one place do.
-use Rattle.std.proofs.Common.{◌≡◌, true, false, ◌&&◌, List, [], ◌∷◌, refl, sym, true≢false}
+use Rattle.std.proofs.Common.{◌≡◌, true, ◌&&◌, List, [], ◌∷◌, refl, sym, true≢false}
 use Rattle.std.specs.Prelude.{IsTrue, ◌↔◌}
 use Rattle.ded_model.specs.declared.bound.Bound.{Bound}
 use Rattle.ded_model.specs.Bound.{Fraction, lower, upper}

@@ -6,6 +6,7 @@ use Rattle.std.proofs.lemmas.Bool.Decides.{nat_tests}
 use Rattle.std.proofs.lemmas.List.{take_all}
 use Rattle.std.proofs.lemmas.List.Folds.{list_any_more, list_any_at}
 use Rattle.std.proofs.lemmas.Option.{none-some, same_Some}
+use Rattle.ded_num.proofs.Tests.{from_same_texts}
 use Rattle.ded_model.proofs.Bools.{bytes_eq-refl}
 use Rattle.ded_model.specs.Form.{Form, speaks_of}
 use Rattle.ded_catalog.specs.declared.entries.Entry.{Entry}
@@ -15,7 +16,6 @@ use Rattle.ded_catalog.specs.declared.stored.Stored.TheVariants as stored
 use Rattle.ded_catalog.specs.Mentions.{AreMentions, AreOnce}
 use Rattle.ded_catalog.specs.State.{stored_uses}
 use Rattle.ded_catalog.specs.Users.{Alters, AreCounted, AreUsed, HaveRoom, Raises, more, users_at, users_in, without_users}
-use Rattle.ded_catalog.proofs.Lookups.{same_names}
 use Rattle.ded_catalog.proofs.WithoutUsers.{append-plain, apart, lookup-set, remove-other, changes_plain}
 
 -- ---- numbers that may be there
@@ -78,7 +78,7 @@ once_before (n ∷ ns) (suc i) m o lt = both (bytes_eq x n) (list_any (bytes_eq 
     other : (b : Bool) → bytes_eq x n ≡ b → b ≡ false
     other false e = refl
     other true e =
-        let same : x ≡ n = same_names x n e in
+        let same : x ≡ n = from_same_texts x n e in
         absurd (true≢false (sym (list_any_at (bytes_eq n) ns i m (omega (arith, lt)) (ap (bytes_eq n) same ∙ bytes_eq-refl n)) ∙ o.0))
 
 module _ (ns : List (List ℕ)) (i : ℕ) (m : List ℕ) (once : AreOnce ns) (inside : i < length ns) (is : m ≡ get_or ns i m) where
@@ -90,7 +90,7 @@ module _ (ns : List (List ℕ)) (i : ℕ) (m : List ℕ) (once : AreOnce ns) (in
   one_more : (n : List ℕ) (k : ℕ) → more (list_any (bytes_eq n) (take (i + 1) ns)) k ≡ more (bytes_eq n m) (more (list_any (bytes_eq n) (take i ns)) k)
   one_more n k =
       ap (λ b. more b k) (list_any_more (bytes_eq n) ns i m inside ∙ ap (λ x. list_any (bytes_eq n) (take i ns) || bytes_eq n x) (sym is))
-      ∙ by (list_any (bytes_eq n) (take i ns)) (bytes_eq n m) refl (λ e. ap (λ x. list_any (bytes_eq x) (take i ns)) (same_names n m e) ∙ before)
+      ∙ by (list_any (bytes_eq n) (take i ns)) (bytes_eq n m) refl (λ e. ap (λ x. list_any (bytes_eq x) (take i ns)) (from_same_texts n m e) ∙ before)
     where
       by : (a b : Bool) → list_any (bytes_eq n) (take i ns) ≡ a → (b ≡ true → list_any (bytes_eq n) (take i ns) ≡ false) → more (a || b) k ≡ more b (more a k)
       by true true e f = absurd (true≢false (sym e ∙ f refl))
@@ -232,7 +232,7 @@ counted_push es fs m s is unused own c = subst (AreCounted (λ n. false)) (sym i
     zero_there : (n : List ℕ) → bytes_eq n m ≡ true → 0 ≡ users_in (without_users (es ++ (m, x) ∷ [])) n
     zero_there n e =
         sym (all n
-        ∙ ap (λ k. more (stored_uses k s) (users_in (without_users es) k)) (same_names n m e)
+        ∙ ap (λ k. more (stored_uses k s) (users_in (without_users es) k)) (from_same_texts n m e)
         ∙ (λ i. more (own i) (no_users (without_users es) m unused i)))
 
     new : (n : List ℕ) (b : Bool) → bytes_eq n m ≡ b → IfSome (option_map (λ e. e.users) (cond b (Some x) None)) (λ k. k ≡ users_in (without_users (es ++ (m, x) ∷ [])) n)
@@ -267,7 +267,7 @@ counted_taken es fs m e found is gone c = record { each = λ n. by n (bytes_eq n
     all n = users-without es m e n found ∙ ap (λ l. more (stored_uses n e.stored) (users_in (without_users l) n)) (sym is)
 
     by : (n : List ℕ) (b : Bool) → bytes_eq n m ≡ b → IfSome (users_at n fs) (λ k. k ≡ more (stored_uses n e.stored) (users_in (without_users fs) n))
-    by n true h = subst (λ o. IfSome (option_map (λ x. x.users) o) (λ k. k ≡ more (stored_uses n e.stored) (users_in (without_users fs) n))) (sym (ap (λ k. lookup (bytes_eq k) fs) (same_names n m h) ∙ gone)) tt
+    by n true h = subst (λ o. IfSome (option_map (λ x. x.users) o) (λ k. k ≡ more (stored_uses n e.stored) (users_in (without_users fs) n))) (sym (ap (λ k. lookup (bytes_eq k) fs) (from_same_texts n m h) ∙ gone)) tt
     by n false h =
         let same : lookup (bytes_eq n) fs ≡ lookup (bytes_eq n) es = ap (lookup (bytes_eq n)) is ∙ remove-other (bytes_eq m) (bytes_eq n) (apart n m h) es in
         subst (λ o. IfSome (option_map (λ x. x.users) o) (λ k. k ≡ more (stored_uses n e.stored) (users_in (without_users fs) n))) (sym same)
@@ -294,7 +294,7 @@ counted_altered es fs m Fact h c = record { each = λ n. subst (λ o. IfSome o (
         ap (λ l. users_in l n) p.is ∙ users-set (without_users es) (bytes_eq m) p.old p.new n p.was
 
     by : (n : List ℕ) (b : Bool) → bytes_eq n m ≡ b → option_map (λ e. e.users) (cond b (Some h.new) (lookup (bytes_eq n) es)) ≡ users_at n es
-    by n true e = ap Some h.users ∙ sym (ap (λ k. users_at k es) (same_names n m e) ∙ ap (option_map (λ x. x.users)) h.was)
+    by n true e = ap Some h.users ∙ sym (ap (λ k. users_at k es) (from_same_texts n m e) ∙ ap (option_map (λ x. x.users)) h.was)
     by n false e = refl
 
     at : (n : List ℕ) → users_at n fs ≡ users_at n es

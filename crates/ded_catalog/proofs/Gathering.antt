@@ -12,6 +12,7 @@ use Rattle.ded_model.specs.Logic.{implies, some_atom_of}
 use Rattle.ded_catalog.specs.Mentions.{AreOnce, AreMentions, Gathers}
 use Rattle.std.proofs.Math.Bool.{or-false}
 use Rattle.ded_model.proofs.Bools.{or_assoc, or_known}
+use Rattle.ded_catalog.proofs.Keeping.{turned}
 
 -- nothing more is gathered
 pub gathers_none : (ks : List (List ℕ)) → Gathers (λ n. false) ks ks
@@ -29,11 +30,6 @@ gathers_both f g h ks ls ms e a b = record {
 }
 
 -- ---- one name
-
--- names compare alike from both sides
-turned : (n m : List ℕ) (b : Bool) → bytes_eq n m ≡ b → bytes_eq m n ≡ false → bytes_eq n m ≡ false
-turned n m true e o = absurd (true≢false (sym (subst (λ x. bytes_eq m x ≡ true) (sym ((bytes_eq-Decides n m).0 e)) ((bytes_eq-Decides m m).1 refl)) ∙ o))
-turned n m false e o = e
 
 once-push : (ks : List (List ℕ)) (k : List ℕ) → list_any (bytes_eq k) ks ≡ false → AreOnce ks → AreOnce (ks ++ k ∷ [])
 once-push [] k e o = (refl, tt)

@@ -1,6 +1,7 @@
 -- The entries stay kept where one is added, changed or dropped, and the catalogue changes as promised.
 use Rattle.std.proofs.Common.{◌≡◌, ℕ, ◌≤◌, Bool, true, false, cond, List, [], ◌∷◌, ◌++◌, None, Some, is_some, refl, sym, ap, ◌∙◌, subst, true≢false, bytes_eq}
 use Rattle.std.specs.List.{list_any}
+use Rattle.ded_num.proofs.Tests.{from_same_texts}
 use Rattle.ded_model.specs.Form.{form}
 use Rattle.ded_model.specs.Known.{KnownNames, AreEntriesOver, IsEntryOver, IsWellFormed, IsNewName, entry_known, with_known, known_from, known_of}
 use Rattle.ded_model.specs.Made.{is_made}
@@ -11,7 +12,7 @@ use Rattle.ded_catalog.specs.declared.stored.Stored.TheVariants.{Relation, View}
 use Rattle.ded_catalog.specs.State.{Table, entry_form, entry_forms, catalogue_of}
 use Rattle.ded_catalog.specs.Conditions.{IsRight, AreKept, IsKept}
 use Rattle.ded_catalog.proofs.Agreeing.{Agrees, level-agree, accepted-agree}
-use Rattle.ded_catalog.proofs.Lookups.{same_names, named, forms-append, with_known-form, with_known-own, with_known-other}
+use Rattle.ded_catalog.proofs.Lookups.{named, forms-append, with_known-form, with_known-own, with_known-other}
 use Rattle.ded_model.proofs.Bools.{or_false_left, or_false_right, bytes_eq-refl}
 
 -- ---- kept entries are well formed
@@ -104,7 +105,7 @@ right-without n K J k (View v) g u h = (h.0 ∙ level-agree n K J g (form v.form
 
 -- a name that something is known of isn't one that nothing is known of
 other : (n k : List ℕ) (K : KnownNames) (b : Bool) → bytes_eq n k ≡ b → is_some (K n) ≡ true → K k ≡ None → bytes_eq n k ≡ false
-other n k K true e s o = absurd (true≢false (sym s ∙ ap is_some (ap K (same_names n k e) ∙ o)))
+other n k K true e s o = absurd (true≢false (sym s ∙ ap is_some (ap K (from_same_texts n k e) ∙ o)))
 other n k K false e s o = e
 
 with-without : (n : List ℕ) (K J : KnownNames) (k : List ℕ) (s : Stored) → Without n K J → bytes_eq n k ≡ false → entry_uses n (entry_form k s) ≡ false → Without n (with_known K (entry_form k s)) (with_known J (entry_form k s))
@@ -132,7 +133,7 @@ kept-without limit n K J (e ∷ es) w h u =
 
 -- names compare alike from both sides
 pub turned : (m n : List ℕ) (b : Bool) → bytes_eq m n ≡ b → bytes_eq n m ≡ false → bytes_eq m n ≡ false
-turned m n true e o = absurd (true≢false (sym (bytes_eq-refl m) ∙ ap (λ x. bytes_eq x m) (same_names m n e) ∙ o))
+turned m n true e o = absurd (true≢false (sym (bytes_eq-refl m) ∙ ap (λ x. bytes_eq x m) (from_same_texts m n e) ∙ o))
 turned m n false e o = e
 
 kept-dropped : (limit : ℕ) (n : List ℕ) (s : Stored) (K : KnownNames) (before after : List (List ℕ × Stored)) → AreKept limit K (before ++ (n, s) ∷ after)

@@ -4,7 +4,7 @@ use Rattle.std.specs.Prelude.{if◌then◌else◌}
 use Rattle.std.specs.Option.{option_map}
 use Rattle.std.specs.Map.{lookup, set_value, remove_entry}
 use Rattle.std.proofs.lemmas.Option.{same_Some, none-some}
-use Rattle.std.proofs.lemmas.Slice.Eq.{bytes_eq-Decides}
+use Rattle.ded_num.proofs.Tests.{from_same_texts}
 use Rattle.ded_model.specs.Catalogue.{entry_name}
 use Rattle.ded_model.specs.Known.{KnownNames, entry_known, with_known, known_from, known_of}
 use Rattle.ded_model.specs.Entries.{entry_of}
@@ -16,10 +16,6 @@ use Rattle.ded_catalog.specs.State.{entry_form, entry_forms, stored_known, known
 use Rattle.ded_catalog.specs.Conditions.{IsRight, AreKept, IsKept}
 
 -- ---- names
-
--- names that compare as the same are so
-pub same_names : (m n : List ℕ) → bytes_eq m n ≡ true → m ≡ n
-same_names m n e = (bytes_eq-Decides m n).0 e
 
 -- an entry has its name
 pub named : (n : List ℕ) (s : Stored) → entry_name (entry_form n s) ≡ n
@@ -43,7 +39,7 @@ split n s (e ∷ es) h = by (bytes_eq n e.0) refl (split n s es)
   where
     by : (b : Bool) → bytes_eq n e.0 ≡ b → (lookup (bytes_eq n) es ≡ Some s → Split es n s) → Split (e ∷ es) n s
     by true b next =
-        let key : e.0 ≡ n = sym (same_names n e.0 b) in
+        let key : e.0 ≡ n = sym (from_same_texts n e.0 b) in
         let value : e.1 ≡ s = same_Some e.1 s (sym (ap (λ c. cond c (Some e.1) (lookup (bytes_eq n) es)) b) ∙ h) in
         record {
           before = [];
@@ -95,7 +91,7 @@ entry_of-lookup n (e ∷ es) =
     by : (b : Bool) → bytes_eq n e.0 ≡ b → entry_of (entry_forms es) n ≡ option_map (entry_form n) (lookup (bytes_eq n) es) → (if bytes_eq n e.0 then Some (entry_form e.0 e.1) else entry_of (entry_forms es) n) ≡ option_map (entry_form n) (cond (bytes_eq n e.0) (Some e.1) (lookup (bytes_eq n) es))
     by true b next =
         ap (λ c. if c then Some (entry_form e.0 e.1) else entry_of (entry_forms es) n) b
-        ∙ ap (λ k. Some (entry_form k e.1)) (sym (same_names n e.0 b))
+        ∙ ap (λ k. Some (entry_form k e.1)) (sym (from_same_texts n e.0 b))
         ∙ sym (ap (λ c. option_map (entry_form n) (cond c (Some e.1) (lookup (bytes_eq n) es))) b)
     by false b next =
         ap (λ c. if c then Some (entry_form e.0 e.1) else entry_of (entry_forms es) n) b
@@ -132,7 +128,7 @@ absent limit K [] n h k = refl
 absent limit K (e ∷ es) n h k = by (bytes_eq n e.0) refl (absent limit (with_known K (entry_form e.0 e.1)) es n h.3)
   where
     by : (b : Bool) → bytes_eq n e.0 ≡ b → (is_some (with_known K (entry_form e.0 e.1) n) ≡ true → lookup (bytes_eq n) es ≡ None) → cond (bytes_eq n e.0) (Some e.1) (lookup (bytes_eq n) es) ≡ None
-    by true b next = absurd (true≢false (sym k ∙ ap is_some (ap K (same_names n e.0 b) ∙ h.0.0)))
+    by true b next = absurd (true≢false (sym k ∙ ap is_some (ap K (from_same_texts n e.0 b) ∙ h.0.0)))
     by false b next =
         ap (λ c. cond c (Some e.1) (lookup (bytes_eq n) es)) b
         ∙ next (ap is_some (with_known-other K e.0 e.1 n b) ∙ k)

@@ -1,5 +1,5 @@
 -- Another entry in the place of one of the name, of which the same is known.
-use Rattle.std.proofs.Common.{◌≡◌, ℕ, Bool, true, false, List, [], ◌∷◌, ◌++◌, Some, refl, sym, ap, ◌∙◌, subst, true≢false, bytes_eq}
+use Rattle.std.proofs.Common.{◌≡◌, ℕ, Bool, true, false, List, [], ◌∷◌, ◌++◌, Some, refl, sym, ap, ◌∙◌, subst, bytes_eq}
 use Rattle.std.specs.Prelude.{if◌then◌else◌}
 use Rattle.std.specs.Option.{option_map}
 use Rattle.std.proofs.lemmas.Option.{same_Some, none-some}
@@ -9,11 +9,7 @@ use Rattle.ded_model.specs.Entries.{entry_of}
 use Rattle.ded_model.specs.Known.{KnownNames, IsEntryOver, AreEntriesOver, entry_known, with_known, known_from}
 use Rattle.ded_model.specs.Made.{is_made}
 use Rattle.ded_catalog.specs.Changing.{changed_under}
-
--- names compare alike from both sides
-turned : (m n : List ℕ) (b : Bool) → bytes_eq m n ≡ b → bytes_eq n m ≡ false → bytes_eq m n ≡ false
-turned m n true e o = absurd (true≢false (sym ((bytes_eq-Decides n m).1 (sym ((bytes_eq-Decides m n).0 e))) ∙ o))
-turned m n false e o = e
+use Rattle.ded_catalog.proofs.Keeping.{turned}
 
 -- where the entry stands, and what stands there of the changed ones
 pub record IsSplit (n : List ℕ) (f : Entry → Entry) (es : List Entry) (e : Entry) : Type 0 where

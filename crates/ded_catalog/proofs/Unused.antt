@@ -1,8 +1,9 @@
 -- No view speaks of a name that isn't defined, and each view has the names that it speaks of.
-use Rattle.std.proofs.Common.{◌≡◌, ℕ, Bool, true, false, ◌||◌, cond, List, [], ◌∷◌, map, Option, None, Some, IfSome, is_none, refl, sym, ap, ◌∙◌, true≢false, bytes_eq}
+use Rattle.std.proofs.Common.{◌≡◌, ℕ, Bool, true, false, cond, List, [], ◌∷◌, map, Option, None, Some, IfSome, is_none, refl, sym, ap, ◌∙◌, true≢false, bytes_eq}
 use Rattle.std.specs.List.{list_any}
 use Rattle.std.specs.Map.{lookup}
 use Rattle.std.proofs.lemmas.Option.{none-some}
+use Rattle.ded_num.proofs.Tests.{from_same_texts, or_false_both}
 use Rattle.ded_model.specs.Form.{Form, FormAtom, compare, member, form, speaks_of, atom_speaks_of}
 use Rattle.ded_model.specs.Known.{Known, KnownNames, IsEntryOver, is_unknown_atom, uses_unknown, known_from, with_known}
 use Rattle.ded_model.specs.Made.{base}
@@ -12,7 +13,7 @@ use Rattle.ded_catalog.specs.Conditions.{IsRight, AreKept, IsKept}
 use Rattle.ded_catalog.specs.State.{entry_form, entry_forms, known_with, stored_uses}
 use Rattle.ded_catalog.specs.Users.{HasMentions}
 use Rattle.ded_catalog.proofs.Agreeing.{some_atom-agree}
-use Rattle.ded_catalog.proofs.Lookups.{same_names, known_from-lookup}
+use Rattle.ded_catalog.proofs.Lookups.{known_from-lookup}
 
 -- a formula whose names are known doesn't speak of one that isn't
 pub unspoken : (K : KnownNames) (f : Form) (n : List ℕ) → uses_unknown K f ≡ false → K n ≡ None → speaks_of n f ≡ false
@@ -20,7 +21,7 @@ unspoken K f n h none = some_atom-agree (is_unknown_atom K) (atom_speaks_of n) (
   where
     other : (m : List ℕ) (b : Bool) → is_none (K m) ≡ false → bytes_eq n m ≡ b → b ≡ false
     other m false e g = refl
-    other m true e g = absurd (true≢false (sym (ap is_none (ap K (sym (same_names n m g)) ∙ none)) ∙ e))
+    other m true e g = absurd (true≢false (sym (ap is_none (ap K (sym (from_same_texts n m g)) ∙ none)) ∙ e))
 
     step : (a : FormAtom) → is_unknown_atom K a ≡ false → atom_speaks_of n a ≡ is_unknown_atom K a
     step (compare l op r) e = refl
@@ -30,12 +31,9 @@ unknown_before : (o : Option Stored) (k : Option Known) → known_with o k ≡ N
 unknown_before None k h = h
 unknown_before (Some s) k h = absurd (none-some _ (sym h))
 
-neither : (a b : Bool) → a ≡ false → b ≡ false → (a || b) ≡ false
-neither a b p q = λ i. p i || q i
-
 unused_kept : (limit : ℕ) (K : KnownNames) (es : List (List ℕ × Stored)) (n : List ℕ) → AreKept limit K es → known_from K (entry_forms es) n ≡ None → list_any (stored_uses n) (map (λ e. e.1) es) ≡ false
 unused_kept limit K [] n h none = refl
-unused_kept limit K (e ∷ es) n h none = neither (stored_uses n e.1) (list_any (stored_uses n) (map (λ x. x.1) es)) (own e.1 h.1) (unused_kept limit (with_known K (entry_form e.0 e.1)) es n h.3 none)
+unused_kept limit K (e ∷ es) n h none = or_false_both (stored_uses n e.1) (list_any (stored_uses n) (map (λ x. x.1) es)) (own e.1 h.1) (unused_kept limit (with_known K (entry_form e.0 e.1)) es n h.3 none)
   where
     before : K n ≡ None
     before = unknown_before (lookup (bytes_eq n) (e ∷ es)) (K n) (sym (known_from-lookup limit K (e ∷ es) n h) ∙ none)

@@ -7,6 +7,7 @@ use Rattle.std.proofs.lemmas.List.{take_all}
 use Rattle.std.proofs.lemmas.Map.Keys.{IsDistinct-head, IsDistinct-tail}
 use Rattle.lru.specs.LruCache.{LruCache, demoted, put_entries}
 use Rattle.std.proofs.lemmas.Option.{none-some, same_Some}
+use Rattle.ded_num.proofs.Tests.{from_same_texts}
 use Rattle.ded_model.proofs.Bools.{bytes_eq-refl}
 use Rattle.ded_catalog.specs.declared.entries.Entry.{Entry}
 use Rattle.ded_relation.specs.declared.relation.Relation.{Relation}
@@ -14,7 +15,6 @@ use Rattle.ded_catalog.specs.declared.stored.Stored.{Stored}
 use Rattle.ded_catalog.specs.declared.stored.Stored.TheVariants as stored
 use Rattle.ded_catalog.specs.Changed.{ChangesRelation}
 use Rattle.ded_catalog.specs.Users.{Alters, Raises, more, users_at, without_users}
-use Rattle.ded_catalog.proofs.Lookups.{same_names}
 
 -- ---- without the numbers
 
@@ -82,7 +82,7 @@ set-same test (e ∷ es) s h = by (test e.0) h (set-same test es s)
 
 -- a name that passes is no other one
 pub apart : (n m : List ℕ) → bytes_eq n m ≡ false → (k : List ℕ) → bytes_eq m k ≡ true → bytes_eq n k ≡ false
-apart n m h k e = ap (bytes_eq n) (sym (same_names m k e)) ∙ h
+apart n m h k e = ap (bytes_eq n) (sym (from_same_texts m k e)) ∙ h
 
 set-own : (test : List ℕ → Bool) (es : List (List ℕ × Entry)) (e w : Entry) → lookup test es ≡ Some e → lookup test (set_value test es w) ≡ Some w
 set-own test [] e w h = absurd (none-some e h)
@@ -116,7 +116,7 @@ pub lookup-set : (n m : List ℕ) (es : List (List ℕ × Entry)) (e w : Entry) 
 lookup-set n m es e w found = by (bytes_eq n m) refl
   where
     by : (b : Bool) → bytes_eq n m ≡ b → lookup (bytes_eq n) (set_value (bytes_eq m) es w) ≡ cond b (Some w) (lookup (bytes_eq n) es)
-    by true h = ap (λ k. lookup (bytes_eq k) (set_value (bytes_eq m) es w)) (same_names n m h) ∙ set-own (bytes_eq m) es e w found
+    by true h = ap (λ k. lookup (bytes_eq k) (set_value (bytes_eq m) es w)) (from_same_texts n m h) ∙ set-own (bytes_eq m) es e w found
     by false h = set-other (bytes_eq m) (bytes_eq n) (apart n m h) es w
 
 -- ---- where the list has it
@@ -132,7 +132,7 @@ taken n [] h = refl
 taken n (e ∷ es) h = by (bytes_eq n e.0) refl (taken n es (IsDistinct-tail bytes_eq e.0 (keys_of es) h))
   where
     by : (b : Bool) → bytes_eq n e.0 ≡ b → lookup (bytes_eq n) (remove_entry (bytes_eq n) es) ≡ None → lookup (bytes_eq n) (cond b es (e ∷ remove_entry (bytes_eq n) es)) ≡ None
-    by true g next = ap (λ k. lookup (bytes_eq k) es) (same_names n e.0 g) ∙ none_among e.0 es (IsDistinct-head bytes_eq e.0 (keys_of es) h)
+    by true g next = ap (λ k. lookup (bytes_eq k) es) (from_same_texts n e.0 g) ∙ none_among e.0 es (IsDistinct-head bytes_eq e.0 (keys_of es) h)
     by false g next = ap (λ b. cond b (Some e.1) (lookup (bytes_eq n) (remove_entry (bytes_eq n) es))) g ∙ next
 
 -- nothing is taken out where nothing is found
@@ -184,7 +184,7 @@ unraised m es none = record { stored = refl; users = λ n. by n (bytes_eq n m) r
   where
     by : (n : List ℕ) (b : Bool) → bytes_eq n m ≡ b → users_at n es ≡ option_map (more b) (users_at n es)
     by n true h =
-        let here : users_at n es ≡ None = ap (λ k. users_at k es) (same_names n m h) ∙ ap (option_map (λ e. e.users)) none in
+        let here : users_at n es ≡ None = ap (λ k. users_at k es) (from_same_texts n m h) ∙ ap (option_map (λ e. e.users)) none in
         here ∙ sym (ap (option_map (more true)) here)
     by n false h = same_count (users_at n es)
 
@@ -198,7 +198,7 @@ raised m es e w found same up = record {
 }
   where
     by : (n : List ℕ) (b : Bool) → bytes_eq n m ≡ b → option_map (λ x. x.users) (cond b (Some w) (lookup (bytes_eq n) es)) ≡ option_map (more b) (users_at n es)
-    by n true h = ap Some up ∙ sym (ap (option_map (more true)) (ap (λ k. users_at k es) (same_names n m h) ∙ ap (option_map (λ x. x.users)) found))
+    by n true h = ap Some up ∙ sym (ap (option_map (more true)) (ap (λ k. users_at k es) (from_same_texts n m h) ∙ ap (option_map (λ x. x.users)) found))
     by n false h = same_count (users_at n es)
 
 pub lowered : (m : List ℕ) (es : List (List ℕ × Entry)) (e w : Entry) → lookup (bytes_eq m) es ≡ Some e → w.stored ≡ e.stored → e.users ≡ w.users + 1
@@ -211,7 +211,7 @@ lowered m es e w found same less = record {
 }
   where
     by : (n : List ℕ) (b : Bool) → bytes_eq n m ≡ b → users_at n es ≡ option_map (more b) (option_map (λ x. x.users) (cond b (Some w) (lookup (bytes_eq n) es)))
-    by n true h = ap (λ k. users_at k es) (same_names n m h) ∙ ap (option_map (λ x. x.users)) found ∙ ap Some less
+    by n true h = ap (λ k. users_at k es) (from_same_texts n m h) ∙ ap (option_map (λ x. x.users)) found ∙ ap Some less
     by n false h = same_count (users_at n es)
 
 -- ---- another relation under a name

@@ -5,12 +5,12 @@ ghost use Rattle.std.specs.Option.{option_map};
 
 use crate::catalogue::Catalogue;
 use crate::change::{Change, left_of, with_inserted};
-use ded_ranges::Window;
 use ded_model::goal::Goal;
 use ded_model::memory::NoMemory;
 use ded_model::name::{Heading, Name};
 use ded_model::tuple::Tuple;
 use ded_packed::Lent;
+use ded_ranges::Window;
 use ded_relation::finding::all;
 use std::alloc::Global;
 use std::marker::Model;

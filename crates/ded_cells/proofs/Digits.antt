@@ -1,10 +1,11 @@
 -- The digits behind the point are those of long division: what they leave is less than the denominator, and nothing where that
 -- divides a power of ten with as many digits.
-use Rattle.std.proofs.Common.{◌≡◌, ◌<◌, ◌+◌, ◌-◌, ◌*◌, ◌/◌, ◌%◌, ◌^◌, ◌⊎◌, inl, inr, ℕ, zero, suc, Bool, true, false, List, [], ◌∷◌, ◌++◌, length, arith, refl, sym, ap, ◌∙◌, subst, true≢false, ⊎_elim, append-nil}
+use Rattle.std.proofs.Common.{◌≡◌, ◌<◌, ◌+◌, ◌-◌, ◌*◌, ◌/◌, ◌%◌, ◌^◌, ◌⊎◌, inl, inr, ℕ, zero, suc, Bool, true, false, List, [], ◌∷◌, ◌++◌, length, arith, refl, sym, ap, ◌∙◌, subst, ⊎_elim, append-nil}
 use Rattle.std.specs.Prelude.{◌==◌, ◌&&◌, nat_le, if◌then◌else◌, Result, OnOk}
 use Rattle.std.specs.List.{AllByRecursion}
 use Rattle.std.proofs.lemmas.Bool.Decides.{eqb_tells}
 use Rattle.std.proofs.Math.Nat.{mul-mod_left, mul-add-mod_self_right, mod-eq_of_lt, mod-lt, div-add-mod, div-lt_iff_lt-mul, pow-succ'}
+use Rattle.ded_num.proofs.Tests.{is_zero}
 use Rattle.ded_model.proofs.Points.{and_right}
 use Rattle.ded_dump.proofs.Puts.{last_two}
 use Rattle.ded_cells.specs.Decimals.{digits_behind, digits_number, has_decimal, IsDigit}
@@ -90,9 +91,6 @@ goes_on k r d less some h =
     longer : {A : Type 0} {m n : ℕ} → A ⊎ (m ≡ n) → A ⊎ (suc m ≡ suc n)
     longer (inl x) = inl x
     longer (inr e) = inr (ap suc e)
-
-is_zero : (r : ℕ) → (r == 0) ≡ true → r ≡ 0
-is_zero r e = ⊎_elim (λ t. t.1) (λ t. absurd (true≢false (sym e ∙ t.0))) (eqb_tells r 0)
 
 divided : (k r d : ℕ) → r < d → Divided k r d
 divided zero r d less = stops zero r d less (out_of_digits r d) (inr refl)

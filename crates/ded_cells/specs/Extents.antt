@@ -4,10 +4,9 @@ use Rattle.ded_model.specs.declared.bound.Bound.{Bound}
 use Rattle.ded_model.specs.declared.name.Column.{Column}
 use Rattle.ded_model.specs.declared.slot.Sort.{Sort}
 use Rattle.ded_model.specs.declared.slot.Sort.TheVariants.{Rat, Text}
-use Rattle.ded_model.specs.Cell.{HoldsSomewhere}
+use Rattle.ded_model.specs.Cell.{HoldsSomewhere, HoldsNowhere}
 use Rattle.ded_model.specs.Row.{Atom, tuple_holds}
 use Rattle.ded_model.specs.Width.{IsBoxNarrow}
-use Rattle.ded_theory.specs.Verdicts.{HoldsNowhere}
 use Rattle.ded_atoms.specs.Orders.{AreOrderAtoms}
 use Rattle.ded_box.specs.Extents.{AreBounds}
 use Rattle.ded_cells.specs.declared.extent.Extent.{Extent}

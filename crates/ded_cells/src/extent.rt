@@ -1,7 +1,7 @@
 //! How far a tuple goes.
 ghost use Rattle.std.specs.Prelude.{◌≡◌, IfOk};
 ghost use Rattle.ded_model.specs.Known.{IsTupleOver};
-ghost use Rattle.ded_cells.specs.Extents.{IsExtent, first_span, later_spans, span_at, span_of, spans_behind};
+ghost use Rattle.ded_cells.specs.Extents.{IsExtent, span_at, span_of, spans_behind};
 
 use ded_atoms::extended;
 use ded_model::bound::{Bound, BoxReply, Spans};

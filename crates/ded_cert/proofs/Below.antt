@@ -2,8 +2,8 @@
 use Rattle.std.proofs.Common.{◌≡◌, ℕ, ◌+◌, ◌<◌, ◌≤◌, List, [], ◌∷◌, ◌++◌, take, length, get_or, arith, sym, ap, ◌∙◌, subst}
 use Rattle.std.specs.Prelude.{ℤ}
 use Rattle.std.specs.Borrow.{Bor}
-use Rattle.std.specs.List.{AllByRecursion}
 use Rattle.std.proofs.lemmas.List.{take_more, map-append}
+use Rattle.ded_num.proofs.Tests.{all_more}
 use Rattle.ded_model.specs.declared.slot.Slot.{Slot}
 use Rattle.ded_model.specs.Constraint.{LinearConstraint}
 use Rattle.ded_model.specs.Coefs.{AllBelow}
@@ -25,11 +25,7 @@ rows_weaker : (m n : ℕ) (rs : List LinearConstraint) → m ≤ n → AreBelow 
 rows_weaker m n [] l h = tt
 rows_weaker m n (r ∷ rs) l h = (below_weaker m n r.coefs l h.0, rows_weaker m n rs l h.1)
 
-pub all_append : {A : Type 0} (P : A → Type 0) (rs : List A) (r : A) → AllByRecursion P rs → P r → AllByRecursion P (rs ++ r ∷ [])
-all_append P [] r h k = (k, tt)
-all_append P (q ∷ rs) r h k = (h.0, all_append P rs r h.1 k)
-
 pub rows_more : (m n : ℕ) (rs : List (Bor LinearConstraint)) (i : ℕ) (r : Bor LinearConstraint) → i < length rs → r ≡ get_or rs i r → m ≤ n → AreBelow m (lent (take i rs)) → AllBelow n r.now.coefs → AreBelow n (lent (take (i + 1) rs))
 rows_more m n rs i r h e l a k =
     subst (AreBelow n) (sym (ap lent (take_more rs i r h ∙ ap (λ x. take i rs ++ x ∷ []) (sym e)) ∙ map-append _ (take i rs) (r ∷ [])))
-    (all_append (λ q. AllBelow n q.coefs) (lent (take i rs)) r.now (rows_weaker m n (lent (take i rs)) l a) k)
+    (all_more (λ q. AllBelow n q.coefs) (lent (take i rs)) r.now (rows_weaker m n (lent (take i rs)) l a) k)

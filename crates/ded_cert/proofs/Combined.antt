@@ -1,7 +1,7 @@
 -- Sums of numbers that are 0 in each of some lines are so in each combination of these lines.
 --
 -- The line of a combination is a sum of multiples of the two lines, divided by a number that isn't 0.
-use Rattle.std.proofs.Common.{◌≡◌, ◌≢◌, Bool, true, false, not, ◌&&◌, cond, List, [], ◌∷◌, inl, inr, arith, refl, sym, ap, ap₂, ◌∙◌, subst}
+use Rattle.std.proofs.Common.{◌≡◌, ◌≢◌, Bool, true, false, not, ◌&&◌, List, [], ◌∷◌, inl, inr, arith, refl, sym, ap, ap₂, ◌∙◌, subst}
 use Rattle.std.specs.Prelude.{ℤ, pos, ◌+ℤ◌, ◌-ℤ◌, ◌*ℤ◌}
 use lib.IntN.{neg_ℤ}
 use Rattle.std.proofs.lemmas.Int.{ints}
@@ -15,11 +15,12 @@ use Rattle.ded_model.specs.Normal.{divisor_of, coefs_over, normal_row, DivideWho
 use Rattle.ded_model.specs.Lines.{Line, In, line_with, row_lines, combination, both_mention, lines_clash, elim_at}
 use Rattle.ded_model.proofs.Divisors.{divisor-whole, divisor-whole_constant, divisor-nonzero_first}
 use Rattle.ded_model.proofs.LineCoefs.{coef_at-mixed, coef_at-cut, coef_at-cut_here, coef_at-nonzero, nonzero-nonzero}
-use Rattle.ded_model.proofs.LineLengths.{sum_is_difference}
+use Rattle.ded_model.proofs.LineLengths.{sum_is_difference, choice, over_part}
 use Rattle.ded_model.proofs.Members.{elim-In}
 use Rattle.ded_model.proofs.Points.{same_slot_is}
 use Rattle.ded_row.proofs.MixedLines.{nonzero_begins}
 use Rattle.ded_row.proofs.Scaling.{BeginsNonzero, cancel_factor}
+use Rattle.ded_elimination.proofs.Bridge.{swapped}
 use Rattle.ded_cert.specs.Projecting.{weigh, value_of}
 
 -- ---- multiples and sums
@@ -47,9 +48,6 @@ weigh-combined (w ∷ ws) g x a y b z i =
     ∙ ap₂ (λ c s. w.1 *ℤ c +ℤ s) (i.coefs w.0) (weigh-combined ws g x a y b z i)
     ∙ together_law w.1 a (coef_at y.coefs w.0) (weigh ws y.coefs) b (coef_at z.coefs w.0) (weigh ws z.coefs)
 
-swapped : (x y : ℤ) → x +ℤ y ≡ y +ℤ x
-swapped x y = omega (arith, ints)
-
 value-combined : (ws : List (Slot × ℤ)) (k g : ℤ) (x : LinearConstraint) (a : ℤ) (y : LinearConstraint) (b : ℤ) (z : LinearConstraint) → IsCombined g x a y b z
     → g *ℤ value_of ws k x ≡ a *ℤ value_of ws k y +ℤ b *ℤ value_of ws k z
 value-combined ws k g x a y b z i =
@@ -76,22 +74,12 @@ pub record IsLineOf (d : ℤ) (l : Line) (cs : List (Slot × ℤ)) (c : ℤ) : T
   pub coefs : (t : Slot) → d *ℤ coef_at l.coefs t ≡ coef_at cs t
   pub constant : d *ℤ l.constant ≡ c
 
-over_law : (b : Bool) (k a q x y : ℤ) → k *ℤ q ≡ a → k *ℤ x ≡ y → k *ℤ (cond b q (pos 0) +ℤ x) ≡ cond b a (pos 0) +ℤ y
-over_law true k a q x y e f = law k q x ∙ ap₂ (λ u v. u +ℤ v) e f
-  where
-    law : (k q x : ℤ) → k *ℤ (q +ℤ x) ≡ k *ℤ q +ℤ k *ℤ x
-    law k q x = rw (parts k, parts q, parts x) (simp ring (diff_same _ _ _ _ (omega arith)))
-over_law false k a q x y e f = law k x ∙ ap (λ v. pos 0 +ℤ v) f
-  where
-    law : (k x : ℤ) → k *ℤ (pos 0 +ℤ x) ≡ pos 0 +ℤ k *ℤ x
-    law k x = rw (parts k, parts x) (simp ring_pos (diff_same _ _ _ _ (omega arith)))
-
 pub coef_over : (k : ℤ) (cs : List (Slot × ℤ)) (t : Slot) → DivideWhole k cs → k *ℤ coef_at (coefs_over k cs) t ≡ coef_at cs t
 coef_over k [] t h = law k
   where
     law : (k : ℤ) → k *ℤ pos 0 ≡ pos 0
     law k = rw (parts k) (simp ring_pos (diff_same _ _ _ _ (omega arith)))
-coef_over k (c ∷ cs) t h = over_law (same_slot c.0 t) k c.1 _ _ _ h.0 (coef_over k cs t h.1)
+coef_over k (c ∷ cs) t h = over_part (same_slot c.0 t) k c.1 _ _ _ h.0 (coef_over k cs t h.1)
 
 pub line_of : (cs : List (Slot × ℤ)) (c : ℤ) (l : Line) → BeginsNonzero cs → In l (line_with cs c) → IsLineOf (divisor_of Zero c cs) l cs c
 unfolding normal_row
@@ -158,11 +146,6 @@ combination_vanishes ws k s m n l i h j =
     let o = line_of cs c l (nonzero_begins cs (nonzero-nonzero (cut s (mixed b m.coefs (neg_ℤ a) n.coefs)))) i in
     combined_vanishes ws k (divisor_of Zero c cs) l b m (neg_ℤ a) n
     (record { some = o.some; coefs = λ t. o.coefs t ∙ mixed_at s m n t; constant = o.constant ∙ sym (sum_is_difference b m.constant a n.constant) }) h j
-
--- a choice of lines or none
-choice : (b : Bool) (ls : List Line) (l : Line) → In l (cond b ls []) → In l ls
-choice true ls l h = h
-choice false ls l h = absurd h
 
 -- so it goes over to the lines that an elimination makes
 pub elim_vanishes : (ws : List (Slot × ℤ)) (k : ℤ) (s : Slot) (ls : List Line) → ((l : Line) → In l ls → value_of ws k l ≡ pos 0) → (l : Line) → In l (elim_at s ls) → value_of ws k l ≡ pos 0

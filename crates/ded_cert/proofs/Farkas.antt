@@ -10,18 +10,18 @@ use Rattle.ded_num.proofs.Ring.{parts, ring_pos, diff_same}
 use Rattle.ded_model.specs.declared.slot.Slot.{Slot}
 use Rattle.ded_model.specs.Constraint.{LinearConstraint}
 use Rattle.ded_model.specs.Point.{slot, Point, same_slot, stands_in, number_at, AreDistinctSlots}
-use Rattle.ded_model.specs.Cell.{conj_holds, HoldsSomewhere}
+use Rattle.ded_model.specs.Cell.{conj_holds, HoldsSomewhere, HoldsNowhere}
 use Rattle.ded_model.specs.Coefs.{AllBelow, AreCoefs, coef_at}
 use Rattle.ded_model.specs.Row.{row_holds, row_mentions}
 use Rattle.ded_model.specs.Lines.{In}
-use Rattle.ded_model.proofs.CoefLemmas.{coef_at-past}
 use Rattle.ded_model.proofs.LineSlots.{has_slot}
 use Rattle.ded_model.proofs.Members.{or_split}
 use Rattle.ded_model.proofs.Points.{same_slot_is, same_slot_refl, and_left, and_right}
 use Rattle.ded_model.proofs.Rows.{or_left, or_right}
+use Rattle.ded_model.proofs.SlotLists.{same_slot-turned}
 use Rattle.ded_row.proofs.Pieces.{whole_minus}
+use Rattle.ded_row.proofs.Targets.{coef_at-absent}
 use Rattle.ded_theory.specs.Conjunctions.{conj_mentions}
-use Rattle.ded_theory.specs.Verdicts.{HoldsNowhere}
 use Rattle.ded_elimination.specs.LinearAtoms.{IsLinearAtom}
 use Rattle.ded_weighing.specs.Columns.{HasAllSlots}
 use Rattle.ded_weighing.specs.Gathered.{AreOf}
@@ -31,7 +31,6 @@ use Rattle.ded_cert.specs.Certified.{magnitudes}
 use Rattle.ded_cert.specs.Tracing.{tag, turned_coefs, slack_of, traces, AreBelow, multipliers, is_weak_row, is_refuting, AreWideRows}
 use Rattle.ded_cert.specs.Projecting.{weigh, IsProjected, KeepsNumbers, GetLong}
 use Rattle.ded_cert.proofs.Combined.{coef_over}
-use Rattle.ded_cert.proofs.Projections.{turned_apart}
 use Rattle.ded_cert.proofs.Tagged.{tag_apart, below_apart, tagged_at_other, tagged_at_total, tagged_at_slack}
 use Rattle.ded_cert.proofs.TwoNumbers.{two_numbers-is, two_numbers-at}
 use Rattle.ded_cert.proofs.Lows.{low, low_point, traces_low, tag_coef, turned_below}
@@ -83,15 +82,6 @@ mentioned_below : (b : ℕ) (rs : List LinearConstraint) (s : Slot) → AreBelow
 unfolding row_mentions
 mentioned_below b [] s a h = absurd (true≢false (sym h))
 mentioned_below b (r ∷ rs) s a h = ⊎_elim (λ (e : has_slot r.coefs s ≡ true). slot_below b r.coefs s a.0 e) (λ e. mentioned_below b rs s a.1 e) (or_split (has_slot r.coefs s) _ h)
-
--- a slot that isn't mentioned has no coefficient
-unmentioned : (cs : List (Slot × ℤ)) (s : Slot) → has_slot cs s ≡ false → coef_at cs s ≡ pos 0
-unmentioned [] s h = refl
-unmentioned (c ∷ cs) s h = let n = neither (same_slot c.0 s) _ h in coef_at-past s c cs n.0 ∙ unmentioned cs s n.1
-  where
-    neither : (x y : Bool) → (x || y) ≡ false → (x ≡ false) × (y ≡ false)
-    neither true y e = absurd (true≢false e)
-    neither false y e = (refl, e)
 
 mentions_in : (left : List LinearConstraint) (e : LinearConstraint) (s : Slot) → In e left → row_mentions e s ≡ true → conj_mentions row_mentions left s ≡ true
 mentions_in [] e s i h = absurd i
@@ -203,7 +193,7 @@ module _ (b n : ℕ) (rs : List LinearConstraint) (below : AreBelow b rs) (h : b
           (λ m r k a z. tagged_at_total b (pos 0) (m + 1) (turned_coefs r.coefs) (turned_below b r.coefs a) (omega (arith, k))) n rs h below)
 
       apart : (s : Slot) (m : ℕ) → s.number < b → b ≤ m → same_slot (tag m) s ≡ false
-      apart s m k l = turned_apart s (tag m) (below_apart s b m k l)
+      apart s m k l = same_slot-turned s (tag m) (below_apart s b m k l)
 
       coefs_are : (s : Slot) → s.number < b → coef_at (weighed_coefs ms rs) s ≡ coef_at e.coefs s
       coefs_are s k =
@@ -217,7 +207,7 @@ module _ (b n : ℕ) (rs : List LinearConstraint) (below : AreBelow b rs) (h : b
       -- the slots of the rows are gone
       gone : (s : Slot) → stands_in done s ≡ true → coef_at e.coefs s ≡ pos 0
       unfolding row_mentions
-      gone s k = unmentioned e.coefs s (false_from_ne_true (has_slot e.coefs s) (λ m. true≢false (sym k ∙ projected.without s (mentions_in left e s inside m))))
+      gone s k = coef_at-absent e.coefs s (false_from_ne_true (has_slot e.coefs s) (λ m. true≢false (sym k ∙ projected.without s (mentions_in left e s inside m))))
 
       no_coefs : HasAllSlots done rs → AllByRecursion (λ r. AreCoefs r.coefs) rs → list_all (λ c. int_eq c.1 (pos 0)) (weighed_coefs ms rs) ≡ true
       no_coefs all coefs = zero_coefs (weighed_coefs ms rs) (ascend-weighed ms rs coefs)

@@ -1,11 +1,11 @@
 -- A tuple holds where its rows and its text atoms do.
-use Rattle.std.proofs.Common.{◌≡◌, Bool, true, false, ◌&&◌, List, [], ◌∷◌, refl, ap, ◌∙◌}
+use Rattle.std.proofs.Common.{◌≡◌, ◌&&◌, List, [], ◌∷◌, refl, ap, ◌∙◌}
+use Rattle.ded_num.proofs.Tests.{and_false, and_false_left}
 use Rattle.ded_model.specs.declared.tuple.BothAtom.TheVariants.{First, Second}
 use Rattle.ded_model.specs.Point.{Point}
-use Rattle.ded_model.specs.Cell.{conj_holds}
+use Rattle.ded_model.specs.Cell.{conj_holds, HoldsNowhere}
 use Rattle.ded_model.specs.Row.{Atom, row_holds, theme_holds, atom_holds, tuple_holds}
 use Rattle.ded_theory.specs.Both.{by_kind, firsts, seconds}
-use Rattle.ded_theory.specs.Verdicts.{HoldsNowhere}
 use Rattle.ded_theory.proofs.TwoKinds.{parts_hold}
 
 -- a tuple is a conjunction of atoms of two kinds
@@ -19,19 +19,10 @@ tuple_is (Second a ∷ atoms) p = ap (λ b. theme_holds a p && b) (tuple_is atom
 tuple_parts : (atoms : List Atom) (p : Point) → tuple_holds atoms p ≡ (conj_holds row_holds (firsts atoms) p && conj_holds theme_holds (seconds atoms) p)
 tuple_parts atoms p = tuple_is atoms p ∙ parts_hold row_holds theme_holds atoms p
 
--- `and` fails where its first part does
-false_left : (a b : Bool) → a ≡ false → (a && b) ≡ false
-false_left a b e = rw e
-
--- and where its second one does
-false_right : (a b : Bool) → b ≡ false → (a && b) ≡ false
-false_right true b e = e
-false_right false b e = refl
-
 -- a tuple of which the rows hold nowhere holds nowhere
 pub no_rows : (atoms : List Atom) → HoldsNowhere (conj_holds row_holds (firsts atoms)) → HoldsNowhere (tuple_holds atoms)
-no_rows atoms h p i = tuple_parts atoms p ∙ false_left (conj_holds row_holds (firsts atoms) p) (conj_holds theme_holds (seconds atoms) p) (h p i)
+no_rows atoms h p i = tuple_parts atoms p ∙ and_false_left (conj_holds row_holds (firsts atoms) p) (conj_holds theme_holds (seconds atoms) p) (h p i)
 
 -- and so does one of which the text atoms hold nowhere
 pub no_texts : (atoms : List Atom) → HoldsNowhere (conj_holds theme_holds (seconds atoms)) → HoldsNowhere (tuple_holds atoms)
-no_texts atoms h p i = tuple_parts atoms p ∙ false_right (conj_holds row_holds (firsts atoms) p) (conj_holds theme_holds (seconds atoms) p) (h p i)
+no_texts atoms h p i = tuple_parts atoms p ∙ and_false (conj_holds row_holds (firsts atoms) p) (conj_holds theme_holds (seconds atoms) p) (h p i)

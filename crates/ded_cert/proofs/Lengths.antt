@@ -1,5 +1,5 @@
 -- How long the numbers of the rows of tuples are, and which slots these have.
-use Rattle.std.proofs.Common.{◌≡◌, ℕ, ◌+◌, ◌*◌, ◌^◌, ◌<◌, ◌≤◌, max, Bool, true, false, cond, List, [], ◌∷◌, ◌++◌, map, length, ⊎_elim, arith, refl, sym, subst, true≢false}
+use Rattle.std.proofs.Common.{◌≡◌, ℕ, ◌+◌, ◌*◌, ◌^◌, ◌<◌, ◌≤◌, max, Bool, true, false, cond, List, [], ◌∷◌, ◌++◌, length, ⊎_elim, arith, refl, sym, subst, true≢false}
 use Rattle.std.specs.Prelude.{ℤ}
 use Rattle.std.specs.List.{list_any, AllByRecursion}
 use Rattle.std.proofs.Math.Pow.{pow-add}
@@ -12,25 +12,17 @@ use Rattle.ded_model.specs.Point.{same_slot, stands_in}
 use Rattle.ded_model.specs.Coefs.{AreCoefs, coef_at}
 use Rattle.ded_model.specs.Row.{Atom, row_mentions}
 use Rattle.ded_model.specs.Lines.{In, row_lines, AreWithin}
-use Rattle.ded_model.specs.Width.{greatest_length, tuple_length, with_slots, rational_slots_after, rational_slots}
+use Rattle.ded_model.specs.Width.{tuple_length, with_slots, rational_slots_after, rational_slots}
 use Rattle.ded_model.proofs.Points.{same_slot_is, same_slot_refl}
-use Rattle.ded_model.proofs.Rows.{or_left, or_right}
+use Rattle.ded_model.proofs.Rows.{or_left}
 use Rattle.ded_model.proofs.Members.{or_split, In-split}
-use Rattle.ded_model.proofs.CoefLemmas.{coef_at-here, coef_at-past}
-use Rattle.ded_model.proofs.LineLengths.{zero_within, line_with-within}
+use Rattle.ded_model.proofs.LineLengths.{line_with-within}
+use Rattle.ded_model.proofs.CoefLists.{coef_within, with_slots-kept}
+use Rattle.ded_model.proofs.SlotLists.{slots-kept}
 use Rattle.ded_theory.specs.Both.{firsts}
 use Rattle.ded_theory.specs.Conjunctions.{conj_mentions, conj_lines, IsWide}
 use Rattle.ded_cert.specs.Certified.{IsWidePair}
 use Rattle.ded_cert.specs.Tracing.{AreWideRows}
-
--- the coefficient of a slot is one of the numbers, or 0
-pub coef_within : (cs : List (Slot × ℤ)) (s : Slot) (k : ℕ) → AreCoefs cs → greatest_length (map (λ c. c.1) cs) ≤ k → IsWithin k (coef_at cs s)
-coef_within [] s k c h = zero_within k
-coef_within (x ∷ cs) s k c h = go (same_slot x.0 s) refl (coef_within cs s k c.4 (omega (arith, h)))
-  where
-    go : (b : Bool) → same_slot x.0 s ≡ b → IsWithin k (coef_at cs s) → IsWithin k (coef_at (x ∷ cs) s)
-    go true e ih = subst (IsWithin k) (sym (coef_at-here s x cs e c.3)) (within_from_length x.1 k (omega (arith, h)))
-    go false e ih = subst (IsWithin k) (sym (coef_at-past s x cs e)) ih
 
 -- all numbers of rows have at most k digits
 abbrev pub NumbersWithin : ℕ → List LinearConstraint → Type 0
@@ -55,15 +47,6 @@ joined_length k (Second a ∷ t) u h g = joined_length k t u h g
 
 -- ---- slots
 
--- a slot stays in the list
-slots_kept : (cs : List (Slot × ℤ)) (ss : List Slot) (s : Slot) → stands_in ss s ≡ true → stands_in (with_slots cs ss) s ≡ true
-slots_kept [] ss s h = h
-slots_kept (c ∷ cs) ss s h = go (λ xs i. slots_kept cs xs s i) (stands_in ss c.0)
-  where
-    go : ((xs : List Slot) → stands_in xs s ≡ true → stands_in (with_slots cs xs) s ≡ true) → (b : Bool) → stands_in (with_slots cs (cond b ss (c.0 ∷ ss))) s ≡ true
-    go ih true = ih ss h
-    go ih false = ih (c.0 ∷ ss) (or_right (same_slot c.0 s) (stands_in ss s) h)
-
 -- and each slot of the coefficients is there
 slots_there : (cs : List (Slot × ℤ)) (ss : List Slot) (s : Slot) → list_any (λ c. same_slot c.0 s) cs ≡ true → stands_in (with_slots cs ss) s ≡ true
 slots_there [] ss s h = absurd (true≢false (sym h))
@@ -73,19 +56,14 @@ slots_there (c ∷ cs) ss s h = ⊎_elim
     (or_split (same_slot c.0 s) (list_any (λ d. same_slot d.0 s) cs) h)
   where
     here : c.0 ≡ s → (b : Bool) → stands_in ss c.0 ≡ b → stands_in (with_slots cs (cond b ss (c.0 ∷ ss))) s ≡ true
-    here e true f = slots_kept cs ss s (subst (λ t. stands_in ss t ≡ true) e f)
-    here e false f = slots_kept cs (c.0 ∷ ss) s (or_left (same_slot c.0 s) (stands_in ss s) (subst (λ t. same_slot c.0 t ≡ true) e (same_slot_refl c.0)))
-
-after_kept : (t : List Atom) (ss : List Slot) (s : Slot) → stands_in ss s ≡ true → stands_in (rational_slots_after ss t) s ≡ true
-after_kept [] ss s h = h
-after_kept (First r ∷ t) ss s h = after_kept t (with_slots r.coefs ss) s (slots_kept r.coefs ss s h)
-after_kept (Second a ∷ t) ss s h = after_kept t ss s h
+    here e true f = with_slots-kept cs ss s (subst (λ t. stands_in ss t ≡ true) e f)
+    here e false f = with_slots-kept cs (c.0 ∷ ss) s (or_left (same_slot c.0 s) (stands_in ss s) (subst (λ t. same_slot c.0 t ≡ true) e (same_slot_refl c.0)))
 
 after_there : (t : List Atom) (ss : List Slot) (s : Slot) → conj_mentions row_mentions (firsts t) s ≡ true → stands_in (rational_slots_after ss t) s ≡ true
 unfolding row_mentions
 after_there [] ss s m = absurd (true≢false (sym m))
 after_there (First q ∷ t) ss s m = ⊎_elim
-    (λ (e : row_mentions q s ≡ true). after_kept t (with_slots q.coefs ss) s (slots_there q.coefs ss s e))
+    (λ (e : row_mentions q s ≡ true). slots-kept t (with_slots q.coefs ss) s (slots_there q.coefs ss s e))
     (λ e. after_there t (with_slots q.coefs ss) s e)
     (or_split (row_mentions q s) (conj_mentions row_mentions (firsts t) s) m)
 after_there (Second a ∷ t) ss s m = after_there t ss s m

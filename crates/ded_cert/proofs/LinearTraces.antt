@@ -1,6 +1,6 @@
 -- Tagged rows are rows in normal form, by `<=`.
-use Rattle.std.proofs.Common.{◌≡◌, ◌≢◌, ℕ, ◌+◌, true, List, [], ◌∷◌, ◌++◌, arith, refl, ap}
-use Rattle.std.specs.Prelude.{ℤ, pos, negsuc, unsigned_abs}
+use Rattle.std.proofs.Common.{◌≡◌, ℕ, ◌+◌, true, List, [], ◌∷◌, ◌++◌, arith, refl}
+use Rattle.std.specs.Prelude.{ℤ, pos, negsuc}
 use lib.IntN.{neg_ℤ}
 use Rattle.std.specs.List.{AllByRecursion}
 use Rattle.ded_num.specs.Length.{IsShort}
@@ -15,12 +15,10 @@ use Rattle.ded_model.proofs.CoefDivision.{AreCoefs-coefs_over}
 use Rattle.ded_model.proofs.Divisors.{divisor-whole, divisor-nonzero_first}
 use Rattle.ded_row.proofs.Forms.{begins, normal_row-normal}
 use Rattle.ded_row.proofs.Pieces.{whole_minus}
+use Rattle.ded_row.proofs.MixedLines.{minus_one}
 use Rattle.ded_elimination.specs.LinearAtoms.{IsLinearAtom}
 use Rattle.ded_cert.specs.Tracing.{tag, tagged, tagged_coefs, turned_coefs, slack_of, forward, backward, traces_by, traces, is_weak_row}
 use Rattle.ded_cert.proofs.WeakRows.{normal_weak}
-
-minus_one : negsuc 0 ≢ pos 0
-minus_one e = absurd (omega (arith, ap unsigned_abs e))
 
 slack_short : (op : RowOp) → IsShort (slack_of op)
 slack_short Zero = omega arith

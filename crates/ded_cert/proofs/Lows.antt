@@ -8,6 +8,7 @@ use lib.IntN.{neg_ℤ}
 use Rattle.std.specs.List.{AllByRecursion}
 use Rattle.std.proofs.lemmas.Int.{ints, by_lt_z}
 use Rattle.ded_num.proofs.Ring.{parts, ring_pos, diff_same}
+use Rattle.ded_num.proofs.Signs.{back_back}
 use Rattle.ded_model.specs.declared.slot.Slot.{Slot}
 use Rattle.ded_model.specs.declared.row.RowOp.{RowOp}
 use Rattle.ded_model.specs.declared.row.RowOp.TheVariants.{Zero, AtMost, Below}
@@ -20,7 +21,7 @@ use Rattle.ded_model.specs.Row.{sum_at, row_at, sign_meets, row_holds}
 use Rattle.ded_model.proofs.Core.{Meets}
 use Rattle.ded_model.proofs.Eliminating.{meets-decides}
 use Rattle.ded_model.proofs.Points.{same_slot_refl}
-use Rattle.ded_row.proofs.Normals.{normal_row-holds}
+use Rattle.ded_model.proofs.Normals.{normal_row-holds}
 use Rattle.ded_theory.proofs.Conjunctions.{conj_holds-append}
 use Rattle.ded_cert.specs.Tracing.{tag, tagged, turned_coefs, slack_of, forward, backward, traces_by, traces, AreBelow}
 use Rattle.ded_cert.proofs.Tagged.{tagged_sum, tag_apart, less_apart, free_at}
@@ -122,16 +123,12 @@ module _ (b k t m : ℕ) (h : b + 1 < t) where
 
 -- ---- coefficients of tags
 
--- a negative number, times a negative one
-turned_law : (a m : ℤ) → a *ℤ neg_ℤ m ≡ neg_ℤ a *ℤ m
-turned_law a m = rw (parts a, parts m) (simp ring_pos (diff_same _ _ _ _ (omega arith)))
-
 at_least_once : (j m : ℕ) → m ≤ suc j * m
 at_least_once j m = grind arith
 
 pub large : (a : ℤ) (m : ℕ) → a <ℤ pos 0 → pos m ≤ℤ (a *ℤ neg_ℤ (pos m))
 large (pos n) m h = absurd (omega (arith, ints, h))
-large (negsuc j) m h = subst (λ z. pos m ≤ℤ z) (sym (turned_law (negsuc j) (pos m))) (let l = at_least_once j m in omega (arith, ints, l))
+large (negsuc j) m h = subst (λ z. pos m ≤ℤ z) (sym (back_back (negsuc j) (pos m))) (let l = at_least_once j m in omega (arith, ints, l))
 
 -- a row that holds at all such points has no negative coefficient there
 pub tag_coef : (b k t : ℕ) → b + 1 < t → (e : LinearConstraint) → ((m : ℕ) → row_holds e (low b k t m) ≡ true) → pos 0 ≤ℤ coef_at e.coefs (tag t)

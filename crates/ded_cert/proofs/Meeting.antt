@@ -1,26 +1,18 @@
 -- Two tuples of which the rows hold somewhere, and the texts do, have a common point.
 use Rattle.std.proofs.Common.{List, [], ◌++◌, ◌∙◌}
-use Rattle.ded_model.specs.declared.slot.Sort.TheVariants.{Rat, Text}
 use Rattle.ded_model.specs.Cell.{conj_holds, HoldsSomewhere}
 use Rattle.ded_model.specs.Normal.{IsNormalTheme, IsNormalTuple}
 use Rattle.ded_model.specs.Row.{Atom, row_holds, row_mentions, theme_holds, theme_mentions, tuple_holds}
 use Rattle.ded_model.specs.Lines.{row_lines}
-use Rattle.ded_model.proofs.Rows.{row_holds-same, theme_holds-same}
 use Rattle.ded_theory.specs.declared.answers.Verdict.TheVariants.{Inhabited}
 use Rattle.ded_theory.specs.Both.{firsts, seconds}
-use Rattle.ded_theory.proofs.PartLaws.{IsOfSort, verdicts_joined}
+use Rattle.ded_theory.proofs.PartLaws.{verdicts_joined}
 use Rattle.ded_theory.proofs.TwoKinds.{parts_normal}
-use Rattle.ded_theme.specs.Laws.{text-slot}
+use Rattle.ded_theme.proofs.Shared.{text_laws}
 use Rattle.ded_elimination.specs.LinearAtoms.{IsLinearAtom}
-use Rattle.ded_linear.specs.Laws.{rational_slots, slots_of_lines}
+use Rattle.ded_linear.proofs.Shared.{row_laws}
 use Rattle.ded_cert.proofs.Halves.{tuple_is}
 use Rattle.ded_cert.proofs.Parts.{linear_rows, normal_texts}
-
-row_laws : IsOfSort row_holds row_mentions row_lines IsLinearAtom Rat
-row_laws = record { respects = row_holds-same; sort = rational_slots; line_slots = slots_of_lines }
-
-text_laws : IsOfSort theme_holds theme_mentions (λ a. []) IsNormalTheme Text
-text_laws = record { respects = λ a p q _ _ same. theme_holds-same a p q same; sort = text-slot; line_slots = λ a l s none. absurd none }
 
 pub common_point : (t u : List Atom) → IsNormalTuple t → IsNormalTuple u → HoldsSomewhere (conj_holds row_holds (firsts (t ++ u))) → HoldsSomewhere (conj_holds theme_holds (seconds (t ++ u))) → HoldsSomewhere (tuple_holds (t ++ u))
 common_point t u n m h k =

@@ -1,7 +1,7 @@
 -- Points at which the tags and the total are 0 and the slack is positive: where the tagged rows hold at such a point, the rows do.
 --
 -- What is left of the tagged rows holds at a point with a slack little enough, unless one of its rows is false at all of them.
-use Rattle.std.proofs.Common.{◌≡◌, ℕ, ◌+◌, ◌<◌, Bool, true, false, ◌&&◌, ◌||◌, List, [], ◌∷◌, arith, refl, sym, ap, ap₂, ◌∙◌, subst, true≢false}
+use Rattle.std.proofs.Common.{◌≡◌, ℕ, ◌+◌, ◌<◌, true, false, ◌&&◌, ◌||◌, List, [], ◌∷◌, arith, refl, sym, ap, ap₂, ◌∙◌, subst, true≢false}
 use Rattle.std.proofs.lemmas.Bool.{and_from, or_parts}
 use Rattle.std.specs.Prelude.{ℤ, pos, negsuc, ◌+ℤ◌, ◌*ℤ◌, ◌<ℤ◌, ◌≤ℤ◌, unsigned_abs, int_lt, int_div}
 use lib.IntN.{neg_ℤ}
@@ -10,6 +10,8 @@ use Rattle.std.specs.Ordering.{int_eq}
 use Rattle.std.proofs.lemmas.Int.{ints, by_lt_z}
 use Rattle.std.proofs.lemmas.Bool.Decides.{Decides-int_eq}
 use Rattle.ded_num.proofs.Ring.{parts, ring, ring_pos, diff_same}
+use Rattle.ded_num.proofs.Tests.{and_not_both}
+use Rattle.ded_num.proofs.Signs.{not_above}
 use Rattle.ded_model.specs.declared.slot.Slot.{Slot}
 use Rattle.ded_model.specs.declared.row.RowOp.{RowOp}
 use Rattle.ded_model.specs.declared.row.RowOp.TheVariants.{Zero, AtMost, Below}
@@ -21,7 +23,8 @@ use Rattle.ded_model.specs.Normal.{DivideWhole, coefs_over, normal_row}
 use Rattle.ded_model.specs.Row.{sum_at, row_at, sign_meets, row_holds}
 use Rattle.ded_model.proofs.Eliminating.{meets-decides}
 use Rattle.ded_model.proofs.Points.{and_left, and_right}
-use Rattle.ded_row.proofs.Normals.{normal_row-holds}
+use Rattle.ded_model.proofs.Core.{times_neg}
+use Rattle.ded_model.proofs.Normals.{normal_row-holds}
 use Rattle.ded_row.proofs.Pieces.{whole_minus}
 use Rattle.ded_theory.proofs.Conjunctions.{conj_holds-append}
 use Rattle.ded_elimination.specs.LinearAtoms.{IsLinearAtom}
@@ -35,17 +38,8 @@ use Rattle.ded_cert.proofs.Lows.{at_most_zero, weak_holds, turned_below, large}
 abbrev pub near : ℕ → ℕ → Point
 near b d = two_numbers d (tag b) (pos 0) (tag (b + 1)) (pos 1)
 
-not_both : (x y : Bool) → (x && y) ≡ false → x ≡ true → y ≡ false
-not_both x y e f = sym (ap (λ z. z && y) f) ∙ e
-
-not_above : (z : ℤ) → int_lt (pos 0) z ≡ false → z ≤ℤ pos 0
-not_above z e = grind (arith, ints)
-
-turned_law : (a m : ℤ) → a *ℤ neg_ℤ m ≡ neg_ℤ (a *ℤ m)
-turned_law a m = rw (parts a, parts m) (simp ring_pos (diff_same _ _ _ _ (omega arith)))
-
 far_below : (c : ℤ) (d : ℕ) → c <ℤ pos 0 → (c *ℤ pos d) ≤ℤ neg_ℤ (pos d)
-far_below c d h = turn (c *ℤ pos d) (subst (λ z. pos d ≤ℤ z) (turned_law c (pos d)) (large c d h))
+far_below c d h = turn (c *ℤ pos d) (subst (λ z. pos d ≤ℤ z) (times_neg c (pos d)) (large c d h))
   where
     turn : (z : ℤ) → pos d ≤ℤ neg_ℤ z → z ≤ℤ neg_ℤ (pos d)
     turn z l = omega (arith, ints, l)
@@ -57,7 +51,7 @@ near_law t x c d e s =
     (λ l. below (t *ℤ pos 0) (c *ℤ pos d) (zero_times t) (far_below c d l))
     (λ g. let z = not_above c n.0 in
     let c0 : c ≡ pos 0 = omega (arith, ints, z, g) in
-    let x0 = not_above x (not_both (int_eq c (pos 0)) (int_lt (pos 0) x) n.1 ((Decides-int_eq c (pos 0)).1 c0)) in
+    let x0 = not_above x (and_not_both (int_eq c (pos 0)) (int_lt (pos 0) x) n.1 ((Decides-int_eq c (pos 0)).1 c0)) in
     none (t *ℤ pos 0) (c *ℤ pos d) (zero_times t) (ap (λ z. z *ℤ pos d) c0 ∙ times_zero (pos d)) x0)
   where
     zero_times : (t : ℤ) → t *ℤ pos 0 ≡ pos 0

@@ -3,12 +3,14 @@ use Rattle.std.proofs.Common.{◌≡◌, ℕ, arith, ◌<◌, ◌≤◌, Bool, t
 use Rattle.std.specs.Prelude.{◌==◌, ◌&&◌, MatchOption, if◌then◌else◌}
 use Rattle.std.proofs.lemmas.Bool.Decides.{nat_tests}
 use Rattle.std.specs.List.{AllByRecursion}
+use Rattle.ded_num.proofs.Tests.{and_false}
 use Rattle.ded_model.specs.declared.certificate.Entry.{Entry}
 use Rattle.ded_model.specs.declared.name.Column.{Column}
 use Rattle.ded_model.specs.Known.{AreStored}
 use Rattle.ded_model.specs.Normal.{IsNormalTuple}
 use Rattle.ded_model.specs.Row.{Atom}
 use Rattle.ded_model.specs.Width.{tuple_length}
+use Rattle.ded_model.proofs.Made.{number_same}
 use Rattle.ded_cert.specs.Certified.{HasSmallSum}
 use Rattle.ded_cert.specs.Checks.{Checks, IsTooLong}
 use Rattle.ded_cert.specs.Pairs.{Numbered, pairs_with, pairs_of, entry_for, IsEntryOf, AreEntriesOf, IsVerified, IsLongCheck, SomePair}
@@ -26,10 +28,6 @@ abbrev AreUnlike : List (Numbered × Numbered) → Type 0
 AreUnlike [] = Unit {0}
 AreUnlike (p ∷ ps) = AllByRecursion (Unlike p) ps × AreUnlike ps
 
-and_no : (a b : Bool) → b ≡ false → (a && b) ≡ false
-and_no true b e = e
-and_no false b e = refl
-
 first_less : (p q : Numbered × Numbered) → p.0.0 < q.0.0 → Unlike p q
 unfolding same
 first_less p q less = rw (other p.0.0 q.0.0 less) refl
@@ -39,7 +37,7 @@ first_less p q less = rw (other p.0.0 q.0.0 less) refl
 
 second_less : (p q : Numbered × Numbered) → p.1.0 < q.1.0 → Unlike p q
 unfolding same
-second_less p q less = and_no (p.0.0 == q.0.0) (p.1.0 == q.1.0) (other p.1.0 q.1.0 less)
+second_less p q less = and_false (p.0.0 == q.0.0) (p.1.0 == q.1.0) (other p.1.0 q.1.0 less)
   where
     other : (m n : ℕ) → m < n → (m == n) ≡ false
     other m n less = grind (arith, nat_tests)
@@ -97,13 +95,10 @@ later (e ∷ es) fs i j none = by ((e.first == i) && (e.second == j)) none (late
     by true is more = absurd cc
     by false is more = more is
 
-itself : (n : ℕ) → (n == n) ≡ true
-itself n = grind (arith, nat_tests)
-
 here : (p : Numbered × Numbered) (e : Entry) (es : List Entry) → IsEntryOf p e → entry_for (e ∷ es) p.0.0 p.1.0 ≡ Some e
 here p e es h =
-    let one : (e.first == p.0.0) ≡ true = ap (λ n. n == p.0.0) h.first ∙ itself p.0.0 in
-    let two : (e.second == p.1.0) ≡ true = ap (λ n. n == p.1.0) h.second ∙ itself p.1.0 in
+    let one : (e.first == p.0.0) ≡ true = ap (λ n. n == p.0.0) h.first ∙ number_same p.0.0 in
+    let two : (e.second == p.1.0) ≡ true = ap (λ n. n == p.1.0) h.second ∙ number_same p.1.0 in
     rw one (rw two refl)
 
 not_here : (p q : Numbered × Numbered) (e : Entry) → IsEntryOf p e → Unlike p q → entry_for (e ∷ []) q.0.0 q.1.0 ≡ None

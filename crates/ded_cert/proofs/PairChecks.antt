@@ -11,11 +11,11 @@ both : (P : Numbered × Numbered → Type 0) (ps qs : List (Numbered × Numbered
 both P [] qs h k = k
 both P (p ∷ ps) qs h k = (h.0, both P ps qs h.1 k)
 
-in_second : (P : Numbered × Numbered → Type 0) (ps qs : List (Numbered × Numbered)) → AllByRecursion P (ps ++ qs) → AllByRecursion P qs
+pub in_second : (P : Numbered × Numbered → Type 0) (ps qs : List (Numbered × Numbered)) → AllByRecursion P (ps ++ qs) → AllByRecursion P qs
 in_second P [] qs h = h
 in_second P (p ∷ ps) qs h = in_second P ps qs h.1
 
-in_first : (P : Numbered × Numbered → Type 0) (ps qs : List (Numbered × Numbered)) → AllByRecursion P (ps ++ qs) → AllByRecursion P ps
+pub in_first : (P : Numbered × Numbered → Type 0) (ps qs : List (Numbered × Numbered)) → AllByRecursion P (ps ++ qs) → AllByRecursion P ps
 in_first P [] qs h = tt
 in_first P (p ∷ ps) qs h = (h.0, in_first P ps qs h.1)
 

@@ -1,50 +1,30 @@
 -- What is left of rows after one slot more is eliminated.
-use Rattle.std.proofs.Common.{◌≡◌, ℕ, zero, suc, ◌+◌, ◌*◌, ◌^◌, ◌<◌, ◌≤◌, min, Bool, true, false, ◌||◌, List, [], ◌∷◌, ◌++◌, ◌⊎◌, ⊎_elim, length, take, get_or, arith, refl, sym, ap, ◌∙◌, subst, true≢false, add-one}
-use Rattle.std.proofs.lemmas.Bool.{false_from_ne_true, or_parts, or_from}
-use Rattle.std.specs.Prelude.{ℤ, pos, ◌*ℤ◌, IsTrue, ◌↔◌}
+use Rattle.std.proofs.Common.{◌≡◌, ℕ, zero, suc, ◌+◌, ◌*◌, ◌^◌, ◌<◌, ◌≤◌, min, true, false, List, [], ◌∷◌, ◌++◌, ◌⊎◌, ⊎_elim, length, take, get_or, arith, refl, sym, ap, ◌∙◌, subst, true≢false, add-one}
+use Rattle.std.proofs.lemmas.Bool.{or_parts, or_from}
+use Rattle.std.specs.Prelude.{pos, ◌*ℤ◌, IsTrue, ◌↔◌}
 use Rattle.std.specs.List.{AllByRecursion}
 use Rattle.std.proofs.lemmas.List.{length-append, length-take, take_more}
 use Rattle.std.proofs.Math.Pow.{pow-add}
-use Rattle.ded_num.proofs.Ring.{parts, ring_pos, diff-pos, diff_same}
+use Rattle.ded_num.proofs.Signs.{times_pos_twice, times_one_back}
 use Rattle.ded_model.specs.declared.slot.Slot.{Slot}
 use Rattle.ded_model.specs.declared.slot.Sort.TheVariants.{Rat}
 use Rattle.ded_model.specs.Constraint.{LinearConstraint}
-use Rattle.ded_model.specs.Point.{slot, Point, IsPoint, IsNumberExtension, IsExtension, same_slot, stands_in, number_at}
+use Rattle.ded_model.specs.Point.{slot, Point, IsPoint, IsNumberExtension, same_slot, stands_in, number_at}
 use Rattle.ded_model.specs.Cell.{conj_holds, HoldsSomewhere}
 use Rattle.ded_model.specs.Row.{row_holds}
 use Rattle.ded_model.specs.Lines.{AreWithin, row_lines, clash_at}
 use Rattle.ded_model.proofs.LineLengths.{no_clash, within_more, elim-within}
-use Rattle.ded_model.proofs.Points.{same_slot_is, number_at-kept}
+use Rattle.ded_model.proofs.Points.{number_at-kept}
+use Rattle.ded_model.proofs.SlotLists.{same_slot-turned, stands_more}
 use Rattle.ded_theory.specs.Conjunctions.{conj_lines}
 use Rattle.ded_theory.specs.Eliminations.{SomeExtension}
-use Rattle.ded_linear.proofs.Shadows.{itself, extension_point}
+use Rattle.ded_linear.proofs.Shadows.{itself, extension_point, rational_extension}
 use Rattle.ded_cert.specs.Projecting.{digits_after, KeepsNumbers, IsStep, IsProjected, GetLong}
 use Rattle.ded_cert.proofs.Combined.{elim_vanishes}
 
 -- ---- lists with one slot more
 
-stands_more : (ss : List Slot) (s t : Slot) → stands_in (ss ++ s ∷ []) t ≡ (stands_in ss t || same_slot s t)
-stands_more [] s t = or_false (same_slot s t)
-  where
-    or_false : (b : Bool) → (b || false) ≡ b
-    or_false true = refl
-    or_false false = refl
-stands_more (u ∷ ss) s t = ap (λ b. same_slot u t || b) (stands_more ss s t) ∙ move (same_slot u t) (stands_in ss t) (same_slot s t)
-  where
-    move : (a b c : Bool) → (a || (b || c)) ≡ ((a || b) || c)
-    move true b c = refl
-    move false b c = refl
-
-pub turned_apart : (s t : Slot) → same_slot s t ≡ false → same_slot t s ≡ false
-turned_apart s t e = false_from_ne_true (same_slot t s) (λ f. true≢false (sym (subst (λ u. same_slot u t ≡ true) (same_slot_is t s f) (subst (λ u. same_slot t u ≡ true) (sym (same_slot_is t s f)) f)) ∙ e))
-
 -- ---- numbers that are kept
-
-one_law : (z : ℤ) → z ≡ z *ℤ pos 1
-one_law z = rw (parts z) (simp ring_pos (diff_same _ _ _ _ (omega arith)))
-
-twice_law : (z : ℤ) (e f : ℕ) → (z *ℤ pos e) *ℤ pos f ≡ z *ℤ pos (e * f)
-twice_law z e f = rw (parts z, diff-pos e, diff-pos f, diff-pos (e * f)) (simp ring_pos (diff_same _ _ _ _ (omega arith)))
 
 above_product : (e f : ℕ) → 0 < e → 0 < f → 0 < e * f
 above_product e f h k = grind arith
@@ -55,7 +35,7 @@ keeps_more done s p q r x k = record {
   positive = above_product x.factor k.factor x.positive k.positive;
   kept = λ t e.
       let n = or_parts (stands_in done t) (same_slot s t) (sym (stands_more done s t) ∙ e) in
-      k.kept t n.0 ∙ ap (λ z. z *ℤ pos k.factor) (number_at-kept p (slot s) q x (slot t) (turned_apart s t n.1)) ∙ twice_law (number_at p (slot t)) x.factor k.factor;
+      k.kept t n.0 ∙ ap (λ z. z *ℤ pos k.factor) (number_at-kept p (slot s) q x (slot t) (same_slot-turned s t n.1)) ∙ times_pos_twice (number_at p (slot t)) x.factor k.factor;
 }
 
 -- ---- steps
@@ -63,14 +43,11 @@ keeps_more done s p q r x k = record {
 pub projected_none : (rows : List LinearConstraint) → IsProjected rows [] rows
 projected_none rows = record {
   holds = λ p i h. h;
-  back = λ p i h. (p, i, h, record { factor = 1; positive = omega arith; kept = λ t e. one_law (number_at p (slot t)) });
+  back = λ p i h. (p, i, h, record { factor = 1; positive = omega arith; kept = λ t e. times_one_back (number_at p (slot t)) });
   without = λ s h. refl;
   within = λ b h. h;
   vanish = λ ws k h. h;
 }
-
-rational_extension : (t : Slot) (test : Point → Bool) (p : Point) → t.sort ≡ Rat → SomeExtension t test p → (q : Point) × IsNumberExtension p (slot t) q × IsTrue (test q)
-rational_extension t test p e h = subst (λ o. (q : Point) × IsExtension o p (slot t) q × IsTrue (test q)) e h
 
 -- of rows that hold somewhere something is left
 pub never_holds : (s : Slot) (rows : List LinearConstraint) → s.sort ≡ Rat → HoldsSomewhere (conj_holds row_holds rows) → ((p : Point) → IsPoint p → IsTrue false ↔ SomeExtension s (conj_holds row_holds rows) p) → ⊥
@@ -89,7 +66,7 @@ module _ (rows : List LinearConstraint) (done : List Slot) (mid : List LinearCon
         (v.0, v.1, v.2, keeps_more done s p w.0 v.0 w.1 v.3);
     without = λ t h.
         let o = st.slots t h in
-        stands_more done s t ∙ or_from (stands_in done t) (same_slot s t) (j.without t o.1) (turned_apart t s o.0);
+        stands_more done s t ∙ or_from (stands_in done t) (same_slot s t) (j.without t o.1) (same_slot-turned t s o.0);
     within = λ b h. subst (λ n. AreWithin (digits_after b n) (conj_lines row_lines left)) (sym (longer done s))
         (λ l i. elim-within s (conj_lines row_lines mid) (digits_after b (length done)) (j.within b h) l (st.lines l i));
     vanish = λ ws k h l i. elim_vanishes ws k s (conj_lines row_lines mid) (j.vanish ws k h) l (st.lines l i);

@@ -1,53 +1,31 @@
 -- Pairs of tuples that are apart or meet make relations that are apart or meet.
-use Rattle.std.proofs.Common.{◌≡◌, ℕ, Bool, true, false, Option, Some, None, List, [], ◌∷◌, ◌++◌, ◌⊎◌, inl, inr, refl, sym, ap, ◌∙◌, true≢false}
-use Rattle.std.specs.Prelude.{◌&&◌, MatchOption}
+use Rattle.std.proofs.Common.{◌≡◌, ℕ, Bool, true, Option, Some, None, List, [], ◌∷◌, ◌++◌, ◌⊎◌, inl, inr, sym, ◌∙◌, true≢false}
+use Rattle.std.specs.Prelude.{MatchOption}
 use Rattle.std.specs.List.{AllByRecursion}
+use Rattle.ded_num.proofs.Tests.{both}
 use Rattle.ded_model.specs.declared.certificate.Entry.{Entry}
 use Rattle.ded_model.specs.Catalogue.{tuples_of}
-use Rattle.ded_model.specs.Cell.{HoldsSomewhere}
+use Rattle.ded_model.specs.Cell.{HoldsSomewhere, HoldsNowhere}
 use Rattle.ded_model.specs.Point.{Point, IsPoint}
-use Rattle.ded_model.specs.Row.{Atom, atom_holds, tuple_holds, tuples_hold}
+use Rattle.ded_model.specs.Row.{tuple_holds, tuples_hold}
 use Rattle.ded_model.proofs.Members.{or_split}
 use Rattle.ded_model.proofs.Points.{and_left, and_right}
 use Rattle.ded_model.proofs.Rows.{or_left, or_right}
-use Rattle.ded_theory.specs.Verdicts.{HoldsNowhere}
+use Rattle.ded_model.proofs.TupleLists.{together}
+use Rattle.ded_weighing.proofs.Shown.{fails}
 use Rattle.ded_cert.specs.Checks.{Checks}
 use Rattle.ded_cert.specs.Pairs.{Numbered, both_hold, pairs_of, pairs_with, entry_for, AreApart, AreEntriesOf, IsFirstMeeting, IsVerified}
 use Rattle.ded_cert.proofs.Paired.{all_apart}
 use Rattle.ded_cert.proofs.Shown.{tuples_nowhere}
-
-both_is : (a b : Bool) → a ≡ true → b ≡ true → (a && b) ≡ true
-both_is true b e f = f
-both_is false b e f = absurd (true≢false (sym e))
-
-not_so : (b : Bool) → (b ≡ true → ⊥) → b ≡ false
-not_so true h = absurd (h refl)
-not_so false h = refl
-
-and_one : (a b c : Bool) → ((a && b) && c) ≡ (a && (b && c))
-and_one true b c = refl
-and_one false b c = refl
-
-together : (t u : List Atom) (p : Point) → tuple_holds (t ++ u) p ≡ (tuple_holds t p && tuple_holds u p)
-unfolding tuple_holds
-together [] u p = refl
-together (a ∷ t) u p = ap (λ b. atom_holds a p && b) (together t u p) ∙ sym (and_one (atom_holds a p) (tuple_holds t p) (tuple_holds u p))
+use Rattle.ded_cert.proofs.PairChecks.{in_second, in_first}
 
 -- ---- relations that are apart
-
-in_front : (P : Numbered × Numbered → Type 0) (ps qs : List (Numbered × Numbered)) → AllByRecursion P (ps ++ qs) → AllByRecursion P ps
-in_front P [] qs h = tt
-in_front P (p ∷ ps) qs h = (h.0, in_front P ps qs h.1)
-
-behind : (P : Numbered × Numbered → Type 0) (ps qs : List (Numbered × Numbered)) → AllByRecursion P (ps ++ qs) → AllByRecursion P qs
-behind P [] qs h = h
-behind P (p ∷ ps) qs h = behind P ps qs h.1
 
 never_with : (t : Numbered) (us : List Numbered) (p : Point) → IsPoint p → AllByRecursion AreApart (pairs_with t us) → tuple_holds t.1 p ≡ true → tuples_hold (tuples_of us) p ≡ true → ⊥
 unfolding tuples_hold
 never_with t [] p i h k l = true≢false (sym l)
 never_with t (u ∷ us) p i h k l = elim (or_split (tuple_holds u.1 p) (tuples_hold (tuples_of us) p) l) [
-  | inl e ↦ true≢false (sym (together t.1 u.1 p ∙ both_is (tuple_holds t.1 p) (tuple_holds u.1 p) k e) ∙ h.0 p i)
+  | inl e ↦ true≢false (sym (together t.1 u.1 p ∙ both (tuple_holds t.1 p) (tuple_holds u.1 p) k e) ∙ h.0 p i)
   | inr e ↦ never_with t us p i h.1 k e
 ]
 
@@ -55,13 +33,13 @@ never_both : (ts us : List Numbered) (p : Point) → IsPoint p → AllByRecursio
 unfolding tuples_hold
 never_both [] us p i h k l = true≢false (sym k)
 never_both (t ∷ ts) us p i h k l = elim (or_split (tuple_holds t.1 p) (tuples_hold (tuples_of ts) p) k) [
-  | inl e ↦ never_with t us p i (in_front AreApart (pairs_with t us) (pairs_of ts us) h) e l
-  | inr e ↦ never_both ts us p i (behind AreApart (pairs_with t us) (pairs_of ts us) h) e l
+  | inl e ↦ never_with t us p i (in_first AreApart (pairs_with t us) (pairs_of ts us) h) e l
+  | inr e ↦ never_both ts us p i (in_second AreApart (pairs_with t us) (pairs_of ts us) h) e l
 ]
 
 apart : (ts us : List Numbered) → AllByRecursion AreApart (pairs_of ts us) → HoldsNowhere (both_hold ts us)
 apart ts us h = λ p i.
-    not_so (both_hold ts us p) (λ e. never_both ts us p i h (and_left (tuples_hold (tuples_of ts) p) (tuples_hold (tuples_of us) p) e) (and_right (tuples_hold (tuples_of ts) p) (tuples_hold (tuples_of us) p) e))
+    fails (both_hold ts us p) (λ e. never_both ts us p i h (and_left (tuples_hold (tuples_of ts) p) (tuples_hold (tuples_of us) p) e) (and_right (tuples_hold (tuples_of ts) p) (tuples_hold (tuples_of us) p) e))
 
 pub certified_apart : (ts us : List Numbered) (es : List Entry) → AreEntriesOf (pairs_of ts us) es → HoldsNowhere (both_hold ts us)
 certified_apart ts us es h = apart ts us (all_apart (pairs_of ts us) es h)
@@ -106,4 +84,4 @@ shared (t ∷ ts) us i j h = elim (meet_with t us (pairs_of ts us) i j h) [
 ]
 
 pub meeting_meets : (ts us : List Numbered) (i j : ℕ) → IsFirstMeeting (pairs_of ts us) i j → HoldsSomewhere (both_hold ts us)
-meeting_meets ts us i j h = let m = shared ts us i j h in (m.0, m.1, both_is (tuples_hold (tuples_of ts) m.0) (tuples_hold (tuples_of us) m.0) m.2.0 m.2.1)
+meeting_meets ts us i j h = let m = shared ts us i j h in (m.0, m.1, both (tuples_hold (tuples_of ts) m.0) (tuples_hold (tuples_of us) m.0) m.2.0 m.2.1)

@@ -4,7 +4,7 @@ use Rattle.ded_model.specs.declared.certificate.Proof.{Proof}
 use Rattle.ded_model.specs.declared.certificate.Proof.TheVariants.{Text, Multipliers}
 use Rattle.ded_model.specs.Row.{Atom, tuple_holds}
 use Rattle.ded_theory.specs.Both.{firsts}
-use Rattle.ded_theory.specs.Verdicts.{HoldsNowhere}
+use Rattle.ded_model.specs.Cell.{HoldsNowhere}
 use Rattle.ded_weighing.proofs.Shown.{rows_nowhere}
 use Rattle.ded_cert.specs.Checks.{Checks}
 use Rattle.ded_cert.proofs.Halves.{no_rows, no_texts}

@@ -4,7 +4,6 @@ use Rattle.std.proofs.lemmas.Bool.{false_from_ne_true}
 use Rattle.std.specs.Prelude.{ℤ, pos, ◌+ℤ◌, ◌*ℤ◌}
 use lib.IntN.{+ℤ_idl}
 use Rattle.std.proofs.lemmas.Int.{ints}
-use Rattle.ded_num.proofs.Ring.{parts, ring_pos, diff_same}
 use Rattle.ded_model.specs.declared.slot.Slot.{Slot}
 use Rattle.ded_model.specs.Point.{slot, same_slot, Point, number_at}
 use Rattle.ded_model.specs.Coefs.{AllBelow, coef_at, put, cut, with_coef}
@@ -12,8 +11,8 @@ use Rattle.ded_model.specs.Row.{sum_at}
 use Rattle.ded_model.proofs.CoefLemmas.{coef_at-past}
 use Rattle.ded_model.proofs.LineCoefs.{coef_at-put, coef_at-cut, coef_at-cut_here, coef_at-nonzero}
 use Rattle.ded_model.proofs.Points.{same_slot_is, same_slot_refl}
-use Rattle.ded_row.proofs.Mixes.{sum_at-cut}
-use Rattle.ded_row.proofs.Sums.{sum_at-put, sum_at-nonzero}
+use Rattle.ded_row.proofs.Mixes.{sum_at-cut, nothing_more}
+use Rattle.ded_model.proofs.Sums.{sum_at-put, sum_at-nonzero}
 use Rattle.ded_cert.specs.Tracing.{tag, tagged_coefs}
 
 -- ---- a slot that wasn't there
@@ -28,16 +27,10 @@ cut_same s cs t z = go (same_slot s t) refl
 with_coef_at : (s : Slot) (a : ℤ) (cs : List (Slot × ℤ)) (t : Slot) → coef_at cs s ≡ pos 0 → coef_at (with_coef s a cs) t ≡ cond (same_slot s t) a (pos 0) +ℤ coef_at cs t
 with_coef_at s a cs t z = coef_at-nonzero (put s a (cut s cs)) t ∙ coef_at-put s a (cut s cs) t ∙ ap (λ x. cond (same_slot s t) a (pos 0) +ℤ x) (cut_same s cs t z)
 
-skipped_law : (x c n y : ℤ) → c ≡ pos 0 → x +ℤ c *ℤ n ≡ y → x ≡ y
-skipped_law x c n y e f = law x n ∙ ap (λ z. x +ℤ z *ℤ n) (sym e) ∙ f
-  where
-    law : (x n : ℤ) → x ≡ x +ℤ pos 0 *ℤ n
-    law x n = rw (parts x, parts n) (simp ring_pos (diff_same _ _ _ _ (omega arith)))
-
 with_coef_sum : (s : Slot) (a : ℤ) (cs : List (Slot × ℤ)) (p : Point) → coef_at cs s ≡ pos 0 → sum_at (with_coef s a cs) p ≡ a *ℤ number_at p (slot s) +ℤ sum_at cs p
 with_coef_sum s a cs p z =
     sum_at-nonzero (put s a (cut s cs)) p ∙ sum_at-put s a (cut s cs) p
-    ∙ ap (λ x. a *ℤ number_at p (slot s) +ℤ x) (skipped_law (sum_at (cut s cs) p) (coef_at cs s) (number_at p (slot s)) (sum_at cs p) z (sum_at-cut s cs p))
+    ∙ ap (λ x. a *ℤ number_at p (slot s) +ℤ x) (nothing_more (sum_at (cut s cs) p) (coef_at cs s) (number_at p (slot s)) (sum_at cs p) z (sum_at-cut s cs p))
 
 -- ---- tags
 

@@ -2,6 +2,7 @@
 use Rattle.std.proofs.Common.{◌≡◌, ℕ, ◌<◌, Bool, true, false, cond, List, [], ◌∷◌, arith, refl, sym, ap₂, ◌∙◌, subst, true≢false}
 use Rattle.std.specs.Prelude.{ℤ, pos, ◌+ℤ◌, ◌*ℤ◌}
 use Rattle.ded_num.proofs.Ring.{parts, ring_pos, diff_same}
+use Rattle.ded_num.proofs.Signs.{nothing}
 use Rattle.ded_model.specs.declared.slot.Slot.{Slot}
 use Rattle.ded_model.specs.Point.{slot, number, absent, as_number, same_slot, Point, IsPoint, number_at}
 use Rattle.ded_model.specs.Coefs.{coef_at}
@@ -24,9 +25,6 @@ two_numbers-at d s v t w u = go (same_slot u t) (same_slot u s)
     go false true = refl
     go false false = refl
 
-no_more : (v w : ℤ) → pos 0 ≡ pos 0 *ℤ v +ℤ pos 0 *ℤ w
-no_more v w = rw (parts v, parts w) (simp ring_pos (diff_same _ _ _ _ (omega arith)))
-
 at_first : (c v w x y : ℤ) → c *ℤ v +ℤ (x *ℤ v +ℤ y *ℤ w) ≡ (c +ℤ x) *ℤ v +ℤ (pos 0 +ℤ y) *ℤ w
 at_first c v w x y = rw (parts c, parts v, parts w, parts x, parts y) (simp ring_pos (diff_same _ _ _ _ (omega arith)))
 
@@ -38,7 +36,7 @@ at_none c v w x y = rw (parts c, parts v, parts w, parts x, parts y) (simp ring_
 
 -- the sum of coefficients there
 pub two_numbers-sum : (cs : List (Slot × ℤ)) (d : ℕ) (s : Slot) (v : ℤ) (t : Slot) (w : ℤ) → same_slot s t ≡ false → sum_at cs (two_numbers d s v t w) ≡ coef_at cs s *ℤ v +ℤ coef_at cs t *ℤ w
-two_numbers-sum [] d s v t w n = no_more v w
+two_numbers-sum [] d s v t w n = nothing v w
 two_numbers-sum (c ∷ cs) d s v t w n =
     ap₂ (λ x y. c.1 *ℤ x +ℤ y) (two_numbers-at d s v t w c.0) (two_numbers-sum cs d s v t w n)
     ∙ go (same_slot c.0 t) (same_slot c.0 s) refl refl

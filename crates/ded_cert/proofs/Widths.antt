@@ -4,11 +4,12 @@ use Rattle.std.proofs.lemmas.Bool.{false_from_ne_true}
 use Rattle.std.specs.Prelude.{ℤ, pos, negsuc, ◌*ℤ◌, ◌≤ℤ◌, unsigned_abs}
 use lib.IntN.{neg_ℤ}
 use Rattle.std.specs.List.{AllByRecursion}
-use Rattle.std.proofs.lemmas.Int.{ints, unsigned_abs-mul}
+use Rattle.std.proofs.lemmas.Int.{ints}
 use Rattle.std.proofs.lemmas.Nat.{mul-le}
 use Rattle.std.proofs.Math.Pow.{pow_mono, pow-add}
 use Rattle.ded_num.specs.Gcd.{gcd_all}
 use Rattle.ded_num.specs.Length.{IsWithin}
+use Rattle.ded_num.proofs.Signs.{same_size}
 use Rattle.ded_model.specs.declared.slot.Slot.{Slot}
 use Rattle.ded_model.specs.declared.slot.Sort.TheVariants.{Rat}
 use Rattle.ded_model.specs.declared.row.RowOp.{RowOp}
@@ -41,12 +42,6 @@ use Rattle.ded_cert.proofs.Nears.{none_constant}
 use Rattle.ded_cert.proofs.Identities.{EachTrace, trace_lines, in_lines}
 
 -- ---- rows and their lines
-
-same_size : (d x y : ℤ) → unsigned_abs d ≡ 1 → d *ℤ x ≡ y → unsigned_abs x ≡ unsigned_abs y
-same_size d x y e f = once (unsigned_abs x) ∙ ap (λ n. n * unsigned_abs x) (sym e) ∙ sym (unsigned_abs-mul d x) ∙ ap unsigned_abs f
-  where
-    once : (n : ℕ) → n ≡ 1 * n
-    once n = omega arith
 
 -- the numbers of a normal row are those of its line, up to sign
 pub row_within : (k : ℕ) (r : LinearConstraint) → IsLinearAtom r → AreWithin k (row_lines r) → IsLineWithin k r

@@ -2,10 +2,9 @@
 use Rattle.std.specs.Prelude.{◌≡◌, true, List, ◌++◌}
 use Rattle.ded_model.specs.declared.certificate.Proof.{Proof}
 use Rattle.ded_model.specs.declared.certificate.Proof.TheVariants.{Text, Multipliers}
-use Rattle.ded_model.specs.Cell.{conj_holds}
+use Rattle.ded_model.specs.Cell.{conj_holds, HoldsNowhere}
 use Rattle.ded_model.specs.Row.{Atom, theme_holds}
 use Rattle.ded_theory.specs.Both.{firsts, seconds}
-use Rattle.ded_theory.specs.Verdicts.{HoldsNowhere}
 use Rattle.ded_weighing.specs.Weighing.{refutes, IsLongWeighing}
 
 -- the text atoms of both hold nowhere together, or the rows of both, each times its number, come to a row that holds nowhere

@@ -1,11 +1,10 @@
 -- Certificates for all pairs of the tuples of two relations.
 use Rattle.std.specs.Prelude.{◌≡◌, ◌⊎◌, ℕ, Bool, ◌==◌, ◌&&◌, Option, Some, None, MatchOption, List, [], ◌∷◌, ◌++◌, map, if◌then◌else◌}
 use Rattle.ded_model.specs.declared.certificate.Entry.{Entry}
-use Rattle.ded_model.specs.Cell.{HoldsSomewhere}
+use Rattle.ded_model.specs.Cell.{HoldsSomewhere, HoldsNowhere}
 use Rattle.ded_model.specs.Catalogue.{tuples_of}
 use Rattle.ded_model.specs.Point.{Point}
 use Rattle.ded_model.specs.Row.{Atom, tuple_holds, tuples_hold}
-use Rattle.ded_theory.specs.Verdicts.{HoldsNowhere}
 use Rattle.ded_cert.specs.Certified.{HasSmallSum, IsWidePair}
 use Rattle.ded_cert.specs.Checks.{Checks, IsTooLong}
 

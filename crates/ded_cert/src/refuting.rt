@@ -7,11 +7,10 @@ ghost use Rattle.std.specs.Prelude.{◌≡◌, ◌+◌, ◌≤◌, ◌<◌, ◌^
 ghost use Rattle.std.specs.List.{AllByRecursion};
 ghost use Rattle.ded_model.specs.declared.memory.Refused.TheVariants.{Wide};
 ghost use Rattle.ded_num.specs.Length.{IsShort};
-ghost use Rattle.ded_model.specs.Cell.{conj_holds};
+ghost use Rattle.ded_model.specs.Cell.{conj_holds, HoldsNowhere};
 ghost use Rattle.ded_model.specs.Coefs.{coef_at};
 ghost use Rattle.ded_model.specs.Lines.{In};
 ghost use Rattle.ded_model.specs.Row.{row_holds};
-ghost use Rattle.ded_theory.specs.Verdicts.{HoldsNowhere};
 ghost use Rattle.ded_elimination.specs.LinearAtoms.{IsLinearAtom};
 ghost use Rattle.ded_weighing.specs.Columns.{lent};
 ghost use Rattle.ded_weighing.specs.Weighing.{refutes};

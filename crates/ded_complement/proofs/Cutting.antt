@@ -9,14 +9,14 @@ use Rattle.ded_model.specs.declared.slot.Slot.{Slot}
 use Rattle.ded_model.specs.declared.tuple.Negated.{Negated}
 use Rattle.ded_model.specs.declared.tuple.Negated.TheVariants.{One, Two}
 use Rattle.ded_model.specs.Point.{Point, IsPoint}
-use Rattle.ded_model.specs.Cell.{conj_holds, HoldsSomewhere, HasCells}
+use Rattle.ded_model.specs.Cell.{conj_holds, HoldsSomewhere, HasCells, HoldsNowhere}
 use Rattle.ded_model.specs.Lines.{Line, In, IsSubset}
 use Rattle.ded_model.specs.Negation.{EachPiece, some_piece_holds, both_pieces_hold}
 use Rattle.ded_model.proofs.Members.{In-split, or_split}
 use Rattle.ded_theory.specs.Conjunctions.{conj_mentions, conj_lines, IsWide}
 use Rattle.ded_theory.specs.declared.answers.Verdict.{Verdict}
 use Rattle.ded_theory.specs.declared.answers.Verdict.TheVariants.{Empty, Inhabited, Unknown}
-use Rattle.ded_theory.specs.Verdicts.{HoldsNowhere, IsVerdict}
+use Rattle.ded_theory.specs.Verdicts.{IsVerdict}
 use Rattle.ded_theory.proofs.Conjunctions.{conj_holds-append, conj_mentions-append}
 use Rattle.ded_genrel.specs.Lists.{conjs_of, conjs_hold, conjs_mention, conjs_lines}
 use Rattle.ded_genrel.specs.Operations.{IsOperation}
@@ -27,6 +27,7 @@ use Rattle.ded_complement.proofs.Cells.{CellsTell, has_cells}
 use Rattle.ded_complement.proofs.PieceLaws.{among_left, among_right, among_front, among_back, among_self, all_left, all_right, all_atoms-mention, all_atoms-lines, made_none, made_append, made_piece, made_among, made_alike, made_wide, conj_push, conjs_push, pieces_none, pieces_same, pieces_append, pieces_front, pieces_last, more_none, more_one, more_same, more_trans}
 use Rattle.std.proofs.Math.Bool.{and-true, and-false}
 use Rattle.std.proofs.lemmas.Bool.{or_parts}
+use Rattle.ded_num.proofs.Tests.{implied, and_assoc, and_over_or}
 
 -- ---- tests
 
@@ -40,16 +41,6 @@ cut_sum true true a = refl
 cut_sum true false a = refl
 cut_sum false t a = refl
 
-and_assoc : (a b c : Bool) → ((a && b) && c) ≡ (a && (b && c))
-and_assoc true b c = refl
-and_assoc false b c = refl
-
--- what doesn't go with the negation goes with it
-implied : (x a : Bool) → (x && not a) ≡ false → x ≡ (x && a)
-implied true true e = refl
-implied true false e = e
-implied false a e = refl
-
 -- what doesn't go with it goes with the negation
 apart : (x a : Bool) → (x && a) ≡ false → (x && not a) ≡ x
 apart true true e = sym e
@@ -59,10 +50,6 @@ apart false a e = refl
 both_apart : (x a b : Bool) → (a && b) ≡ false → ((x && a) && (x && b)) ≡ false
 both_apart true a b e = e
 both_apart false a b e = refl
-
-both_sum : (x a b c : Bool) → (a || b) ≡ c → (x && c) ≡ ((x && a) || (x && b))
-both_sum true a b c e = sym e
-both_sum false a b c e = refl
 
 pub less_sum : (t x c : Bool) → ((t || x) && not c) ≡ ((t && not c) || (x && not c))
 less_sum true true true = refl
@@ -89,12 +76,6 @@ passed true true c e = refl
 passed true false true e = sym e
 passed true false false e = refl
 passed false d c e = refl
-
--- what holds of all elements holds of the one at the index
-pub all-at : {A : Type 0} (P : A → Type 0) (xs : List A) (i : ℕ) (x : A) → i < length xs → x ≡ get_or xs i x → AllByRecursion P xs → P x
-all-at P [] i x lt e h = absurd (omega (arith, lt))
-all-at P (y ∷ xs) zero x lt e h = subst P (sym e) h.0
-all-at P (y ∷ xs) (suc i) x lt e h = all-at P xs i x (omega (arith, lt)) e h.1
 
 -- at the end all elements are done
 pub taken_all : {A : Type 0} (xs : List A) (i : ℕ) → length xs ≤ i → take i xs ≡ xs
@@ -159,14 +140,14 @@ module _ {A : Type 0} (h : A → Point → Bool) (m : A → Slot → Bool) (l : 
       (λ atoms g. (g.0, made_piece m l cell atoms a b g.1 i.cells.0 i.slots.0 i.lines.0))
       (λ atoms g. (g.0, made_piece m l cell atoms a c g.1 i.cells.1 i.slots.1 i.lines.1))
       (λ p j. both_apart (conj_holds h rest p) (h b p) (h c p) (i.disjoint p j.positive))
-      (λ p j. both_sum (conj_holds h rest p) (h b p) (h c p) (not (h a p)) (i.holds p j.positive))
+      (λ p j. and_over_or (conj_holds h rest p) (h b p) (h c p) (not (h a p)) (i.holds p j.positive))
 
   pub two_nowhere : (rest copy : List A) (a b c : A) (n : Negated A) (u v w : Bool) → n ≡ Two b c → copy ≡ rest → IsNegation a n → w ≡ (u || v) → (u ≡ false → HoldsNowhere (λ p. conj_holds h copy p && h b p))
       → (v ≡ false → HoldsNowhere (λ p. conj_holds h rest p && h c p)) → w ≡ false → HoldsNowhere (λ p. conj_holds h rest p && not (h a p))
   two_nowhere rest copy a b c n u v w e f k r x y z =
       let i = subst (IsNegation a) e k in
       let t = or_parts u v (sym r ∙ z) in
-      λ p j. both_sum (conj_holds h rest p) (h b p) (h c p) (not (h a p)) (i.holds p j.positive) ∙ ap₂ (λ d g. d || g) (ap (λ xs. conj_holds h xs p && h b p) (sym f) ∙ x t.0 p j) (y t.1 p j)
+      λ p j. and_over_or (conj_holds h rest p) (h b p) (h c p) (not (h a p)) (i.holds p j.positive) ∙ ap₂ (λ d g. d || g) (ap (λ xs. conj_holds h xs p && h b p) (sym f) ∙ x t.0 p j) (y t.1 p j)
 
   -- ---- the atoms of a conjunction, one after another
 

@@ -10,9 +10,8 @@ use Rattle.ded_model.specs.declared.slot.Slot.{Slot}
 use Rattle.ded_model.specs.declared.tuple.Negated.{Negated}
 use Rattle.ded_model.specs.declared.tuple.Negated.TheVariants.{One}
 use Rattle.ded_model.specs.Point.{Point, IsPoint}
-use Rattle.ded_model.specs.Cell.{conj_holds}
+use Rattle.ded_model.specs.Cell.{conj_holds, HoldsNowhere}
 use Rattle.ded_model.specs.Lines.{Line}
-use Rattle.ded_theory.specs.Verdicts.{HoldsNowhere}
 use Rattle.ded_genrel.specs.Lists.{conjs_hold}
 use Rattle.ded_genrel.proofs.Items.{all-append, all_weaker}
 use Rattle.ded_complement.specs.declared.boxed.Boxed.{Boxed}

@@ -1,8 +1,7 @@
 //! Pieces of a difference.
 ghost use Rattle.std.specs.Prelude.{◌≡◌, false, not, ◌&&◌, [], ◌∷◌, IfOk};
 ghost use Rattle.std.specs.List.{AllByRecursion};
-ghost use Rattle.ded_model.specs.Cell.{conj_holds};
-ghost use Rattle.ded_theory.specs.Verdicts.{HoldsNowhere};
+ghost use Rattle.ded_model.specs.Cell.{conj_holds, HoldsNowhere};
 ghost use Rattle.ded_complement.specs.Pieces.{IsAmong, AreAmong, IsMadeOf, IsMore};
 
 use crate::shortening::with_last;

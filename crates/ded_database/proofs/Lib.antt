@@ -3,7 +3,7 @@ mod Beside
 pub mod Closing
 mod Listing
 pub mod ListsStaying
-mod Losing
+pub mod Losing
 mod LosingLines
 mod LostReading
 mod LostViews

@@ -12,12 +12,12 @@ use Rattle.ded_model.specs.Lines.{Line, In, IsSubset, row_lines, atoms_lines, re
 use Rattle.ded_model.specs.Normal.{IsNormalTuple}
 use Rattle.ded_model.specs.Point.{AreDistinctSlots}
 use Rattle.ded_model.specs.Renaming.{renamed, IsOneToOne, KeepsSorts, mapped_lines}
-use Rattle.ded_model.specs.Row.{Atom, row_mentions, atom_mentions, tuple_mentions}
+use Rattle.ded_model.specs.Row.{Atom, tuple_mentions}
 use Rattle.ded_model.specs.Scanned.{scanned, scanned_slots}
-use Rattle.ded_model.proofs.LineSlots.{has_slot, line_slots}
 use Rattle.ded_model.proofs.Members.{In-left, In-right, In-split}
-use Rattle.ded_model.proofs.Rows.{or_left, or_right}
+use Rattle.ded_model.proofs.CoefLists.{mentioned}
 use Rattle.ded_genrel.proofs.Items.{done_to, all-push}
+use Rattle.ded_width.proofs.Names.{atoms_over}
 use Rattle.ded_algebra.specs.Evaluation.{HaveSorts}
 use Rattle.ded_atoms.specs.Laws.{line_in_order}
 use Rattle.ded_algebra.specs.Columns.{column_pairs}
@@ -34,18 +34,8 @@ line_coefs [] n l i = absurd i
 line_coefs (First r ∷ t) n l i = elim (In-split l (row_lines r) (atoms_lines t) i) [ inl a ↦ line_in_order r l (record { coefs = n.0.0; row = n.0.1 }) a | inr b ↦ line_coefs t n.2 l b ]
 line_coefs (Second a ∷ t) n l i = line_coefs t n.2 l i
 
--- and mention what the atoms do
-line_mentions : (t : List Atom) (l : Line) (s : Slot) → In l (atoms_lines t) → row_mentions l s ≡ true → tuple_mentions t s ≡ true
-unfolding tuple_mentions atom_mentions row_mentions
-line_mentions [] l s i m = absurd i
-line_mentions (First r ∷ t) l s i m = elim (In-split l (row_lines r) (atoms_lines t) i) [
-  | inl a ↦ or_left _ _ (line_slots r.coefs r.constant l s a m)
-  | inr b ↦ or_right (row_mentions r s) _ (line_mentions t l s b m)
-]
-line_mentions (Second a ∷ t) l s i m = or_right (atom_mentions (Second a) s) _ (line_mentions t l s i m)
-
 pub over_columns : (h : List Column) (t : List Atom) → IsTupleOver h t → AreOverColumns h t
-over_columns h t k = record { slots = k.slots; coefs = line_coefs t k.normal; lines = λ l s i m. k.slots s (line_mentions t l s i m) }
+over_columns h t k = record { slots = k.slots; coefs = line_coefs t k.normal; lines = λ l s i m. k.slots s (atoms_over t l s i m) }
 
 -- some of the atoms
 pub over_part : (h : List Column) (t atoms : List Atom) → ((s : Slot) → tuple_mentions atoms s ≡ true → tuple_mentions t s ≡ true) → IsSubset (atoms_lines atoms) (atoms_lines t) → AreOverColumns h t → AreOverColumns h atoms
@@ -65,11 +55,6 @@ module _ (h : List Column) (ss : List Slot) (j : HaveSorts h ss) (atoms : List A
 -- the arguments are the slots
 pub own_read : (h h' : List Column) (ts ts' : List Place) (o : Option (Vec Slot Global)) (v : Vec Slot Global) → o ≡ Some v → h ≡ h' → ts ≡ ts' → IfSome o (λ (w : Vec Slot Global). AreOwnSlots h ts w.items) → AreOwnSlots h' ts' v.items
 own_read h h' ts ts' o v e i j k = subst (λ x. AreOwnSlots x ts' v.items) i (subst (λ x. AreOwnSlots h x v.items) j (subst (λ x. IfSome x (λ (w : Vec Slot Global). AreOwnSlots h ts w.items)) e k))
-
--- a line mentions the slots of its coefficients
-mentioned : (l : Line) (s : Slot) → has_slot l.coefs s ≡ true → row_mentions l s ≡ true
-unfolding row_mentions
-mentioned l s e = e
 
 pub adds_read : (h : List Column) (ss : List Slot) (ts : List Place) (atoms : List Atom) (old new : List Line) → AreOwnSlots h ts ss → AreOverColumns h atoms → new ≡ old ++ mapped_lines (column_pairs 0 ss) (atoms_lines atoms)
     → AddsRead (atoms_lines atoms) ts old new

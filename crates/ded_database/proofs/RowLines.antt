@@ -11,10 +11,10 @@ use Rattle.ded_model.specs.Row.{Atom, row_mentions, atom_mentions, tuple_mention
 use Rattle.ded_model.proofs.Bools.{or_false_left, or_false_right}
 use Rattle.ded_model.proofs.Members.{In-left, In-right, In-split, or_split}
 use Rattle.ded_model.proofs.Rows.{or_left, or_right}
+use Rattle.ded_model.proofs.TupleLists.{tuples_lines-push}
 use Rattle.ded_genrel.proofs.Items.{done_to}
 use Rattle.ded_genrel.proofs.Renamed.{mapped_lines-append}
 use Rattle.ded_atoms.proofs.TuplesRead.{tuple_mentions-push, atoms_lines-append}
-use Rattle.ded_keep.proofs.Covered.{lines-push}
 use Rattle.ded_database.specs.Lost.{AreApartLines, AreLeftWithout}
 
 -- ---- slots
@@ -65,7 +65,7 @@ apart_atom t i a ms l e h k = λ x j m. elim (In-split x (atoms_lines (take i t)
 
 -- one more tuple
 pub apart_tuple : (ts : List (List Atom)) (i : ℕ) (t : List Atom) (ms : List Line) → i < length ts → t ≡ get_or ts i t → AreApartLines (atoms_lines t) ms → AreApartLines (tuples_lines (take i ts)) ms → AreApartLines (tuples_lines (take (i + 1) ts)) ms
-apart_tuple ts i t ms l e h k = λ x j m. elim (In-split x (tuples_lines (take i ts)) (atoms_lines t) (subst (In x) (ap tuples_lines (done_to ts i t l e) ∙ lines-push (take i ts) t) j)) [
+apart_tuple ts i t ms l e h k = λ x j m. elim (In-split x (tuples_lines (take i ts)) (atoms_lines t) (subst (In x) (ap tuples_lines (done_to ts i t l e) ∙ tuples_lines-push (take i ts) t) j)) [
   | inl y ↦ k x y m
   | inr y ↦ h x y m
 ]

@@ -7,12 +7,12 @@ ghost use Rattle.ded_database.specs.Marks.{mark_reaches, reaches_beside, mark_ad
 
 use crate::reaching::uses_of;
 use ded_catalog::Catalogue;
-use ded_goals::laws;
 use ded_keep::is_additive;
 use ded_model::memory::NoMemory;
 use ded_model::name::Name;
 use ded_model::plan::Plan;
 use ded_plan::plan;
+use ded_resolve::laws;
 use std::alloc::Global;
 
 /// A name, and all names that it reaches, or that what it is made of does.

@@ -1,5 +1,5 @@
 //! The atoms of a deleted tuple that no other tuple of the relation has.
-ghost use Rattle.std.specs.Prelude.{◌≡◌, true, [], ◌∷◌, IfOk, OnOk};
+ghost use Rattle.std.specs.Prelude.{◌≡◌, true, [], ◌∷◌, IfOk};
 ghost use Rattle.ded_model.specs.Lines.{IsSubset, atoms_lines};
 ghost use Rattle.ded_database.specs.Changes.{before, after, IsDelete};
 ghost use Rattle.ded_database.specs.Lost.{AreLeftWithout, AreLost};

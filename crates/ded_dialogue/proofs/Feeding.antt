@@ -4,6 +4,7 @@ use Rattle.std.specs.Prelude.{◌-◌, ◌⊎◌, zero, suc, Option, map, Result
 use Rattle.std.specs.Io.KnownBytes.{Appends}
 use Rattle.std.proofs.lemmas.List.{append-nil, map-append, take_all, take_more, take-append-drop, length-take}
 use Rattle.std.proofs.lemmas.List.Concat.{flat_map-append}
+use Rattle.ded_num.proofs.Tests.{adds_none}
 use Rattle.ded_io.specs.Devices.{Sent, AddsAll}
 use Rattle.ded_io.proofs.Steps.{sent_whole, sent_both, sent_longer, all_sent}
 use Rattle.ded_lex.specs.Gaps.{IsBlank}
@@ -17,7 +18,7 @@ use Rattle.ded_dialogue.specs.Outcome.{ConcludedIn, WholesAnswered, Interrupted}
 use Rattle.ded_dialogue.specs.Streams.{SoFar, IsBehind, Stopped, Streaming, Streamed, Grows, Breaks, GrowsBehind, BreaksBehind, IsFresh, spoken}
 use Rattle.ded_dialogue.specs.Waiting.{WritesBehind}
 use Rattle.ded_dialogue.proofs.Steps.{GoesOn, SomeSteps, some_steps}
-use Rattle.ded_dialogue.proofs.Sending.{appends_nothing, sent_then}
+use Rattle.ded_dialogue.proofs.Sending.{sent_then}
 
 -- ---- one reply more
 
@@ -64,7 +65,7 @@ writes_aloud r h0 h1 w0 w1 silent reply none writes = subst (λ (k : ℕ). Write
 -- a reply that isn't written adds nothing
 pub writes_silently : (E : Type 0) (h : Option (List ℕ)) (w : List ℕ) (silent : ℕ) (reply : Said) → 0 < silent → WritesBehind {T = Unit {0}} {E = E} h w h w (Ok tt) (spoken silent reply)
 writes_silently E h w zero reply some = absurd (omega (arith, some))
-writes_silently E h w (suc left) reply some = record { bytes = record { front = []; is = sym (append-nil w); adds = appends_nothing h } }
+writes_silently E h w (suc left) reply some = record { bytes = record { front = []; is = sym (append-nil w); adds = adds_none h } }
 
 counts_more : (silent left now : ℕ) (replies : List Said) (reply : Said) → left ≡ silent - length replies → now ≡ left - 1 → now ≡ silent - length (replies ++ reply ∷ [])
 counts_more silent left now replies reply counts next = omega (arith, counts, next, length-append replies (reply ∷ []))
@@ -146,7 +147,7 @@ module _ {M : Type 0} (R : Answers M) (start : M) (silent left : ℕ) where
     replies = [];
     goes = λ statements more last steps. subst (λ (n : M). Steps R n statements more last) same steps;
     counts = omega (arith, all);
-    written = subst (λ (rs : List Said). Sent contents contents (texts rs) []) (sym (drop_none silent)) (sent_whole contents contents [] (appends_nothing contents));
+    written = subst (λ (rs : List Said). Sent contents contents (texts rs) []) (sym (drop_none silent)) (sent_whole contents contents [] (adds_none contents));
     behind = inl refl;
     refuses = sym none;
   }

@@ -1,15 +1,10 @@
 -- What is sent of texts that wait for a sink.
 use Rattle.std.proofs.Common.{◌≡◌, ℕ, List, [], ◌++◌, sym, ap, ◌∙◌, append_assoc, subst, true≢false}
-use Rattle.std.specs.Prelude.{Option, None, Some, Result, Ok, Err, IsErr}
+use Rattle.std.specs.Prelude.{Option, Result, Ok, Err, IsErr}
 use Rattle.std.specs.Io.KnownBytes.{Appends}
-use Rattle.std.proofs.lemmas.List.{append-nil}
 use Rattle.ded_io.specs.Devices.{Sent, AddsAll}
 use Rattle.ded_io.proofs.Steps.{appends_both, sent_whole, sent_both, sent_longer}
 use Rattle.ded_dialogue.specs.Waiting.{WritesBehind}
-
-pub appends_nothing : (a : Option (List ℕ)) → Appends a a []
-appends_nothing None = tt
-appends_nothing (Some xs) = sym (append-nil xs)
 
 -- what waited and what came behind it was sent, but for what waits now
 pub sent_then : (h0 h1 h2 : Option (List ℕ)) (text w more waits : List ℕ) → Sent h0 h1 text w → Sent h1 h2 (w ++ more) waits → Sent h0 h2 (text ++ more) waits

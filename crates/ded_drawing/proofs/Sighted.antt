@@ -2,7 +2,7 @@
 use Rattle.std.proofs.Common.{◌≡◌, ℕ, ◌+◌, ◌<◌, ◌≤◌, List, [], ◌++◌, length, drop, get_or, refl, sym, ap, ◌∙◌, subst, append_assoc}
 use Rattle.std.specs.Prelude.{map}
 use Rattle.std.proofs.lemmas.List.{append-nil, drop_all}
-use Rattle.ded_dump.proofs.Loops.{split}
+use Rattle.ded_print.proofs.Plans.{left_after}
 use Rattle.ded_session.specs.declared.reply.Reply.{Reply}
 use Rattle.ded_session.specs.Answered.{reply_form}
 use Rattle.ded_figures.specs.declared.axes.Look.{Look}
@@ -19,7 +19,7 @@ goes_first look whole more a = a
 pub goes_next : (look : Look) (whole rs : List Reply) (i : ℕ) (r : Reply) (found next : List Sight) → i < length rs → r ≡ get_or rs i r → Goes look whole (drop i rs) found → AddsSights look (reply_form r) found next → Goes look whole (drop (i + 1) rs) next
 goes_next look whole rs i r found next there is goes a = λ more b.
     subst (AreAllSights look (map reply_form whole)) (sym (append_assoc found a.added more) ∙ ap (λ (l : List Sight). l ++ more) (sym a.is))
-    (subst (λ (l : List Reply). Goes look whole l found) (split rs i r there is) goes (a.added ++ more) (a.added, more, refl, a.sights, b))
+    (subst (λ (l : List Reply). Goes look whole l found) (left_after rs i r there is) goes (a.added ++ more) (a.added, more, refl, a.sights, b))
 
 pub goes_last : (look : Look) (whole rs : List Reply) (i : ℕ) (found : List Sight) → length rs ≤ i → Goes look whole (drop i rs) found → AreAllSights look (map reply_form whole) found
 goes_last look whole rs i found end goes =

@@ -2,10 +2,12 @@
 use Rattle.std.proofs.Common.{◌≡◌, ℕ, ◌+◌, ◌<◌, ◌≤◌, Bool, true, false, List, [], ◌∷◌, ◌++◌, length, drop, get_or, refl, sym, ap, ◌∙◌, subst, append_assoc, arith}
 use Rattle.std.specs.Prelude.{◌==◌, if◌then◌else◌, map, Result, Ok, Err, OnOk}
 use Rattle.std.proofs.lemmas.List.{append-nil, drop_all}
-use Rattle.ded_dump.proofs.Loops.{split, one_part}
+use Rattle.ded_print.proofs.Plans.{left_after}
+use Rattle.ded_dump.proofs.Loops.{one_part}
 use Rattle.ded_session.specs.declared.reply.Reply.{Reply}
 use Rattle.ded_session.specs.Answered.{reply_form}
 use Rattle.ded_figures.specs.declared.axes.Look.{Look}
+use Rattle.ded_picture.proofs.Showing.{none_more}
 use Rattle.ded_drawing.specs.Descriptions.{counted, is_unseen, lines_from, lines_of, lines_told, unseen_in}
 
 -- ---- counts
@@ -13,18 +15,15 @@ use Rattle.ded_drawing.specs.Descriptions.{counted, is_unseen, lines_from, lines
 sum_assoc : (a b c : ℕ) → a + (b + c) ≡ (a + b) + c
 sum_assoc a b c = omega arith
 
-none_left : (n : ℕ) → n + 0 ≡ n
-none_left n = omega arith
-
 pub next_count : (look : Look) (rs : List Reply) (i : ℕ) (r : Reply) (whole now next : ℕ) → i < length rs → r ≡ get_or rs i r
     → now + unseen_in look (map reply_form (drop i rs)) ≡ whole → next ≡ now + counted (is_unseen look (reply_form r)) → next + unseen_in look (map reply_form (drop (i + 1) rs)) ≡ whole
 next_count look rs i r whole now next there is e put =
     ap (λ (n : ℕ). n + unseen_in look (map reply_form (drop (i + 1) rs))) put
     ∙ sym (sum_assoc now (counted (is_unseen look (reply_form r))) (unseen_in look (map reply_form (drop (i + 1) rs))))
-    ∙ subst (λ (l : List Reply). now + unseen_in look (map reply_form l) ≡ whole) (split rs i r there is) e
+    ∙ subst (λ (l : List Reply). now + unseen_in look (map reply_form l) ≡ whole) (left_after rs i r there is) e
 
 pub all_counted : (look : Look) (rs : List Reply) (i whole now : ℕ) → length rs ≤ i → now + unseen_in look (map reply_form (drop i rs)) ≡ whole → now ≡ whole
-all_counted look rs i whole now end e = sym (none_left now) ∙ subst (λ (l : List Reply). now + unseen_in look (map reply_form l) ≡ whole) (drop_all i rs end) e
+all_counted look rs i whole now end e = sym (none_more now) ∙ subst (λ (l : List Reply). now + unseen_in look (map reply_form l) ≡ whole) (drop_all i rs end) e
 
 -- ---- lines
 
@@ -32,7 +31,7 @@ pub next_lines : (rs : List Reply) (i : ℕ) (r : Reply) (whole now next : List 
     → now ++ lines_told (map reply_form (drop i rs)) ≡ whole → next ≡ now ++ lines_of (reply_form r) → next ++ lines_told (map reply_form (drop (i + 1) rs)) ≡ whole
 next_lines rs i r whole now next there is e put =
     one_part whole now next (lines_of (reply_form r)) (lines_told (map reply_form (drop (i + 1) rs)))
-    (subst (λ (l : List Reply). now ++ lines_told (map reply_form l) ≡ whole) (split rs i r there is) e) put
+    (subst (λ (l : List Reply). now ++ lines_told (map reply_form l) ≡ whole) (left_after rs i r there is) e) put
 
 pub all_told : (rs : List Reply) (i : ℕ) (whole now : List (List ℕ)) → length rs ≤ i → now ++ lines_told (map reply_form (drop i rs)) ≡ whole → now ≡ whole
 all_told rs i whole now end e = sym (append-nil now) ∙ subst (λ (l : List Reply). now ++ lines_told (map reply_form l) ≡ whole) (drop_all i rs end) e

@@ -1,5 +1,5 @@
 //! What there is to be drawn of replies.
-ghost use Rattle.std.specs.Prelude.{◌≡◌, map, IfOk, OnOk};
+ghost use Rattle.std.specs.Prelude.{map, IfOk, OnOk};
 ghost use Rattle.ded_session.specs.Answered.{reply_form};
 ghost use Rattle.ded_drawing.specs.Sightings.{AddsSights, AreAllSights};
 

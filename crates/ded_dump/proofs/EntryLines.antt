@@ -7,6 +7,7 @@ use Rattle.std.specs.Prelude.{if◌then◌else◌, Result, Ok, Err, OnOk}
 use Rattle.std.specs.List.{slice_get}
 use Rattle.std.specs.Option.{option_map}
 use Rattle.std.proofs.lemmas.Slice.Eq.{bytes_eq-Decides}
+use Rattle.ded_num.proofs.Tests.{from_same_texts}
 use Rattle.ded_model.specs.declared.name.Column.{Column}
 use Rattle.ded_model.specs.Catalogue.{Entry, Catalogue, entry_name}
 use Rattle.ded_model.specs.Catalogue as entry
@@ -15,8 +16,9 @@ use Rattle.ded_model.specs.Form.{Form}
 use Rattle.ded_model.specs.Known.{Known, KnownNames, AreEntriesOver, IsWellFormed, with_known, entry_known}
 use Rattle.ded_model.specs.Row.{Atom}
 use Rattle.ded_sorts.proofs.KnownEntries.{KnownFrom, absent, known_entry}
+use Rattle.ded_print.proofs.Plans.{left_after}
 use Rattle.ded_dump.specs.Entries.{relation_line, insert_lines, entry_lines, entries_lines, lines_under, IsView}
-use Rattle.ded_dump.proofs.Loops.{split, one_part, no_part}
+use Rattle.ded_dump.proofs.Loops.{one_part, no_part}
 
 -- ---- options
 
@@ -32,15 +34,12 @@ same_some x y e = ap (or_else x) e
 
 -- ---- the entry of a name
 
-same : (n m : List ℕ) → bytes_eq n m ≡ true → n ≡ m
-same n m e = (bytes_eq-Decides n m).0 e
-
 pub named : (es : List Entry) (n : List ℕ) (e : Entry) → entry_of es n ≡ Some e → n ≡ entry_name e
 named [] n e is = absurd (none-some e is)
 named (f ∷ es) n e is = by (bytes_eq n (entry_name f)) refl (named es n e)
   where
     by : (b : Bool) → bytes_eq n (entry_name f) ≡ b → (entry_of es n ≡ Some e → n ≡ entry_name e) → n ≡ entry_name e
-    by true b next = same n (entry_name f) b ∙ ap entry_name (same_some f e (sym (ap (λ c. if c then Some f else entry_of es n) b) ∙ is))
+    by true b next = from_same_texts n (entry_name f) b ∙ ap entry_name (same_some f e (sym (ap (λ c. if c then Some f else entry_of es n) b) ∙ is))
     by false b next = next (sym (ap (λ c. if c then Some f else entry_of es n) b) ∙ is)
 
 -- each name is new, so the first entry of the name is this one
@@ -69,7 +68,7 @@ next_entry c w whole done now i n at e is = by (slice_get c.entries i) refl at
     by None o f = absurd (none-some n (sym f))
     by (Some x) o f =
         let found : entry_of c.entries n ≡ Some x = ap (entry_of c.entries) (same_some n (entry_name x) f) ∙ entry_at c.limit (λ m. None) c.entries i x w o in
-        let next : drop i c.entries ≡ x ∷ drop (i + 1) c.entries = split c.entries i x (slice_get_within c.entries i x o) (sym (get_or_from_slice_get c.entries i x x o)) in
+        let next : drop i c.entries ≡ x ∷ drop (i + 1) c.entries = left_after c.entries i x (slice_get_within c.entries i x o) (sym (get_or_from_slice_get c.entries i x x o)) in
         one_part whole done now (entry_lines x) (entries_lines (drop (i + 1) c.entries)) (subst (λ z. done ++ entries_lines z ≡ whole) next e)
         (is ∙ ap (λ z. done ++ lines_under z) found)
 

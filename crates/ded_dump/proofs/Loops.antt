@@ -1,23 +1,15 @@
 -- Texts that are put part by part: what is put and what is left to put make the whole.
-use Rattle.std.proofs.Common.{◌≡◌, ℕ, suc, ◌+◌, ◌<◌, arith, List, [], ◌∷◌, ◌++◌, length, drop, drop-cons, get_or, append_assoc, append-nil, sym, ap, ◌∙◌, subst}
+use Rattle.std.proofs.Common.{◌≡◌, ℕ, ◌+◌, ◌<◌, List, [], ◌++◌, length, drop, get_or, append_assoc, append-nil, sym, ap, ◌∙◌, subst}
 use Rattle.std.specs.Prelude.{codes}
 use Rattle.ded_model.specs.declared.name.Column.{Column}
 use Rattle.ded_model.specs.declared.formula.Operand.{Operand}
 use Rattle.ded_model.specs.declared.formula.Formula.{Formula}
 use Rattle.ded_model.specs.Form.{form, forms}
+use Rattle.ded_print.proofs.Plans.{left_after}
 use Rattle.ded_dump.specs.Headings.{column_text, columns_text, variables, variables_of}
 use Rattle.ded_dump.specs.Operands.{operand_text, operands_text}
 
 -- ---- lists
-
-suc_is : (n : ℕ) → n + 1 ≡ suc n
-suc_is n = omega arith
-
--- what is left begins with the next element
-pub split : {A : Type 0} (xs : List A) (i : ℕ) (x : A) → i < length xs → x ≡ get_or xs i x → drop i xs ≡ x ∷ drop (i + 1) xs
-split xs i x there is =
-    let e : drop i xs ≡ get_or xs i x ∷ drop (i + 1) xs = rw (suc_is i) (drop-cons xs i x there) in
-    e ∙ ap (λ y. y ∷ drop (i + 1) xs) (sym is)
 
 -- one more part was put
 pub one_part : {B : Type 0} (whole done now part left : List B) → done ++ (part ++ left) ≡ whole → now ≡ done ++ part → now ++ left ≡ whole
@@ -37,13 +29,13 @@ pub next_column : (whole done between now lead : List ℕ) (cs : List Column) (i
     → done ++ columns_text lead (drop i cs) ≡ whole → between ≡ done ++ lead → now ≡ between ++ column_text c
     → now ++ columns_text (codes ", ") (drop (i + 1) cs) ≡ whole
 next_column whole done between now lead cs i c there is e n m =
-    led_part whole done between now lead (column_text c) (columns_text (codes ", ") (drop (i + 1) cs)) (subst (λ z. done ++ columns_text lead z ≡ whole) (split cs i c there is) e) n m
+    led_part whole done between now lead (column_text c) (columns_text (codes ", ") (drop (i + 1) cs)) (subst (λ z. done ++ columns_text lead z ≡ whole) (left_after cs i c there is) e) n m
 
 pub next_operand : (whole done between now lead : List ℕ) (ts : List Operand) (i : ℕ) (t : Operand) → i < length ts → t ≡ get_or ts i t
     → done ++ operands_text lead (drop i ts) ≡ whole → between ≡ done ++ lead → now ≡ between ++ operand_text t
     → now ++ operands_text (codes ", ") (drop (i + 1) ts) ≡ whole
 next_operand whole done between now lead ts i t there is e n m =
-    led_part whole done between now lead (operand_text t) (operands_text (codes ", ") (drop (i + 1) ts)) (subst (λ z. done ++ operands_text lead z ≡ whole) (split ts i t there is) e) n m
+    led_part whole done between now lead (operand_text t) (operands_text (codes ", ") (drop (i + 1) ts)) (subst (λ z. done ++ operands_text lead z ≡ whole) (left_after ts i t there is) e) n m
 
 -- ---- formulas
 
@@ -51,4 +43,4 @@ pub next_variables : (whole done now : List Column) (fs : List Formula) (i : ℕ
     → done ++ variables_of (forms (drop i fs)) ≡ whole → now ≡ done ++ variables (form f)
     → now ++ variables_of (forms (drop (i + 1) fs)) ≡ whole
 next_variables whole done now fs i f there is e n =
-    one_part whole done now (variables (form f)) (variables_of (forms (drop (i + 1) fs))) (subst (λ z. done ++ variables_of (forms z) ≡ whole) (split fs i f there is) e) n
+    one_part whole done now (variables (form f)) (variables_of (forms (drop (i + 1) fs))) (subst (λ z. done ++ variables_of (forms z) ≡ whole) (left_after fs i f there is) e) n

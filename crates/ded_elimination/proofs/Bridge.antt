@@ -20,10 +20,11 @@ use Rattle.ded_model.proofs.Numbers.{coef, drop_key}
 use Rattle.ded_model.proofs.Terms.{keys_at}
 use Rattle.ded_row.specs.Mixing.{factor, join_op, mixed_row, mix_of}
 use Rattle.ded_row.proofs.Mixes.{factors, cancels, sum_at-cut, row_at-mixed}
-use Rattle.ded_row.proofs.Normals.{normal_row-holds}
+use Rattle.ded_model.proofs.Normals.{normal_row-holds}
 use Rattle.ded_elimination.specs.Equalities.{settled_row}
-use Rattle.ded_elimination.proofs.Remains.{passes, passed, under_0}
+use Rattle.ded_elimination.proofs.Remains.{under_0}
 use Rattle.std.proofs.Math.IntN.{neg_ℤ-neg_ℤ}
+use Rattle.ded_num.proofs.Signs.{abs_above, above_test, is_positive, abs_below}
 
 -- ---- the parts of a row
 
@@ -103,21 +104,13 @@ mix_meets s q r p k m h nq nr ek em i =
 -- ---- factors
 
 factor_above : (a b : ℤ) → pos 0 <ℤ a → factor a b ≡ pos (unsigned_abs b)
-factor_above a b h = ap (λ t. cond t (pos (unsigned_abs b)) (neg_ℤ (pos (unsigned_abs b)))) (passes a h)
+factor_above a b h = ap (λ t. cond t (pos (unsigned_abs b)) (neg_ℤ (pos (unsigned_abs b)))) (above_test a h)
 
 factor_below : (a b : ℤ) → a <ℤ pos 0 → factor a b ≡ neg_ℤ (pos (unsigned_abs b))
 factor_below a b h = ap (λ t. cond t (pos (unsigned_abs b)) (neg_ℤ (pos (unsigned_abs b)))) (fails a h)
   where
     fails : (a : ℤ) → a <ℤ pos 0 → int_lt (pos 0) a ≡ false
     fails a h = grind (arith, ints)
-
-abs_above : (a : ℤ) → pos 0 <ℤ a → pos (unsigned_abs a) ≡ a
-abs_above (pos n) h = refl
-abs_above (negsuc n) h = absurd (omega (arith, ints))
-
-abs_below : (a : ℤ) → a <ℤ pos 0 → pos (unsigned_abs a) ≡ neg_ℤ a
-abs_below (pos n) h = absurd (omega (arith, ints))
-abs_below (negsuc n) h = refl
 
 turned_up : (a : ℤ) → a <ℤ pos 0 → pos 0 <ℤ neg_ℤ a
 turned_up a h = omega (arith, ints)
@@ -172,7 +165,7 @@ pair_meets s u l p h up lo i =
 
 -- ---- equalities
 
-swapped : (x y : ℤ) → x +ℤ y ≡ y +ℤ x
+pub swapped : (x y : ℤ) → x +ℤ y ≡ y +ℤ x
 swapped x y = omega (arith, ints)
 
 gone_law : (k x m w : ℤ) → m ≡ pos 0 → k *ℤ x ≡ k *ℤ x +ℤ m *ℤ w
@@ -215,7 +208,7 @@ module _ (s : Slot) (e : LinearConstraint) (p : Point) (h : 0 < p.den) (op : e.o
   settled_by : (r : LinearConstraint) (b d : Bool) → int_eq (coef_at r.coefs s) (pos 0) ≡ b → int_lt (pos 0) (coef_at r.coefs s) ≡ d
       → row_holds (cond b r (cond d (mix_of s r e) (mix_of s e r))) p ≡ true → EqualHolds s p e r
   settled_by r true d z l i = equal_level r ((Decides-int_eq (coef_at r.coefs s) (pos 0)).0 z) i
-  settled_by r false true z l i = equal_upper r (passed (coef_at r.coefs s) l) i
+  settled_by r false true z l i = equal_upper r (is_positive (coef_at r.coefs s) l) i
   settled_by r false false z l i = equal_lower r (under_0 (coef_at r.coefs s) z l) i
 
   -- what the equality leaves of a row

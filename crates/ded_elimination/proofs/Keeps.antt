@@ -11,7 +11,7 @@ use Rattle.ded_model.specs.Normal.{constant_row, is_true_row, normal_with, norma
 use Rattle.ded_model.specs.Lines.{In}
 use Rattle.ded_model.proofs.Members.{In-split}
 use Rattle.ded_model.proofs.Points.{and_left, and_right}
-use Rattle.ded_row.proofs.Normals.{constant_row-holds}
+use Rattle.ded_model.proofs.Normals.{constant_row-holds}
 use Rattle.ded_elimination.specs.Keeping.{ImpliesFrom, ImpliesAt, Keeps}
 use Rattle.ded_elimination.proofs.Conjunctions.{Rows, In-at, conj-In}
 use Rattle.std.proofs.lemmas.Bool.{and_from}

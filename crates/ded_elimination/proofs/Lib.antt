@@ -7,3 +7,4 @@ pub mod Outcomes
 pub mod Passed
 pub mod Remains
 pub mod Stronger
+pub mod Shared

@@ -30,6 +30,7 @@ use Rattle.ded_elimination.specs.Adding.{AreLinear, IsRemaining}
 use Rattle.ded_elimination.specs.Equalities.{settled_row, settled_clash}
 use Rattle.ded_elimination.proofs.Conjunctions.{Rows, all-In, conj-In, In-mentions, In-lines}
 use Rattle.std.proofs.lemmas.Bool.{and_from}
+use Rattle.ded_num.proofs.Signs.{above_test, is_positive}
 
 -- ---- mentioned slots
 
@@ -78,15 +79,9 @@ below_by Zero a h = λ e. absurd (omega (arith, ints))
 below_by AtMost a h = h
 below_by Below a h = h
 
-pub passes : (a : ℤ) → pos 0 <ℤ a → int_lt (pos 0) a ≡ true
-passes a h = grind (arith, ints)
-
-pub passed : (a : ℤ) → int_lt (pos 0) a ≡ true → pos 0 <ℤ a
-passed a h = grind (arith, ints)
-
 -- a number that isn't 0 nor above it
 pub under_0 : (a : ℤ) → int_eq a (pos 0) ≡ false → int_lt (pos 0) a ≡ false → a <ℤ pos 0
-under_0 a n h = by_lt_z a (pos 0) (λ l. l) (λ g. by_lt_z (pos 0) a (λ l. absurd (true≢false (sym (passes a l) ∙ h)))
+under_0 a n h = by_lt_z a (pos 0) (λ l. l) (λ g. by_lt_z (pos 0) a (λ l. absurd (true≢false (sym (above_test a l) ∙ h)))
     (λ k. absurd (true≢false (sym ((Decides-int_eq a (pos 0)).1 (omega (arith, ints))) ∙ n))))
 
 -- ---- lines
@@ -198,7 +193,7 @@ module _ (Kind : LinearConstraint → Type 0) (s : Slot) (rows : Rows) (linear :
     equal_below = subst (λ o. BoundsBelow o (coef_at e.coefs s)) (sym op) some
 
     upper : int_lt (pos 0) (coef_at r.coefs s) ≡ true → BoundsAbove r.op (coef_at r.coefs s)
-    upper h = above_by r.op (coef_at r.coefs s) (passed (coef_at r.coefs s) h)
+    upper h = above_by r.op (coef_at r.coefs s) (is_positive (coef_at r.coefs s) h)
 
     lower : int_eq (coef_at r.coefs s) (pos 0) ≡ false → int_lt (pos 0) (coef_at r.coefs s) ≡ false → BoundsBelow r.op (coef_at r.coefs s)
     lower n h = below_by r.op (coef_at r.coefs s) (under_0 (coef_at r.coefs s) n h)

@@ -1,11 +1,11 @@
 -- Atoms that hold at a point hold wherever the values at their slots are the same, and so where extensions have these values.
-use Rattle.std.proofs.Common.{◌≡◌, ℕ, ◌*◌, ◌+◌, ◌<◌, ◌≤◌, suc, drop, Vec, Global, length, get_or, Bool, true, false, not, ◌&&◌, ◌||◌, List, [], ◌∷◌, ◌++◌, ⊎_elim, ◌⊎◌, inl, inr, arith, refl, sym, ap, ap₂, ◌∙◌, subst, true≢false, bytes_eq}
+use Rattle.std.proofs.Common.{◌≡◌, ℕ, ◌*◌, ◌+◌, ◌<◌, ◌≤◌, suc, drop, Vec, Global, length, get_or, Bool, true, false, not, ◌&&◌, ◌||◌, List, [], ◌∷◌, ◌++◌, ⊎_elim, ◌⊎◌, arith, refl, sym, ap, ap₂, ◌∙◌, subst, true≢false, bytes_eq}
 use Rattle.std.specs.Prelude.{ℤ, pos, ◌*ℤ◌}
 use Rattle.std.specs.List.{list_all}
 use Rattle.std.proofs.Math.IntN.{zero-*ℤ}
 use Rattle.std.proofs.Math.Seq.{drop-cons}
 use Rattle.std.proofs.Math.ListN.{drop_of_length-le}
-use Rattle.ded_num.proofs.Ring.{parts, ring, diff_same, diff-pos}
+use Rattle.ded_num.proofs.Ring.{parts}
 use Rattle.ded_model.specs.declared.slot.Slot.{Slot}
 use Rattle.ded_model.specs.declared.slot.Sort.{Sort}
 use Rattle.ded_model.specs.declared.slot.Sort.TheVariants.{Rat, Text}
@@ -38,6 +38,9 @@ use Rattle.ded_eval.proofs.Evaluated.{every-push}
 use Rattle.ded_eval.proofs.Joined.{rows_sat}
 use Rattle.ded_theory.proofs.Conjunctions.{conj_holds-append}
 use Rattle.std.proofs.lemmas.Bool.{and_parts}
+use Rattle.ded_num.proofs.Signs.{times_pos_twice}
+use Rattle.ded_model.proofs.SlotLists.{rational_no_text}
+use Rattle.ded_weighing.proofs.Slotted.{stands_last}
 
 -- ---- a row and a text atom at points with the same values
 
@@ -66,20 +69,6 @@ theme_same ss p q (NeSlot s t) h i j k l = ap₂ (λ x y. not (bytes_eq x y)) (h
 
 -- ---- slots, one more at the end
 
-either_slot : (ss : List Slot) (s t : Slot) → stands_in (ss ++ s ∷ []) t ≡ true → (stands_in ss t ≡ true) ⊎ (same_slot s t ≡ true)
-either_slot [] s t h = ⊎_elim (λ (e : same_slot s t ≡ true). inr e) (λ e. absurd (true≢false (sym e))) (or_split (same_slot s t) false h)
-either_slot (u ∷ ss) s t h = ⊎_elim
-    (λ (e : same_slot u t ≡ true). inl (first (same_slot u t) (stands_in ss t) e))
-    (λ e. ⊎_elim (λ (k : stands_in ss t ≡ true). inl (second (same_slot u t) (stands_in ss t) k)) (λ k. inr k) (either_slot ss s t e))
-    (or_split (same_slot u t) _ h)
-  where
-    first : (a b : Bool) → a ≡ true → (a || b) ≡ true
-    first a b e = rw e refl
-
-    second : (a b : Bool) → b ≡ true → (a || b) ≡ true
-    second true b e = refl
-    second false b e = e
-
 stands_before : (ss : List Slot) (s t : Slot) → stands_in ss t ≡ true → stands_in (ss ++ s ∷ []) t ≡ true
 stands_before [] s t h = absurd (true≢false (sym h))
 stands_before (u ∷ ss) s t h = ⊎_elim
@@ -96,26 +85,19 @@ stands_before (u ∷ ss) s t h = ⊎_elim
 
 -- ---- one slot projected
 
-here_law : (n : ℤ) (b d : ℕ) → (n *ℤ pos b) *ℤ pos d ≡ n *ℤ pos (b * d)
-here_law n b d = rw (parts n, diff-pos b, diff-pos d, diff-pos (b * d)) (simp ring (diff_same _ _ _ _ (omega arith)))
-
 away_law : (x y : ℤ) (b d : ℕ) → x *ℤ pos d ≡ y *ℤ pos b → (x *ℤ pos d) *ℤ pos d ≡ y *ℤ pos (b * d)
-away_law x y b d h = ap (λ z. z *ℤ pos d) h ∙ here_law y b d
+away_law x y b d h = ap (λ z. z *ℤ pos d) h ∙ times_pos_twice y b d
 
 -- another slot of the list stands before the last one
 not_last : (ss : List Slot) (s t : Slot) → stands_in (ss ++ s ∷ []) t ≡ true → same_slot t s ≡ false → stands_in ss t ≡ true
 not_last ss s t stands k = ⊎_elim
     (λ (e : stands_in ss t ≡ true). e)
     (λ e. absurd (true≢false (sym (ap (λ (u : Slot). same_slot t u) (same_slot_is s t e) ∙ same_slot_refl t) ∙ k)))
-    (either_slot ss s t stands)
+    (stands_last ss s t stands)
 
 is_rational : Sort → Bool
 is_rational Rat = true
 is_rational Text = false
-
-rational_text : Rat ≡ Text → ⊥
-unfolding is_rational
-rational_text e = true≢false (ap is_rational e)
 
 -- an extension by a number of a point that has it
 number_there : (ss : List Slot) (s : Slot) (p q r : Point) (x : IsNumberExtension p (slot s) r) → s.sort ≡ Rat → x.value ≡ number_at q (slot s) *ℤ pos p.den → r.den ≡ p.den * q.den → x.factor ≡ q.den
@@ -128,14 +110,14 @@ number_there ss s p q r x sort value den factor same = record {
     at_number : (t : Slot) → t.sort ≡ Rat → stands_in (ss ++ s ∷ []) t ≡ true → (b : Bool) → same_slot t s ≡ b → number_at r (slot t) *ℤ pos q.den ≡ number_at q (slot t) *ℤ pos (p.den * q.den)
     at_number t rational stands true k =
         ap (λ z. z *ℤ pos q.den) (number_at-extended p (slot s) r x (slot t) k ∙ value)
-        ∙ here_law (number_at q (slot s)) p.den q.den
+        ∙ times_pos_twice (number_at q (slot s)) p.den q.den
         ∙ ap (λ (u : Slot). number_at q (slot u) *ℤ pos (p.den * q.den)) (sym (same_slot_is t s k))
     at_number t rational stands false k =
         ap (λ z. z *ℤ pos q.den) (number_at-kept p (slot s) r x (slot t) k ∙ ap (λ n. number_at p (slot t) *ℤ pos n) factor)
         ∙ away_law (number_at p (slot t)) (number_at q (slot t)) p.den q.den (same.numbers t rational (not_last ss s t stands k))
 
     at_text : (t : Slot) → t.sort ≡ Text → stands_in (ss ++ s ∷ []) t ≡ true → (b : Bool) → same_slot t s ≡ b → text_at r (slot t) ≡ text_at q (slot t)
-    at_text t textual stands true k = absurd (rational_text (sym sort ∙ sym (ap (λ (u : Slot). u.sort) (same_slot_is t s k)) ∙ textual))
+    at_text t textual stands true k = absurd (rational_no_text (sym sort ∙ sym (ap (λ (u : Slot). u.sort) (same_slot_is t s k)) ∙ textual))
     at_text t textual stands false k = text_at-number_kept p (slot s) r x (slot t) k ∙ same.texts t textual (not_last ss s t stands k)
 
 -- an extension by a text of a point that has it
@@ -146,7 +128,7 @@ text_there ss s p q r x sort value same = record {
 }
   where
     at_number : (t : Slot) → t.sort ≡ Rat → stands_in (ss ++ s ∷ []) t ≡ true → (b : Bool) → same_slot t s ≡ b → number_at r (slot t) *ℤ pos q.den ≡ number_at q (slot t) *ℤ pos r.den
-    at_number t rational stands true k = absurd (rational_text (sym rational ∙ ap (λ (u : Slot). u.sort) (same_slot_is t s k) ∙ sort))
+    at_number t rational stands true k = absurd (rational_no_text (sym rational ∙ ap (λ (u : Slot). u.sort) (same_slot_is t s k) ∙ sort))
     at_number t rational stands false k =
         ap (λ z. z *ℤ pos q.den) (number_at-text_kept p (slot s) r x (slot t) k)
         ∙ same.numbers t rational (not_last ss s t stands k)

@@ -3,12 +3,11 @@ use Rattle.std.proofs.Common.{◌≡◌, Bool, true, ◌||◌, List, [], ◌∷�
 use Rattle.std.proofs.Math.Bool.{or-false}
 use Rattle.std.proofs.lemmas.Bool.{and_from, and_parts}
 use Rattle.ded_model.specs.declared.slot.Slot.{Slot}
-use Rattle.ded_model.specs.Cell.{conj_holds}
+use Rattle.ded_model.specs.Cell.{conj_holds, HoldsNowhere}
 use Rattle.ded_model.specs.Point.{Point}
 use Rattle.ded_model.specs.Lines.{Line, In, IsSubset}
 use Rattle.ded_model.proofs.Members.{subset_append, subset_none, In-left, In-right, In-split, or_split}
 use Rattle.ded_model.proofs.Rows.{or_left, or_right}
-use Rattle.ded_theory.specs.Verdicts.{HoldsNowhere}
 use Rattle.ded_theory.proofs.Conjunctions.{conj_holds-append}
 use Rattle.ded_genrel.specs.Lists.{conjs_hold, conjs_mention, conjs_lines}
 use Rattle.ded_genrel.specs.Operations.{IsMeet}

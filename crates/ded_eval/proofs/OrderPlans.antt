@@ -14,6 +14,7 @@ use Rattle.ded_model.specs.Normal.{IsNormalTheme}
 use Rattle.ded_model.specs.PlanForm.{PlanAtom, scan, rows, PlanForm, plan_form, plan_forms}
 use Rattle.ded_model.specs.Row.{Atom}
 use Rattle.std.specs.Option.{option_map}
+use Rattle.ded_num.proofs.Tests.{or_false_both, not_false_true}
 use Rattle.ded_elimination.specs.LinearAtoms.{IsLinearAtom}
 use Rattle.ded_theory.specs.Both.{IsByKind}
 use Rattle.ded_order.specs.OrderRows.{IsOrderAtom}
@@ -45,14 +46,6 @@ both_false : (a b : Bool) → (a || b) ≡ false → (a ≡ false) × (b ≡ fal
 both_false false b e = (refl, e)
 both_false true b e = absurd (true≢false e)
 
-either_false : (a b : Bool) → a ≡ false → b ≡ false → (a || b) ≡ false
-either_false false b e f = f
-either_false true b e f = absurd (true≢false e)
-
-not_false : (b : Bool) → not b ≡ false → b ≡ true
-not_false true e = refl
-not_false false e = absurd (true≢false e)
-
 -- ---- tuples
 
 orders_all : (t : List Atom) → are_orders t ≡ true → AllByRecursion (λ a. is_order_atom a ≡ true) t
@@ -64,7 +57,7 @@ all_orders [] k = refl
 all_orders (a ∷ t) k = and_from (is_order_atom a) (are_orders t) k.0 (all_orders t k.1)
 
 rows_all : (t : List Atom) → has_other t ≡ false → AllByRecursion (λ a. is_order_atom a ≡ true) t
-rows_all t e = orders_all t (not_false (are_orders t) e)
+rows_all t e = orders_all t (not_false_true (are_orders t) e)
 
 all_rows : (t : List Atom) → AllByRecursion (λ a. is_order_atom a ≡ true) t → has_other t ≡ false
 all_rows t k = ap not (all_orders t k)
@@ -76,7 +69,7 @@ module _ (Over : List Atom → Type 0) where
 
   all_tuples : (ts : List (List Atom)) → AllByRecursion (λ t. Over t × AllByRecursion (λ a. is_order_atom a ≡ true) t) ts → list_any has_other ts ≡ false
   all_tuples [] k = refl
-  all_tuples (t ∷ ts) k = either_false (has_other t) (list_any has_other ts) (all_rows t k.0.1) (all_tuples ts k.1)
+  all_tuples (t ∷ ts) k = or_false_both (has_other t) (list_any has_other ts) (all_rows t k.0.1) (all_tuples ts k.1)
 
 scanned_all : (o : Option Entry) (ss : List Slot) → IsScannedFrom IsAnyAtom o ss → has_other_under (option_map tuples_of (relation_in o)) ≡ false → IsScannedFrom (λ a. is_order_atom a ≡ true) o ss
 scanned_all None ss k e = k
@@ -127,14 +120,14 @@ module _ {L : Type 0} (P Q : L → Type 0) (test : L → Bool) where
       none_found (negation g) k = none_found g k
       none_found (every_of gs) k = none_among gs k
       none_found (some_of gs) k = none_among gs k
-      none_found (implies g h) k = either_false (some_atom test g) (some_atom test h) (none_found g k.0) (none_found h k.1)
-      none_found (minus g h) k = either_false (some_atom test g) (some_atom test h) (none_found g k.0) (none_found h k.1)
+      none_found (implies g h) k = or_false_both (some_atom test g) (some_atom test h) (none_found g k.0) (none_found h k.1)
+      none_found (minus g h) k = or_false_both (some_atom test g) (some_atom test h) (none_found g k.0) (none_found h k.1)
       none_found (exists s j g) k = none_found g k
       none_found (forall s j g) k = none_found g k
 
       none_among : (gs : Logics L) → AllAtomsOf Q gs → some_atom_of test gs ≡ false
       none_among none k = refl
-      none_among (also g gs) k = either_false (some_atom test g) (some_atom_of test gs) (none_found g k.0) (none_among gs k.1)
+      none_among (also g gs) k = or_false_both (some_atom test g) (some_atom_of test gs) (none_found g k.0) (none_among gs k.1)
 
 -- a plan that can be evaluated is one of order rows where none is found that is none
 pub orders_alone : (c : Catalogue) (f : PlanForm) → IsEvaluable IsAnyAtom c f → some_atom (has_other_in c) f ≡ false → AreOrderRows c f

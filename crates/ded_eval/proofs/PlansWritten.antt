@@ -1,5 +1,5 @@
 -- Lists of conjunctions that plans are evaluated to, written as normal tuples.
-use Rattle.std.proofs.Common.{◌≡◌, Bool, true, ◌||◌, List, [], ◌∷◌, ◌++◌, refl, sym, ap, ap₂, ◌∙◌, subst}
+use Rattle.std.proofs.Common.{◌≡◌, Bool, List, [], sym, ap, ◌∙◌, subst}
 use Rattle.ded_model.specs.declared.slot.Slot.{Slot}
 use Rattle.ded_model.specs.Point.{Point}
 use Rattle.ded_model.specs.Row.{Atom, row_holds, theme_holds, row_mentions, theme_mentions, tuple_holds, tuples_hold, tuples_mention}
@@ -10,26 +10,14 @@ use Rattle.ded_model.specs.Measure.{stored_measures, plan_lines}
 use Rattle.ded_model.specs.PlanForm.{PlanForm}
 use Rattle.ded_model.proofs.Members.{subset_trans}
 use Rattle.ded_theory.specs.Both.{by_kind}
+use Rattle.ded_theory.proofs.Shared.{holds_alike}
 use Rattle.ded_genrel.specs.Lists.{conjs_hold, conjs_mention, conjs_lines}
-use Rattle.ded_atoms.proofs.Conjunctive.{tuple_holds-is, tuple_mentions-is, atoms_lines-is}
+use Rattle.ded_genrel.proofs.OfAtoms.{lists_hold}
 use Rattle.ded_algebra.specs.Evaluation.{IsEvaluationWithin}
 use Rattle.ded_atoms.specs.Written.{IsWrittenAs}
+use Rattle.ded_atoms.proofs.Shared.{lists_mention, lists_lines}
 
 -- ---- conjunctions of rows and text atoms are tuples
-
-lists_hold : (cs : List (List Atom)) (p : Point) → conjs_hold (by_kind row_holds theme_holds) cs p ≡ tuples_hold cs p
-unfolding tuples_hold
-lists_hold [] p = refl
-lists_hold (c ∷ cs) p = ap₂ (λ a b. a || b) (tuple_holds-is c p) (lists_hold cs p)
-
-lists_mention : (cs : List (List Atom)) (s : Slot) → conjs_mention (by_kind row_mentions theme_mentions) cs s ≡ tuples_mention cs s
-unfolding tuples_mention
-lists_mention [] s = refl
-lists_mention (c ∷ cs) s = ap₂ (λ a b. a || b) (tuple_mentions-is c s) (lists_mention cs s)
-
-lists_lines : (cs : List (List Atom)) → conjs_lines (by_kind row_lines (λ a. [])) cs ≡ tuples_lines cs
-lists_lines [] = refl
-lists_lines (c ∷ cs) = ap₂ (λ xs ys. xs ++ ys) (atoms_lines-is c) (lists_lines cs)
 
 -- so the list of a plan gives its tuples, at points inside
 pub written_for : (c : Catalogue) (f : PlanForm) (inside : Point → Bool) (cs ts : List (List Atom))
@@ -45,7 +33,7 @@ written_for c f inside cs ts a w = record {
 pub within_tuple : (c : Catalogue) (f : PlanForm) (t atoms : List Atom) (test : Point → Bool) (used : Slot → Bool) (ls : List Line) → atoms ≡ t
     → IsEvaluationWithin c f (conj_holds (by_kind row_holds theme_holds) atoms) test used ls → IsEvaluationWithin c f (tuple_holds t) test used ls
 within_tuple c f t atoms test used ls e a = record {
-  holds = λ p i inside. a.holds p i (ap (λ u. conj_holds (by_kind row_holds theme_holds) u p) e ∙ tuple_holds-is t p ∙ inside);
+  holds = λ p i inside. a.holds p i (ap (λ u. conj_holds (by_kind row_holds theme_holds) u p) e ∙ holds_alike t p ∙ inside);
   slots = a.slots;
   lines = a.lines;
 }

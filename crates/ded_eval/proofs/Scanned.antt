@@ -20,7 +20,7 @@ use Rattle.ded_model.specs.Lines.{Line, In, IsSubset, renamed_lines, tuples_line
 use Rattle.ded_model.specs.Renaming.{renamed, IsOneToOne, KeepsSorts, mapped_lines}
 use Rattle.ded_model.proofs.Members.{In-split, or_split, subset_trans}
 use Rattle.ded_model.proofs.Growth.{renamed-grows}
-use Rattle.ded_model.proofs.LineSlots.{has_slot}
+use Rattle.ded_model.proofs.CoefLists.{mentioned}
 use Rattle.ded_theory.specs.Conjunctions.{conj_lines}
 use Rattle.ded_genrel.specs.Lists.{AreNormal, conjs_hold, conjs_mention, conjs_lines}
 use Rattle.ded_genrel.specs.Operations.{IsRenaming}
@@ -43,11 +43,6 @@ pub over_columns : (Q : List Atom → Type 0) (h : List Column) (ts : List (List
 unfolding tuples_mention
 over_columns Q h [] s o e = absurd (true≢false (sym e))
 over_columns Q h (t ∷ ts) s o e = ⊎_elim (λ (f : tuple_mentions t s ≡ true). o.0.0.slots s f) (λ f. over_columns Q h ts s o.1 f) (or_split (tuple_mentions t s) (tuples_mention ts s) e)
-
--- a line mentions the slots of its coefficients
-mentioned : (y : Line) (s : Slot) → has_slot y.coefs s ≡ true → row_mentions y s ≡ true
-unfolding row_mentions
-mentioned y s e = e
 
 module _ {A : Type 0} (h : A → Point → Bool) (m : A → Slot → Bool) (l : A → List Line) (n : A → Type 0) where
   -- a line of a list is one of an atom's

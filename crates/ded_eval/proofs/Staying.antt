@@ -7,6 +7,7 @@ use Rattle.std.specs.Prelude.{ℤ, pos, ◌+ℤ◌, ◌*ℤ◌}
 use Rattle.std.specs.List.{AllByRecursion}
 use Rattle.std.proofs.lemmas.List.{drop_all}
 use lib.IntN.{+ℤ_idl, +ℤ_idr}
+use Rattle.ded_num.proofs.Signs.{plus_swap}
 use Rattle.ded_model.specs.declared.slot.Slot.{Slot}
 use Rattle.ded_model.specs.declared.slot.Sort.TheVariants.{Text}
 use Rattle.ded_model.specs.declared.tuple.ThemeAtom.{ThemeAtom}
@@ -26,7 +27,7 @@ use Rattle.ded_model.proofs.CoefLemmas.{AreCoefs-with_coef}
 use Rattle.ded_model.proofs.LineSlots.{has_slot}
 use Rattle.ded_row.specs.Renaming.{renamed_row}
 use Rattle.ded_row.proofs.RenamedLines.{renamed-lines}
-use Rattle.ded_row.proofs.Targets.{swap_law, AreFree, free_step, coef_at-with_coef}
+use Rattle.ded_row.proofs.Targets.{AreFree, free_step, coef_at-with_coef}
 use Rattle.ded_genrel.specs.Lists.{conjs_hold, conjs_mention, conjs_lines}
 use Rattle.ded_genrel.specs.Operations.{IsRenaming}
 use Rattle.ded_genrel.proofs.Renamed.{point_fewer}
@@ -124,7 +125,7 @@ onto_at : (out cs : List (Slot × ℤ)) (t : Slot) → AreFree [] out cs → Are
 onto_at out [] t f k = sym (+ℤ_idr (coef_at out t))
 onto_at out (c ∷ cs) t f k =
     onto_at (with_coef c.0 c.1 out) cs t (free_step [] out c cs f k) k.4 ∙ ap (λ z. z +ℤ coef_at cs t) (coef_at-with_coef c.0 c.1 out t (f.free c.0 (or_left _ _ (same_slot_refl c.0))))
-    ∙ swap_law (cond (same_slot c.0 t) c.1 (pos 0)) (coef_at out t) (coef_at cs t)
+    ∙ plus_swap (cond (same_slot c.0 t) c.1 (pos 0)) (coef_at out t) (coef_at cs t)
 
 -- coefficients that are set at their own slots are the same
 onto_stays : (cs : List (Slot × ℤ)) → AreCoefs cs → renamed_onto [] [] cs ≡ cs

@@ -3,11 +3,10 @@ use Rattle.std.specs.Prelude.{◌≡◌, ℕ, List, [], ◌∷◌, ◌++◌}
 use Rattle.ded_model.specs.declared.name.Column.{Column}
 use Rattle.ded_model.specs.declared.tuple.ThemeAtom.TheVariants.{EqText, NeText, EqSlot, NeSlot}
 use Rattle.ded_model.specs.declared.tuple.BothAtom.TheVariants.{First, Second}
-use Rattle.ded_model.specs.Cell.{HoldsSomewhere}
+use Rattle.ded_model.specs.Cell.{HoldsSomewhere, HoldsNowhere}
 use Rattle.ded_model.specs.Row.{Atom, tuple_holds}
 use Rattle.ded_model.specs.Width.{IsNarrowList}
 use Rattle.ded_print.specs.Tuples.{column_names, tuple_text}
-use Rattle.ded_theory.specs.Verdicts.{HoldsNowhere}
 use Rattle.ded_shapes.specs.Projections.{AreProjected}
 use Rattle.ded_figures.specs.Axes.{Axes}
 use Rattle.ded_figures.specs.Figure.{Figure}

@@ -1,5 +1,5 @@
 //! What there is to be drawn of each tuple.
-ghost use Rattle.std.specs.Prelude.{◌≡◌, ◌++◌, ◌∷◌, [], IfOk, OnOk};
+ghost use Rattle.std.specs.Prelude.{◌≡◌, [], IfOk, OnOk};
 ghost use Rattle.ded_print.specs.Tuples.{column_names, tuple_text};
 ghost use Rattle.ded_figures.specs.Sights.{label_of, IsSight, AddSights};
 ghost use Rattle.ded_model.specs.Catalogue.{tuples_of};

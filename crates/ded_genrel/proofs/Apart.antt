@@ -4,8 +4,7 @@ use Rattle.std.specs.Prelude.{pos, ◌<ℤ◌}
 use Rattle.std.proofs.lemmas.Int.{ints}
 use Rattle.ded_model.specs.declared.slot.Slot.{Slot}
 use Rattle.ded_model.specs.Point.{Point, IsPoint}
-use Rattle.ded_model.specs.Cell.{conj_holds}
-use Rattle.ded_theory.specs.Verdicts.{HoldsNowhere}
+use Rattle.ded_model.specs.Cell.{conj_holds, HoldsNowhere}
 use Rattle.ded_box.specs.Boxes.{AreValues, Shared}
 use Rattle.ded_box.proofs.Shares.{Box}
 use Rattle.ded_genrel.specs.Rounds.{values_at, IsRound}

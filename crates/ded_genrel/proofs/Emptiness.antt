@@ -1,5 +1,6 @@
 -- Whether a list holds somewhere, from what is answered of its conjunctions.
 use Rattle.std.proofs.Common.{sym, ap, ◌≡◌, Bool, false, ◌||◌, List, [], ◌∷◌, ◌++◌, inl, refl, ◌∙◌, Vec, Global, ℕ, ◌<◌, length, get_or, subst}
+use Rattle.ded_num.proofs.Tests.{or_neither_last}
 use Rattle.ded_model.specs.declared.slot.Slot.{Slot}
 use Rattle.ded_model.specs.Point.{Point}
 use Rattle.ded_model.specs.Cell.{conj_holds, HoldsSomewhere}
@@ -15,9 +16,6 @@ use Rattle.ded_genrel.proofs.Items.{conjs-any-at}
 use Rattle.ded_genrel.proofs.Laws.{conjs_hold-append}
 use Rattle.ded_genrel.proofs.Projected.{some-left, some-right}
 
-or_neither : (a b : Bool) → a ≡ false → b ≡ false → (a || (b || false)) ≡ false
-or_neither a b h k = rw (h, k) refl
-
 module _ {A : Type 0} (h : A → Point → Bool) (m : A → Slot → Bool) (l : A → List Line) where
   -- the empty list
   pub verdict_none : IsVerdictOn h m l [] Empty
@@ -25,7 +23,7 @@ module _ {A : Type 0} (h : A → Point → Bool) (m : A → Slot → Bool) (l : 
 
   -- one more conjunction that holds nowhere
   pub verdict_empty : (conjs : List (List A)) (c : List A) (v : Verdict) → IsVerdictOn h m l conjs v → IsVerdict h m l c Empty → IsVerdictOn h m l (conjs ++ c ∷ []) v
-  verdict_empty conjs c Empty k e = λ p i. conjs_hold-append h conjs (c ∷ []) p ∙ or_neither (conjs_hold h conjs p) (conj_holds h c p) (k p i) (e p i)
+  verdict_empty conjs c Empty k e = λ p i. conjs_hold-append h conjs (c ∷ []) p ∙ or_neither_last (conjs_hold h conjs p) (conj_holds h c p) (k p i) (e p i)
   verdict_empty conjs c Inhabited k e = (k.0, k.1, conjs_hold-append h conjs (c ∷ []) k.0 ∙ or_left (conjs_hold h conjs k.0) (conj_holds h c k.0 || false) k.2)
   verdict_empty conjs c Unknown k e = some-left (IsWide m l) conjs (c ∷ []) k
 

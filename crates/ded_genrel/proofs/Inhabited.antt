@@ -2,14 +2,14 @@
 use Rattle.std.proofs.Common.{◌≡◌, ◌≢◌, Bool, false, ◌||◌, List, [], ◌∷◌, ◌++◌, inl, inr, refl, sym, ap, ◌∙◌, subst}
 use Rattle.ded_model.specs.declared.slot.Slot.{Slot}
 use Rattle.ded_model.specs.Point.{Point}
-use Rattle.ded_model.specs.Cell.{conj_holds, HoldsSomewhere}
+use Rattle.ded_model.specs.Cell.{conj_holds, HoldsSomewhere, HoldsNowhere}
 use Rattle.ded_model.specs.Lines.{Line, IsSubset}
 use Rattle.ded_model.proofs.Rows.{or_left, or_right}
 use Rattle.ded_model.proofs.Members.{subset_append, subset_refl, In-left, or_split}
 use Rattle.ded_theory.specs.declared.answers.Verdict.{Verdict}
 use Rattle.ded_theory.specs.declared.answers.Verdict.TheVariants.{Empty, Inhabited, Unknown}
 use Rattle.ded_theory.specs.Conjunctions.{IsWide}
-use Rattle.ded_theory.specs.Verdicts.{IsVerdict, HoldsNowhere}
+use Rattle.ded_theory.specs.Verdicts.{IsVerdict}
 use Rattle.ded_genrel.specs.Lists.{conjs_hold, conjs_mention, conjs_lines}
 use Rattle.ded_genrel.specs.Operations.{IsInhabitedPart}
 use Rattle.ded_genrel.proofs.Items.{all-push}

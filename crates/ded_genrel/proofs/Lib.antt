@@ -6,3 +6,4 @@ pub mod Laws
 pub mod Projected
 pub mod Renamed
 pub mod Rounding
+pub mod OfAtoms

@@ -3,14 +3,13 @@ use Rattle.std.specs.Prelude.{◌≡◌, ◌<◌, ◌↔◌, Bool, true, false, 
 use Rattle.std.specs.List.{AllByRecursion}
 use Rattle.ded_model.specs.declared.slot.Slot.{Slot}
 use Rattle.ded_model.specs.Point.{Point, IsPoint, same_slot}
-use Rattle.ded_model.specs.Cell.{conj_holds, HoldsSomewhere}
+use Rattle.ded_model.specs.Cell.{conj_holds, HoldsSomewhere, HoldsNowhere}
 use Rattle.ded_model.specs.Lines.{Line, IsSubset, elim_at}
 use Rattle.ded_model.specs.Renaming.{renamed, IsRenamedPoint, mapped_lines}
 use Rattle.ded_theory.specs.declared.answers.Verdict.{Verdict}
 use Rattle.ded_theory.specs.declared.answers.Verdict.TheVariants.{Empty, Inhabited, Unknown}
 use Rattle.ded_theory.specs.Conjunctions.{conj_lines, IsWide}
 use Rattle.ded_theory.specs.Eliminations.{SomeExtension}
-use Rattle.ded_theory.specs.Verdicts.{HoldsNowhere}
 use Rattle.ded_genrel.specs.Lists.{conjs_hold, conjs_mention, conjs_lines, conjs_elim, SomeConj}
 
 -- the list holds at the points that pass the first test, mentions only slots that pass the second, and its lines are among those

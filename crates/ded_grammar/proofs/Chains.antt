@@ -1,6 +1,7 @@
 -- Chains, as a loop reads them.
-use Rattle.std.proofs.Common.{◌≡◌, ℕ, suc, ◌+◌, ◌-◌, ◌<◌, ◌≤◌, List, [], ◌∷◌, ◌++◌, refl, arith, ap, sym, ◌∙◌, append_assoc}
+use Rattle.std.proofs.Common.{◌≡◌, ℕ, ◌+◌, ◌-◌, ◌<◌, ◌≤◌, List, [], ◌∷◌, ◌++◌, refl, arith, ap, sym, ◌∙◌, append_assoc}
 use Rattle.std.specs.Prelude.{Option, Some, None, max}
+use Rattle.ded_num.proofs.Tests.{minus_step}
 use Rattle.ded_model.specs.Form.{Form}
 use Rattle.ded_grammar.specs.Trees.{TerminalForm}
 use Rattle.ded_grammar.specs.declared.fault.ReadFault.{ReadFault}
@@ -12,10 +13,6 @@ use Rattle.ded_grammar.specs.Building.{◌>>=◌, Found, Reader, Chain, onto, ch
 abbrev pub with_front : List Form → ℕ → Option Chain → Option Chain
 with_front fs n read = read >>= λ c. Some (fs ++ c.0, max n c.1, c.2)
 
--- one more member
-step : (l i : ℕ) → i < l → l - i ≡ suc (l - (i + 1))
-step l i h = omega (arith, h)
-
 join_front : (fs : List Form) (f : Form) (n a top : ℕ) (here : List TerminalForm) (o : Option Chain) → top ≡ max a n → with_front fs n (o >>= λ c. Some (onto (f, a, here) c)) ≡ with_front (fs ++ f ∷ []) top o
 join_front fs f n a top here None e = refl
 join_front fs f n a top here (Some c) e = ap (λ (l : List Form). Some (l, max n (max a c.1), c.2)) (sym (append_assoc fs (f ∷ []) c.0)) ∙ ap (λ (m : ℕ). Some ((fs ++ f ∷ []) ++ c.0, m, c.2)) (omega (arith, e))
@@ -23,14 +20,14 @@ join_front fs f n a top here (Some c) e = ap (λ (l : List Form). Some (l, max n
 pub chain_on : (read : Reader) (sign : List TerminalForm → Option (List TerminalForm)) (l i n a top : ℕ) (fs : List Form) (f : Form) (ps here after : List TerminalForm) (t : Option Chain) → i < l → read ps ≡ Some (f, a, here) → sign here ≡ Some after → top ≡ max a n → with_front fs n (chain read sign (l - i) ps) ≡ t → with_front (fs ++ f ∷ []) top (chain read sign (l - (i + 1)) after) ≡ t
 chain_on read sign l i n a top fs f ps here after t lt r s m inv =
     sym (join_front fs f n a top here (chain read sign (l - (i + 1)) after) m)
-    ∙ ap (with_front fs n) (sym (rw (step l i lt, r, s) refl))
+    ∙ ap (with_front fs n) (sym (rw (minus_step l i lt, r, s) refl))
     ∙ inv
 
 one_done : (read : Reader) (sign : List TerminalForm → Option (List TerminalForm)) (l i a : ℕ) (f : Form) (ps here : List TerminalForm) → i < l → read ps ≡ Some (f, a, here) → sign here ≡ None → chain read sign (l - i) ps ≡ Some (f ∷ [], a, here)
-one_done read sign l i a f ps here lt r s = rw (step l i lt, r, s) refl
+one_done read sign l i a f ps here lt r s = rw (minus_step l i lt, r, s) refl
 
 none_done : (read : Reader) (sign : List TerminalForm → Option (List TerminalForm)) (l i : ℕ) (ps : List TerminalForm) → i < l → read ps ≡ None → chain read sign (l - i) ps ≡ None
-none_done read sign l i ps lt r = rw (step l i lt, r) refl
+none_done read sign l i ps lt r = rw (minus_step l i lt, r) refl
 
 pub chain_done : (read : Reader) (sign : List TerminalForm → Option (List TerminalForm)) (l i n a top : ℕ) (fs : List Form) (f : Form) (ps here : List TerminalForm) (t : Option Chain) → i < l → read ps ≡ Some (f, a, here) → sign here ≡ None → top ≡ max a n → with_front fs n (chain read sign (l - i) ps) ≡ t → t ≡ Some (fs ++ f ∷ [], top, here)
 chain_done read sign l i n a top fs f ps here t lt r s m inv =

@@ -1,8 +1,7 @@
 -- What is scanned is spelled.
 use Rattle.std.proofs.Common.{◌≡◌, ℕ, zero, suc, true, List, [], ◌∷◌, ◌++◌, refl, sym, ap, subst, ◌∙◌, append_assoc, arith}
-use Rattle.std.specs.Prelude.{◌==◌}
-use Rattle.std.proofs.lemmas.Bool.Decides.{nat_tests}
 use Rattle.std.proofs.lemmas.List.{append-nil}
+use Rattle.ded_num.proofs.Tests.{is_zero}
 use Rattle.ded_grammar.specs.declared.scan.Spot.{Spot}
 use Rattle.ded_grammar.specs.declared.scan.Spot.TheVariants.{Start, Within, After}
 use Rattle.ded_grammar.specs.Trees.{TerminalForm, nay, conjunct, disjunct, arrow, opening, closing, binder, leaf, Whole, only, follows, Either, either_last, either_more, Both, both_last, both_more, One, negated, bound, grouped, plain, Body, bound_again, around, spell, spell_either, spell_both, spell_one, spell_body}
@@ -95,15 +94,12 @@ joins n sign ps put h (w, rest, e, r) u =
 closes : (n : ℕ) (w : Whole) (rest ps more : List TerminalForm) → ps ≡ spell w ++ rest → rest ≡ closing ∷ more → opening ∷ ps ≡ (opening ∷ spell w ++ closing ∷ []) ++ more
 closes n w rest ps more e f = ap (λ (l : List TerminalForm). opening ∷ l) (e ∙ ap (λ (l : List TerminalForm). spell w ++ l) f ∙ sym (append_assoc (spell w) (closing ∷ []) more))
 
-none_open : (n : ℕ) → (n == 0) ≡ true → n ≡ 0
-none_open n e = grind (arith, nat_tests)
-
 ended : (n : ℕ) → n ≡ 0 → Tail n []
 ended zero e u = (alone u, [], refl, refl)
 ended (suc n) e u = absurd (omega arith)
 
 pub sound : (s : Spot) (n : ℕ) (ps : List TerminalForm) → scan s n ps ≡ true → Missing s n ps
-sound After n [] h = ended n (none_open n h)
+sound After n [] h = ended n (is_zero n h)
 sound After n (conjunct ∷ ps) h = joins n conjunct ps and_whole spell_and (sound Start n ps h)
 sound After n (disjunct ∷ ps) h = joins n disjunct ps or_whole spell_or (sound Start n ps h)
 sound After n (arrow ∷ ps) h = joins n arrow ps arrow_whole (λ u w. refl) (sound Start n ps h)

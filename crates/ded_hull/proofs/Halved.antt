@@ -22,6 +22,7 @@ use Rattle.ded_hull.specs.Segments.{first_range, IsSegment, AreSegments, InOrder
 use Rattle.ded_hull.specs.Trees.{IsLeaf, IsFork, IsHalved, IsBalanced, AreNarrow, HullsJoined, looked_at, AreAlong, IsCost}
 use Rattle.ded_hull.proofs.Found.{ids_in-append}
 use Rattle.ded_ranges.proofs.Taken.{taken_more}
+use Rattle.ded_ranges.proofs.Widened.{hull-length}
 use Rattle.ded_hull.proofs.Middles.{floor_at, IsAside, aside_found, one_aside, aside_left, aside_right, every_moved, inorder-left, inorder-right, inorder-before, before_moved}
 
 -- ---- nodes that are passed over
@@ -201,11 +202,6 @@ some_weaker P Q [] w h = absurd h
 some_weaker P Q (e ∷ es) w (inl h) = inl (w e h)
 some_weaker P Q (e ∷ es) w (inr h) = inr (some_weaker P Q es w h)
 
-hull_length : (rs ss : List Range) → length (hull rs ss) ≡ length rs
-hull_length [] ss = refl
-hull_length (r ∷ rs) [] = ap (λ n. suc n) (hull_length rs [])
-hull_length (r ∷ rs) (s ∷ ss) = ap (λ n. suc n) (hull_length rs ss)
-
 hull_at : (rs ss : List Range) → length rs ≡ 1 → length ss ≡ 1 → range_at (hull rs ss) 0 ≡ joined (range_at rs 0) (range_at ss 0)
 hull_at [] ss e f = absurd (omega (arith, e))
 hull_at (r ∷ rs) [] e f = absurd (omega (arith, f))
@@ -213,7 +209,7 @@ hull_at (r ∷ rs) (s ∷ ss) e f = refl
 
 pub hulls_joined : (a b : List Range) (xs ys : List Entry) → IsHull a xs → IsHull b ys → IsHull (hull a b) (xs ++ ys)
 hulls_joined a b xs ys h k = record {
-  one = hull_length a b ∙ h.one;
+  one = hull-length a b ∙ h.one;
   low = elim (lower_one (range_at a 0).low (range_at b 0).low) [
     | inl e ↦ some-left (λ x. (first_range x).low ≡ (range_at (hull a b) 0).low) xs ys (some_weaker _ _ xs (λ x g. g ∙ sym (ap (λ (r : Range). r.low) at ∙ e)) h.low)
     | inr e ↦ some-right (λ x. (first_range x).low ≡ (range_at (hull a b) 0).low) xs ys (some_weaker _ _ ys (λ x g. g ∙ sym (ap (λ (r : Range). r.low) at ∙ e)) k.low)

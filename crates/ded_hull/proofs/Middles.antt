@@ -7,9 +7,11 @@ use Rattle.std.specs.Cmp.{IsStrictWeakOrder}
 use Rattle.std.specs.List.Sorted.{IsPermutation, IsSortedBy}
 use Rattle.std.proofs.lemmas.Int.{ints}
 use Rattle.std.proofs.lemmas.List.Sorted.{All-permutation, sorted_far}
+use Rattle.ded_num.proofs.Tests.{both}
 use Rattle.ded_model.specs.declared.row.RowOp.{RowOp}
 use Rattle.ded_model.specs.declared.row.RowOp.TheVariants.{Zero, AtMost, Below}
 use Rattle.ded_model.proofs.Lists.{Every, Some as SomeOf, every_all, all_every, every-left, every-right}
+use Rattle.ded_model.proofs.Points.{and_right, and_left}
 use Rattle.ded_ranges.specs.declared.reach.Range.{Range}
 use Rattle.ded_ranges.specs.declared.limit.Limit.{Limit}
 use Rattle.ded_hull.specs.declared.entry.Entry.{Entry}
@@ -21,7 +23,7 @@ use Rattle.ded_ranges.specs.Scaling.{of_le_true, le_self, commute, quotient_up_t
 use Rattle.ded_hull.specs.Segments.{first_range, IsSegment, AreSegments, middle_between, middle, middle_order, NotLater, InOrder, AreBefore, IsHull}
 use Rattle.ded_hull.specs.Trees.{AreAlong}
 use Rattle.ded_ranges.proofs.Ends.{part_self}
-use Rattle.ded_ranges.proofs.Sums.{and_both, and_first, and_second, may_hold_sound, may_hold_wider}
+use Rattle.ded_ranges.proofs.Sums.{may_hold_sound, may_hold_wider}
 
 -- ---- limits of one term: what they let through is told at one end
 
@@ -53,9 +55,9 @@ module _ (x m r : Range) (mixed : (a : ℤ) → (least_end a x ≡ least_end a m
   told P o a b (inr e) h k = ap P e ∙ k
 
   stand : (op : RowOp) (o n a i b j : Option ℤ) → (o ≡ a) ⊎ (o ≡ b) → (n ≡ i) ⊎ (n ≡ j) → may_stand op a i ≡ true → may_stand op b j ≡ true → may_stand op o n ≡ true
-  stand Zero o n a i b j e f h k = and_both (at_most_zero o) (at_most_zero n)
-      (told at_most_zero o a b e (and_first (at_most_zero a) (at_most_zero i) h) (and_first (at_most_zero b) (at_most_zero j) k))
-      (told at_most_zero n i j f (and_second (at_most_zero a) (at_most_zero i) h) (and_second (at_most_zero b) (at_most_zero j) k))
+  stand Zero o n a i b j e f h k = both (at_most_zero o) (at_most_zero n)
+      (told at_most_zero o a b e (and_left (at_most_zero a) (at_most_zero i) h) (and_left (at_most_zero b) (at_most_zero j) k))
+      (told at_most_zero n i j f (and_right (at_most_zero a) (at_most_zero i) h) (and_right (at_most_zero b) (at_most_zero j) k))
   stand AtMost o n a i b j e f h k = told at_most_zero o a b e h k
   stand Below o n a i b j e f h k = told below_zero o a b e h k
 
@@ -67,9 +69,9 @@ module _ (x m r : Range) (mixed : (a : ℤ) → (least_end a x ≡ least_end a m
 
   all_held : (ls : List Limit) → Every (λ l. length l.terms.items ≤ 1) ls → may_hold (m ∷ []) ls ≡ true → may_hold (r ∷ []) ls ≡ true → may_hold (x ∷ []) ls ≡ true
   all_held [] s h k = refl
-  all_held (l ∷ ls) s h k = and_both (may_meet (x ∷ []) l) (may_hold (x ∷ []) ls)
-      (one_met l s.0 (and_first (may_meet (m ∷ []) l) (may_hold (m ∷ []) ls) h) (and_first (may_meet (r ∷ []) l) (may_hold (r ∷ []) ls) k))
-      (all_held ls s.1 (and_second (may_meet (m ∷ []) l) (may_hold (m ∷ []) ls) h) (and_second (may_meet (r ∷ []) l) (may_hold (r ∷ []) ls) k))
+  all_held (l ∷ ls) s h k = both (may_meet (x ∷ []) l) (may_hold (x ∷ []) ls)
+      (one_met l s.0 (and_left (may_meet (m ∷ []) l) (may_hold (m ∷ []) ls) h) (and_left (may_meet (r ∷ []) l) (may_hold (r ∷ []) ls) k))
+      (all_held ls s.1 (and_right (may_meet (m ∷ []) l) (may_hold (m ∷ []) ls) h) (and_right (may_meet (r ∷ []) l) (may_hold (r ∷ []) ls) k))
 
 mixed_from : (u : ℤ) (r : Range) (a : ℤ) → (least_end a (from_unit u r) ≡ least_end a (unit_alone u)) ⊎ (least_end a (from_unit u r) ≡ least_end a r)
 mixed_from u r a = by (int_lt (pos 0) a)

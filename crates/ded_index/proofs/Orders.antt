@@ -10,6 +10,7 @@ use Rattle.std.specs.declared.cmp.Ordering.{Ordering}
 use Rattle.std.specs.declared.cmp.Ordering.TheVariants.{Less, Equal, Greater}
 use Rattle.std.specs.Ordering.{ordering_then, is_lt, MatchOrdering}
 use Rattle.std.specs.Cmp.{IsStrictWeakOrder}
+use Rattle.ded_num.proofs.Tests.{either_swapped}
 use Rattle.ded_model.specs.declared.row.RowOp.TheVariants.{AtMost, Below}
 use Rattle.ded_model.specs.declared.bound.Bound.{Bound}
 use Rattle.ded_model.specs.declared.bound.Bound.TheVariants.{Infinite, Excluded, Included}
@@ -100,10 +101,6 @@ either_at_most f g = let t = gap_turned lower f g in by_lt_z (pos 0) (gap g f) (
 either_below : (f g : Fraction) → Meets AtMost (gap g f) ⊎ Meets Below (gap f g)
 either_below f g = let t = gap_turned lower f g in by_lt_z (pos 0) (gap g f) (λ l. inr (omega (arith, ints))) (λ l. inl l)
 
-turned : {A B : Type 0} → A ⊎ B → B ⊎ A
-turned (inl a) = inr a
-turned (inr b) = inl b
-
 follows_either : (a b : Bound) → Follows a b ⊎ Follows b a
 follows_either Infinite Infinite = inl tt
 follows_either Infinite (Excluded g) = inr tt
@@ -112,7 +109,7 @@ follows_either (Excluded f) Infinite = inl tt
 follows_either (Excluded f) (Excluded g) = either_at_most f g
 follows_either (Excluded f) (Included g) = either_below f g
 follows_either (Included f) Infinite = inl tt
-follows_either (Included f) (Excluded g) = turned (either_below g f)
+follows_either (Included f) (Excluded g) = either_swapped (either_below g f)
 follows_either (Included f) (Included g) = either_at_most f g
 
 follows_chain : (a b c : Bound) → HasPositive a → HasPositive b → HasPositive c → Follows a b → Follows b c → Follows a c

@@ -33,13 +33,8 @@ boxes_first (i ∷ is) (j ∷ js) h = and_left (intervals_meet i j) (boxes_meet 
 abbrev pub IsFar : Box → Entry → Type 0
 IsFar w e = intervals_meet (first_of e.bounds) (first_of w) ≡ false
 
-far_ids : (w : Box) (es : List Entry) → AllByRecursion (IsFar w) es → ids_in w es ≡ []
-far_ids w [] h = refl
-far_ids w (e ∷ es) h =
-    ap (λ b. cond b (e.id ∷ ids_in w es) (ids_in w es)) (false_from_ne_true (boxes_meet e.bounds w) (λ m. true≢false (sym (boxes_first e.bounds w m) ∙ h.0))) ∙ far_ids w es h.1
-
 pub far_found : (w : Box) (es : List Entry) → AllByRecursion (IsFar w) es → ids_in w es ≡ []
-far_found = far_ids
+far_found = far_found
 
 -- ---- ends
 
@@ -62,7 +57,7 @@ module _ (w : Box) where
 
   -- a range whose greatest end is before the window
   pub dead_found : (es : List Entry) (b : Bound) → AreIntervals w → IsGreatest es b → may_meet (first_of w).0 b ≡ false → ids_in w es ≡ []
-  dead_found es b iw g h = far_ids w es (all-weaker (EndsBy b) (IsFar w) es
+  dead_found es b iw g h = far_found w es (all-weaker (EndsBy b) (IsFar w) es
       (λ e f. far_behind e (false_from_ne_true (may_meet (first_of w).0 (high e)) (λ m. true≢false (sym (f (first_of w).0 (low-positive w iw) m) ∙ h)))) g.upper)
 
   near_one : (e : Entry) → intervals_meet (first_of e.bounds) (first_of w) ≡ true → (es : List Entry) → near_first w (e ∷ es) ≡ 1 + near_first w es

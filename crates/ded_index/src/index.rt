@@ -27,7 +27,7 @@ pub struct BoxIndex {
 impl Model for BoxIndex {
     ghost use Rattle.std.specs.Prelude.{List, ◌++◌};
     ghost use Rattle.ded_index.specs.declared.entry.Entry.{Entry};
-    ghost use Rattle.ded_index.specs.Trees.{entries_of, IsTree, AreApart, IsIndex};
+    ghost use Rattle.ded_index.specs.Trees.{entries_of, AreApart, IsIndex};
 
     ghost Value = { List Entry };
 

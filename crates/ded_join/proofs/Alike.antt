@@ -15,6 +15,8 @@ use Rattle.ded_complement.specs.Pieces.{IsAlike}
 use Rattle.ded_complement.proofs.PieceLaws.{among_front, among_both, among_self, among_trans, all_among_slots, all_among_lines}
 use Rattle.ded_join.specs.Merged.{IsWithin, IsWithinList, AreAlike, AreLeft}
 use Rattle.std.proofs.Math.Bool.{or-false}
+use Rattle.ded_num.proofs.Tests.{or_swap}
+use Rattle.ded_model.proofs.Bools.{or_known}
 
 -- ---- tests
 
@@ -22,23 +24,11 @@ and_within : (a b : Bool) → (a ≡ true → b ≡ true) → a ≡ (a && b)
 and_within true b k = sym (k refl)
 and_within false b k = refl
 
-or_within : (a b : Bool) → (b ≡ true → a ≡ true) → a ≡ (a || b)
-or_within true b k = refl
-or_within false true k = k refl
-or_within false false k = refl
-
 or_absorbed : (d a c : Bool) → (d ≡ true → c ≡ true) → ((a || d) || c) ≡ (a || c)
 or_absorbed true true c k = refl
 or_absorbed true false c k = sym (k refl)
 or_absorbed false true c k = refl
 or_absorbed false false c k = refl
-
-or_swap : (a d c : Bool) → ((a || d) || c) ≡ ((a || c) || d)
-or_swap true d c = refl
-or_swap false true true = refl
-or_swap false true false = refl
-or_swap false false true = refl
-or_swap false false false = refl
 
 module _ {A : Type 0} (h : A → Point → Bool) where
   -- ---- conjunctions
@@ -107,7 +97,7 @@ module _ {A : Type 0} (h : A → Point → Bool) (m : A → Slot → Bool) (l : 
   -- one that lies within the others
   pub list_within : (cs : List (List A)) (c : List A) → IsWithinList h c cs → AreAlike h m l (cs ++ c ∷ []) cs
   list_within cs c k = record {
-    holds = λ p i. or_within (conjs_hold h cs p) (conjs_hold h (c ∷ []) p) (λ e. k p i (sym (or-false (conj_holds h c p)) ∙ e)) ∙ sym (conjs_hold-append h cs (c ∷ []) p);
+    holds = λ p i. or_known (conjs_hold h cs p) (conjs_hold h (c ∷ []) p) (λ e. k p i (sym (or-false (conj_holds h c p)) ∙ e)) ∙ sym (conjs_hold-append h cs (c ∷ []) p);
     slots = mentions_front cs cs (c ∷ []) (λ s e. e);
     lines = lines_front cs cs (c ∷ []) (subset_refl _);
   }

@@ -2,9 +2,10 @@
 --
 -- What a list of some of the pairs mentions, and its lines, are those of all pairs. At a point where a pair holds, the values
 -- at the slots lie in the boxes of both conjunctions, so the boxes share them and the pair was picked.
-use Rattle.std.proofs.Common.{◌≡◌, ℕ, zero, suc, ◌+◌, ◌<◌, Bool, true, false, ◌&&◌, List, [], ◌∷◌, ◌++◌, Vec, Global, length, take, get_or, ◌⊎◌, inl, inr, arith, refl, sym, ap, ◌∙◌, subst, true≢false, add-one}
+use Rattle.std.proofs.Common.{◌≡◌, ℕ, zero, suc, ◌+◌, ◌<◌, Bool, true, ◌&&◌, List, [], ◌∷◌, ◌++◌, Vec, Global, length, take, get_or, ◌⊎◌, inl, inr, arith, refl, sym, ap, ◌∙◌, subst, true≢false, add-one}
 use Rattle.std.proofs.Math.Seq.{take-suc}
 use Rattle.std.specs.List.{AllByRecursion, Contains, list_any}
+use Rattle.ded_num.proofs.Tests.{same_tests}
 use Rattle.ded_model.specs.declared.slot.Slot.{Slot}
 use Rattle.ded_model.specs.Point.{Point, IsPoint}
 use Rattle.ded_model.specs.Cell.{conj_holds}
@@ -57,11 +58,6 @@ lines_of : {A : Type 0} (lines : A → List Line) (l : Line) (all xs : List (Lis
 lines_of lines l all [] h i = absurd i
 lines_of lines l all (x ∷ xs) h i = elim (In-split l (conj_lines lines x) (conjs_lines lines xs) i) [ inl a ↦ lines_among lines l x all h.0 a | inr b ↦ lines_of lines l all xs h.1 b ]
 
-same_test : (a b : Bool) → (a ≡ true → b ≡ true) → (b ≡ true → a ≡ true) → a ≡ b
-same_test true b h k = sym (h refl)
-same_test false true h k = k refl
-same_test false false h k = refl
-
 -- some of the conjunctions, which hold where all of them do
 pub record IsPart {A : Type 0} (h : A → Point → Bool) (all out : List (List A)) : Type 0 where
   pub among : AllByRecursion (λ c. Among c all) out
@@ -87,7 +83,7 @@ part-append h all more out added x y = record {
 pub part_meets : {A : Type 0} (h : A → Point → Bool) (m : A → Slot → Bool) (l : A → List Line) (xs ys out : List (List A)) → IsPart h (pairs xs ys) out → IsMeet h m l xs ys out
 part_meets h m l xs ys out x =
     let all = meet_is h m l xs ys (pairs xs ys) refl in record {
-      holds = λ p i. same_test (conjs_hold h out p) (conjs_hold h (pairs xs ys) p) (λ t. any_of (λ c. conj_holds h c p) (pairs xs ys) out x.among t) (x.holds p i) ∙ all.holds p i;
+      holds = λ p i. same_tests (conjs_hold h out p) (conjs_hold h (pairs xs ys) p) (λ t. any_of (λ c. conj_holds h c p) (pairs xs ys) out x.among t) (x.holds p i) ∙ all.holds p i;
       slots = λ s k. all.slots s (any_of (λ c. conj_mentions m c s) (pairs xs ys) out x.among k);
       lines = λ k i. all.lines k (lines_of l k (pairs xs ys) out x.among i);
     }

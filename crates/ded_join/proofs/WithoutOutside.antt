@@ -1,6 +1,7 @@
 -- A list without what is outside of another is the meet of both, and has no more conjunctions than there are cells.
-use Rattle.std.proofs.Common.{◌≡◌, ℤ, length, Bool, true, false, not, ◌&&◌, ◌||◌, List, [], ◌∷◌, ◌++◌, inl, inr, refl, ap, ◌∙◌}
+use Rattle.std.proofs.Common.{ℤ, length, Bool, not, ◌&&◌, ◌||◌, List, [], ◌∷◌, ◌++◌, inl, inr, ap, ◌∙◌}
 use Rattle.std.specs.List.{AllByRecursion}
+use Rattle.ded_num.proofs.Tests.{not_twice}
 use Rattle.ded_model.specs.declared.slot.Slot.{Slot}
 use Rattle.ded_model.specs.Lines.{Line}
 use Rattle.ded_model.specs.Point.{Point}
@@ -14,16 +15,12 @@ use Rattle.ded_complement.specs.Pieces.{all_atoms, IsListForEach, IsMadeOf}
 use Rattle.ded_complement.proofs.PieceLaws.{among_front, among_back, among_self, made_append, made_among, made_trans, made_all, made_wide}
 use Rattle.ded_complement.proofs.Cells.{cells_grow}
 
-not-twice : (b : Bool) → not (not b) ≡ b
-not-twice true = refl
-not-twice false = refl
-
 pub without_outside_is : {A : Type 0} (h : A → Point → Bool) (m : A → Slot → Bool) (l : A → List Line) (xs ys outside out : List (List A))
     → IsOperation h m l (λ p. not (conjs_hold h ys p)) (conjs_mention m ys) (conjs_lines l ys) outside
     → IsOperation h m l (λ p. conjs_hold h xs p && not (conjs_hold h outside p)) (λ s. conjs_mention m xs s || conjs_mention m outside s) (conjs_lines l xs ++ conjs_lines l outside) out
     → IsMeet h m l xs ys out
 without_outside_is h m l xs ys outside out o w = record {
-  holds = λ p i. w.holds p i ∙ ap (λ b. conjs_hold h xs p && not b) (o.holds p i) ∙ ap (λ b. conjs_hold h xs p && b) (not-twice (conjs_hold h ys p));
+  holds = λ p i. w.holds p i ∙ ap (λ b. conjs_hold h xs p && not b) (o.holds p i) ∙ ap (λ b. conjs_hold h xs p && b) (not_twice (conjs_hold h ys p));
   slots = λ s e. elim (or_split (conjs_mention m xs s) (conjs_mention m outside s) (w.slots s e)) [
     | inl x ↦ or_left (conjs_mention m xs s) (conjs_mention m ys s) x
     | inr y ↦ or_right (conjs_mention m xs s) (conjs_mention m ys s) (o.slots s y)

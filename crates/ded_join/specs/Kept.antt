@@ -2,10 +2,9 @@
 use Rattle.std.specs.Prelude.{◌≡◌, ◌⊎◌, ◌+◌, ◌-◌, ◌<◌, ◌^◌, ℕ, Bool, List, [], ◌∷◌, min, length}
 use Rattle.ded_model.specs.declared.slot.Slot.{Slot}
 use Rattle.ded_model.specs.Point.{Point}
-use Rattle.ded_model.specs.Cell.{conj_holds, HoldsSomewhere}
+use Rattle.ded_model.specs.Cell.{conj_holds, HoldsSomewhere, HoldsNowhere}
 use Rattle.ded_model.specs.Lines.{Line}
 use Rattle.ded_theory.specs.Conjunctions.{IsWide}
-use Rattle.ded_theory.specs.Verdicts.{HoldsNowhere}
 use Rattle.ded_genrel.specs.Operations.{IsMeet}
 use Rattle.ded_join.specs.Near.{AreNearPairs, AreAllPairs}
 

@@ -12,9 +12,11 @@ use Rattle.ded_model.proofs.Bools.{or_known, or_assoc}
 use Rattle.ded_model.proofs.Members.{In-left, or_split, subset_append, subset_refl}
 use Rattle.ded_model.proofs.Points.{and_right}
 use Rattle.ded_model.proofs.Rows.{or_left, or_right}
+use Rattle.ded_model.proofs.TupleLists.{none_hold, tuples_hold-push, tuples_lines-push}
+use Rattle.ded_model.proofs.SlotLists.{tuples_mention-push}
 use Rattle.ded_ranges.proofs.Taken.{taken_more}
 use Rattle.ded_keep.specs.Behind.{IsPartOf, IsCovered, IsPutBehind}
-use Rattle.ded_keep.proofs.Appended.{tuples_hold-append, tuples_mention-append, tuples_lines-append}
+use Rattle.ded_keep.proofs.Appended.{tuples_hold-append}
 
 -- ---- one tuple more
 
@@ -25,20 +27,6 @@ single_holds t p = or-false (tuple_holds t p)
 single_mentions : (t : List Atom) (s : Slot) → tuples_mention (t ∷ []) s ≡ tuple_mentions t s
 unfolding tuples_mention
 single_mentions t s = or-false (tuple_mentions t s)
-
-pub hold-push : (ts : List (List Atom)) (t : List Atom) (p : Point) → tuples_hold (ts ++ t ∷ []) p ≡ (tuples_hold ts p || tuple_holds t p)
-hold-push ts t p = tuples_hold-append ts (t ∷ []) p ∙ ap (λ b. tuples_hold ts p || b) (single_holds t p)
-
-pub mention-push : (ts : List (List Atom)) (t : List Atom) (s : Slot) → tuples_mention (ts ++ t ∷ []) s ≡ (tuples_mention ts s || tuple_mentions t s)
-mention-push ts t s = tuples_mention-append ts (t ∷ []) s ∙ ap (λ b. tuples_mention ts s || b) (single_mentions t s)
-
-pub lines-push : (ts : List (List Atom)) (t : List Atom) → tuples_lines (ts ++ t ∷ []) ≡ tuples_lines ts ++ atoms_lines t
-lines-push ts t = tuples_lines-append ts (t ∷ []) ∙ ap (λ ls. tuples_lines ts ++ ls) (append-nil (atoms_lines t))
-
--- no tuple holds nowhere and mentions nothing
-pub none_hold : (p : Point) → tuples_hold [] p ≡ false
-unfolding tuples_hold
-none_hold p = refl
 
 pub none_mention : (s : Slot) → tuples_mention [] s ≡ false
 unfolding tuples_mention
@@ -79,14 +67,14 @@ behind_more list done now new t e k = record {
   rest = k.rest ++ t ∷ [];
   is = e ∙ ap (λ xs. xs ++ t ∷ []) k.is ∙ append_assoc list k.rest (t ∷ []);
   holds = λ p i.
-      ap (λ ts. tuples_hold ts p) e ∙ hold-push now t p ∙ ap (λ b. b || tuple_holds t p) (k.holds p i)
-      ∙ or_assoc (tuples_hold list p) (tuples_hold done p) (tuple_holds t p) ∙ ap (λ b. tuples_hold list p || b) (sym (hold-push done t p));
-  slots = λ s u. mention-push done t s ∙ elim (or_split _ _ (sym (mention-push k.rest t s) ∙ u)) [
+      ap (λ ts. tuples_hold ts p) e ∙ tuples_hold-push now t p ∙ ap (λ b. b || tuple_holds t p) (k.holds p i)
+      ∙ or_assoc (tuples_hold list p) (tuples_hold done p) (tuple_holds t p) ∙ ap (λ b. tuples_hold list p || b) (sym (tuples_hold-push done t p));
+  slots = λ s u. tuples_mention-push done t s ∙ elim (or_split _ _ (sym (tuples_mention-push k.rest t s) ∙ u)) [
     | inl a ↦ or_left _ _ (k.slots s a)
     | inr b ↦ or_right (tuples_mention done s) _ b
   ];
-  lines = subst (λ ls. IsSubset ls (tuples_lines (done ++ t ∷ []))) (sym (lines-push k.rest t))
-      (subst (IsSubset (tuples_lines k.rest ++ atoms_lines t)) (sym (lines-push done t)) (subset_append _ _ _ _ k.lines (subset_refl (atoms_lines t))));
+  lines = subst (λ ls. IsSubset ls (tuples_lines (done ++ t ∷ []))) (sym (tuples_lines-push k.rest t))
+      (subst (IsSubset (tuples_lines k.rest ++ atoms_lines t)) (sym (tuples_lines-push done t)) (subset_append _ _ _ _ k.lines (subset_refl (atoms_lines t))));
   normal = λ h. all-more IsNormalTuple k.rest t (k.normal (all-front IsNormalTuple done t h)) (all-last IsNormalTuple done t h);
 }
 
@@ -96,9 +84,9 @@ behind_covered list done now t c k = record {
   is = k.is;
   holds = λ p i.
       or_known (tuples_hold now p) (tuple_holds t p) (c p i) ∙ ap (λ b. b || tuple_holds t p) (k.holds p i)
-      ∙ or_assoc (tuples_hold list p) (tuples_hold done p) (tuple_holds t p) ∙ ap (λ b. tuples_hold list p || b) (sym (hold-push done t p));
-  slots = λ s u. mention-push done t s ∙ or_left _ _ (k.slots s u);
-  lines = λ l i. subst (λ ls. In l ls) (sym (lines-push done t)) (In-left l (tuples_lines done) (atoms_lines t) (k.lines l i));
+      ∙ or_assoc (tuples_hold list p) (tuples_hold done p) (tuple_holds t p) ∙ ap (λ b. tuples_hold list p || b) (sym (tuples_hold-push done t p));
+  slots = λ s u. tuples_mention-push done t s ∙ or_left _ _ (k.slots s u);
+  lines = λ l i. subst (λ ls. In l ls) (sym (tuples_lines-push done t)) (In-left l (tuples_lines done) (atoms_lines t) (k.lines l i));
   normal = λ h. k.normal (all-front IsNormalTuple done t h);
 }
 

@@ -6,6 +6,7 @@ use Rattle.std.proofs.Common.{◌≡◌, Bool, true, false, ◌||◌, ◌&&◌, 
 use Rattle.std.specs.Prelude.{◌↔◌, IsTrue}
 use Rattle.std.specs.List.{AllByRecursion}
 use Rattle.std.proofs.Math.Bool.{and-false}
+use Rattle.ded_num.proofs.Tests.{or_swap}
 use Rattle.ded_model.specs.Catalogue.{Catalogue, GivenHolds}
 use Rattle.ded_model.specs.Lines.{In, atoms_lines, tuples_lines}
 use Rattle.ded_model.specs.Measure.{stored_measures, plan_lines}
@@ -17,20 +18,15 @@ use Rattle.ded_model.proofs.Members.{In-left, In-right, In-split, or_split, subs
 use Rattle.ded_model.proofs.Points.{and_left, and_right}
 use Rattle.ded_model.proofs.Rows.{or_left, or_right}
 use Rattle.ded_model.proofs.Bools.{or_assoc}
+use Rattle.ded_model.proofs.TupleLists.{none_hold, tuples_hold-push, tuples_lines-push}
+use Rattle.ded_model.proofs.SlotLists.{tuples_mention-push}
 use Rattle.ded_algebra.specs.Evaluation.{IsEvaluation, IsEvaluationWithin, IsOfBoth}
 use Rattle.ded_keep.specs.Behind.{IsPutBehind}
 use Rattle.ded_keep.specs.Remaining.{IsApart, AreApart, IsParted, AreOfBoth, IsWithin, AreJoined, AddsWithin, AreLeft, IsRemaining}
 use Rattle.ded_keep.proofs.Appended.{tuples_hold-append, tuples_mention-append, tuples_lines-append}
-use Rattle.ded_keep.proofs.Covered.{hold-push, mention-push, lines-push, none_hold, none_mention, all-more, all-front, all-last, all-both}
+use Rattle.ded_keep.proofs.Covered.{none_mention, all-more, all-front, all-last, all-both}
 
 -- ---- parted tuples
-
-or_swap : (a n t : Bool) → ((a || n) || t) ≡ ((a || t) || n)
-or_swap true n t = refl
-or_swap false true true = refl
-or_swap false true false = refl
-or_swap false false true = refl
-or_swap false false false = refl
 
 pub parted_none : (lost : List (List Atom)) → IsParted lost [] [] []
 unfolding tuples_hold tuples_mention
@@ -39,18 +35,18 @@ parted_none lost = record { holds = λ p. refl; apart = λ p i h. absurd (true�
 pub parted_apart : (lost kept apart near new : List (List Atom)) (t : List Atom) → new ≡ apart ++ t ∷ [] → IsApart t lost → IsParted lost kept apart near → IsParted lost (kept ++ t ∷ []) new near
 parted_apart lost kept apart near new t e a k = record {
   holds = λ p.
-      hold-push kept t p ∙ ap (λ b. b || tuple_holds t p) (k.holds p) ∙ or_swap (tuples_hold apart p) (tuples_hold near p) (tuple_holds t p)
-      ∙ ap (λ b. b || tuples_hold near p) (sym (ap (λ ts. tuples_hold ts p) e ∙ hold-push apart t p));
-  apart = λ p i h. elim (or_split _ _ (sym (ap (λ ts. tuples_hold ts p) e ∙ hold-push apart t p) ∙ h)) [ inl x ↦ k.apart p i x | inr x ↦ a p i x ];
-  slots = λ s u. mention-push kept t s ∙ elim (or_split _ _ u) [
-    | inl x ↦ elim (or_split _ _ (sym (ap (λ ts. tuples_mention ts s) e ∙ mention-push apart t s) ∙ x)) [
+      tuples_hold-push kept t p ∙ ap (λ b. b || tuple_holds t p) (k.holds p) ∙ or_swap (tuples_hold apart p) (tuples_hold near p) (tuple_holds t p)
+      ∙ ap (λ b. b || tuples_hold near p) (sym (ap (λ ts. tuples_hold ts p) e ∙ tuples_hold-push apart t p));
+  apart = λ p i h. elim (or_split _ _ (sym (ap (λ ts. tuples_hold ts p) e ∙ tuples_hold-push apart t p) ∙ h)) [ inl x ↦ k.apart p i x | inr x ↦ a p i x ];
+  slots = λ s u. tuples_mention-push kept t s ∙ elim (or_split _ _ u) [
+    | inl x ↦ elim (or_split _ _ (sym (ap (λ ts. tuples_mention ts s) e ∙ tuples_mention-push apart t s) ∙ x)) [
       | inl y ↦ or_left _ _ (k.slots s (or_left _ _ y))
       | inr y ↦ or_right (tuples_mention kept s) _ y
     ]
     | inr x ↦ or_left _ _ (k.slots s (or_right (tuples_mention apart s) _ x))
   ];
-  lines = λ l i. subst (In l) (sym (lines-push kept t)) (elim (In-split l (tuples_lines new) (tuples_lines near) i) [
-    | inl x ↦ elim (In-split l (tuples_lines apart) (atoms_lines t) (subst (In l) (ap tuples_lines e ∙ lines-push apart t) x)) [
+  lines = λ l i. subst (In l) (sym (tuples_lines-push kept t)) (elim (In-split l (tuples_lines new) (tuples_lines near) i) [
+    | inl x ↦ elim (In-split l (tuples_lines apart) (atoms_lines t) (subst (In l) (ap tuples_lines e ∙ tuples_lines-push apart t) x)) [
       | inl y ↦ In-left l _ _ (k.lines l (In-left l _ _ y))
       | inr y ↦ In-right l (tuples_lines kept) _ y
     ]
@@ -62,19 +58,19 @@ parted_apart lost kept apart near new t e a k = record {
 pub parted_near : (lost kept apart near new : List (List Atom)) (t : List Atom) → new ≡ near ++ t ∷ [] → IsParted lost kept apart near → IsParted lost (kept ++ t ∷ []) apart new
 parted_near lost kept apart near new t e k = record {
   holds = λ p.
-      hold-push kept t p ∙ ap (λ b. b || tuple_holds t p) (k.holds p) ∙ or_assoc (tuples_hold apart p) (tuples_hold near p) (tuple_holds t p)
-      ∙ ap (λ b. tuples_hold apart p || b) (sym (ap (λ ts. tuples_hold ts p) e ∙ hold-push near t p));
+      tuples_hold-push kept t p ∙ ap (λ b. b || tuple_holds t p) (k.holds p) ∙ or_assoc (tuples_hold apart p) (tuples_hold near p) (tuple_holds t p)
+      ∙ ap (λ b. tuples_hold apart p || b) (sym (ap (λ ts. tuples_hold ts p) e ∙ tuples_hold-push near t p));
   apart = k.apart;
-  slots = λ s u. mention-push kept t s ∙ elim (or_split _ _ u) [
+  slots = λ s u. tuples_mention-push kept t s ∙ elim (or_split _ _ u) [
     | inl x ↦ or_left _ _ (k.slots s (or_left _ _ x))
-    | inr x ↦ elim (or_split _ _ (sym (ap (λ ts. tuples_mention ts s) e ∙ mention-push near t s) ∙ x)) [
+    | inr x ↦ elim (or_split _ _ (sym (ap (λ ts. tuples_mention ts s) e ∙ tuples_mention-push near t s) ∙ x)) [
       | inl y ↦ or_left _ _ (k.slots s (or_right (tuples_mention apart s) _ y))
       | inr y ↦ or_right (tuples_mention kept s) _ y
     ]
   ];
-  lines = λ l i. subst (In l) (sym (lines-push kept t)) (elim (In-split l (tuples_lines apart) (tuples_lines new) i) [
+  lines = λ l i. subst (In l) (sym (tuples_lines-push kept t)) (elim (In-split l (tuples_lines apart) (tuples_lines new) i) [
     | inl x ↦ In-left l _ _ (k.lines l (In-left l _ _ x))
-    | inr x ↦ elim (In-split l (tuples_lines near) (atoms_lines t) (subst (In l) (ap tuples_lines e ∙ lines-push near t) x)) [
+    | inr x ↦ elim (In-split l (tuples_lines near) (atoms_lines t) (subst (In l) (ap tuples_lines e ∙ tuples_lines-push near t) x)) [
       | inl y ↦ In-left l _ _ (k.lines l (In-right l (tuples_lines apart) _ y))
       | inr y ↦ In-right l (tuples_lines kept) _ y
     ]
@@ -88,7 +84,7 @@ pub apart_none : (t : List Atom) → IsApart t []
 apart_none t = λ p i h. none_hold p
 
 pub apart_more : (t : List Atom) (lost : List (List Atom)) (u : List Atom) → ((p : Point) → IsPoint p → (tuple_holds t p && tuple_holds u p) ≡ false) → IsApart t lost → IsApart t (lost ++ u ∷ [])
-apart_more t lost u k a = λ p i h. hold-push lost u p ∙ ap₂ (λ x y. x || y) (a p i h) (second (tuple_holds t p) (tuple_holds u p) h (k p i))
+apart_more t lost u k a = λ p i h. tuples_hold-push lost u p ∙ ap₂ (λ x y. x || y) (a p i h) (second (tuple_holds t p) (tuple_holds u p) h (k p i))
   where
     second : (x y : Bool) → x ≡ true → (x && y) ≡ false → y ≡ false
     second true y h k = k
@@ -111,26 +107,26 @@ or_of_both false a b = refl
 pub pieces_more : (t : List Atom) (done ts new : List (List Atom)) (u v : List Atom) → new ≡ ts ++ v ∷ [] → IsOfBoth t u v → AreOfBoth t done ts → AreOfBoth t (done ++ u ∷ []) new
 pieces_more t done ts new u v e b k = record {
   holds = λ p i.
-      ap (λ xs. tuples_hold xs p) e ∙ hold-push ts v p ∙ ap₂ (λ x y. x || y) (k.holds p i) (b.holds p i)
-      ∙ or_of_both (tuple_holds t p) (tuples_hold done p) (tuple_holds u p) ∙ ap (λ y. tuple_holds t p && y) (sym (hold-push done u p));
-  slots = λ s h. elim (or_split _ _ (sym (ap (λ xs. tuples_mention xs s) e ∙ mention-push ts v s) ∙ h)) [
+      ap (λ xs. tuples_hold xs p) e ∙ tuples_hold-push ts v p ∙ ap₂ (λ x y. x || y) (k.holds p i) (b.holds p i)
+      ∙ or_of_both (tuple_holds t p) (tuples_hold done p) (tuple_holds u p) ∙ ap (λ y. tuple_holds t p && y) (sym (tuples_hold-push done u p));
+  slots = λ s h. elim (or_split _ _ (sym (ap (λ xs. tuples_mention xs s) e ∙ tuples_mention-push ts v s) ∙ h)) [
     | inl x ↦ elim (or_split (tuple_mentions t s) (tuples_mention done s) (k.slots s x)) [
       | inl y ↦ or_left (tuple_mentions t s) (tuples_mention (done ++ u ∷ []) s) y
-      | inr y ↦ or_right (tuple_mentions t s) (tuples_mention (done ++ u ∷ []) s) (mention-push done u s ∙ or_left (tuples_mention done s) (tuple_mentions u s) y)
+      | inr y ↦ or_right (tuple_mentions t s) (tuples_mention (done ++ u ∷ []) s) (tuples_mention-push done u s ∙ or_left (tuples_mention done s) (tuple_mentions u s) y)
     ]
     | inr x ↦ elim (or_split (tuple_mentions t s) (tuple_mentions u s) (b.slots s x)) [
       | inl y ↦ or_left (tuple_mentions t s) (tuples_mention (done ++ u ∷ []) s) y
-      | inr y ↦ or_right (tuple_mentions t s) (tuples_mention (done ++ u ∷ []) s) (mention-push done u s ∙ or_right (tuples_mention done s) (tuple_mentions u s) y)
+      | inr y ↦ or_right (tuple_mentions t s) (tuples_mention (done ++ u ∷ []) s) (tuples_mention-push done u s ∙ or_right (tuples_mention done s) (tuple_mentions u s) y)
     ]
   ];
-  lines = λ l i. elim (In-split l (tuples_lines ts) (atoms_lines v) (subst (In l) (ap tuples_lines e ∙ lines-push ts v) i)) [
+  lines = λ l i. elim (In-split l (tuples_lines ts) (atoms_lines v) (subst (In l) (ap tuples_lines e ∙ tuples_lines-push ts v) i)) [
     | inl x ↦ elim (In-split l (atoms_lines t) (tuples_lines done) (k.lines l x)) [
       | inl y ↦ In-left l _ _ y
-      | inr y ↦ In-right l (atoms_lines t) _ (subst (In l) (sym (lines-push done u)) (In-left l _ _ y))
+      | inr y ↦ In-right l (atoms_lines t) _ (subst (In l) (sym (tuples_lines-push done u)) (In-left l _ _ y))
     ]
     | inr x ↦ elim (In-split l (atoms_lines t) (atoms_lines u) (b.lines l x)) [
       | inl y ↦ In-left l _ _ y
-      | inr y ↦ In-right l (atoms_lines t) _ (subst (In l) (sym (lines-push done u)) (In-right l (tuples_lines done) _ y))
+      | inr y ↦ In-right l (atoms_lines t) _ (subst (In l) (sym (tuples_lines-push done u)) (In-right l (tuples_lines done) _ y))
     ]
   ];
   normal = subst (AllByRecursion IsNormalTuple) (sym e) (all-more IsNormalTuple ts v k.normal b.normal);
@@ -140,14 +136,14 @@ pub pieces_skip : (t : List Atom) (done ts : List (List Atom)) (u : List Atom) �
 pieces_skip t done ts u n k = record {
   holds = λ p i.
       k.holds p i ∙ or_false_with (tuple_holds t p && tuples_hold done p) (tuple_holds t p && tuple_holds u p) (n p i)
-      ∙ or_of_both (tuple_holds t p) (tuples_hold done p) (tuple_holds u p) ∙ ap (λ y. tuple_holds t p && y) (sym (hold-push done u p));
+      ∙ or_of_both (tuple_holds t p) (tuples_hold done p) (tuple_holds u p) ∙ ap (λ y. tuple_holds t p && y) (sym (tuples_hold-push done u p));
   slots = λ s h. elim (or_split (tuple_mentions t s) (tuples_mention done s) (k.slots s h)) [
     | inl y ↦ or_left (tuple_mentions t s) (tuples_mention (done ++ u ∷ []) s) y
-    | inr y ↦ or_right (tuple_mentions t s) (tuples_mention (done ++ u ∷ []) s) (mention-push done u s ∙ or_left (tuples_mention done s) (tuple_mentions u s) y)
+    | inr y ↦ or_right (tuple_mentions t s) (tuples_mention (done ++ u ∷ []) s) (tuples_mention-push done u s ∙ or_left (tuples_mention done s) (tuple_mentions u s) y)
   ];
   lines = λ l i. elim (In-split l (atoms_lines t) (tuples_lines done) (k.lines l i)) [
     | inl y ↦ In-left l _ _ y
-    | inr y ↦ In-right l (atoms_lines t) _ (subst (In l) (sym (lines-push done u)) (In-left l _ _ y))
+    | inr y ↦ In-right l (atoms_lines t) _ (subst (In l) (sym (tuples_lines-push done u)) (In-left l _ _ y))
   ];
   normal = k.normal;
 }
@@ -179,10 +175,10 @@ module _ (e : Catalogue) (f : PlanForm) (t : List Atom) (found : List (List Atom
   pub within_whole : (ts one : List (List Atom)) → AreOfBoth t found ts → ((p : Point) → tuple_holds t p ≡ true → tuples_hold ts p ≡ true) → one ≡ t ∷ [] → IsWithin e f t one
   within_whole ts one k all e' = subst (IsWithin e f t) (sym e') (record {
     holds = λ p i. (
-      λ h. let here = sym (hold-push [] t p ∙ ap (λ b. b || tuple_holds t p) (none_hold p)) ∙ h in (here, (((within_pieces ts k).holds p i).0 (all p here)).1),
-      λ h. hold-push [] t p ∙ or_right (tuples_hold [] p) _ h.0,
+      λ h. let here = sym (tuples_hold-push [] t p ∙ ap (λ b. b || tuple_holds t p) (none_hold p)) ∙ h in (here, (((within_pieces ts k).holds p i).0 (all p here)).1),
+      λ h. tuples_hold-push [] t p ∙ or_right (tuples_hold [] p) _ h.0,
     );
-    slots = λ s h. inl (sym (mention-push [] t s ∙ ap (λ b. b || tuple_mentions t s) (none_mention s)) ∙ h);
+    slots = λ s h. inl (sym (tuples_mention-push [] t s ∙ ap (λ b. b || tuple_mentions t s) (none_mention s)) ∙ h);
     lines = λ l i. In-left l _ _ (subst (In l) (append-nil (atoms_lines t)) i);
     normal = λ n. (n, tt);
   })
@@ -255,7 +251,7 @@ module _ (e : Catalogue) (f : PlanForm) (lost : List (List Atom)) where
   -- one more of the others
   pub left_more : (done now new pieces : List (List Atom)) (t : List Atom) → IsWithin e f t pieces → AreJoined now pieces new → AreLeft e f lost done now → AreLeft e f lost (done ++ t ∷ []) new
   left_more done now new pieces t w b k = record {
-    within = λ p i h. hold-push done t p ∙ elim (or_split _ _ (sym (b.holds p i) ∙ h)) [
+    within = λ p i h. tuples_hold-push done t p ∙ elim (or_split _ _ (sym (b.holds p i) ∙ h)) [
       | inl x ↦ or_left _ _ (k.within p i x)
       | inr x ↦ or_right (tuples_hold done p) _ ((w.holds p i).0 x).0
     ];
@@ -263,21 +259,21 @@ module _ (e : Catalogue) (f : PlanForm) (lost : List (List Atom)) where
       | inl x ↦ k.right p i x
       | inr x ↦ inl ((w.holds p i).0 x).1
     ];
-    all = λ p i h a. b.holds p i ∙ elim (or_split _ _ (sym (hold-push done t p) ∙ h)) [
+    all = λ p i h a. b.holds p i ∙ elim (or_split _ _ (sym (tuples_hold-push done t p) ∙ h)) [
       | inl x ↦ or_left _ _ (k.all p i x a)
       | inr x ↦ or_right (tuples_hold now p) _ ((w.holds p i).1 (x, a))
     ];
     slots = λ s h. elim (or_split (tuples_mention now s) (tuples_mention pieces s) (b.slots s h)) [
-      | inl x ↦ elim (k.slots s x) [ inl y ↦ inl (mention-push done t s ∙ or_left _ _ y) | inr y ↦ inr y ]
-      | inr x ↦ elim (w.slots s x) [ inl y ↦ inl (mention-push done t s ∙ or_right (tuples_mention done s) _ y) | inr y ↦ inr y ]
+      | inl x ↦ elim (k.slots s x) [ inl y ↦ inl (tuples_mention-push done t s ∙ or_left _ _ y) | inr y ↦ inr y ]
+      | inr x ↦ elim (w.slots s x) [ inl y ↦ inl (tuples_mention-push done t s ∙ or_right (tuples_mention done s) _ y) | inr y ↦ inr y ]
     ];
     lines = λ l i. elim (In-split l (tuples_lines now) (tuples_lines pieces) (b.lines l i)) [
       | inl x ↦ elim (In-split l (tuples_lines done) (plan_lines (stored_measures e) f) (k.lines l x)) [
-        | inl y ↦ In-left l _ _ (subst (In l) (sym (lines-push done t)) (In-left l _ _ y))
+        | inl y ↦ In-left l _ _ (subst (In l) (sym (tuples_lines-push done t)) (In-left l _ _ y))
         | inr y ↦ In-right l (tuples_lines (done ++ t ∷ [])) _ y
       ]
       | inr x ↦ elim (In-split l (atoms_lines t) (plan_lines (stored_measures e) f) (w.lines l x)) [
-        | inl y ↦ In-left l _ _ (subst (In l) (sym (lines-push done t)) (In-right l (tuples_lines done) _ y))
+        | inl y ↦ In-left l _ _ (subst (In l) (sym (tuples_lines-push done t)) (In-right l (tuples_lines done) _ y))
         | inr y ↦ In-right l (tuples_lines (done ++ t ∷ [])) _ y
       ]
     ];

@@ -27,6 +27,7 @@ use Rattle.ded_laws.proofs.ValueForms.{args}
 use Rattle.ded_laws.proofs.Saying.{Says, absent_put, absent-says, either_says, puts_numbers, puts_texts}
 use Rattle.ded_model.proofs.Nearness.{abs_times, AreSameArguments-sym}
 use Rattle.std.proofs.Math.Bool.{and-false}
+use Rattle.ded_num.proofs.Signs.{once, times_pos_twice, abs_positive}
 
 -- ---- keys
 abbrev pub number_key : ℕ → Key
@@ -177,18 +178,12 @@ record Kept (i : ℕ) (p q : Point) : Type 0 where
   number : (k : Key) → Away i k → number_at q k ≡ number_at p k *ℤ pos factor
   text : (k : Key) → Away i k → text_at q k ≡ text_at p k
 
-times_one : (z : ℤ) → z *ℤ pos 1 ≡ z
-times_one z = rw (parts z) (rw (diff-pos 1) (simp ring (diff_same _ _ _ _ (omega arith))))
-
-times_two : (z : ℤ) (a b : ℕ) → (z *ℤ pos a) *ℤ pos b ≡ z *ℤ pos (a * b)
-times_two z a b = rw (parts z, diff-pos (a * b), diff-pos a, diff-pos b) (simp ring (diff_same _ _ _ _ (omega arith)))
-
 grows_kept : (i : ℕ) (ts : List Put) (p q : Point) → Grows i ts p q → Kept i p q
 grows_kept i [] p q g = record {
   factor = 1;
   positive = omega arith;
   den = subst (λ r. r.den ≡ p.den * 1) g (omega arith);
-  number = λ k a. subst (λ r. number_at r k ≡ number_at p k *ℤ pos 1) g (sym (times_one (number_at p k)));
+  number = λ k a. subst (λ r. number_at r k ≡ number_at p k *ℤ pos 1) g (sym (once (number_at p k)));
   text = λ k a. subst (λ r. text_at r k ≡ text_at p k) g refl;
 }
 grows_kept i (t ∷ ts) p q g =
@@ -199,7 +194,7 @@ grows_kept i (t ∷ ts) p q g =
       factor = x.factor * more.factor;
       positive = mul-pos x.positive more.positive;
       den = let e = x.den in let f = ap (λ n. n * more.factor) e in let h = more.den in omega arith;
-      number = λ k a. more.number k (away_next i k a) ∙ ap (λ z. z *ℤ pos more.factor) (number_at-kept p (new_key i) r x k (a i (omega arith))) ∙ times_two (number_at p k) x.factor more.factor;
+      number = λ k a. more.number k (away_next i k a) ∙ ap (λ z. z *ℤ pos more.factor) (number_at-kept p (new_key i) r x k (a i (omega arith))) ∙ times_pos_twice (number_at p k) x.factor more.factor;
       text = λ k a. more.text k (away_next i k a) ∙ text_at-number_kept p (new_key i) r x k (a i (omega arith));
     }
 
@@ -240,7 +235,7 @@ reach m n d e c i (t ∷ ts) (y ∷ ys) o p h =
       record {
         grows = (r, x, f.grows);
         den = f.den ∙ (omega arith);
-        number = λ k a. f.number k (away_next i k a) ∙ number_at-kept p (new_key i) r x k (a i (omega arith)) ∙ times_one (number_at p k);
+        number = λ k a. f.number k (away_next i k a) ∙ number_at-kept p (new_key i) r x k (a i (omega arith)) ∙ once (number_at p k);
         text = λ k a. f.text k (away_next i k a) ∙ text_at-number_kept p (new_key i) r x k (a i (omega arith));
         has = (f.number (new_key i) (new_away i) ∙ number_at-extended p (new_key i) r x (new_key i) (same_key_refl (new_key i)), f.has);
       },
@@ -251,11 +246,11 @@ abs_below : (z : ℤ) (r : ℕ) → z <ℤ pos r → neg_ℤ z <ℤ pos r → un
 abs_below (pos n) r h k = omega (arith, ints)
 abs_below (negsuc n) r h k = omega (arith, ints)
 
-below_abs : (z : ℤ) (r : ℕ) → unsigned_abs z < r → z <ℤ pos r
+pub below_abs : (z : ℤ) (r : ℕ) → unsigned_abs z < r → z <ℤ pos r
 below_abs (pos n) r h = omega (arith, ints)
 below_abs (negsuc n) r h = omega (arith, ints)
 
-below_abs' : (z : ℤ) (r : ℕ) → unsigned_abs z < r → neg_ℤ z <ℤ pos r
+pub below_abs' : (z : ℤ) (r : ℕ) → unsigned_abs z < r → neg_ℤ z <ℤ pos r
 below_abs' (pos n) r h = omega (arith, ints)
 below_abs' (negsuc n) r h = omega (arith, ints)
 
@@ -312,10 +307,6 @@ all_near_less d k e m (x ∷ xs) (y ∷ ys) h = (near_less x.0 y.0 d k e m h.0, 
 above_is : (z : ℤ) → pos 0 <ℤ z → z ≡ pos (unsigned_abs z)
 above_is (pos n) h = refl
 above_is (negsuc n) h = absurd (omega (arith, ints))
-
-above_abs : (z : ℤ) → pos 0 <ℤ z → 0 < unsigned_abs z
-above_abs (pos n) h = omega (arith, ints)
-above_abs (negsuc n) h = absurd (omega (arith, ints))
 
 -- ---- the arguments at p, and the new ones at q, where r is p with a radius n over p's denominator times f
 module _ (p r : Point) (x : IsNumberExtension p radius r) (positive : 0 < p.den) (n : ℕ) (size : x.value ≡ pos n) where
@@ -384,7 +375,7 @@ module _ (p r : Point) (x : IsNumberExtension p radius r) (positive : 0 < p.den)
       same_new i [] (y ∷ ys) h k = absurd h
       same_new i (t ∷ ts) [] h k = absurd h
       same_new i (t ∷ ts) (y ∷ ys) h k = (
-        ap (λ d. y.0 *ℤ pos d) q_den ∙ sym (times_two y.0 (p.den * x.factor) e) ∙ ap (λ z. z *ℤ pos e) (sym (linear-unit (new_key i) q ∙ k.0)),
+        ap (λ d. y.0 *ℤ pos d) q_den ∙ sym (times_pos_twice y.0 (p.den * x.factor) e) ∙ ap (λ z. z *ℤ pos e) (sym (linear-unit (new_key i) q ∙ k.0)),
         sym h.1 ∙ sym (q_text i),
         same_new (i + 1) ts ys h.2 k.1,
       )
@@ -475,7 +466,7 @@ module _ (R : ℕ → List Argument → Type 0) (same : (d d' : ℕ) (xs ys : Li
 
     close_from : IsClose R p.den (args (generic 0 (t ∷ ts)) p) → CloseFormula p
     close_from h r x above =
-        let w = h (unsigned_abs x.value) (p.den * x.factor) (above_abs x.value (value_above r x above)) (mul-pos positive x.positive) in
+        let w = h (unsigned_abs x.value) (p.den * x.factor) (abs_positive x.value (value_above r x above)) (mul-pos positive x.positive) in
         let q = found r x above w.0 w.1 w.2 w.3 in
         some_from Reaches 0 (t ∷ ts) r q.point q.grows (q.within, same w.0 q.point.den w.1 (args (moved 0 (t ∷ ts)) q.point) w.2 q.above_zero q.are w.4)
 
@@ -485,7 +476,7 @@ module _ (R : ℕ → List Argument → Type 0) (same : (d d' : ℕ) (xs ys : Li
         let x = h.1 in (
           unsigned_abs x.value,
           p.den * x.factor,
-          above_abs x.value (value_above r x h.2.0),
+          abs_positive x.value (value_above r x h.2.0),
           mul-pos positive x.positive,
           λ e ys j near.
               let q = found r x h.2.0 e ys j near in

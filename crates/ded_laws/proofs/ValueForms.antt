@@ -1,10 +1,10 @@
 -- The values of operands, places and slots as linear forms and words: a number is a linear form over the point's denominator
 -- times a number that no point changes, and a text is a word. So are the arguments that the values make: over the product of
 -- all denominators each number is its form times a constant, and the product itself does not depend on the point.
-use Rattle.std.proofs.Common.{◌≡◌, ℕ, ◌*◌, Bool, List, [], ◌∷◌, map, arith, refl, ap, ◌∙◌, bytes_eq}
+use Rattle.std.proofs.Common.{◌≡◌, ℕ, ◌*◌, Bool, List, [], ◌∷◌, map, refl, ap, ◌∙◌, bytes_eq}
 use Rattle.std.specs.Prelude.{ℤ, pos, ◌+ℤ◌, ◌*ℤ◌, int_lt, int_le, IsTrue}
 use Rattle.std.specs.Ordering.{int_eq}
-use Rattle.ded_num.proofs.Ring.{parts, ring_pos, diff_same}
+use Rattle.ded_num.proofs.Signs.{times_swap}
 use Rattle.ded_model.specs.declared.slot.Sort.{Sort}
 use Rattle.ded_model.specs.declared.slot.Sort.TheVariants.{Rat, Text}
 use Rattle.ded_model.specs.declared.slot.Slot.{Slot}
@@ -80,11 +80,8 @@ place_form-is (place.Quoted t) p = rw (linear-zero p) refl
 abbrev pub cross : ValueForm → ValueForm → Linear
 cross v w = scale (pos w.over) v.number
 
-turned : (a b : ℤ) → a *ℤ b ≡ b *ℤ a
-turned a b = rw (parts a, parts b) (simp ring_pos (diff_same _ _ _ _ (omega arith)))
-
 pub cross-is : (v w : ValueForm) (p : Point) → linear_at (cross v w) p ≡ crosswise (value_of v p) (value_of w p)
-cross-is v w p = linear-scale (pos w.over) v.number p ∙ turned (pos w.over) (linear_at v.number p)
+cross-is v w p = linear-scale (pos w.over) v.number p ∙ times_swap (pos w.over) (linear_at v.number p)
 
 -- a test of two numbers
 unfoldable pub crossed : (test : ℤ → ℤ → Bool) (v w : ValueForm) → Definable (λ p. IsTrue (test (linear_at (cross v w) p) (linear_at (cross w v) p)))
@@ -144,7 +141,7 @@ puts (v ∷ vs) = record { number = scale (pos (form_overs vs)) v.number; word =
 
 args-times : (m : ℕ) (ts : List Put) (p : Point) → args (map (put_times m) ts) p ≡ map (argument_times m) (args ts p)
 args-times m [] p = refl
-args-times m (t ∷ ts) p = rw (linear-scale (pos m) t.number p, turned (pos m) (linear_at t.number p), args-times m ts p) refl
+args-times m (t ∷ ts) p = rw (linear-scale (pos m) t.number p, times_swap (pos m) (linear_at t.number p), args-times m ts p) refl
 
 -- the arguments that the values make
 pub puts-are : (vs : List ValueForm) (p : Point) → args (puts vs) p ≡ arguments (values_at vs p)
@@ -152,7 +149,7 @@ puts-are [] p = refl
 puts-are (v ∷ vs) p =
     rw (
       linear-scale (pos (form_overs vs)) v.number p,
-      turned (pos (form_overs vs)) (linear_at v.number p),
+      times_swap (pos (form_overs vs)) (linear_at v.number p),
       form_overs-is vs p,
       args-times v.over (puts vs) p,
       puts-are vs p,

@@ -8,7 +8,6 @@
 -- more than the sum of the magnitudes of its coefficients (`row_apart`). For a list the distances are multiplied.
 use Rattle.std.proofs.Common.{◌≡◌, ℕ, zero, suc, ◌+◌, ◌*◌, ◌≤◌, ◌<◌, inl, inr, ⊎_elim, Bool, true, false, not, cond, List, [], ◌∷◌, ◌++◌, map, arith, refl, sym, ap, ◌∙◌, subst, true≢false, mul-pos}
 use Rattle.std.specs.Prelude.{◌↔◌, ℤ, pos, negsuc, ◌+ℤ◌, ◌-ℤ◌, ◌*ℤ◌, ◌<ℤ◌, unsigned_abs, IsTrue}
-use lib.IntN.{neg_ℤ}
 use Rattle.std.proofs.lemmas.Int.{ints, by_lt_z, unsigned_abs-mul}
 use Rattle.std.proofs.Math.Nat.{mul-lt-mul_of_pos_right, lt_of_mul-lt-mul_right, mul-le-mul_left, mul-le-mul_right, le-mul_of_pos_right}
 use Rattle.ded_num.proofs.Ring.{parts, ring, diff-pos, diff_same}
@@ -31,6 +30,8 @@ use Rattle.ded_model.proofs.Eliminating.{meets-decides}
 use Rattle.ded_model.proofs.Atoms.{and_to, and_from, or_to, or_from}
 use Rattle.ded_model.proofs.Nearness.{abs_times}
 use Rattle.ded_model.proofs.Bools.{or_false_left, or_false_right}
+use Rattle.ded_model.proofs.Given.{row_from}
+use Rattle.ded_laws.proofs.Closures.{below_abs, below_abs'}
 
 -- ---- ops
 -- what meets an op meets the weak one
@@ -62,10 +63,6 @@ blend_meets op j d x y i h k =
     (meets_add (weak_op op) op (pos j *ℤ x) (pos d *ℤ y) (weak_scale op j x h) (meets_scale op (pos d) y (omega (arith, ints)) k))
 
 -- ---- tests of rows
-row_from : (r : LinearConstraint) (p : Point) → row_holds r p ≡ true → Meets r.op (row_at r p)
-unfolding row_holds
-row_from r p h = (meets-decides r.op (row_at r p)).0 h
-
 row_to : (r : LinearConstraint) (p : Point) → Meets r.op (row_at r p) → row_holds r p ≡ true
 unfolding row_holds
 row_to r p h = (meets-decides r.op (row_at r p)).1 h
@@ -384,19 +381,10 @@ row_near r p q i j h n =
     below : (t d e s : ℕ) → 0 < d * e → t * (d * (s + 1)) ≤ s * (d * e) → t < e
     below t d e s i h = lt_of_mul-lt-mul_right (d * (s + 1)) (omega arith)
 
--- so it has the same sign
-above_below : (z : ℤ) (r : ℕ) → unsigned_abs z < r → z <ℤ pos r
-above_below (pos n) r h = omega (arith, ints)
-above_below (negsuc n) r h = omega (arith, ints)
-
-above_below' : (z : ℤ) (r : ℕ) → unsigned_abs z < r → neg_ℤ z <ℤ pos r
-above_below' (pos n) r h = omega (arith, ints)
-above_below' (negsuc n) r h = omega (arith, ints)
-
 stays_above : (z z' : ℤ) (d e : ℕ) → unsigned_abs (z *ℤ pos e -ℤ z' *ℤ pos d) < e → pos 0 <ℤ z → pos 0 <ℤ z'
 stays_above z (pos (suc m)) d e h i = omega (arith, ints)
-stays_above (pos (suc n)) (pos zero) d e h i = let l = above_below (pos (suc n) *ℤ pos e -ℤ pos 0 *ℤ pos d) e h in absurd (omega (arith, ints))
-stays_above (pos (suc n)) (negsuc m) d e h i = let l = above_below (pos (suc n) *ℤ pos e -ℤ negsuc m *ℤ pos d) e h in absurd (omega (arith, ints))
+stays_above (pos (suc n)) (pos zero) d e h i = let l = below_abs (pos (suc n) *ℤ pos e -ℤ pos 0 *ℤ pos d) e h in absurd (omega (arith, ints))
+stays_above (pos (suc n)) (negsuc m) d e h i = let l = below_abs (pos (suc n) *ℤ pos e -ℤ negsuc m *ℤ pos d) e h in absurd (omega (arith, ints))
 stays_above (pos zero) (pos zero) d e h i = absurd (omega (arith, ints))
 stays_above (pos zero) (negsuc m) d e h i = absurd (omega (arith, ints))
 stays_above (negsuc n) (pos zero) d e h i = absurd (omega (arith, ints))
@@ -404,7 +392,7 @@ stays_above (negsuc n) (negsuc m) d e h i = absurd (omega (arith, ints))
 
 stays_below : (z z' : ℤ) (d e : ℕ) → unsigned_abs (z *ℤ pos e -ℤ z' *ℤ pos d) < e → z <ℤ pos 0 → z' <ℤ pos 0
 stays_below z (negsuc m) d e h i = omega (arith, ints)
-stays_below (negsuc n) (pos m) d e h i = let l = above_below' (negsuc n *ℤ pos e -ℤ pos m *ℤ pos d) e h in absurd (omega (arith, ints))
+stays_below (negsuc n) (pos m) d e h i = let l = below_abs' (negsuc n *ℤ pos e -ℤ pos m *ℤ pos d) e h in absurd (omega (arith, ints))
 stays_below (pos n) (pos m) d e h i = absurd (omega (arith, ints))
 
 -- and where it holds weakly there it holds weakly here

@@ -1,9 +1,11 @@
 -- Where a piece is not idle, its half planes hold with their borders.
-use Rattle.std.proofs.Common.{◌≡◌, Bool, true, false, not, inl, inr, List, [], ◌∷◌, ◌++◌, refl, sym, subst, true≢false, arith}
-use Rattle.std.specs.Prelude.{ℤ, pos, ◌≤ℤ◌, int_lt}
+use Rattle.std.proofs.Common.{◌≡◌, false, not, inl, inr, List, [], ◌∷◌, ◌++◌, refl, sym, subst, arith}
+use Rattle.std.specs.Prelude.{ℤ, pos, ◌≤ℤ◌}
 use Rattle.std.specs.Ordering.{int_eq}
 use Rattle.std.proofs.lemmas.Int.{ints}
 use Rattle.std.proofs.lemmas.Bool.Decides.{Decides-int_eq}
+use Rattle.ded_num.proofs.Tests.{not_false_true}
+use Rattle.ded_num.proofs.Signs.{not_above}
 use Rattle.ded_model.specs.declared.row.RowOp.{RowOp}
 use Rattle.ded_model.specs.declared.row.RowOp.TheVariants.{Zero, AtMost, Below}
 use Rattle.ded_model.proofs.Bools.{or_false_left, or_false_right}
@@ -16,15 +18,8 @@ use Rattle.ded_strokes.specs.Bounds.{Limit, closed_limits}
 use Rattle.ded_strokes.specs.Stretches.{is_off, is_idle}
 use Rattle.ded_layers.specs.Indexed.{closed, closed_of, LiesInAll}
 
-not_false : (b : Bool) → not b ≡ false → b ≡ true
-not_false true h = refl
-not_false false h = absurd (true≢false h)
-
-most_of : (z : ℤ) → int_lt (pos 0) z ≡ false → z ≤ℤ pos 0
-most_of z h = grind (arith, ints)
-
 none_of : (z : ℤ) → not (int_eq z (pos 0)) ≡ false → z ≡ pos 0
-none_of z h = (Decides-int_eq z (pos 0)).0 (not_false (int_eq z (pos 0)) h)
+none_of z h = (Decides-int_eq z (pos 0)).0 (not_false_true (int_eq z (pos 0)) h)
 
 at_level : (s : HalfPlane) (b : Limit) (m : Spot) → b ≡ record { plane = s; op = AtMost } → level s m ≤ℤ pos 0 → level b.plane m ≤ℤ pos 0
 at_level s b m e h = subst (λ (d : Limit). level d.plane m ≤ℤ pos 0) (sym e) h
@@ -33,9 +28,9 @@ closed_by : (op : RowOp) (s : HalfPlane) (m : Spot) → is_off op (level s m) �
 closed_by Zero s m h b (inl e) = at_level s b m e (let z = none_of (level s m) h in omega (arith, ints))
 closed_by Zero s m h b (inr (inl e)) = at_level (opposite s) b m e (let z = none_of (level s m) h in let o = level_opposite s m in omega (arith, ints))
 closed_by Zero s m h b (inr (inr i)) = absurd i
-closed_by AtMost s m h b (inl e) = at_level s b m e (most_of (level s m) h)
+closed_by AtMost s m h b (inl e) = at_level s b m e (not_above (level s m) h)
 closed_by AtMost s m h b (inr i) = absurd i
-closed_by Below s m h b (inl e) = at_level s b m e (most_of (level s m) h)
+closed_by Below s m h b (inl e) = at_level s b m e (not_above (level s m) h)
 closed_by Below s m h b (inr i) = absurd i
 
 lies_closed : (bs : List Limit) (m : Spot) → is_idle bs m ≡ false → LiesInAll (closed_of bs) m

@@ -4,11 +4,13 @@ use Rattle.std.specs.Prelude.{ℤ, pos, ◌+ℤ◌, ◌-ℤ◌, ◌*ℤ◌, ◌<
 use lib.IntN.{neg_ℤ}
 use Rattle.std.proofs.lemmas.Int.{ints}
 use Rattle.std.proofs.lemmas.List.{take_more}
+use Rattle.ded_num.proofs.Signs.{abs_above, neg_times_first, above_pos, times_swap}
+use Rattle.ded_model.proofs.Core.{zero_scale}
 use Rattle.ded_polygon.specs.Plane.{HalfPlane, Spot, In, level}
 use Rattle.ded_polygon.specs.Lists.{spot_in, origin}
 use Rattle.ded_polygon.specs.Vertices.{LiesIn}
 use Rattle.ded_polygon.proofs.Polynomials.{plus, minus, times, var, identity}
-use Rattle.ded_polygon.proofs.Signs.{mul_swap, times_none, above_above, above_most, unscale_most}
+use Rattle.ded_polygon.proofs.Signs.{above_above, above_most, unscale_most}
 use Rattle.ded_polygon.proofs.Sameness.{most_same, same_sym}
 use Rattle.ded_polygon.proofs.Places.{in_at}
 use Rattle.ded_polygon.proofs.RowPlanes.{in_either}
@@ -22,12 +24,6 @@ use Rattle.ded_ranges.specs.Reaches.{IsAbove, IsBelow, IsIn, Lies, range_at, IsW
 use Rattle.ded_ranges.specs.Limits.{are_met}
 use Rattle.ded_ranges.proofs.Ends.{above_lower, below_higher}
 use Rattle.ded_layers.specs.Indexed.{coordinates, LieIn, MeetBetween}
-
-above_pos : (n : ℕ) → 0 < n → pos 0 <ℤ pos n
-above_pos n h = omega (arith, ints)
-
-size : (z : ℤ) → pos 0 <ℤ z → pos (unsigned_abs z) ≡ z
-size z h = omega (arith, ints)
 
 -- ---- half planes
 pub plane_between : (s : HalfPlane) (p q m : Spot) → pos 0 <ℤ p.den → pos 0 <ℤ q.den → pos 0 <ℤ m.den → LiesBetween p q m → level s p ≤ℤ pos 0 → level s q ≤ℤ pos 0 → level s m ≤ℤ pos 0
@@ -49,7 +45,7 @@ sum_between u v i j px pd qx qd mx md hi hj hd hm e hp hq =
     let b = above_most j (u *ℤ qx +ℤ v *ℤ qd) hj hq in
     let c = above_most md (i *ℤ (u *ℤ px +ℤ v *ℤ pd) +ℤ j *ℤ (u *ℤ qx +ℤ v *ℤ qd)) hm (omega (arith, ints)) in
     let f = law u v i j px pd qx qd mx md in
-    let g = times_none u (mx *ℤ (i *ℤ pd +ℤ j *ℤ qd) -ℤ (i *ℤ px +ℤ j *ℤ qx) *ℤ md) (omega (arith, ints)) in
+    let g = zero_scale u (mx *ℤ (i *ℤ pd +ℤ j *ℤ qd) -ℤ (i *ℤ px +ℤ j *ℤ qx) *ℤ md) (omega (arith, ints)) in
     unscale_most (i *ℤ pd +ℤ j *ℤ qd) (u *ℤ mx +ℤ v *ℤ md) hd (omega (arith, ints))
   where
     law : (u v i j px pd qx qd mx md : ℤ) → (i *ℤ pd +ℤ j *ℤ qd) *ℤ (u *ℤ mx +ℤ v *ℤ md)
@@ -68,19 +64,6 @@ sum_between u v i j px pd qx qd mx md hi hj hd hm e hp hq =
         (times (plus (times (var 2) (var 4)) (times (var 3) (var 6))) (var 9)))))
         refl
 
-neg_first : (a b : ℤ) → neg_ℤ a *ℤ b ≡ neg_ℤ (a *ℤ b)
-neg_first a b = identity_neg a b
-  where
-    identity_neg : (a b : ℤ) → neg_ℤ a *ℤ b ≡ neg_ℤ (a *ℤ b)
-    identity_neg a b = let e = spread a b in let f : neg_ℤ a ≡ pos 0 -ℤ a = omega (arith, ints) in ap (λ z. z *ℤ b) f ∙ e
-      where
-        spread : (a b : ℤ) → (pos 0 -ℤ a) *ℤ b ≡ neg_ℤ (a *ℤ b)
-        spread a b =
-            let e = identity (a ∷ b ∷ []) (plus (times (minus (minus (var 0) (var 0)) (var 0)) (var 1)) (times (var 0) (var 1))) (minus (var 0) (var 0)) refl in
-            let f : (a -ℤ a) -ℤ a ≡ pos 0 -ℤ a = omega (arith, ints) in
-            let g = ap (λ z. z *ℤ b) f in
-            omega (arith, ints)
-
 module _ (p q m : Spot) (hp : pos 0 <ℤ p.den) (hq : pos 0 <ℤ q.den) (hm : pos 0 <ℤ m.den) (l : LiesBetween p q m) where
   whole_den : pos 0 <ℤ (pos l.i *ℤ p.den +ℤ pos l.j *ℤ q.den)
   whole_den =
@@ -95,10 +78,10 @@ module _ (p q m : Spot) (hp : pos 0 <ℤ p.den) (hq : pos 0 <ℤ q.den) (hm : po
         last mx m.den r
       where
         first : (x d : ℤ) → (k *ℤ d) ≤ℤ (x *ℤ f) → (neg_ℤ f *ℤ x +ℤ k *ℤ d) ≤ℤ pos 0
-        first x d h = let a = neg_first f x in let b = mul_swap f x in omega (arith, ints)
+        first x d h = let a = neg_times_first f x in let b = times_swap f x in omega (arith, ints)
 
         last : (x d : ℤ) → (neg_ℤ f *ℤ x +ℤ k *ℤ d) ≤ℤ pos 0 → (k *ℤ d) ≤ℤ (x *ℤ f)
-        last x d h = let a = neg_first f x in let b = mul_swap f x in omega (arith, ints)
+        last x d h = let a = neg_times_first f x in let b = times_swap f x in omega (arith, ints)
 
     high_between : (k f : ℤ) → (px *ℤ f) ≤ℤ (k *ℤ p.den) → (qx *ℤ f) ≤ℤ (k *ℤ q.den) → (mx *ℤ f) ≤ℤ (k *ℤ m.den)
     high_between k f h g =
@@ -106,22 +89,22 @@ module _ (p q m : Spot) (hp : pos 0 <ℤ p.den) (hq : pos 0 <ℤ q.den) (hm : po
         last mx m.den r
       where
         first : (x d : ℤ) → (x *ℤ f) ≤ℤ (k *ℤ d) → (f *ℤ x +ℤ neg_ℤ k *ℤ d) ≤ℤ pos 0
-        first x d h = let a = neg_first k d in let b = mul_swap f x in omega (arith, ints)
+        first x d h = let a = neg_times_first k d in let b = times_swap f x in omega (arith, ints)
 
         last : (x d : ℤ) → (f *ℤ x +ℤ neg_ℤ k *ℤ d) ≤ℤ pos 0 → (x *ℤ f) ≤ℤ (k *ℤ d)
-        last x d h = let a = neg_first k d in let b = mul_swap f x in omega (arith, ints)
+        last x d h = let a = neg_times_first k d in let b = times_swap f x in omega (arith, ints)
 
     above_between : (o : Option ℤ) → IsAbove o px (unsigned_abs p.den) → IsAbove o qx (unsigned_abs q.den) → IsAbove o mx (unsigned_abs m.den)
     above_between None h g = tt
     above_between (Some k) h g =
-        subst (λ d. (k *ℤ d) ≤ℤ (mx *ℤ pos fine)) (sym (size m.den hm))
-        (low_between k (pos fine) (subst (λ d. (k *ℤ d) ≤ℤ (px *ℤ pos fine)) (size p.den hp) h) (subst (λ d. (k *ℤ d) ≤ℤ (qx *ℤ pos fine)) (size q.den hq) g))
+        subst (λ d. (k *ℤ d) ≤ℤ (mx *ℤ pos fine)) (sym (abs_above m.den hm))
+        (low_between k (pos fine) (subst (λ d. (k *ℤ d) ≤ℤ (px *ℤ pos fine)) (abs_above p.den hp) h) (subst (λ d. (k *ℤ d) ≤ℤ (qx *ℤ pos fine)) (abs_above q.den hq) g))
 
     below_between : (o : Option ℤ) → IsBelow o px (unsigned_abs p.den) → IsBelow o qx (unsigned_abs q.den) → IsBelow o mx (unsigned_abs m.den)
     below_between None h g = tt
     below_between (Some k) h g =
-        subst (λ d. (mx *ℤ pos fine) ≤ℤ (k *ℤ d)) (sym (size m.den hm))
-        (high_between k (pos fine) (subst (λ d. (px *ℤ pos fine) ≤ℤ (k *ℤ d)) (size p.den hp) h) (subst (λ d. (qx *ℤ pos fine) ≤ℤ (k *ℤ d)) (size q.den hq) g))
+        subst (λ d. (mx *ℤ pos fine) ≤ℤ (k *ℤ d)) (sym (abs_above m.den hm))
+        (high_between k (pos fine) (subst (λ d. (px *ℤ pos fine) ≤ℤ (k *ℤ d)) (abs_above p.den hp) h) (subst (λ d. (qx *ℤ pos fine) ≤ℤ (k *ℤ d)) (abs_above q.den hq) g))
 
     range_between : (r : Range) → IsIn r px (unsigned_abs p.den) → IsIn r qx (unsigned_abs q.den) → IsIn r mx (unsigned_abs m.den)
     range_between r h g = record { low = above_between r.low h.low g.low; high = below_between r.high h.high g.high }

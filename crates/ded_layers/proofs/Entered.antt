@@ -1,11 +1,11 @@
 -- An index that gets one entry more.
-use Rattle.std.proofs.Common.{◌≡◌, ℕ, ◌+◌, ◌<◌, ◌≤◌, Bool, true, false, inl, inr, List, [], ◌∷◌, length, get_or, refl, sym, ap, ◌∙◌, subst, arith}
+use Rattle.std.proofs.Common.{◌≡◌, ℕ, ◌+◌, ◌<◌, Bool, true, false, inl, inr, List, [], ◌∷◌, length, get_or, refl, sym, ap, ◌∙◌, subst, arith}
 use Rattle.std.specs.Prelude.{nat_lt}
 use Rattle.std.specs.List.Sorted.{IsPermutation}
-use Rattle.std.proofs.lemmas.Bool.Decides.{nat_tests}
 use Rattle.std.proofs.lemmas.List.{get_or-map}
 use Rattle.std.proofs.lemmas.List.Sorted.{Contains-permutation}
 use Rattle.ded_model.proofs.Lists.{Some}
+use Rattle.ded_model.proofs.CoefLemmas.{is_lesser, not_lesser}
 use Rattle.ded_polygon.specs.Plane.{In}
 use Rattle.ded_polygon.specs.Windows.{Frame}
 use Rattle.ded_polygon.proofs.Places.{place_in, in_read}
@@ -35,12 +35,6 @@ module _ (P : Entry → Type 0) where
       some_of ds k.0 (in_read ds c.0 k.0 c.1 (sym c.2)) k.2
 
 -- ---- one more
-of_lt_true : (k n : ℕ) → nat_lt k n ≡ true → k < n
-of_lt_true k n h = grind (arith, nat_tests)
-
-of_lt_false : (k n : ℕ) → nat_lt k n ≡ false → n ≤ k
-of_lt_false k n h = grind (arith, nat_tests)
-
 pub entry_more : (n : ℕ) (w : Frame) (parts : List Part) (i : ℕ) (t : Part) (id : ℕ) (r : List Range) (old new : List Entry) → i < length parts → t ≡ get_or parts i t → id ≡ i → IsReachOf w t.piece r
     → IsPermutation (record { id = id; reach = r } ∷ old) new → ((k : ℕ) → k < i → k < n → Some (IsEntryOf w (pieces_of parts) k) old) → (k : ℕ) → k < i + 1 → k < n → Some (IsEntryOf w (pieces_of parts) k) new
 entry_more n w parts i t id r old new h e same reach p first k hk small = moved (IsEntryOf w (pieces_of parts) k) (record { id = id; reach = r } ∷ old) new p (by (nat_lt k i) refl)
@@ -49,9 +43,9 @@ entry_more n w parts i t id r old new h e same reach p first k hk small = moved 
     piece_is = get_or-map (λ (s : Part). s.piece) parts i t [] h ∙ ap (λ (s : Part). s.piece) (sym e)
 
     by : (b : Bool) → nat_lt k i ≡ b → Some (IsEntryOf w (pieces_of parts) k) (record { id = id; reach = r } ∷ old)
-    by true f = inr (first k (of_lt_true k i f) small)
+    by true f = inr (first k (is_lesser k i f) small)
     by false f =
-        let g = of_lt_false k i f in
+        let g = not_lesser k i f in
         let ik : i ≡ k = omega (arith, hk, g) in
         inl (same ∙ ik, subst (λ (bs : List Limit). IsReachOf w bs r) (sym (ap (λ m. get_or (pieces_of parts) m []) (sym ik) ∙ piece_is)) reach)
 
@@ -60,5 +54,5 @@ pub past_end : (n i k : ℕ) → (i < n → ⊥) → k < n → k < i
 past_end n i k h l = by (nat_lt i n) refl
   where
     by : (b : Bool) → nat_lt i n ≡ b → k < i
-    by true f = absurd (h (of_lt_true i n f))
-    by false f = let g = of_lt_false i n f in omega (arith, g, l)
+    by true f = absurd (h (is_lesser i n f))
+    by false f = let g = not_lesser i n f in omega (arith, g, l)

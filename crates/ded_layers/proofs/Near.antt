@@ -1,16 +1,17 @@
 -- Pieces that an index doesn't find are idle, so those that it finds are enough.
 use Rattle.std.proofs.Common.{◌≡◌, ℕ, zero, suc, ◌<◌, ◌≤◌, Bool, true, false, ◌⊎◌, inl, inr, List, [], ◌∷◌, ◌++◌, length, drop, get_or, refl, sym, ap, ◌∙◌, subst, true≢false, arith}
-use Rattle.std.specs.Prelude.{ℤ, pos, ◌<ℤ◌, unsigned_abs, nat_lt, if◌then◌else◌}
+use Rattle.std.specs.Prelude.{ℤ, unsigned_abs, nat_lt, if◌then◌else◌}
 use Rattle.std.specs.List.{Contains}
-use Rattle.std.proofs.lemmas.Bool.Decides.{nat_tests}
-use Rattle.std.proofs.lemmas.Int.{ints}
 use Rattle.std.proofs.lemmas.List.{length-map}
+use Rattle.ded_num.proofs.Signs.{abs_positive}
 use Rattle.ded_model.proofs.Lists.{Every, Some}
+use Rattle.ded_model.proofs.CoefLemmas.{is_lesser, less, not_lesser}
 use Rattle.ded_polygon.specs.Plane.{Spot, In}
 use Rattle.ded_polygon.specs.Lists.{spot_in}
 use Rattle.ded_polygon.specs.Windows.{Frame, window_planes}
 use Rattle.ded_polygon.proofs.Places.{in_at, place_in, in_read}
 use Rattle.ded_polygon.proofs.RowPlanes.{in_left, in_right, in_either}
+use Rattle.ded_polygon.proofs.Swapping.{equal_or}
 use Rattle.ded_strokes.specs.Bounds.{Limit}
 use Rattle.ded_strokes.specs.Stretches.{is_idle, IsIdle}
 use Rattle.ded_ranges.specs.declared.reach.Range.{Range}
@@ -24,31 +25,16 @@ use Rattle.ded_layers.specs.Indexed.{coordinates, IsReachOf, MeetBetween, IsEntr
 use Rattle.ded_layers.proofs.Convex.{planes_between}
 
 -- ---- numbers
-same_or_not : (j k : ℕ) → (j ≡ k) ⊎ (j ≡ k → ⊥)
-same_or_not zero zero = inl refl
-same_or_not zero (suc k) = inr (λ e. absurd (omega (arith, e)))
-same_or_not (suc j) zero = inr (λ e. absurd (omega (arith, e)))
-same_or_not (suc j) (suc k) = elim (same_or_not j k) [ inl e ↦ inl (ap suc e) | inr n ↦ inr (λ e. n (omega (arith, e))) ]
-
 in_or_not : (k : ℕ) (ks : List ℕ) → In k ks ⊎ (In k ks → ⊥)
 in_or_not k [] = inr (λ i. i)
-in_or_not k (j ∷ ks) = elim (same_or_not k j) [
+in_or_not k (j ∷ ks) = elim (equal_or k j) [
   | inl e ↦ inl (inl e)
   | inr n ↦ (elim (in_or_not k ks) [ inl i ↦ inl (inr i) | inr m ↦ inr (λ i. elim i [ inl e ↦ n e | inr h ↦ m h ]) ])
 ]
 
-lt_true : (k n : ℕ) → k < n → nat_lt k n ≡ true
-lt_true k n h = grind (arith, nat_tests)
-
-of_lt_true : (k n : ℕ) → nat_lt k n ≡ true → k < n
-of_lt_true k n h = grind (arith, nat_tests)
-
-of_lt_false : (k n : ℕ) → nat_lt k n ≡ false → n ≤ k
-of_lt_false k n h = grind (arith, nat_tests)
-
 -- ---- pieces at places
 in_piece_at : (pieces : List (List Limit)) (k : ℕ) → k < length pieces → In (get_or pieces k []) (piece_at pieces k)
-in_piece_at pieces k h = by (nat_lt k (length pieces)) (lt_true k (length pieces) h)
+in_piece_at pieces k h = by (nat_lt k (length pieces)) (less k (length pieces) h)
   where
     by : (t : Bool) → t ≡ true → In (get_or pieces k []) (if t then get_or pieces k [] ∷ [] else [])
     by true e = inl refl
@@ -58,7 +44,7 @@ of_piece_at : (pieces : List (List Limit)) (k : ℕ) (bs : List Limit) → In bs
 of_piece_at pieces k bs i = by (nat_lt k (length pieces)) refl i
   where
     by : (t : Bool) → nat_lt k (length pieces) ≡ t → In bs (if t then get_or pieces k [] ∷ [] else []) → In bs pieces
-    by true e (inl f) = subst (λ c. In c pieces) (sym f) (in_at pieces k [] (of_lt_true k (length pieces) e))
+    by true e (inl f) = subst (λ c. In c pieces) (sym f) (in_at pieces k [] (is_lesser k (length pieces) e))
     by true e (inr j) = absurd j
     by false e j = absurd j
 
@@ -90,9 +76,6 @@ found w pieces k v d ids [] h s lies = absurd s
 found w pieces k v d ids (e ∷ es) h (inl s) lies = subst (Contains ids) s.0 (h.0 (lies e.reach s.1))
 found w pieces k v d ids (e ∷ es) h (inr s) lies = found w pieces k v d ids es h.1 s lies
 
-size_above : (z : ℤ) → pos 0 <ℤ z → 0 < unsigned_abs z
-size_above z h = omega (arith, ints)
-
 module _ (n : ℕ) (w : Frame) (pieces : List (List Limit)) (es : List Entry) (index : (k : ℕ) → k < length pieces → k < n → Some (IsEntryOf w pieces k) es) (cs : List Spot)
     (within : AreCornersWithin w cs) (ls : List Bound) (meet : MeetBetween cs ls) (ids : List ℕ) (complete : IsComplete ls es ids) where
   module _ (i j : ℕ) (hi : i < length cs) (hj : j < length cs) where
@@ -105,7 +88,7 @@ module _ (n : ℕ) (w : Frame) (pieces : List (List Limit)) (es : List Entry) (i
         by : (t : Bool) → is_idle (get_or pieces k []) m ≡ t → is_idle (get_or pieces k []) m ≡ true
         by true e = e
         by false e =
-            let c = found w pieces k (coordinates m) (unsigned_abs m.den) ids es (complete (coordinates m) (unsigned_abs m.den) (size_above m.den hm) ((meet i j hi hj).2 m hm l)) (index k h small) (lies e) in
+            let c = found w pieces k (coordinates m) (unsigned_abs m.den) ids es (complete (coordinates m) (unsigned_abs m.den) (abs_positive m.den hm) ((meet i j hi hj).2 m hm l)) (index k h small) (lies e) in
             absurd (missed (in_read ids c.0 k c.1 (sym c.2)))
 
     other : (k : ℕ) → k < length pieces → IsIdle (spot_in cs i) (spot_in cs j) (get_or pieces k []) ⊎ In (get_or pieces k []) (pieces_at pieces ids ++ drop n pieces)
@@ -114,9 +97,9 @@ module _ (n : ℕ) (w : Frame) (pieces : List (List Limit)) (es : List Entry) (i
         by : (t : Bool) → nat_lt k n ≡ t → IsIdle (spot_in cs i) (spot_in cs j) (get_or pieces k []) ⊎ In (get_or pieces k []) (pieces_at pieces ids ++ drop n pieces)
         by true e = elim (in_or_not k ids) [
           | inl f ↦ inr (in_left _ (pieces_at pieces ids) (drop n pieces) (in_pieces_at pieces ids k f h))
-          | inr f ↦ inl (missed_idle k h (of_lt_true k n e) f)
+          | inr f ↦ inl (missed_idle k h (is_lesser k n e) f)
         ]
-        by false e = inr (in_right _ (pieces_at pieces ids) (drop n pieces) (in_drop pieces n k (of_lt_false k n e) h))
+        by false e = inr (in_right _ (pieces_at pieces ids) (drop n pieces) (in_drop pieces n k (not_lesser k n e) h))
 
   pub all_enough : AreAllEnough cs (pieces_at pieces ids ++ drop n pieces) pieces
   all_enough i j hi hj = record {

@@ -2,9 +2,10 @@
 use Rattle.std.proofs.Common.{◌≡◌, List, [], ◌∷◌, refl, arith}
 use Rattle.std.specs.Prelude.{ℤ, pos, ◌+ℤ◌, ◌-ℤ◌, ◌*ℤ◌, ◌<ℤ◌, ◌≤ℤ◌, unsigned_abs}
 use Rattle.std.proofs.lemmas.Int.{ints, by_lt_z}
+use Rattle.ded_num.proofs.Signs.{abs_above, times_swap, zero_times}
 use Rattle.ded_polygon.specs.Plane.{HalfPlane, Spot, In, level, bend}
 use Rattle.ded_polygon.proofs.Polynomials.{plus, minus, times, var, identity}
-use Rattle.ded_polygon.proofs.Signs.{mul_swap, none_times, below_below, above_most, least_most, unscale_most}
+use Rattle.ded_polygon.proofs.Signs.{below_below, above_most, least_most, unscale_most}
 use Rattle.ded_strokes.specs.Bounds.{Limit}
 use Rattle.ded_layers.specs.Indexed.{LiesInAll, IsUtmost, Spans}
 
@@ -36,8 +37,8 @@ by_two s t e c m =
 inside : (s : HalfPlane) (c m : Spot) → pos 0 <ℤ c.den → level s c ≡ pos 0 → level s m ≤ℤ pos 0 → (level s m *ℤ c.den -ℤ level s c *ℤ m.den) ≤ℤ pos 0
 inside s c m hc on most =
     let a = above_most c.den (level s m) hc most in
-    let b = mul_swap c.den (level s m) in
-    let d = none_times (level s c) m.den on in
+    let b = times_swap c.den (level s m) in
+    let d = zero_times (level s c) m.den on in
     omega (arith, ints)
 
 pub utmost_by : (planes : List Limit) (s t : Limit) (e : HalfPlane) (c : Spot) → In s planes → In t planes → pos 0 <ℤ c.den → level s.plane c ≡ pos 0 → pos 0 ≤ℤ bend s.plane e
@@ -65,9 +66,6 @@ apart e c m =
     (times (var 1) (minus (times (var 7) (var 5)) (times (var 4) (var 8)))))
     refl
 
-size : (z : ℤ) → pos 0 <ℤ z → pos (unsigned_abs z) ≡ z
-size z h = omega (arith, ints)
-
 not_below : (a k : ℤ) → a <ℤ pos 0 → (a *ℤ k) ≤ℤ pos 0 → pos 0 ≤ℤ k
 not_below a k h m = by_lt_z k (pos 0) (λ b. (let n = below_below a k h b in absurd (omega (arith, ints)))) (λ b. omega (arith, ints))
 
@@ -76,24 +74,24 @@ module _ (planes : List Limit) (e : HalfPlane) (c : Spot) (u : IsUtmost planes e
   along_x h =
       let a = u.utmost m hm lies in
       let b = apart e c m in
-      let d = none_times e.b (m.y *ℤ c.den -ℤ c.y *ℤ m.den) h in
+      let d = zero_times e.b (m.y *ℤ c.den -ℤ c.y *ℤ m.den) h in
       omega (arith, ints)
 
   along_y : e.a ≡ pos 0 → (e.b *ℤ (m.y *ℤ c.den -ℤ c.y *ℤ m.den)) ≤ℤ pos 0
   along_y h =
       let a = u.utmost m hm lies in
       let b = apart e c m in
-      let d = none_times e.a (m.x *ℤ c.den -ℤ c.x *ℤ m.den) h in
+      let d = zero_times e.a (m.x *ℤ c.den -ℤ c.x *ℤ m.den) h in
       omega (arith, ints)
 
   pub least_x : e.a <ℤ pos 0 → e.b ≡ pos 0 → (c.x *ℤ pos (unsigned_abs m.den)) ≤ℤ (m.x *ℤ c.den)
-  least_x h k = rw (size m.den hm) (let a = not_below e.a (m.x *ℤ c.den -ℤ c.x *ℤ m.den) h (along_x k) in omega (arith, ints))
+  least_x h k = rw (abs_above m.den hm) (let a = not_below e.a (m.x *ℤ c.den -ℤ c.x *ℤ m.den) h (along_x k) in omega (arith, ints))
 
   pub greatest_x : pos 0 <ℤ e.a → e.b ≡ pos 0 → (m.x *ℤ c.den) ≤ℤ (c.x *ℤ pos (unsigned_abs m.den))
-  greatest_x h k = rw (size m.den hm) (let a = unscale_most e.a (m.x *ℤ c.den -ℤ c.x *ℤ m.den) h (along_x k) in omega (arith, ints))
+  greatest_x h k = rw (abs_above m.den hm) (let a = unscale_most e.a (m.x *ℤ c.den -ℤ c.x *ℤ m.den) h (along_x k) in omega (arith, ints))
 
   pub least_y : e.b <ℤ pos 0 → e.a ≡ pos 0 → (c.y *ℤ pos (unsigned_abs m.den)) ≤ℤ (m.y *ℤ c.den)
-  least_y h k = rw (size m.den hm) (let a = not_below e.b (m.y *ℤ c.den -ℤ c.y *ℤ m.den) h (along_y k) in omega (arith, ints))
+  least_y h k = rw (abs_above m.den hm) (let a = not_below e.b (m.y *ℤ c.den -ℤ c.y *ℤ m.den) h (along_y k) in omega (arith, ints))
 
   pub greatest_y : pos 0 <ℤ e.b → e.a ≡ pos 0 → (m.y *ℤ c.den) ≤ℤ (c.y *ℤ pos (unsigned_abs m.den))
-  greatest_y h k = rw (size m.den hm) (let a = unscale_most e.b (m.y *ℤ c.den -ℤ c.y *ℤ m.den) h (along_y k) in omega (arith, ints))
+  greatest_y h k = rw (abs_above m.den hm) (let a = unscale_most e.b (m.y *ℤ c.den -ℤ c.y *ℤ m.den) h (along_y k) in omega (arith, ints))

@@ -28,7 +28,7 @@ quote_step false bs = refl
 pub text_step : (b : ℕ) (bs : List ℕ) → b ≢ 39 → text_byte b ≡ true → quoted_rest false (b ∷ bs) ≡ longer (quoted_rest false bs)
 text_step b bs ne text = rw (is_not b 39 ne, text) refl
 
-drop_first : (bytes : List ℕ) (i : ℕ) → i < length bytes → drop i bytes ≡ get_or bytes i 0 ∷ drop (i + 1) bytes
+pub drop_first : (bytes : List ℕ) (i : ℕ) → i < length bytes → drop i bytes ≡ get_or bytes i 0 ∷ drop (i + 1) bytes
 drop_first bytes i lt = let same : suc i ≡ i + 1 = omega arith in drop-cons bytes i 0 lt ∙ ap (λ (n : ℕ). get_or bytes i 0 ∷ drop n bytes) same
 
 pub quote_on : (bytes : List ℕ) (i : ℕ) (closed : Bool) → i < length bytes → get_or bytes i 0 ≡ 39 → quoted_rest false bytes ≡ plus i (quoted_rest closed (drop i bytes)) → quoted_rest false bytes ≡ plus (i + 1) (quoted_rest (not closed) (drop (i + 1) bytes))

@@ -36,7 +36,7 @@ with_some k (Some n) f e = (n, refl, same_some e)
 space_read : (b : ℕ) (bs : List ℕ) → blank_byte b ≡ true → FrontRead (b ∷ bs) None (0 + 1)
 space_read b bs h = record { cell = GapCell (Space b); rest = bs; is = refl; each = h; kind_is = refl; count = refl }
 
-letter_is_word : (b : ℕ) → letter_byte b ≡ true → word_byte b ≡ true
+pub letter_is_word : (b : ℕ) → letter_byte b ≡ true → word_byte b ≡ true
 letter_is_word b h = rw h refl
 
 word_read : (b : ℕ) (bs : List ℕ) → letter_byte b ≡ true → FrontRead (b ∷ bs) (Some kind.Word) (word_rest bs + 1)

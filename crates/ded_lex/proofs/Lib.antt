@@ -12,3 +12,4 @@ pub mod TokenLists
 pub mod Spans
 pub mod Said
 pub mod BlankTokens
+pub mod Shared

@@ -1,8 +1,9 @@
 -- A list of tokens goes on behind the front of its bytes, and bytes have one list at most.
 use Rattle.std.proofs.Common.{◌≡◌, ℕ, ◌+◌, ◌-◌, ◌<◌, ◌≤◌, List, [], ◌∷◌, ◌++◌, length, take, drop, refl, sym, ap, ◌∙◌, subst, arith, append_assoc}
 use Rattle.std.specs.Prelude.{Option, Some, None, flat_map}
-use Rattle.std.proofs.lemmas.List.{append-nil, drop-drop, length-drop, take_all}
+use Rattle.std.proofs.lemmas.List.{append-nil, drop-drop, length-drop}
 use Rattle.std.proofs.Math.Seq.{drop-append_seam}
+use Rattle.ded_num.proofs.Tests.{range_from}
 use Rattle.ded_lex.specs.declared.front.Front.{Front}
 use Rattle.ded_lex.specs.declared.token.Token.{Token}
 use Rattle.ded_lex.specs.declared.token.TokenKind.{TokenKind}
@@ -93,13 +94,9 @@ read_none bytes = record {
   back = λ all t. (all, record { cells = t.cells; is = t.is; each = t.each; tokens_are = t.tokens_are }, refl);
 }
 
--- the slice behind a place
-rest_of : (bytes : List ℕ) (at : ℕ) → take (length bytes - at) (drop at bytes) ≡ drop at bytes
-rest_of bytes at = take_all (length bytes - at) (drop at bytes) (omega (arith, length-drop at bytes))
-
 -- the front of that slice
 pub front_at : (bytes : List ℕ) (at : ℕ) (f : Option Front) → f ≡ front_of (take (length bytes - at) (drop at bytes)) → front_of (drop at bytes) ≡ f
-front_at bytes at f e = ap front_of (sym (rest_of bytes at)) ∙ sym e
+front_at bytes at f e = ap front_of (sym (range_from bytes at)) ∙ sym e
 
 pub read_more : (bytes : List ℕ) (at : ℕ) (tokens now : List Token) (f : Front) → front_of (drop at bytes) ≡ Some f → now ≡ tokens ++ front_tokens f.kind at (at + f.length) → IsReadTo bytes at tokens → IsReadTo bytes (at + f.length) now
 read_more bytes at tokens now f e is r =

@@ -19,7 +19,7 @@ use Rattle.ded_model.specs.Constraint.{LinearConstraint}
 use Rattle.ded_model.specs.Coefs.{AreCoefs, coef_at}
 use Rattle.ded_model.specs.Point.{slot, Point, IsPoint, IsNumberExtension, same_slot, number_at}
 use Rattle.ded_model.specs.Row.{row_holds, row_mentions}
-use Rattle.ded_model.specs.Cell.{conj_holds, HoldsSomewhere}
+use Rattle.ded_model.specs.Cell.{conj_holds, HoldsSomewhere, HoldsNowhere}
 use Rattle.ded_model.specs.Bound.{Fraction, End, lower, upper, value_at}
 use Rattle.ded_model.specs.Interval.{IsExactBound}
 use Rattle.ded_model.proofs.CoefLemmas.{coef_at-here, same_number}
@@ -28,8 +28,8 @@ use Rattle.ded_model.proofs.Members.{or_split}
 use Rattle.ded_model.proofs.Points.{and_left, and_right, same_slot_is, same_slot_refl, number_at-extended}
 use Rattle.ded_model.proofs.Numbers.{extended, extended_is}
 use Rattle.ded_model.proofs.Rows.{or_left, or_right}
+use Rattle.ded_model.proofs.SlotLists.{same_slot-turned}
 use Rattle.ded_theory.specs.Conjunctions.{conj_mentions}
-use Rattle.ded_theory.specs.Verdicts.{HoldsNowhere}
 use Rattle.ded_elimination.specs.LinearAtoms.{IsLinearAtom}
 use Rattle.ded_box.specs.Intervals.{HasPositive, IsPositive, OnFraction, is_inside, may_meet, narrower}
 use Rattle.ded_linear.specs.Intervals.{row_bound, narrowed, is_single, coefs_fit, row_fits, same_places, same_place}
@@ -38,7 +38,7 @@ use Rattle.ded_box.proofs.Insides.{Inside, narrower-fraction, narrower-is, insid
 use Rattle.ded_linear.proofs.Exacts.{IsBetween, exact_end}
 use Rattle.ded_linear.proofs.Told.{exact_somewhere}
 use Rattle.ded_linear.proofs.Shadows.{IsShadow, HaveValue, extension_point, kept_value, exact_before}
-use Rattle.ded_linear.proofs.SlotLists.{turned_false, none_left}
+use Rattle.ded_linear.proofs.SlotLists.{none_left}
 use Rattle.ded_linear.specs.SlotLists.{AreOthers}
 use Rattle.ded_linear.proofs.Roots.{Same, Within, IsSingle, AtAlone, IsProper, at_alone, row_proper, proper_positive, proper_lowest, row_within, holds_within, constant_holds}
 use Rattle.ded_box.proofs.Exact.{value-positive}
@@ -285,7 +285,7 @@ module _ (s : Slot) (rows : Rows) (h : AreBox rows) where
             q,
             record {
               point = iq;
-              value = value_chain s p k.0 q ip k.1.point iq k.1.value (placed_other c.0 k.0 o.0 k.1.point o.1 s (turned_false c.0 s x));
+              value = value_chain s p k.0 q ip k.1.point iq k.1.value (placed_other c.0 k.0 o.0 k.1.point o.1 s (same_slot-turned c.0 s x));
               seated = (subst (CoefsSeated q) (sym e) here, all_still c.0 o.0 k.0 o.1 k.1.point v todo k.1.seated);
             },
           )

@@ -21,6 +21,7 @@ use Rattle.ded_box.specs.Intervals.{HasPositive, IsPositive, OnFraction}
 use Rattle.ded_box.proofs.Gaps.{gap_at, other, outside_decides, chain_at, gap_turned, gap_self, gap_other, middle, middle-positive, middle-after, middle-before, beyond, beyond-positive, beyond-outside}
 use Rattle.ded_box.proofs.Insides.{Inside, MayMeet}
 use Rattle.std.proofs.lemmas.Bool.{false_from_ne_true}
+use Rattle.ded_model.proofs.Given.{fraction_with}
 
 -- ---- a point with a value
 
@@ -30,9 +31,6 @@ point_with s v = record { den = up v.den; coords = (slot s, number v.num) ∷ []
 pub point_with-is : (s : Slot) (v : Fraction) → IsPositive v → IsPoint (point_with s v)
 unfolding point_with
 point_with-is s v h = record { positive = (positive_is v.den h).0; bytes = (tt, tt) }
-
-fraction_with : (a b c d : ℤ) → a ≡ c → b ≡ d → ◌≡◌ {A = Fraction} (record { num = a; den = b }) (record { num = c; den = d })
-fraction_with a b c d e f = rw (e, f)
 
 pub point_with-value : (s : Slot) (v : Fraction) → IsPositive v → value_at s (point_with s v) ≡ v
 unfolding point_with number_at

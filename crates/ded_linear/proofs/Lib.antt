@@ -8,3 +8,4 @@ pub mod SlotLists
 pub mod Steps
 pub mod Told
 pub mod Wide
+pub mod Shared

@@ -6,7 +6,7 @@ use Rattle.ded_model.specs.declared.slot.Slot.{Slot}
 use Rattle.ded_model.specs.declared.tuple.Negated.{Negated}
 use Rattle.ded_model.specs.declared.tuple.Negated.TheVariants.{One}
 use Rattle.ded_model.specs.Constraint.{LinearConstraint}
-use Rattle.ded_model.specs.Cell.{conj_holds}
+use Rattle.ded_model.specs.Cell.{conj_holds, HoldsNowhere}
 use Rattle.ded_model.specs.Coefs.{AreCoefs}
 use Rattle.ded_model.specs.Lines.{In, IsSubset, row_lines}
 use Rattle.ded_model.specs.Negation.{some_piece_holds}
@@ -16,7 +16,6 @@ use Rattle.ded_model.specs.Sublists.{IsSublist}
 use Rattle.ded_model.proofs.Sublists.{sublist_refl, sublist_append, sublist_trans, sublist_all}
 use Rattle.ded_model.proofs.Points.{and_left, and_right}
 use Rattle.ded_theory.specs.Conjunctions.{conj_mentions, conj_lines}
-use Rattle.ded_theory.specs.Verdicts.{HoldsNowhere}
 use Rattle.ded_theory.proofs.Conjunctions.{conj_holds-append}
 use Rattle.ded_elimination.specs.LinearAtoms.{IsLinearAtom}
 use Rattle.ded_elimination.proofs.Conjunctions.{In-at, conj-In, In-mentions, mentions-In, In-lines, lines-In}

@@ -13,6 +13,7 @@ use Rattle.std.proofs.lemmas.Int.{ints, by_lt_z}
 use Rattle.ded_num.specs.Gcd.{nat_gcd}
 use Rattle.ded_num.proofs.Gcds.{nat_gcd_is}
 use Rattle.ded_num.proofs.Ring.{parts, ring_pos, diff_same, diff-pos, add-mul_ℤ}
+use Rattle.ded_num.proofs.Signs.{unsigned_abs-neg}
 use Rattle.ded_model.specs.declared.slot.Slot.{Slot}
 use Rattle.ded_model.specs.declared.row.RowOp.{RowOp}
 use Rattle.ded_model.specs.declared.row.RowOp.TheVariants.{Zero, AtMost, Below}
@@ -159,14 +160,11 @@ root_positive a c n = by_lt_z a (pos 0)
     (λ lt. rw (is_below a (pos 0) lt) (omega (arith, ints)))
     (λ ge. by_lt_z (pos 0) a (λ gt. rw (not_below a (pos 0) gt) gt) (λ le. absurd (n (omega (arith, ints)))))
 
-abs_turned : (a : ℤ) → unsigned_abs (neg_ℤ a) ≡ unsigned_abs a
-abs_turned a = omega (arith, ints)
-
 root_lowest : (b : Bool) (a c : ℤ) → nat_gcd (unsigned_abs c) (unsigned_abs a) ≡ 1 → IsLowest (cond b (record { num = c; den = neg_ℤ a }) (record { num = neg_ℤ c; den = a }))
-root_lowest true a c h = ap (λ n. nat_gcd (unsigned_abs c) n) (abs_turned a) ∙ h
-root_lowest false a c h = ap (λ n. nat_gcd n (unsigned_abs a)) (abs_turned c) ∙ h
+root_lowest true a c h = ap (λ n. nat_gcd (unsigned_abs c) n) (unsigned_abs-neg a) ∙ h
+root_lowest false a c h = ap (λ n. nat_gcd n (unsigned_abs a)) (unsigned_abs-neg c) ∙ h
 
-gcd_of_zero : (n : ℕ) → nat_gcd 0 n ≡ n
+pub gcd_of_zero : (n : ℕ) → nat_gcd 0 n ≡ n
 gcd_of_zero n = sym (nat_gcd_is 0 n n (IsGcd-swap n 0 n (IsGcd-from_zero n 0 refl)))
 
 -- a row with one coefficient is in lowest terms

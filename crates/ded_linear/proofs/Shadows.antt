@@ -6,6 +6,7 @@ use Rattle.std.proofs.Common.{◌≡◌, ℕ, ◌*◌, Bool, true, false, ◌&&�
 use Rattle.std.specs.Prelude.{ℤ, pos, ◌+ℤ◌, ◌-ℤ◌, ◌*ℤ◌, ◌<ℤ◌, ◌↔◌, IsTrue}
 use Rattle.std.proofs.lemmas.Int.{ints}
 use Rattle.ded_num.proofs.Ring.{parts, ring_pos, diff-pos, diff_same}
+use Rattle.ded_num.proofs.Signs.{once, no_gap, from_no_gap}
 use Rattle.ded_model.specs.declared.slot.Slot.{Slot}
 use Rattle.ded_model.specs.declared.slot.Sort.TheVariants.{Rat}
 use Rattle.ded_model.specs.declared.row.RowOp.TheVariants.{Zero, Below}
@@ -14,14 +15,14 @@ use Rattle.ded_model.specs.declared.bound.Bound.TheVariants.{Infinite, Excluded,
 use Rattle.ded_model.specs.Constraint.{LinearConstraint}
 use Rattle.ded_model.specs.Point.{Key, slot, Value, number, Point, IsPoint, AreValues, IsValue, IsNumberExtension, IsExtension, same_key, same_slot, number_at, all_times}
 use Rattle.ded_model.specs.Row.{sum_at, sign_meets, row_holds}
-use Rattle.ded_model.specs.Cell.{conj_holds}
+use Rattle.ded_model.specs.Cell.{conj_holds, HoldsNowhere}
 use Rattle.ded_model.specs.Bound.{Fraction, End, lower, upper, value_at, SomeOutside, NoneOutside, SomeAt}
 use Rattle.ded_model.specs.Interval.{IsExactBound}
 use Rattle.ded_model.proofs.Core.{meets_unscale}
 use Rattle.ded_model.proofs.Points.{same_key_is, number_at-extended, number_at-kept, positive-extension}
 use Rattle.ded_model.proofs.Numbers.{extended, extended_is}
 use Rattle.ded_theory.specs.Eliminations.{SomeExtension}
-use Rattle.ded_theory.specs.Verdicts.{HoldsNowhere, IsBound}
+use Rattle.ded_theory.specs.Verdicts.{IsBound}
 use Rattle.ded_box.specs.Intervals.{IsPositive}
 use Rattle.ded_box.proofs.Gaps.{gap, gap_at, outside_decides, chain_at, chain_law}
 use Rattle.ded_model.proofs.PointTexts.{times_values}
@@ -40,9 +41,6 @@ row_same r p q e h = ap (sign_meets r.op) (ap₂ (λ z d. z +ℤ r.constant *ℤ
 rows_same : (rows : List LinearConstraint) (p q : Point) → q.den ≡ p.den → ((t : Slot) → number_at q (slot t) ≡ number_at p (slot t)) → conj_holds row_holds rows q ≡ conj_holds row_holds rows p
 rows_same [] p q e h = refl
 rows_same (r ∷ rows) p q e h = ap₂ (λ a b. a && b) (row_same r p q e h) (rows_same rows p q e h)
-
-times_one : (z : ℤ) → z *ℤ pos 1 ≡ z
-times_one z = omega (arith, ints)
 
 module _ (t : Slot) (p : Point) where
   abbrev again : Point
@@ -66,7 +64,7 @@ module _ (t : Slot) (p : Point) where
 
       by : (b : Bool) → same_key (slot u) (slot t) ≡ b → number_at again (slot u) ≡ number_at p (slot u)
       by true e = number_at-extended p (slot t) again again_is (slot u) e ∙ value_is ∙ ap (λ k. number_at p k) (sym (same_key_is (slot u) (slot t) e))
-      by false e = number_at-kept p (slot t) again again_is (slot u) e ∙ ap (λ n. number_at p (slot u) *ℤ pos n) factor_one ∙ times_one (number_at p (slot u))
+      by false e = number_at-kept p (slot t) again again_is (slot u) e ∙ ap (λ n. number_at p (slot u) *ℤ pos n) factor_one ∙ once (number_at p (slot u))
 
 pub itself : (t : Slot) (rows : List LinearConstraint) (p : Point) → t.sort ≡ Rat → IsTrue (conj_holds row_holds rows p) → SomeExtension t (conj_holds row_holds rows) p
 itself t rows p e h =
@@ -75,7 +73,7 @@ itself t rows p e h =
 
 -- ---- an extension of a point is one
 
-append_value : (cs : List (Key × Value)) (c : Key × Value) → AreValues cs → IsValue c.1 → AreValues (cs ++ c ∷ [])
+pub append_value : (cs : List (Key × Value)) (c : Key × Value) → AreValues cs → IsValue c.1 → AreValues (cs ++ c ∷ [])
 append_value [] c h v = (v, tt)
 append_value (b ∷ cs) c h v = (h.0, append_value cs c h.1 v)
 
@@ -102,7 +100,7 @@ kept_law n d e = rw (parts n, diff-pos e, diff-pos d, diff-pos (d * e)) (simp ri
 pub kept_value : (s t : Slot) (p q : Point) → same_slot s t ≡ false → IsNumberExtension p (slot t) q → HaveValue s p q
 kept_value s t p q e x = rw (number_at-kept p (slot t) q x (slot s) e, x.den) (kept_law (number_at p (slot s)) p.den x.factor)
 
-rational_extension : (t : Slot) (test : Point → Bool) (p : Point) → t.sort ≡ Rat → SomeExtension t test p → (q : Point) × IsNumberExtension p (slot t) q × IsTrue (test q)
+pub rational_extension : (t : Slot) (test : Point → Bool) (p : Point) → t.sort ≡ Rat → SomeExtension t test p → (q : Point) × IsNumberExtension p (slot t) q × IsTrue (test q)
 rational_extension t test p e h = subst (λ o. (q : Point) × IsExtension o p (slot t) q × IsTrue (test q)) e h
 
 -- what an elimination leaves is a shadow of the rows
@@ -117,12 +115,6 @@ shadow s t f rows e n h = record {
 
 zero_sum : (x y a b : ℤ) → x ≡ pos 0 → y ≡ pos 0 → a *ℤ x +ℤ b *ℤ y ≡ pos 0
 zero_sum x y a b e f = rw (e, f) (rw (parts a, parts b) (simp ring_pos (diff_same _ _ _ _ (omega arith))))
-
-no_gap : (x y : ℤ) → x ≡ y → x -ℤ y ≡ pos 0
-no_gap x y e = omega (arith, ints)
-
-from_no_gap : (x y : ℤ) → x -ℤ y ≡ pos 0 → x ≡ y
-from_no_gap x y e = omega (arith, ints)
 
 same_at : (nq dq np dp hn hd : ℤ) → pos 0 <ℤ dp → nq *ℤ dp -ℤ np *ℤ dq ≡ pos 0 → np *ℤ hd ≡ hn *ℤ dp → nq *ℤ hd ≡ hn *ℤ dq
 same_at nq dq np dp hn hd p e f =

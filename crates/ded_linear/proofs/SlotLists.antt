@@ -17,14 +17,7 @@ use Rattle.ded_model.proofs.Rows.{or_left, or_right}
 use Rattle.ded_theory.specs.Conjunctions.{conj_mentions}
 use Rattle.ded_linear.specs.SlotLists.{with_slot, with_slots, with_all_slots, AreOthers, IsTaken}
 use Rattle.std.proofs.lemmas.Bool.{or_from}
-
--- the test of two slots, turned
-pub turned_false : (s t : Slot) → same_slot s t ≡ false → same_slot t s ≡ false
-turned_false s t h = go (same_slot t s) refl
-  where
-    go : (b : Bool) → same_slot t s ≡ b → same_slot t s ≡ false
-    go false e = e
-    go true e = absurd (true≢false (sym (same_slot_refl s) ∙ ap (λ u. same_slot s u) (sym (same_slot_is t s e)) ∙ h))
+use Rattle.ded_model.proofs.SlotLists.{same_slot-turned}
 
 -- ---- a slot taken
 
@@ -46,7 +39,7 @@ stands_often u (t ∷ ss) = subst (λ n. Decides (same_slot t u || stands_in ss 
 pub taken : (ss : List Slot) (i : ℕ) (t : Slot) (ts : List Slot) → i < length ss → t ≡ get_or ss i t → ts ≡ swap_remove ss i t → IsTaken ss t ts
 taken ss i t ts lt is made = record {
   there = (stands_often t ss).1 (let e = count t in let one = here in omega (arith, e, one));
-  left = λ u m n. (stands_often u ts).1 (let e = count u in let z = away u (turned_false u t n) in let k = (stands_often u ss).0 m in omega (arith, e, z, k));
+  left = λ u m n. (stands_often u ts).1 (let e = count u in let z = away u (same_slot-turned u t n) in let k = (stands_often u ss).0 m in omega (arith, e, z, k));
   fewer = λ u m. (stands_often u ss).1 (let e = count u in let k = (stands_often u ts).0 m in omega (arith, e, k));
   shorter = let e = ap length made in let k = size in omega arith;
 }
@@ -133,7 +126,7 @@ others s ss rows e = subst (λ l. AreOthers s l rows) (sym e) (record { apart = 
 
 -- one of the others is another slot
 pub taken_apart : (s : Slot) (ss : List Slot) (t : Slot) (ts : List Slot) (rows : List LinearConstraint) → AreOthers s ss rows → IsTaken ss t ts → same_slot s t ≡ false
-taken_apart s ss t ts rows h k = turned_false t s (go (same_slot t s) refl)
+taken_apart s ss t ts rows h k = same_slot-turned t s (go (same_slot t s) refl)
   where
     go : (b : Bool) → same_slot t s ≡ b → same_slot t s ≡ false
     go false e = e

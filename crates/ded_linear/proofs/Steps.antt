@@ -7,7 +7,7 @@ use Rattle.ded_model.specs.declared.slot.Sort.TheVariants.{Rat}
 use Rattle.ded_model.specs.Constraint.{LinearConstraint}
 use Rattle.ded_model.specs.Point.{Point, IsPoint, same_slot}
 use Rattle.ded_model.specs.Row.{row_holds, row_mentions}
-use Rattle.ded_model.specs.Cell.{conj_holds}
+use Rattle.ded_model.specs.Cell.{conj_holds, HoldsNowhere}
 use Rattle.ded_model.specs.Bound.{lower, upper}
 use Rattle.ded_model.specs.Lines.{IsSubset, row_lines, elim_at}
 use Rattle.ded_model.proofs.Members.{or_split}
@@ -17,7 +17,7 @@ use Rattle.ded_theory.specs.declared.answers.Verdict.{Verdict}
 use Rattle.ded_theory.specs.declared.answers.Verdict.TheVariants.{Empty, Inhabited, Unknown}
 use Rattle.ded_theory.specs.Conjunctions.{conj_mentions, conj_lines}
 use Rattle.ded_theory.specs.Eliminations.{SomeExtension}
-use Rattle.ded_theory.specs.Verdicts.{HoldsNowhere, IsSpan, IsVerdict}
+use Rattle.ded_theory.specs.Verdicts.{IsSpan, IsVerdict}
 use Rattle.ded_elimination.specs.LinearAtoms.{IsLinearAtom}
 use Rattle.ded_linear.specs.Laws.{rational_slots}
 use Rattle.ded_linear.proofs.Shadows.{IsShadow, itself, shadow, exact_before, bound_before, nowhere_before}

@@ -5,6 +5,7 @@
 use Rattle.std.proofs.Common.{◌≡◌, ℕ, suc, ◌+◌, ◌*◌, ◌^◌, ◌<◌, ◌≤◌, Bool, true, false, ◌||◌, cond, List, [], ◌∷◌, length, arith, refl, sym, ap, ◌∙◌, true≢false, inl, inr, ◌⊎◌}
 use Rattle.std.proofs.Math.Pow.{pow_mono, pow-add}
 use Rattle.std.proofs.lemmas.Nat.{mul-le}
+use Rattle.ded_num.proofs.Lengths.{below_or}
 use Rattle.ded_model.specs.declared.slot.Slot.{Slot}
 use Rattle.ded_model.specs.declared.slot.Sort.TheVariants.{Rat}
 use Rattle.ded_model.specs.Constraint.{LinearConstraint}
@@ -24,9 +25,6 @@ RowsWide rows = IsWide row_mentions row_lines rows
 some_length : (ss : List Slot) (t : Slot) → stands_in ss t ≡ true → 0 < length ss
 some_length [] t h = absurd (true≢false (sym h))
 some_length (s ∷ ss) t h = omega arith
-
-below_or : (k m : ℕ) → (k < m) ⊎ (m ≤ k)
-below_or k m = grind arith
 
 many : (b n : ℕ) → 64 ≤ b → 0 < n → 128 < (b + 1) * 2 ^ n
 many b n h k = let p : 2 ^ 1 ≤ 2 ^ n = pow_mono k in omega (arith, mul-le 65 2 (b + 1) (2 ^ n) (omega arith) p)

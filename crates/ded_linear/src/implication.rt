@@ -4,11 +4,10 @@
 //! a row over two slots they are known without a search, and of all others they are searched from where the last search ended.
 ghost use Rattle.std.specs.Prelude.{◌≡◌, true, IfOk, List, [], ◌∷◌, ◌++◌};
 ghost use Rattle.std.specs.List.{AllByRecursion};
-ghost use Rattle.ded_model.specs.Cell.{conj_holds};
+ghost use Rattle.ded_model.specs.Cell.{conj_holds, HoldsNowhere};
 ghost use Rattle.ded_model.specs.Coefs.{AreCoefs};
 ghost use Rattle.ded_model.specs.Constraint.{LinearConstraint};
 ghost use Rattle.ded_model.specs.Row.{row_holds};
-ghost use Rattle.ded_theory.specs.Verdicts.{HoldsNowhere};
 ghost use Rattle.ded_elimination.specs.LinearAtoms.{IsLinearAtom};
 ghost use Rattle.ded_weighing.specs.Columns.{lent};
 ghost use Rattle.ded_linear.specs.Prunings.{Imply};

@@ -16,7 +16,7 @@ use Rattle.ded_model.specs.Uses.{goal_atom_uses, goal_uses, plan_atom_uses, plan
 use Rattle.ded_model.proofs.Rows.{or_left, or_right}
 
 -- a fact that goes both ways
-iff_refl : (A : Type 0) → A ↔ A
+pub iff_refl : (A : Type 0) → A ↔ A
 iff_refl A = (λ a. a, λ a. a)
 
 -- ---- any atoms

@@ -35,16 +35,16 @@ one_slot m n t u e f = rw (e, f) refl
 pub equal_by_number : (c s : Slot) → c.sort ≡ Rat → s.sort ≡ Rat → c.number ≡ s.number → c ≡ s
 equal_by_number c s e f h = one_slot c.number s.number c.sort s.sort h (e ∙ sym f)
 
-not_lesser : (m n : ℕ) → nat_lt m n ≡ false → n ≤ m
+pub not_lesser : (m n : ℕ) → nat_lt m n ≡ false → n ≤ m
 not_lesser m n e = grind (arith, nat_tests)
 
-is_lesser : (m n : ℕ) → nat_lt m n ≡ true → m < n
+pub is_lesser : (m n : ℕ) → nat_lt m n ≡ true → m < n
 is_lesser m n e = grind (arith, nat_tests)
 
 not_less : (m n : ℕ) → n ≤ m → nat_lt m n ≡ false
 not_less m n h = grind (arith, nat_tests)
 
-less : (m n : ℕ) → m < n → nat_lt m n ≡ true
+pub less : (m n : ℕ) → m < n → nat_lt m n ≡ true
 less m n h = grind (arith, nat_tests)
 
 -- another rational slot that is not less is greater

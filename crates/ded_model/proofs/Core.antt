@@ -317,7 +317,7 @@ no_slot z m y h = rw h (rw (parts m, parts y) (simp ring_pos (diff_same _ _ _ _ 
 abbrev pub MayScale : RowOp → ℤ → Type 0
 MayScale op k = (pos 0 <ℤ k) ⊎ (op ≡ Zero)
 
-zero_scale : (k z : ℤ) → z ≡ pos 0 → k *ℤ z ≡ pos 0
+pub zero_scale : (k z : ℤ) → z ≡ pos 0 → k *ℤ z ≡ pos 0
 zero_scale k z h = rw h (rw (parts k) (simp ring_pos (diff_same _ _ _ _ (omega arith))))
 
 pub may_scale : (op : RowOp) (k z : ℤ) → MayScale op k → Meets op z → Meets op (k *ℤ z)

@@ -89,7 +89,7 @@ no_clash s ls h = from_not_true (clash_at s ls) (λ e. let r = clash_of-In s ls 
 -- ---- the normal line is no longer
 
 -- a coefficient and the rest, divided
-over_part : (b : Bool) (k c q x y : ℤ) → k *ℤ q ≡ c → k *ℤ x ≡ y → k *ℤ (cond b q (pos 0) +ℤ x) ≡ cond b c (pos 0) +ℤ y
+pub over_part : (b : Bool) (k c q x y : ℤ) → k *ℤ q ≡ c → k *ℤ x ≡ y → k *ℤ (cond b q (pos 0) +ℤ x) ≡ cond b c (pos 0) +ℤ y
 over_part true k c q x y e f = mul-add_ℤ k q x ∙ rw (e, f)
 over_part false k c q x y e f = ap (λ w. k *ℤ w) (+ℤ_idl x) ∙ f ∙ sym (+ℤ_idl y)
 
@@ -184,7 +184,7 @@ pub within_more : (k m : ℕ) (l : Line) → k ≤ m → IsLineWithin k l → Is
 within_more k m l h w = let p : 2 ^ k ≤ 2 ^ m = pow_mono h in record { coefs = λ t. let x = w.coefs t in omega arith; constant = let x = w.constant in omega arith }
 
 -- a choice of lines or none
-choice : (b : Bool) (ls : List Line) (l : Line) → In l (cond b ls []) → In l ls
+pub choice : (b : Bool) (ls : List Line) (l : Line) → In l (cond b ls []) → In l ls
 choice true ls l h = h
 choice false ls l h = absurd h
 

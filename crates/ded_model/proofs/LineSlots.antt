@@ -18,6 +18,7 @@ use Rattle.ded_model.specs.Lines.{Line, In, line_with, combination, both_mention
 use Rattle.ded_model.proofs.Points.{same_slot_is, same_slot_refl}
 use Rattle.ded_model.proofs.Rows.{or_left, or_right}
 use Rattle.ded_model.proofs.Members.{elim-In, or_split}
+use Rattle.ded_model.proofs.LineLengths.{choice}
 
 -- some place of the list has the slot
 abbrev pub has_slot : List (Slot × ℤ) → Slot → Bool
@@ -96,11 +97,6 @@ combination_slots s l m n t i h =
         | inr x ↦ inr (elim (put_all_slots (neg_ℤ (coef_at l.coefs s)) m.coefs [] t x) [ inl y ↦ y | inr y ↦ absurd (true≢false (sym y)) ])
       ],
     )
-
--- a choice of lines or none
-choice : (b : Bool) (ls : List Line) (l : Line) → In l (cond b ls []) → In l ls
-choice true ls l h = h
-choice false ls l h = absurd h
 
 -- it mentions what a line of the set mentions, and not the eliminated slot
 pub elim_slots : (s : Slot) (ls : List Line) (l : Line) (t : Slot) → In l (elim_at s ls) → row_mentions l t ≡ true → (same_slot t s ≡ false) × ((m : Line) × In m ls × (row_mentions m t ≡ true))

@@ -14,10 +14,10 @@ none≢some m e = ap is_some e
     is_some None = false
     is_some (Some x) = true
 
-same_number : (b c : ℕ) → (b == c) ≡ true → b ≡ c
+pub same_number : (b c : ℕ) → (b == c) ≡ true → b ≡ c
 same_number b c e = grind (arith, nat_tests)
 
-number_same : (b : ℕ) → (b == b) ≡ true
+pub number_same : (b : ℕ) → (b == b) ≡ true
 number_same b = grind (arith, nat_tests)
 
 some_is : (m n : List ℕ) → ◌≡◌ {A = Option (List ℕ)} (Some m) (Some n) → m ≡ n

@@ -74,7 +74,7 @@ pub max-grows : (a b c d : ℕ) → a ≤ c → b ≤ d → max a b ≤ max c d
 max-grows a b c d h k = omega arith
 
 -- a quantifier more
-one_more-grows : (s : Sort) (a b : ℕ) → a ≤ b → one_more s a ≤ one_more s b
+pub one_more-grows : (s : Sort) (a b : ℕ) → a ≤ b → one_more s a ≤ one_more s b
 one_more-grows Rat a b h = omega arith
 one_more-grows Text a b h = h
 

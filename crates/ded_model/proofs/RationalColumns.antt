@@ -27,7 +27,7 @@ rational_heading-length i (c ∷ cs) = by (same_sort c.sort Rat) (rational_headi
     by true e = omega (arith, e)
     by false e = omega (arith, e)
 
-rational_sort : (s : Sort) → s ≡ Rat → same_sort s Rat ≡ true
+pub rational_sort : (s : Sort) → s ≡ Rat → same_sort s Rat ≡ true
 rational_sort s e = subst (λ x. same_sort x Rat ≡ true) (sym e) refl
 
 -- each rational slot of the heading is one of them

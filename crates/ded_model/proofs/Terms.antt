@@ -54,7 +54,7 @@ plus_law x y a b d = rw (parts x, parts y, parts a, parts b, parts d) (simp ring
 pub linear-plus : (f g : Linear) (p : Point) → linear_at (plus f g) p ≡ linear_at f p +ℤ linear_at g p
 linear-plus f g p = ap (λ z. z +ℤ (f.constant +ℤ g.constant) *ℤ pos p.den) (keys-append f.coefs g.coefs p) ∙ plus_law (keys_at f.coefs p) (keys_at g.coefs p) f.constant g.constant (pos p.den)
 
-scale_step : (a c n x : ℤ) → (a *ℤ c) *ℤ n +ℤ a *ℤ x ≡ a *ℤ (c *ℤ n +ℤ x)
+pub scale_step : (a c n x : ℤ) → (a *ℤ c) *ℤ n +ℤ a *ℤ x ≡ a *ℤ (c *ℤ n +ℤ x)
 scale_step a c n x = rw (parts a, parts c, parts n, parts x) (simp ring_pos (diff_same _ _ _ _ (omega arith)))
 
 times_zero : (a z : ℤ) → z ≡ pos 0 → z ≡ a *ℤ z
@@ -64,7 +64,7 @@ keys-times : (a : ℤ) (cs : List (Key × ℤ)) (p : Point) → keys_at (coefs_t
 keys-times a [] p = times_zero a (pos 0) refl
 keys-times a (c ∷ cs) p = ap (λ z. (a *ℤ c.1) *ℤ number_at p c.0 +ℤ z) (keys-times a cs p) ∙ scale_step a c.1 (number_at p c.0) (keys_at cs p)
 
-scale_law : (a x c d : ℤ) → a *ℤ x +ℤ (a *ℤ c) *ℤ d ≡ a *ℤ (x +ℤ c *ℤ d)
+pub scale_law : (a x c d : ℤ) → a *ℤ x +ℤ (a *ℤ c) *ℤ d ≡ a *ℤ (x +ℤ c *ℤ d)
 scale_law a x c d = rw (parts a, parts x, parts c, parts d) (simp ring_pos (diff_same _ _ _ _ (omega arith)))
 
 pub linear-scale : (a : ℤ) (f : Linear) (p : Point) → linear_at (scale a f) p ≡ a *ℤ linear_at f p

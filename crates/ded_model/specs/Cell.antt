@@ -47,6 +47,10 @@ conj_holds holds atoms p = list_all (λ a. holds a p) atoms
 abbrev pub HoldsSomewhere : (Point → Bool) → Type 0
 HoldsSomewhere test = (p : Point) × IsPoint p × IsTrue (test p)
 
+-- no point passes the test
+abbrev pub HoldsNowhere : (Point → Bool) → Type 0
+HoldsNowhere test = (p : Point) → IsPoint p → test p ≡ false
+
 -- the atoms hold somewhere, and without any one of them the others hold at a point at which it doesn't
 pub record IsReduced {A : Type 0} (holds : A → Point → Bool) (atoms : List A) : Type 0 where
   pub inhabited : HoldsSomewhere (conj_holds holds atoms)

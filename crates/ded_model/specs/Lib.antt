@@ -30,6 +30,7 @@ pub mod Refusals
 pub mod Renaming
 pub mod Row
 pub mod Scanned
+pub mod ShortRows
 pub mod Slotted
 pub mod Sublists
 pub mod Sum

@@ -23,7 +23,7 @@ pub within_from_length : (z : ℤ) (k : ℕ) → length_of z ≤ k → IsWithin 
 within_from_length z k h = let p : 2 ^ length_of z ≤ 2 ^ k = pow_mono h in omega (arith, within_length z)
 
 -- two numbers are in order one way or the other
-below_or : (k m : ℕ) → (k < m) ⊎ (m ≤ k)
+pub below_or : (k m : ℕ) → (k < m) ⊎ (m ≤ k)
 below_or k m = grind arith
 
 -- the same by cases, since at most k digits would be below 2 ^ k

@@ -24,12 +24,6 @@ use Rattle.ded_order.proofs.Rests.{IsOrderly, nothing, single, double, orderly_f
 
 -- ---- lists
 
--- an atom at a place
-pub all-at : {A : Type 0} (P : A → Type 0) (xs : List A) (i : ℕ) (x : A) → i < length xs → x ≡ get_or xs i x → AllByRecursion P xs → P x
-all-at P [] i x h e a = absurd (omega (arith, h))
-all-at P (y ∷ xs) zero x h e a = subst P (sym e) a.0
-all-at P (y ∷ xs) (suc i) x h e a = all-at P xs i x (omega (arith, h)) e a.1
-
 -- one more of the first elements
 pub take_more : {A : Type 0} (xs : List A) (i : ℕ) (x : A) → i < length xs → x ≡ get_or xs i x → take i xs ++ x ∷ [] ≡ take (i + 1) xs
 take_more [] i x h e = absurd (omega (arith, h))

@@ -1,14 +1,14 @@
 -- Sums of lists without a slot are sums of the lists without the slot, where these are in ascending order.
-use Rattle.std.proofs.Common.{◌≡◌, ℕ, ◌+◌, ◌<◌, nat_lt, Bool, true, false, cond, List, [], ◌∷◌, ◌⊎◌, inl, inr, arith, refl, sym, ap, ap₂, ◌∙◌, true≢false}
+use Rattle.std.proofs.Common.{◌≡◌, ℕ, ◌+◌, ◌<◌, nat_lt, Bool, true, false, cond, List, [], ◌∷◌, arith, refl, sym, ap, ap₂, ◌∙◌, true≢false}
 use Rattle.std.specs.Prelude.{ℤ, ◌+ℤ◌, ◌*ℤ◌}
-use Rattle.std.proofs.lemmas.Bool.Decides.{nat_tests}
 use Rattle.ded_model.specs.declared.slot.Slot.{Slot}
 use Rattle.ded_model.specs.declared.slot.Sort.TheVariants.{Rat}
 use Rattle.ded_model.specs.Point.{same_slot}
 use Rattle.ded_model.specs.Coefs.{AllAbove, AreCoefs, put, put_all, mixed, cut}
 use Rattle.ded_model.proofs.Points.{same_slot_is, same_slot_refl}
-use Rattle.ded_model.proofs.CoefLemmas.{above_lesser, equal_by_number, put-above}
-use Rattle.ded_row.proofs.Walks.{AllAbove-put}
+use Rattle.ded_model.proofs.CoefLemmas.{above_lesser, put-above, is_lesser}
+use Rattle.ded_model.proofs.SlotLists.{above_by_tests}
+use Rattle.ded_model.proofs.CoefLists.{AllAbove-put}
 
 -- rational slots in ascending order
 abbrev pub Ascend : List (Slot × ℤ) → Type 0
@@ -19,22 +19,6 @@ pub ascend-kept : (cs : List (Slot × ℤ)) → AreCoefs cs → Ascend cs
 ascend-kept [] h = tt
 ascend-kept (c ∷ cs) h = (h.0, h.3, ascend-kept cs h.4)
 
-lesser : (m n : ℕ) → nat_lt m n ≡ true → m < n
-lesser m n e = grind (arith, nat_tests)
-
--- a slot that isn't the other one and isn't above it is below it
-above_by_tests : (c s : Slot) → c.sort ≡ Rat → s.sort ≡ Rat → same_slot c s ≡ false → nat_lt s.number c.number ≡ false → c.number < s.number
-above_by_tests c s e f g h = elim (below_or c.number s.number) [
-  | inl k ↦ k
-  | inr k ↦ absurd (true≢false (sym (ap (λ t. same_slot t s) (equal_by_number c s e f (same c.number s.number h k)) ∙ same_slot_refl s) ∙ g))
-]
-  where
-    below_or : (k m : ℕ) → (k < m) ⊎ (m < k + 1)
-    below_or k m = grind arith
-
-    same : (k m : ℕ) → nat_lt m k ≡ false → m < k + 1 → k ≡ m
-    same k m e h = grind (arith, nat_tests)
-
 ascend-put : (s : Slot) (z : ℤ) (cs : List (Slot × ℤ)) → s.sort ≡ Rat → Ascend cs → Ascend (put s z cs)
 ascend-put s z [] r h = (r, tt, tt)
 ascend-put s z (c ∷ cs) r h = go (same_slot c.0 s) refl (nat_lt s.number c.0.number) refl (ascend-put s z cs r h.2)
@@ -42,14 +26,14 @@ ascend-put s z (c ∷ cs) r h = go (same_slot c.0 s) refl (nat_lt s.number c.0.n
     go : (b : Bool) → same_slot c.0 s ≡ b → (d : Bool) → nat_lt s.number c.0.number ≡ d → Ascend (put s z cs)
         → Ascend (cond b ((c.0, z +ℤ c.1) ∷ cs) (cond d ((s, z) ∷ c ∷ cs) (c ∷ put s z cs)))
     go true e d f i = h
-    go false e true f i = let l : s.number < c.0.number = lesser s.number c.0.number f in (r, (l, above_lesser s.number c.0.number cs (omega (arith, l)) h.1), h)
+    go false e true f i = let l : s.number < c.0.number = is_lesser s.number c.0.number f in (r, (l, above_lesser s.number c.0.number cs (omega (arith, l)) h.1), h)
     go false e false f i = (h.0, AllAbove-put c.0.number s z cs (above_by_tests c.0 s h.0 r e f) h.1, i)
 
 ascend-put_all : (k : ℤ) (xs ys : List (Slot × ℤ)) → Ascend xs → Ascend ys → Ascend (put_all k xs ys)
 ascend-put_all k [] ys r h = h
 ascend-put_all k (x ∷ xs) ys r h = ascend-put x.0 (k *ℤ x.1) (put_all k xs ys) r.0 (ascend-put_all k xs ys r.2 h)
 
-above-cut : (n : ℕ) (s : Slot) (cs : List (Slot × ℤ)) → AllAbove n cs → AllAbove n (cut s cs)
+pub above-cut : (n : ℕ) (s : Slot) (cs : List (Slot × ℤ)) → AllAbove n cs → AllAbove n (cut s cs)
 above-cut n s [] h = tt
 above-cut n s (c ∷ cs) h = go (same_slot c.0 s) (above-cut n s cs h.1)
   where
@@ -77,7 +61,7 @@ cut-put_there s t z (c ∷ cs) n h = go (same_slot c.0 t) refl (nat_lt t.number 
   where
     -- the rest of the list is past the slot
     past : nat_lt t.number c.0.number ≡ true → AllAbove t.number (c ∷ cs)
-    past f = let l : t.number < c.0.number = lesser t.number c.0.number f in (l, above_lesser t.number c.0.number cs (omega (arith, l)) h.1)
+    past f = let l : t.number < c.0.number = is_lesser t.number c.0.number f in (l, above_lesser t.number c.0.number cs (omega (arith, l)) h.1)
 
     same : (b : Bool) → same_slot c.0 t ≡ true → same_slot c.0 s ≡ b → cond b (cut s cs) ((c.0, z +ℤ c.1) ∷ cut s cs) ≡ put t z (cond b (cut s cs) (c ∷ cut s cs))
     same true e f = absurd (true≢false (sym f ∙ ap (λ u. same_slot u s) (same_slot_is c.0 t e) ∙ n))

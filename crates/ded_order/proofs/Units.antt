@@ -5,11 +5,11 @@ use lib.IntN.{neg_ℤ}
 use Rattle.std.specs.Ordering.{int_eq}
 use Rattle.std.proofs.lemmas.Int.{ints, unsigned_abs-mul}
 use Rattle.std.proofs.lemmas.Bool.Decides.{Decides-int_eq}
-use Rattle.ded_num.proofs.Ring.{parts, ring, diff_same}
+use Rattle.ded_num.proofs.Signs.{unsigned_abs-neg}
 use Rattle.ded_model.proofs.Points.{and_left, and_right}
 use Rattle.ded_model.proofs.Members.{or_split}
 use Rattle.ded_row.specs.Mixing.{factor}
-use Rattle.ded_row.proofs.Scaling.{cancel_factor}
+use Rattle.ded_row.proofs.Scaling.{cancel_factor, inner_law}
 use Rattle.ded_order.specs.OrderRows.{are_opposite_units}
 
 -- a is 1 or -1, and b is its negative
@@ -39,17 +39,14 @@ opposite_test a b h = elim (unit_cases a h.unit) [
   | inr e ↦ ap₂ are_opposite_units e (h.opposite ∙ ap neg_ℤ e)
 ]
 
-neg_neg : (a : ℤ) → a ≡ neg_ℤ (neg_ℤ a)
+pub neg_neg : (a : ℤ) → a ≡ neg_ℤ (neg_ℤ a)
 neg_neg a = omega (arith, ints)
 
-neg_size : (a : ℤ) → unsigned_abs (neg_ℤ a) ≡ unsigned_abs a
-neg_size a = omega (arith, ints)
-
 pub swapped : (a b : ℤ) → AreOpposite a b → AreOpposite b a
-swapped a b h = record { unit = ap unsigned_abs h.opposite ∙ neg_size a ∙ h.unit; opposite = neg_neg a ∙ sym (ap neg_ℤ h.opposite) }
+swapped a b h = record { unit = ap unsigned_abs h.opposite ∙ unsigned_abs-neg a ∙ h.unit; opposite = neg_neg a ∙ sym (ap neg_ℤ h.opposite) }
 
 pub turned_units : (a b : ℤ) → AreOpposite a b → AreOpposite (neg_ℤ a) (neg_ℤ b)
-turned_units a b h = record { unit = neg_size a ∙ h.unit; opposite = ap neg_ℤ h.opposite }
+turned_units a b h = record { unit = unsigned_abs-neg a ∙ h.unit; opposite = ap neg_ℤ h.opposite }
 
 -- ---- divided and multiplied
 
@@ -58,9 +55,6 @@ one_factor zero n e = absurd (omega arith)
 one_factor (suc m) zero e = absurd (omega arith)
 one_factor (suc m) (suc zero) e = refl
 one_factor (suc m) (suc (suc n)) e = absurd (omega arith)
-
-inner_law : (k z : ℤ) → neg_ℤ (k *ℤ z) ≡ k *ℤ neg_ℤ z
-inner_law k z = rw (parts k, parts z) (simp ring (diff_same _ _ _ _ (omega arith)))
 
 -- quotients of opposite units are opposite units
 pub units_over : (d x y a b : ℤ) → d ≢ pos 0 → d *ℤ x ≡ a → d *ℤ y ≡ b → AreOpposite a b → AreOpposite x y

@@ -1,3 +1,3 @@
 mod Numbers
-mod Putting
+pub mod Putting
 mod Taking

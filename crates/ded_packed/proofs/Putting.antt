@@ -7,6 +7,7 @@ use Rattle.ded_model.specs.declared.slot.Slot.{Slot}
 use Rattle.ded_model.specs.Coefs.{AreCoefs}
 use Rattle.ded_model.specs.Normal.{IsNormalAtom, IsNormalTuple}
 use Rattle.ded_model.specs.Row.{Atom}
+use Rattle.ded_model.proofs.CoefLists.{drop-kept}
 use Rattle.ded_packed.specs.Numbers.{natural_in, after_natural, whole_in}
 use Rattle.ded_packed.specs.Atoms.{coefs_in, after_coefs, CoefsFit, after_atom, atoms_in, AtomsFit}
 use Rattle.ded_packed.specs.Putting.{IsPutCoef, CoefsPut, IsPut, AtomsPut}
@@ -29,14 +30,9 @@ no_coefs cs s =
 same_coef : (c : Slot × ℤ) (n : ℕ) (z : ℤ) → c.0.sort ≡ Rat → n ≡ c.0.number → z ≡ c.1 → (record { number = n; sort = Rat }, z) ≡ c
 same_coef c n z s e f = ap (λ t. (record { number = n; sort = t }, z)) (sym s) ∙ ap (λ m. (record { number = m; sort = c.0.sort }, z)) e ∙ ap (λ y. (c.0, y)) f
 
-rational_from : (cs : List (Slot × ℤ)) (i : ℕ) → AreCoefs cs → AreCoefs (drop i cs)
-rational_from cs zero h = h
-rational_from [] (suc i) h = tt
-rational_from (c ∷ cs) (suc i) h = rational_from cs i h.4
-
 -- the coefficient at a place
 pub coef_at_place : (cs : List (Slot × ℤ)) (i : ℕ) (d : Slot × ℤ) → i < length cs → AreCoefs cs → AreCoefs (get_or cs i d ∷ drop (i + 1) cs)
-coef_at_place cs i d l h = subst AreCoefs (drop_more cs i d l) (rational_from cs i h)
+coef_at_place cs i d l h = subst AreCoefs (drop_more cs i d l) (drop-kept cs i h)
 
 pub one_more_coef : (cs : List (Slot × ℤ)) (i : ℕ) (d : Slot × ℤ) (old mid new : List ℕ) → i < length cs → AreCoefs cs → CoefsPut cs (i + 1) old mid → IsPutCoef (get_or cs i d) mid new → CoefsPut cs i old new
 one_more_coef cs i d old mid new l h p q =

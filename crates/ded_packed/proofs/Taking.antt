@@ -2,9 +2,10 @@
 use Rattle.std.proofs.Common.{◌≡◌, ◌≢◌, to_z, of_z, ℕ, suc, ◌+◌, ◌-◌, ◌<◌, List, [], ◌∷◌, ◌++◌, arith, sym, ap, ◌∙◌, subst}
 use Rattle.std.specs.Prelude.{ℤ, pos}
 use Rattle.std.specs.Int.{w128}
-use Rattle.std.proofs.lemmas.Int.{to_z-of_z, fits_signed_from_abs}
 use Rattle.std.proofs.lemmas.List.{append-nil, append_assoc}
 use Rattle.ded_num.specs.Length.{IsShort}
+use Rattle.ded_num.proofs.Tests.{minus_step}
+use Rattle.ded_num.proofs.Signs.{short_in_code}
 use Rattle.ded_model.specs.declared.slot.Slot.{Slot}
 use Rattle.ded_model.specs.Coefs.{AllAbove, AllBelow, AreCoefs}
 use Rattle.ded_model.specs.Normal.{IsNormalTuple}
@@ -12,10 +13,6 @@ use Rattle.ded_model.specs.Row.{Atom}
 use Rattle.ded_packed.specs.Numbers.{after_natural}
 use Rattle.ded_packed.specs.Atoms.{coef_in, coefs_in, after_coefs, CoefsFit, atom_in, after_atom, atoms_in, AtomsFit}
 use Rattle.ded_packed.specs.Taking.{CoefsTaken, AtomsTaken}
-
--- one more than those behind the next
-more : (count i : ℕ) → i < count → count - i ≡ suc (count - (i + 1))
-more count i h = omega (arith, h)
 
 none : (count : ℕ) → count - count ≡ 0
 none count = omega arith
@@ -34,15 +31,15 @@ coefs_begin s count h = record {
 
 module _ (start : List ℕ) (count i : ℕ) (read : List (Slot × ℤ)) (s : List ℕ) (l : i < count) (h : CoefsTaken start count i read s) where
   pub next_fits : CoefsFit (suc (count - (i + 1))) s
-  next_fits = subst (λ k. CoefsFit k s) (more count i l) h.fits
+  next_fits = subst (λ k. CoefsFit k s) (minus_step count i l) h.fits
 
   together : read ++ (coef_in s ∷ coefs_in (count - (i + 1)) (after_natural (after_natural s))) ≡ coefs_in count start
-  together = ap (λ k. read ++ coefs_in k s) (sym (more count i l)) ∙ h.value
+  together = ap (λ k. read ++ coefs_in k s) (sym (minus_step count i l)) ∙ h.value
 
   pub one_coef_more : CoefsTaken start count (i + 1) (read ++ coef_in s ∷ []) (after_natural (after_natural s))
   one_coef_more = record {
     value = append_assoc read (coef_in s ∷ []) (coefs_in (count - (i + 1)) (after_natural (after_natural s))) ∙ together;
-    left = ap (λ k. after_coefs k s) (sym (more count i l)) ∙ h.left;
+    left = ap (λ k. after_coefs k s) (sym (minus_step count i l)) ∙ h.left;
     fits = next_fits.2;
   }
 
@@ -68,10 +65,6 @@ pub below_next : (xs : List (Slot × ℤ)) (c : Slot × ℤ) (cs : List (Slot ×
 below_next [] c cs h = tt
 below_next (x ∷ xs) c cs h = (above_last x.0.number xs c cs h.3, below_next xs c cs h.4)
 
--- a short number as the code has it
-back : (z : ℤ) → IsShort z → to_z w128 (of_z w128 z) ≡ z
-back z h = to_z-of_z w128 z (fits_signed_from_abs w128 z h)
-
 module _ (start : List ℕ) (count i : ℕ) (read : List (Slot × ℤ)) (s : List ℕ) (l : i < count) (h : CoefsTaken start count i read s) (are : AreCoefs (coefs_in count start)) (c : Slot × ℤ) (same : c ≡ coef_in s) where
   next_are : AreCoefs (read ++ (c ∷ coefs_in (count - (i + 1)) (after_natural (after_natural s))))
   next_are = subst (λ x. AreCoefs (read ++ (x ∷ coefs_in (count - (i + 1)) (after_natural (after_natural s))))) (sym same) (next_coefs start count i read s l h are)
@@ -80,17 +73,17 @@ module _ (start : List ℕ) (count i : ℕ) (read : List (Slot × ℤ)) (s : Lis
   coef_is = last_coefs read c _ next_are
 
   pub coef_short : IsShort (to_z w128 (of_z w128 c.1))
-  coef_short = subst IsShort (sym (back c.1 coef_is.1)) coef_is.1
+  coef_short = subst IsShort (sym (short_in_code c.1 coef_is.1)) coef_is.1
 
   pub coef_nonzero : to_z w128 (of_z w128 c.1) ≢ pos 0
-  coef_nonzero = λ e. coef_is.2 (sym (back c.1 coef_is.1) ∙ e)
+  coef_nonzero = λ e. coef_is.2 (sym (short_in_code c.1 coef_is.1) ∙ e)
 
   pub coef_last : AllBelow c.0.number read
   coef_last = below_next read c _ next_are
 
   pub coef_pushed : (new : List (Slot × ℤ)) (t : List ℕ) → new ≡ read ++ (c.0, to_z w128 (of_z w128 c.1)) ∷ [] → t ≡ after_natural (after_natural s) → CoefsTaken start count (i + 1) new t
   coef_pushed new t e f =
-      let is : new ≡ read ++ coef_in s ∷ [] = e ∙ ap (λ z. read ++ (c.0, z) ∷ []) (back c.1 coef_is.1) ∙ ap (λ x. read ++ x ∷ []) same in
+      let is : new ≡ read ++ coef_in s ∷ [] = e ∙ ap (λ z. read ++ (c.0, z) ∷ []) (short_in_code c.1 coef_is.1) ∙ ap (λ x. read ++ x ∷ []) same in
       subst (λ u. CoefsTaken start count (i + 1) new u) (sym f)
       (subst (λ r. CoefsTaken start count (i + 1) r (after_natural (after_natural s))) (sym is) (one_coef_more start count i read s l h))
 
@@ -105,14 +98,14 @@ atoms_begin s count h n = record {
 
 module _ (start : List ℕ) (count i : ℕ) (read : List Atom) (s : List ℕ) (l : i < count) (h : AtomsTaken start count i read s) where
   pub next_atom_fits : AtomsFit (suc (count - (i + 1))) s
-  next_atom_fits = subst (λ k. AtomsFit k s) (more count i l) h.fits
+  next_atom_fits = subst (λ k. AtomsFit k s) (minus_step count i l) h.fits
 
   pub next_atom_normal : IsNormalTuple (atom_in s ∷ atoms_in (count - (i + 1)) (after_atom s))
-  next_atom_normal = subst (λ k. IsNormalTuple (atoms_in k s)) (more count i l) h.normal
+  next_atom_normal = subst (λ k. IsNormalTuple (atoms_in k s)) (minus_step count i l) h.normal
 
   pub one_atom_more : AtomsTaken start count (i + 1) (read ++ atom_in s ∷ []) (after_atom s)
   one_atom_more = record {
-    value = append_assoc read (atom_in s ∷ []) (atoms_in (count - (i + 1)) (after_atom s)) ∙ ap (λ k. read ++ atoms_in k s) (sym (more count i l)) ∙ h.value;
+    value = append_assoc read (atom_in s ∷ []) (atoms_in (count - (i + 1)) (after_atom s)) ∙ ap (λ k. read ++ atoms_in k s) (sym (minus_step count i l)) ∙ h.value;
     fits = next_atom_fits.1;
     normal = next_atom_normal.2;
   }

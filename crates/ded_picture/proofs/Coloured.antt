@@ -4,7 +4,8 @@ use Rattle.std.proofs.Common.{Bor}
 use Rattle.std.specs.Prelude.{Option, Some, slice_get}
 use Rattle.std.specs.Option.{option_copied}
 use Rattle.std.proofs.lemmas.List.{append-nil, drop_all}
-use Rattle.ded_dump.proofs.Loops.{split, one_part}
+use Rattle.ded_print.proofs.Plans.{left_after}
+use Rattle.ded_dump.proofs.Loops.{one_part}
 use Rattle.ded_figures.specs.declared.sight.Sight.{Sight}
 use Rattle.ded_svg.specs.declared.picture.Entry.{Entry}
 use Rattle.ded_picture.specs.Colours.{entries_of, labels_from, with_label, words_of}
@@ -13,7 +14,7 @@ use Rattle.ded_picture.proofs.Listing.{next_at}
 pub next_label : (whole labels now : List (List ℕ)) (ss : List Sight) (i : ℕ) (s : Sight) → i < length ss → s ≡ get_or ss i s
     → labels_from labels (drop i ss) ≡ whole → now ≡ with_label labels s → labels_from now (drop (i + 1) ss) ≡ whole
 next_label whole labels now ss i s there is e put =
-    ap (λ (l : List (List ℕ)). labels_from l (drop (i + 1) ss)) put ∙ subst (λ (l : List Sight). labels_from labels l ≡ whole) (split ss i s there is) e
+    ap (λ (l : List (List ℕ)). labels_from l (drop (i + 1) ss)) put ∙ subst (λ (l : List Sight). labels_from labels l ≡ whole) (left_after ss i s there is) e
 
 pub all_labels : (whole labels : List (List ℕ)) (ss : List Sight) (i : ℕ) → length ss ≤ i → labels_from labels (drop i ss) ≡ whole → labels ≡ whole
 all_labels whole labels ss i end e = ap (λ (l : List Sight). labels_from labels l) (sym (drop_all i ss end)) ∙ e

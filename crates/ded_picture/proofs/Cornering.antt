@@ -1,9 +1,9 @@
 -- Corners of figures, one after another.
 use Rattle.std.proofs.Common.{◌≡◌, ℕ, ◌+◌, ◌<◌, ◌≤◌, List, [], ◌∷◌, ◌++◌, inl, inr, length, drop, get_or, refl, sym, ap, ◌∙◌, subst, append_assoc}
 use Rattle.std.proofs.lemmas.List.{append-nil, drop_all}
-use Rattle.ded_dump.proofs.Loops.{split}
 use Rattle.ded_polygon.specs.Corners.{AreCorners}
 use Rattle.ded_polygon.specs.Plane.{Spot}
+use Rattle.ded_print.proofs.Plans.{left_after}
 use Rattle.ded_figures.specs.Figure.{Figure}
 use Rattle.ded_figures.specs.declared.sight.Sight.{Sight}
 use Rattle.ded_figures.specs.declared.sight.Sight.TheVariants.{Nowhere, Wide, Seen}
@@ -18,7 +18,7 @@ pub goes_first : (whole : List Sight) → Goes whole whole []
 goes_first whole more a = a
 
 pub goes_next : (whole ss : List Sight) (i : ℕ) (s : Sight) (found next : List Spot) → i < length ss → s ≡ get_or ss i s → Goes whole (drop i ss) found → AddsFor s found next → Goes whole (drop (i + 1) ss) next
-goes_next whole ss i s found next there is goes adds = by s adds (subst (λ (l : List Sight). Goes whole l found) (split ss i s there is) goes)
+goes_next whole ss i s found next there is goes adds = by s adds (subst (λ (l : List Sight). Goes whole l found) (left_after ss i s there is) goes)
   where
     by : (s : Sight) → AddsFor s found next → Goes whole (s ∷ drop (i + 1) ss) found → Goes whole (drop (i + 1) ss) next
     by Nowhere same g = λ more a. subst (λ (l : List Spot). AreCornersIn whole (l ++ more)) (sym same) (g more a)

@@ -1,7 +1,7 @@
 mod Listing
 mod Coloured
 mod Layered
-mod Showing
+pub mod Showing
 mod Cornering
 pub mod Within
 mod Stroked

@@ -2,11 +2,11 @@
 use Rattle.std.proofs.Common.{◌≡◌, ℕ, ◌+◌, ◌<◌, ◌≤◌, List, [], ◌∷◌, ◌++◌, inl, inr, length, drop, get_or, refl, sym, ap, ◌∙◌, subst, append_assoc, arith}
 use Rattle.std.specs.Prelude.{Option, Some, None}
 use Rattle.std.proofs.lemmas.List.{append-nil, drop_all}
-use Rattle.ded_dump.proofs.Loops.{split}
 use Rattle.ded_model.specs.Constraint.{LinearConstraint}
 use Rattle.ded_model.specs.declared.slot.Slot.{Slot}
 use Rattle.ded_polygon.specs.Closures.{AreInRange}
 use Rattle.ded_polygon.specs.Windows.{Frame}
+use Rattle.ded_print.proofs.Plans.{left_after}
 use Rattle.ded_figures.specs.Figure.{Figure}
 use Rattle.ded_figures.specs.declared.sight.Sight.{Sight}
 use Rattle.ded_figures.specs.declared.sight.Sight.TheVariants.{Nowhere, Wide, Seen}
@@ -19,7 +19,7 @@ sum_assoc a b c = omega arith
 none_first : (n m : ℕ) → n ≡ 0 → m ≡ n + m
 none_first n m e = omega (arith, e)
 
-none_more : (a : ℕ) → a + 0 ≡ a
+pub none_more : (a : ℕ) → a + 0 ≡ a
 none_more a = omega arith
 
 module _ (w : Frame) (labels : List (List ℕ)) where
@@ -51,7 +51,7 @@ module _ (w : Frame) (labels : List (List ℕ)) where
       → Goes whole (drop (i + 1) ss) next after
   goes_next whole ss i s list next wide after there is goes adds more m a =
       let both = shown_both s (drop (i + 1) ss) adds.added more adds.more m adds.shown a in
-      let all = goes (adds.added ++ more) (adds.more + m) (subst (λ (l : List Sight). AreShown w labels l (adds.added ++ more) (adds.more + m)) (sym (split ss i s there is)) both) in
+      let all = goes (adds.added ++ more) (adds.more + m) (subst (λ (l : List Sight). AreShown w labels l (adds.added ++ more) (adds.more + m)) (sym (left_after ss i s there is)) both) in
       subst (λ (l : List Shown). AreShown w labels whole l (after + m)) (sym (append_assoc list adds.added more) ∙ ap (λ (l : List Shown). l ++ more) (sym adds.list))
       (subst (AreShown w labels whole (list ++ (adds.added ++ more))) (sym (sum_assoc wide adds.more m) ∙ ap (λ (k : ℕ). k + m) (sym adds.count)) all)
 

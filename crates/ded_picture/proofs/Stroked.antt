@@ -1,12 +1,12 @@
 -- Strokes of layers, one after another.
 use Rattle.std.proofs.Common.{◌≡◌, ℕ, ◌+◌, ◌<◌, ◌≤◌, List, [], ◌∷◌, ◌++◌, inl, inr, length, drop, get_or, refl, sym, ap, ◌∙◌, subst, append_assoc, zero, suc, arith}
 use Rattle.std.proofs.lemmas.List.{append-nil, drop_all}
-use Rattle.ded_dump.proofs.Loops.{split}
 use Rattle.ded_layers.specs.declared.part.Part.{Part}
 use Rattle.ded_layers.specs.Layers.{AreLines, ArePartsWithin, pieces_of}
 use Rattle.ded_polygon.specs.Plane.{In}
 use Rattle.ded_polygon.specs.Windows.{Frame}
 use Rattle.ded_strokes.specs.declared.parting.Stretch.{Stretch}
+use Rattle.ded_print.proofs.Plans.{left_after}
 use Rattle.ded_svg.specs.declared.picture.Stroke.{Stroke}
 use Rattle.ded_picture.specs.declared.sheet.Sheet.{Sheet}
 use Rattle.ded_picture.specs.Layers.{AddStrokes, AreLayersWithin, AreStrokes}
@@ -26,7 +26,7 @@ module _ (sheet : Sheet) (first : ℕ) (whole : List (List Part)) (old : List St
       let here : AreStrokes sheet colour (l ∷ drop (i + 1) ls) (strokes_of sheet colour lines ++ more) =
       (lines, more, drawn, refl, subst (λ (n : ℕ). AreStrokes sheet n (drop (i + 1) ls) more) up a) in
       subst (AddStrokes sheet first whole old) (sym (append_assoc now (strokes_of sheet colour lines) more) ∙ ap (λ (s : List Stroke). s ++ more) (sym put))
-      (goes (strokes_of sheet colour lines ++ more) (subst (λ (r : List (List Part)). AreStrokes sheet colour r (strokes_of sheet colour lines ++ more)) (sym (split ls i l there is)) here))
+      (goes (strokes_of sheet colour lines ++ more) (subst (λ (r : List (List Part)). AreStrokes sheet colour r (strokes_of sheet colour lines ++ more)) (sym (left_after ls i l there is)) here))
 
   pub goes_last : (ls : List (List Part)) (i colour : ℕ) (now : List Stroke) → length ls ≤ i → Goes colour (drop i ls) now → AddStrokes sheet first whole old now
   goes_last ls i colour now end goes =

@@ -1,5 +1,5 @@
 //! What is seen of the plane.
-ghost use Rattle.std.specs.Prelude.{◌≡◌, IfOk, IsErrOf, OnOk};
+ghost use Rattle.std.specs.Prelude.{IfOk, IsErrOf, OnOk};
 ghost use Rattle.ded_model.specs.declared.memory.Refused.TheVariants.{Wide};
 ghost use Rattle.ded_polygon.specs.Corners.{AreCorners};
 ghost use Rattle.ded_picture.specs.Parts.{IsTooLong};

@@ -8,6 +8,7 @@ use Rattle.std.specs.Prelude.{◌↔◌, IsTrue}
 use Rattle.std.specs.List.{AllByRecursion, list_any}
 use Rattle.std.proofs.Math.Bool.{or_assoc, or-false}
 use Rattle.std.proofs.lemmas.List.Folds.{list_any-append}
+use Rattle.ded_num.proofs.Tests.{all_more}
 use Rattle.ded_model.specs.declared.slot.Slot.{Slot}
 use Rattle.ded_model.specs.declared.slot.Sort.{Sort}
 use Rattle.ded_model.specs.Catalogue.{Catalogue, stored, meaning}
@@ -28,10 +29,6 @@ use Rattle.ded_plan.specs.Scans.{AgreesAt, IsUsed, is_of, IsOver, IsReadWithin, 
 -- the next element of what is left
 pub next_of : {A : Type 0} (xs : List A) (i : ℕ) (x : A) → i < length xs → x ≡ slice_index_or xs i x → drop i xs ≡ x ∷ drop (i + 1) xs
 next_of xs i x h e = let k : suc i ≡ i + 1 = omega arith in drop-cons xs i x h ∙ ap (λ n. get_or xs i x ∷ drop n xs) k ∙ ap (λ y. y ∷ drop (i + 1) xs) (sym e)
-
-pub all_more : {A : Type 0} (P : A → Type 0) (xs : List A) (y : A) → AllByRecursion P xs → P y → AllByRecursion P (xs ++ y ∷ [])
-all_more P [] y h k = (k, tt)
-all_more P (x ∷ xs) y h k = (h.0, all_more P xs y h.1 k)
 
 all_but_last : {A : Type 0} (P : A → Type 0) (xs : List A) (y : A) → AllByRecursion P (xs ++ y ∷ []) → AllByRecursion P xs × P y
 all_but_last P [] y h = (tt, h.0)

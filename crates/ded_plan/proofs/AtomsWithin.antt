@@ -3,6 +3,7 @@ use Rattle.std.proofs.Common.{◌≡◌, Bool, true, false, ◌&&◌, ◌||◌, 
 use Rattle.std.specs.Prelude.{IsTrue, ℤ}
 use Rattle.std.specs.List.{AllByRecursion, list_all, list_any}
 use Rattle.std.proofs.lemmas.Bool.{and_from}
+use Rattle.ded_num.proofs.Tests.{all_more}
 use Rattle.ded_model.specs.declared.slot.Slot.{Slot}
 use Rattle.ded_model.specs.declared.tuple.ThemeAtom.{ThemeAtom}
 use Rattle.ded_model.specs.declared.tuple.ThemeAtom.TheVariants.{EqText, NeText, EqSlot, NeSlot}
@@ -19,7 +20,6 @@ use Rattle.ded_model.proofs.Points.{same_slot_is, and_left, and_right}
 use Rattle.ded_tuple.specs.TrueRows.{IsNormalOrTrue}
 use Rattle.ded_plan.specs.Rewrite.{atoms_of, rows_of}
 use Rattle.ded_plan.specs.Scans.{RowsHold, AddsAtoms, is_theme_over, is_over}
-use Rattle.ded_plan.proofs.AddedScans.{all_more}
 use Rattle.ded_algebra.proofs.PlanMeanings.{none-holds}
 
 -- ---- what holds
@@ -39,7 +39,7 @@ hold_last (b ∷ t) a p h k = and_from _ _ (and_left _ _ h) (hold_last t a p (an
 
 -- ---- the loop
 
-normal_atom : (a : Atom) → IsNormalAtom a → IsNormalOrTrue a
+pub normal_atom : (a : Atom) → IsNormalAtom a → IsNormalOrTrue a
 normal_atom (First r) h = (h.0, h.1)
 normal_atom (Second a) h = h
 
@@ -162,8 +162,3 @@ pub atoms_without : (t : List Atom) (u : Slot) → AllByRecursion (λ a. atom_me
 unfolding tuple_mentions
 atoms_without [] u h = refl
 atoms_without (a ∷ t) u h = ap (λ b. b || tuple_mentions t u) h.0 ∙ atoms_without t u h.1
-
--- what follows from false
-pub false_from : (b c : Bool) → (b ≡ true → c ≡ true) → c ≡ false → b ≡ false
-false_from true c h e = absurd (true≢false (sym (h refl) ∙ e))
-false_from false c h e = refl

@@ -6,16 +6,6 @@ pub or_more : (a b d : Bool) → (b ≡ true → d ≡ true) → (a || b) ≡ tr
 or_more true b d f h = refl
 or_more false b d f h = f h
 
--- they don't hold together where the first doesn't
-pub apart_left : (a b : Bool) → a ≡ false → (a && b) ≡ false
-apart_left true b h = absurd (true≢false h)
-apart_left false b h = refl
-
--- and where the second doesn't
-pub apart_right : (a b : Bool) → b ≡ false → (a && b) ≡ false
-apart_right true b h = h
-apart_right false b h = refl
-
 -- two that don't hold together, and two others that hold only where those do
 pub apart_still : (a b c d : Bool) → (a ≡ false → c ≡ false) → (b ≡ false → d ≡ false) → (a && b) ≡ false → (c && d) ≡ false
 apart_still true true c d f g h = absurd (true≢false h)

@@ -3,7 +3,6 @@
 -- By induction on the formula: an atom of a name keeps its name, and its places have the sorts of its operands. Where the formula is
 -- neither missorted nor of another arity, these are the sorts of the columns. A comparison's goal has no atom of a name.
 use Rattle.std.proofs.Common.{◌≡◌, ℕ, ◌+◌, ◌==◌, Bool, true, false, not, ◌||◌, inl, inr, Option, Some, None, is_none, List, [], ◌∷◌, length, map, arith, refl, sym, ap, ◌∙◌, subst, true≢false, bytes_eq}
-use Rattle.std.proofs.lemmas.Bool.Decides.{nat_tests}
 use Rattle.std.proofs.lemmas.Slice.Eq.{bytes_eq-Decides}
 use Rattle.ded_model.specs.declared.slot.Slot.{Slot}
 use Rattle.ded_model.specs.declared.name.Column.{Column}
@@ -27,6 +26,7 @@ use Rattle.ded_algebra.specs.Compiled.{place_sort, same_sorts, is_scanned_by}
 use Rattle.ded_algebra.specs.Evaluation.{HaveSorts}
 use Rattle.ded_model.proofs.Bools.{or_false_left, or_false_right}
 use Rattle.std.proofs.lemmas.Bool.{not-false}
+use Rattle.ded_model.proofs.Made.{same_number}
 
 -- ---- comparisons
 
@@ -40,10 +40,6 @@ module _ (n : List ℕ) (ss : List Slot) where
   comparison_none slots l op r = comparison_has ScansNone (record { holds = refl; fails = refl; text = λ a. refl }) (record { row = λ q. refl; other = λ q. refl }) slots l r op
 
 -- ---- atoms of names
-
--- numbers that the test finds equal are
-same_count : (m n : ℕ) → (m == n) ≡ true → m ≡ n
-same_count m n e = grind (arith, nat_tests)
 
 -- a place has the sort of its operand
 place_sort-operand : (slots : SlotScope) (t : Operand) → place_sort (place_of slots t) ≡ operand_sort (sorts_of slots) t
@@ -70,7 +66,7 @@ columns_fit slots (c ∷ cs) (t ∷ ts) (s ∷ ss) e d h =
 known_fits : (slots : SlotScope) (o : Option Known) (ts : List Operand) (ss : List Slot) → is_none o ≡ false → other_arity o ts ≡ false
     → arguments_differ (sorts_of slots) (columns_with o) ts ≡ false → same_sorts (map place_sort (map (place_of slots) ts)) (map (λ s. s.sort) ss) ≡ true → HaveSorts (columns_with o) ss
 known_fits slots None ts ss u a d h = absurd (true≢false u)
-known_fits slots (Some k) ts ss u a d h = columns_fit slots k.columns ts ss (same_count (length ts) (length k.columns) (not-false (length ts == length k.columns) a)) d h
+known_fits slots (Some k) ts ss u a d h = columns_fit slots k.columns ts ss (same_number (length ts) (length k.columns) (not-false (length ts == length k.columns) a)) d h
 
 -- ---- formulas
 

@@ -7,16 +7,15 @@ use Rattle.std.proofs.Common.{◌≡◌, ℕ, ◌+◌, ◌<◌, ◌≤◌, Bool,
 use Rattle.std.specs.Prelude.{◌↔◌}
 use Rattle.ded_model.specs.declared.slot.Slot.{Slot}
 use Rattle.ded_model.specs.declared.slot.Sort.{Sort}
-use Rattle.ded_model.specs.declared.slot.Sort.TheVariants.{Rat, Text}
 use Rattle.ded_model.specs.Point.{Key, Point, same_key}
-use Rattle.ded_model.specs.Logic.{negation, every_of, some_of, minus, exists, Logics, also, any_mentions, greatest, rank, one_more, AllAtoms, count_atoms}
+use Rattle.ded_model.specs.Logic.{negation, every_of, some_of, minus, exists, Logics, also, any_mentions, greatest, rank, AllAtoms, count_atoms}
 use Rattle.ded_model.specs.PlanForm.{PlanAtom, PlanForm, in_plan_atom, plan_mentions}
 use Rattle.ded_model.specs.Catalogue.{Catalogue, PlanHolds}
 use Rattle.ded_model.specs.Lines.{Line, IsSubset, all_lines, any_clashes}
 use Rattle.ded_model.specs.Measure.{Measures, plan_atom_lines, plan_atom_clash, plan_lines, plan_clashes}
 use Rattle.ded_model.proofs.Points.{positive-extension}
 use Rattle.ded_model.proofs.Members.{subset_append}
-use Rattle.ded_model.proofs.Monotone.{past-grows, clash_past-grows, or-grows, max-grows}
+use Rattle.ded_model.proofs.Monotone.{past-grows, clash_past-grows, or-grows, max-grows, one_more-grows}
 use Rattle.ded_plan.specs.Rewritten.{IsTidyPlan, IsPassed, is_scan_with}
 use Rattle.ded_algebra.proofs.PlanShapes.{and_grows}
 
@@ -68,10 +67,6 @@ keeps_trans f g h a b = record {
 }
 
 -- ---- inside
-
-one_more-grows : (s : Sort) (m n : ℕ) → m ≤ n → one_more s m ≤ one_more s n
-one_more-grows Rat m n h = omega arith
-one_more-grows Text m n h = h
 
 pub keeps_negation : (f g : PlanForm) → Keeps f g → Keeps (negation f) (negation g)
 keeps_negation f g a = record {

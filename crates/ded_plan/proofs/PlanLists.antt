@@ -1,7 +1,7 @@
 -- Lists of plans as members: what a list built plan after plan stands for.
 use Rattle.std.specs.Prelude.{◌==◌}
-use Rattle.std.proofs.lemmas.Bool.Decides.{nat_tests}
-use Rattle.std.proofs.Common.{◌≡◌, arith, ℕ, suc, Bool, true, false, not, cond, length, List, [], ◌∷◌, ◌++◌, refl, sym, ap, ap₂, ◌∙◌, map, true≢false}
+use Rattle.std.proofs.Common.{◌≡◌, ℕ, Bool, true, false, not, cond, length, List, [], ◌∷◌, ◌++◌, refl, sym, ap, ap₂, ◌∙◌, map, true≢false}
+use Rattle.ded_num.proofs.Tests.{not_zero}
 use Rattle.ded_model.specs.declared.plan.Plan.{Plan}
 use Rattle.ded_model.specs.Logic.{atom, always, never, negation, every_of, some_of, implies, minus, exists, forall, Logics, none, also}
 use Rattle.ded_model.specs.PlanForm.{PlanAtom, PlanForm, plan_form, plan_forms}
@@ -105,9 +105,6 @@ taken_more f g fs e = ap (λ h. taken (also h fs)) e
 
 pub taken_same : (f : PlanForm) (fs : Logics PlanAtom) → is_not f ≡ false → taken (also f fs) ≡ taken fs
 taken_same f fs e = ap (λ b. cond b (also (part_of f) (taken fs)) (taken fs)) e
-
-not_zero : (n : ℕ) → (suc n == 0) ≡ false
-not_zero n = grind (arith, nat_tests)
 
 -- something is taken away, from nothing or from something
 pub taken_from_none : (ks ts : List Plan) (m n : ℕ) → m ≡ length ks → n ≡ length ts → true ≡ (m == 0) → false ≡ (n == 0) → negated (union_of (plan_forms ts)) ≡ difference_of (plan_forms ks) (plan_forms ts)

@@ -10,8 +10,9 @@ use Rattle.ded_model.specs.PlanForm.{PlanAtom, scan, rows, PlanForm}
 use Rattle.ded_model.specs.Pushed.{is_union, is_join, is_not, is_rows, some_member, every_member, is_one, pushed, all_pushed}
 use Rattle.ded_model.proofs.Points.{and_left, and_right}
 use Rattle.ded_plan.specs.Rewrite.{appended, filtered, join_of, union_of, negated, with_rows, each_with_rows, also_rows, also_all_rows, rows_of, no_rows_of, distributed, members_of, flattened, part_of, kept, taken, difference_of, joined}
-use Rattle.ded_plan.proofs.BothTests.{or_more, apart_left, apart_right}
+use Rattle.ded_plan.proofs.BothTests.{or_more}
 use Rattle.std.proofs.lemmas.Bool.{or_from, and_from}
+use Rattle.ded_num.proofs.Tests.{and_false, and_false_left}
 use Rattle.ded_model.proofs.Bools.{or_false_left, or_false_right}
 
 -- ---- members
@@ -95,10 +96,10 @@ record AreWithoutUnion (fs : Logics PlanAtom) : Type 0 where
   pushed : all_pushed fs ≡ true
 
 without_rows_are : (fs : Logics PlanAtom) → AreWithoutRows fs → AreMembers fs
-without_rows_are fs m = record { joins = m.joins; apart = apart_left _ _ m.rows; nots = m.nots; pushed = m.pushed }
+without_rows_are fs m = record { joins = m.joins; apart = and_false_left _ _ m.rows; nots = m.nots; pushed = m.pushed }
 
 without_union_are : (fs : Logics PlanAtom) → AreWithoutUnion fs → AreMembers fs
-without_union_are fs m = record { joins = m.joins; apart = apart_right _ _ m.unions; nots = m.nots; pushed = m.pushed }
+without_union_are fs m = record { joins = m.joins; apart = and_false _ _ m.unions; nots = m.nots; pushed = m.pushed }
 
 -- the tests of a join are these
 join_tests : (a b d e : Bool) → a ≡ false → b ≡ false → d ≡ false → e ≡ true → ((not false && not a && not b && not d) && e) ≡ true

@@ -7,10 +7,10 @@ use Rattle.ded_model.specs.Logic.{Logic, atom, always, never, negation, every_of
 use Rattle.ded_model.specs.Goal.{GoalAtom, linear, theme, member, GoalForm}
 use Rattle.ded_model.specs.PlanForm.{PlanAtom, scan, rows, PlanForm}
 use Rattle.ded_model.specs.Uses.{goal_atom_uses, goal_uses, plan_atom_uses, plan_uses}
-use Rattle.ded_sorts.proofs.Sides.{bytes_eq-sym}
 use Rattle.ded_plan.specs.ScannedNames.{with_name, with_some_name, with_names, with_all_names, scanned_name, used_name, AreDistinctNames}
 use Rattle.ded_model.proofs.Bools.{or_false_left, or_false_right}
 use Rattle.std.proofs.lemmas.Bool.{or_from}
+use Rattle.ded_num.proofs.Tests.{bytes_eq-swap}
 
 -- ---- one name more
 
@@ -86,7 +86,7 @@ names_of-goal g n = sym (names_more used_name (goal_atom_uses n) n tells g [])
 distinct_more : (m : List ℕ) (ns : List (List ℕ)) → list_any (bytes_eq m) ns ≡ false → AreDistinctNames ns → AreDistinctNames (ns ++ m ∷ [])
 distinct_more m [] e d = (refl, tt)
 distinct_more m (k ∷ ns) e d =
-    (any_more k m ns ∙ or_from _ _ d.0 (bytes_eq-sym k m ∙ or_false_left _ _ e), distinct_more m ns (or_false_right (bytes_eq m k) _ e) d.1)
+    (any_more k m ns ∙ or_from _ _ d.0 (bytes_eq-swap k m ∙ or_false_left _ _ e), distinct_more m ns (or_false_right (bytes_eq m k) _ e) d.1)
 
 -- or any name
 name_distinct : (m : List ℕ) (ns : List (List ℕ)) → AreDistinctNames ns → AreDistinctNames (with_name ns m)

@@ -3,9 +3,10 @@
 use Rattle.std.proofs.Common.{◌≡◌, ℕ, zero, suc, ◌<◌, ◌≤◌, List, refl, ap, ◌∙◌, sym, arith}
 use Rattle.std.specs.Prelude.{pos, ◌*ℤ◌, ◌<ℤ◌, ◌≤ℤ◌}
 use Rattle.std.proofs.lemmas.Int.{ints, by_lt_z}
+use Rattle.ded_model.proofs.Core.{zero_scale}
 use Rattle.ded_polygon.specs.Plane.{HalfPlane, Spot, IsSameSpot, level, turn}
 use Rattle.ded_polygon.specs.Vertices.{LiesIn, IsVertex, IsEdge}
-use Rattle.ded_polygon.proofs.Signs.{times_none, above_most, least_most, unscale_zero}
+use Rattle.ded_polygon.proofs.Signs.{above_most, least_most, unscale_zero}
 use Rattle.ded_polygon.proofs.Identities.{levels, turn_back}
 use Rattle.ded_polygon.proofs.Sameness.{same_by}
 use Rattle.ded_polygon.proofs.Edges.{to_the_left, ends_differ}
@@ -15,7 +16,7 @@ mixed : (t : HalfPlane) (p q w r : Spot) → level t p ≤ℤ pos 0 → level t 
     → pos 0 <ℤ turn q w r → pos 0 ≤ℤ turn w p r → pos 0 ≤ℤ turn p q r → level t p ≡ pos 0
 mixed t p q w r lp lq lw on a b c =
     let e = levels t p q w r in
-    let f = times_none (turn p q w) (level t r) on in
+    let f = zero_scale (turn p q w) (level t r) on in
     let x = above_most (turn q w r) (level t p) a lp in
     let y = least_most (turn w p r) (level t q) b lq in
     let z = least_most (turn p q r) (level t w) c lw in

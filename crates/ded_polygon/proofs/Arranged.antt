@@ -1,6 +1,7 @@
 -- Vertices that are arranged: as far as each leads to the next by an edge, some vertex behind is the one to go on with, and
 -- where all are arranged, the last leads to the first.
 use Rattle.std.proofs.Common.{◌≡◌, ℕ, zero, suc, ◌<◌, ◌≤◌, List, ◌⊎◌, inl, inr, refl, sym, subst, arith}
+use Rattle.ded_num.proofs.Lengths.{below_or}
 use Rattle.ded_polygon.specs.Plane.{HalfPlane, Spot, IsSameSpot}
 use Rattle.ded_polygon.specs.Vertices.{IsVertex, IsEdge, IsEnclosed}
 use Rattle.ded_polygon.proofs.Leaving.{leaves}
@@ -17,10 +18,6 @@ pub record AreAll (ss : List HalfPlane) (f : ℕ → Spot) (n : ℕ) : Type 0 wh
 from : (k : ℕ) → (k ≡ 0) ⊎ ((j : ℕ) × (k ≡ suc j))
 from zero = inl refl
 from (suc j) = inr (j, refl)
-
--- one of two orders
-order : (j k : ℕ) → (j < k) ⊎ (k ≤ j)
-order j k = grind arith
 
 module _ (ss : List HalfPlane) (f : ℕ → Spot) (n m : ℕ) (enclosed : IsEnclosed ss) (are : AreAll ss f n) (small : m < n) (more : 1 < n)
     (edge : (k : ℕ) → k < m → IsEdge ss (f k) (f (suc k))) where
@@ -54,7 +51,7 @@ module _ (ss : List HalfPlane) (f : ℕ → Spot) (n m : ℕ) (enclosed : IsEncl
 
   -- so where one is left, the next one is among those that are left
   pub goes_on : suc m < n → ((k : ℕ) → suc m ≤ k → k < n → IsEdge ss (f m) (f k) → ⊥) → ⊥
-  goes_on h none = by_place next_of.0 next_of.1 next_of.2 (from next_of.0) (order m next_of.0)
+  goes_on h none = by_place next_of.0 next_of.1 next_of.2 (from next_of.0) (below_or m next_of.0)
     where
       by_place : (k : ℕ) → k < n → IsEdge ss (f m) (f k) → (k ≡ 0) ⊎ ((j : ℕ) × (k ≡ suc j)) → (m < k) ⊎ (k ≤ m) → ⊥
       by_place k l g c (inl above) = none k (omega arith) l g

@@ -3,10 +3,11 @@
 use Rattle.std.proofs.Common.{◌≡◌, List, [], ◌∷◌, ◌⊎◌, inl, inr, refl, ap, ◌∙◌, sym, arith}
 use Rattle.std.specs.Prelude.{ℤ, pos, ◌+ℤ◌, ◌-ℤ◌, ◌*ℤ◌, ◌<ℤ◌, ◌≤ℤ◌}
 use Rattle.std.proofs.lemmas.Int.{ints, by_lt_z}
+use Rattle.ded_num.proofs.Signs.{times_swap, zero_times}
 use Rattle.ded_polygon.specs.Plane.{HalfPlane, Spot, In, IsSameSpot, level, bend, crossing, turn}
 use Rattle.ded_polygon.specs.Vertices.{IsVertex, IsEdge}
 use Rattle.ded_polygon.proofs.Polynomials.{nought, var, minus, times, identity}
-use Rattle.ded_polygon.proofs.Signs.{mul_swap, none_times, above_above, above_below, below_below, above_most, most_most, unscale_zero, unscale_most, unscale_above}
+use Rattle.ded_polygon.proofs.Signs.{above_above, above_below, below_below, above_most, most_most, unscale_zero, unscale_most, unscale_above}
 use Rattle.ded_polygon.proofs.Identities.{cramer, bends, bend_swap, turn_on_border, turn_swap}
 use Rattle.ded_polygon.proofs.Sameness.{same_by, same_sym, zero_same, below_same}
 
@@ -24,8 +25,8 @@ across ss s t r h v =
     (λ z'.
     let e = bends s t v.first v.second in
     let f = above_above (bend s t) (bend v.first v.second) h v.crossed in
-    let a = none_times (bend s v.first) (bend t v.second) z in
-    let b = none_times (bend s v.second) (bend t v.first) z' in
+    let a = zero_times (bend s v.first) (bend t v.second) z in
+    let b = zero_times (bend s v.second) (bend t v.first) z' in
     absurd (omega (arith, ints))))
   where
     by_sign : (w : HalfPlane) → In w ss → level w r ≡ pos 0 → (bend s w ≡ pos 0 → Across ss s r) → Across ss s r
@@ -65,9 +66,9 @@ pub along : (s t w : HalfPlane) (u r : Spot) → level s u ≡ pos 0 → level s
 along s t w u r su sr wr =
     let e = cramer w s t u in
     let f = cramer w s t r in
-    let a = none_times (level s u) (bend t w) su in
-    let b = none_times (level s r) (bend t w) sr in
-    let c = none_times (level w r) (bend s t) wr in
+    let a = zero_times (level s u) (bend t w) su in
+    let b = zero_times (level s r) (bend t w) sr in
+    let c = zero_times (level w r) (bend s t) wr in
     solved (level w (crossing s t)) u.den (level w u) (bend s t) (level t u) (bend w s) r.den (level t r) (bend s w) (omega (arith, ints)) (omega (arith, ints)) (bend_swap s w)
 
 module _ (ss : List HalfPlane) (p q r : Spot) (e : IsEdge ss p q) (vp : IsVertex ss p) (vq : IsVertex ss q) (vr : IsVertex ss r) where
@@ -79,7 +80,7 @@ module _ (ss : List HalfPlane) (p q r : Spot) (e : IsEdge ss p q) (vp : IsVertex
   inside_along : (w : HalfPlane) (u v : Spot) → pos 0 <ℤ v.den → level w u ≤ℤ pos 0 → (level w u *ℤ (bend e.side e.stop *ℤ v.den)) ≤ℤ pos 0
   inside_along w u v h most =
       let a = above_most (bend e.side e.stop *ℤ v.den) (level w u) (factor v h) most in
-      let b = mul_swap (bend e.side e.stop *ℤ v.den) (level w u) in
+      let b = times_swap (bend e.side e.stop *ℤ v.den) (level w u) in
       omega (arith, ints)
 
   -- a border that stops the way at r, which is then the end
@@ -88,11 +89,11 @@ module _ (ss : List HalfPlane) (p q r : Spot) (e : IsEdge ss p q) (vp : IsVertex
       let a = along e.side e.stop w q r e.ends on wr in
       let b = inside_along w q r vr.positive (vq.inside w i) in
       let c : (level e.stop q *ℤ r.den -ℤ level e.stop r *ℤ q.den) ≤ℤ pos 0 = unscale_most (bend e.side w) _ above (omega (arith, ints)) in
-      let d = none_times (level e.stop q) r.den e.reached in
+      let d = zero_times (level e.stop q) r.den e.reached in
       let most = vr.inside e.stop e.stop_in in
       let z : level e.stop r ≡ pos 0 =
       by_lt_z (level e.stop r) (pos 0)
-      (λ below. let f = above_below q.den (level e.stop r) vq.positive below in let g = mul_swap q.den (level e.stop r) in absurd (omega (arith, ints)))
+      (λ below. let f = above_below q.den (level e.stop r) vq.positive below in let g = times_swap q.den (level e.stop r) in absurd (omega (arith, ints)))
       (λ least. omega (arith, ints)) in
       same_by e.side e.stop q r e.leaves e.ends e.reached on z
 
@@ -102,9 +103,9 @@ module _ (ss : List HalfPlane) (p q r : Spot) (e : IsEdge ss p q) (vp : IsVertex
       let a = along e.side e.stop w q p e.ends e.begins wp in
       let b = inside_along w q p vp.positive (vq.inside w i) in
       let c : (level e.stop q *ℤ p.den -ℤ level e.stop p *ℤ q.den) ≤ℤ pos 0 = unscale_most (bend e.side w) _ above (omega (arith, ints)) in
-      let d = none_times (level e.stop q) p.den e.reached in
+      let d = zero_times (level e.stop q) p.den e.reached in
       let f = above_below q.den (level e.stop p) vq.positive e.before in
-      let g = mul_swap q.den (level e.stop p) in
+      let g = times_swap q.den (level e.stop p) in
       absurd (omega (arith, ints))
 
   -- a border that stops the way back at r, which is then the begin
@@ -124,7 +125,7 @@ module _ (ss : List HalfPlane) (p q r : Spot) (e : IsEdge ss p q) (vp : IsVertex
       let h = inside_along k r p vp.positive (vr.inside k j) in
       let z : level k r ≡ pos 0 =
       unscale_zero (bend e.side e.stop *ℤ p.den) (level k r) (factor p vp.positive)
-      (let l = mul_swap (bend e.side e.stop *ℤ p.den) (level k r) in omega (arith, ints)) in
+      (let l = times_swap (bend e.side e.stop *ℤ p.den) (level k r) in omega (arith, ints)) in
       let l = bend_swap e.side k in
       same_by k e.side p r (omega (arith, ints)) kp e.begins z on
 
@@ -151,7 +152,7 @@ module _ (ss : List HalfPlane) (p q r : Spot) (e : IsEdge ss p q) (vp : IsVertex
       elim (on_border (omega (arith, ints))) [ inl s ↦ absurd (np s) | inr s ↦ absurd (nq s) ]) in
       let a = turn_on_border e.side e.stop p q r e.begins e.ends e.reached in
       let b = above_above q.den _ vq.positive (below_below (level e.side r) (level e.stop p) below e.before) in
-      let c = mul_swap (bend e.side e.stop) (turn p q r) in
+      let c = times_swap (bend e.side e.stop) (turn p q r) in
       unscale_above (bend e.side e.stop) (turn p q r) e.leaves (omega (arith, ints))
 
 -- an edge has two ends

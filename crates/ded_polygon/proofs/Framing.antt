@@ -1,9 +1,9 @@
 -- The rows of a window: their half planes, and that they are bounded.
-use Rattle.std.proofs.Common.{◌≡◌, Bool, true, false, cond, ◌||◌, List, [], ◌∷◌, ◌++◌, inl, inr, refl, sym, ap, ap₂, ◌∙◌, subst, true≢false, append_assoc, append-nil, ℕ, ◌+◌, ◌<◌, ◌^◌, length, get_or, take, to_z, of_z, arith}
+use Rattle.std.proofs.Common.{◌≡◌, Bool, true, false, cond, ◌||◌, List, [], ◌∷◌, ◌++◌, inl, inr, refl, sym, ap, ap₂, ◌∙◌, subst, append_assoc, append-nil, ℕ, ◌+◌, ◌<◌, ◌^◌, length, get_or, take, to_z, of_z, arith}
 use Rattle.std.specs.Prelude.{ℤ, pos, ◌+ℤ◌, ◌-ℤ◌, ◌*ℤ◌, ◌<ℤ◌, unsigned_abs}
 use lib.IntN.{neg_ℤ}
 use Rattle.std.proofs.lemmas.Int.{ints, by_lt_z}
-use Rattle.ded_num.proofs.Ring.{parts, ring, ring_pos, diff_same}
+use Rattle.ded_num.proofs.Ring.{parts, ring_pos, diff_same}
 use Rattle.ded_model.specs.declared.slot.Slot.{Slot}
 use Rattle.ded_model.specs.Constraint.{LinearConstraint}
 use Rattle.ded_model.specs.Coefs.{coef_at}
@@ -16,10 +16,11 @@ use Rattle.ded_polygon.specs.Rows.{half_plane, by_op, half_planes}
 use Rattle.ded_polygon.specs.Windows.{Frame, IsFrame, end_row, window_rows, window_planes}
 use Rattle.ded_polygon.proofs.RowPlanes.{in_right, in_either}
 use Rattle.ded_polygon.proofs.Signs.{above_above}
-use Rattle.ded_polygon.proofs.Short.{read}
 use Rattle.std.specs.Int.{w128}
 use Rattle.std.proofs.lemmas.List.{take_more}
 use Rattle.ded_num.specs.Length.{IsShort}
+use Rattle.ded_num.proofs.Signs.{short_in_code, back_back}
+use Rattle.ded_model.proofs.SlotLists.{same_slot-turned}
 
 -- those of two lists of rows
 pub planes_append : (x y : Slot) (rows more : List LinearConstraint) → half_planes x y (rows ++ more) ≡ half_planes x y rows ++ half_planes x y more
@@ -33,14 +34,6 @@ own_coef s a c = ap (λ b. cond b a (pos 0) +ℤ pos 0) (same_slot_refl s) ∙ o
 other_coef : (s t : Slot) (a c : ℤ) → same_slot s t ≡ false → coef_at (end_row s a c).coefs t ≡ pos 0
 other_coef s t a c h = ap (λ b. cond b a (pos 0) +ℤ pos 0) h
 
--- slots that differ, the other way round
-pub differ_back : (x y : Slot) → same_slot x y ≡ false → same_slot y x ≡ false
-differ_back x y h = by_test (same_slot y x) refl
-  where
-    by_test : (b : Bool) → same_slot y x ≡ b → b ≡ false
-    by_test true e = absurd (true≢false (sym (same_slot_refl x) ∙ ap (λ s. same_slot x s) (sym (same_slot_is y x e)) ∙ h))
-    by_test false e = refl
-
 -- ---- the half planes of the rows of a window
 plane_with : (a a' b b' c : ℤ) → a ≡ a' → b ≡ b' → ◌≡◌ {A = HalfPlane} (record { a = a; b = b; c = c }) (record { a = a'; b = b'; c = c })
 plane_with a a' b b' c ea eb = rw (ea, eb) refl
@@ -49,7 +42,7 @@ plane_x : (x y : Slot) → same_slot x y ≡ false → (a c : ℤ) → half_plan
 plane_x x y differ a c = plane_with _ a _ (pos 0) c (own_coef x a c) (other_coef x y a c differ)
 
 plane_y : (x y : Slot) → same_slot x y ≡ false → (b c : ℤ) → half_plane x y (end_row y b c) ≡ record { a = pos 0; b = b; c = c }
-plane_y x y differ b c = plane_with _ (pos 0) _ b c (other_coef y x b c (differ_back x y differ)) (own_coef y b c)
+plane_y x y differ b c = plane_with _ (pos 0) _ b c (other_coef y x b c (same_slot-turned x y differ)) (own_coef y b c)
 
 four : (p q r s p' q' r' s' : HalfPlane) → p ≡ p' → q ≡ q' → r ≡ r' → s ≡ s' → ◌≡◌ {A = List HalfPlane} (p ∷ q ∷ r ∷ s ∷ []) (p' ∷ q' ∷ r' ∷ s' ∷ [])
 four p q r s p' q' r' s' ep eq er es = rw (ep, eq, er, es) refl
@@ -94,9 +87,6 @@ along_y a u v k m e f = ap₂ (λ p q. p *ℤ u +ℤ q *ℤ v) e f ∙ law a u v
     law : (a u v : ℤ) → pos 0 *ℤ u +ℤ a *ℤ v ≡ a *ℤ v
     law a u v = rw (parts a, parts u, parts v) (simp ring_pos (diff_same _ _ _ _ (omega arith)))
 
-back_back : (d u : ℤ) → d *ℤ neg_ℤ u ≡ neg_ℤ d *ℤ u
-back_back d u = rw (parts d, parts u) (simp ring (diff_same _ _ _ _ (omega arith)))
-
 module _ (x y : Slot) (differ : same_slot x y ≡ false) (rows : List LinearConstraint) (w : Frame) (positive : pos 0 <ℤ w.den) where
   abbrev Left : ℤ → ℤ → Type 0
   Left u v = (r : LinearConstraint) × In r (rows ++ window_rows x y w) × IsLeft r.op (growth x y r u v)
@@ -116,13 +106,13 @@ module _ (x y : Slot) (differ : same_slot x y ≡ false) (rows : List LinearCons
 
   top_side : (u v : ℤ) → pos 0 <ℤ v → Left u v
   top_side u v h =
-      let e = along_y w.den u v _ _ (other_coef y x w.den (neg_ℤ w.top) (differ_back x y differ)) (own_coef y w.den (neg_ℤ w.top)) in
+      let e = along_y w.den u v _ _ (other_coef y x w.den (neg_ℤ w.top) (same_slot-turned x y differ)) (own_coef y w.den (neg_ℤ w.top)) in
       let k = above_above w.den v positive h in
       (end_row y w.den (neg_ℤ w.top), in_right _ rows (window_rows x y w) (inr (inr (inr (inl refl)))), omega (arith, ints))
 
   bottom_side : (u v : ℤ) → v <ℤ pos 0 → Left u v
   bottom_side u v h =
-      let e = along_y (neg_ℤ w.den) u v _ _ (other_coef y x (neg_ℤ w.den) w.bottom (differ_back x y differ)) (own_coef y (neg_ℤ w.den) w.bottom) in
+      let e = along_y (neg_ℤ w.den) u v _ _ (other_coef y x (neg_ℤ w.den) w.bottom (same_slot-turned x y differ)) (own_coef y (neg_ℤ w.den) w.bottom) in
       let k = above_above w.den (neg_ℤ v) positive (omega (arith, ints)) in
       let f = back_back w.den v in
       (end_row y (neg_ℤ w.den) w.bottom, in_right _ rows (window_rows x y w) (inr (inr (inl refl))), omega (arith, ints))
@@ -138,9 +128,9 @@ module _ (x y : Slot) (differ : same_slot x y ≡ false) (rows : List LinearCons
 -- ---- as they are read
 negative_read : (z : ℤ) → IsShort z → to_z w128 (of_z w128 (pos 0 -ℤ to_z w128 (of_z w128 z))) ≡ neg_ℤ z
 negative_read z h =
-    let e : to_z w128 (of_z w128 z) ≡ z = read z h in
+    let e : to_z w128 (of_z w128 z) ≡ z = short_in_code z h in
     let m : unsigned_abs (pos 0 -ℤ z) < 2 ^ 127 = omega (arith, ints) in
-    ap (λ k. to_z w128 (of_z w128 (pos 0 -ℤ k))) e ∙ read (pos 0 -ℤ z) m ∙ omega (arith, ints)
+    ap (λ k. to_z w128 (of_z w128 (pos 0 -ℤ k))) e ∙ short_in_code (pos 0 -ℤ z) m ∙ omega (arith, ints)
 
 plane_at : (a b c a' b' c' : ℤ) → a ≡ a' → b ≡ b' → c ≡ c' → ◌≡◌ {A = HalfPlane} (record { a = a; b = b; c = c }) (record { a = a'; b = b'; c = c' })
 plane_at a b c a' b' c' ea eb ec = rw (ea, eb, ec) refl
@@ -159,10 +149,10 @@ window_read w h =
     let bottom : IsShort w.bottom = (let k = h.bottom in omega arith) in
     let top : IsShort w.top = (let k = h.top in omega arith) in
     four _ _ _ _ _ _ _ _
-    (plane_at _ _ _ _ _ _ (negative_read w.den den) refl (read w.left left))
-    (plane_at _ _ _ _ _ _ (read w.den den) refl (negative_read w.right right))
-    (plane_at _ _ _ _ _ _ refl (negative_read w.den den) (read w.bottom bottom))
-    (plane_at _ _ _ _ _ _ refl (read w.den den) (negative_read w.top top))
+    (plane_at _ _ _ _ _ _ (negative_read w.den den) refl (short_in_code w.left left))
+    (plane_at _ _ _ _ _ _ (short_in_code w.den den) refl (negative_read w.right right))
+    (plane_at _ _ _ _ _ _ refl (negative_read w.den den) (short_in_code w.bottom bottom))
+    (plane_at _ _ _ _ _ _ refl (short_in_code w.den den) (negative_read w.top top))
 
 -- ---- rows that are read one after another
 pub more_planes : (x y : Slot) (rows : List LinearConstraint) (i : ℕ) (r : LinearConstraint) → i < length rows → r ≡ get_or rows i r

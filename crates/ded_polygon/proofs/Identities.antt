@@ -2,8 +2,8 @@
 use Rattle.std.proofs.Common.{◌≡◌, ℕ, ◌+◌, [], ◌∷◌, refl, ap, ◌∙◌, arith}
 use Rattle.std.specs.Prelude.{ℤ, pos, ◌+ℤ◌, ◌-ℤ◌, ◌*ℤ◌}
 use Rattle.std.proofs.lemmas.Int.{ints}
+use Rattle.ded_num.proofs.Signs.{zero_times}
 use Rattle.ded_polygon.specs.Plane.{HalfPlane, Spot, level, bend, crossing, turn}
-use Rattle.ded_polygon.proofs.Signs.{none_times}
 use Rattle.ded_polygon.proofs.Polynomials.{Expression, nought, var, plus, minus, times, identity}
 
 -- the words of Plane as expressions, by where the variables of a half plane or a spot begin
@@ -113,12 +113,12 @@ turn_by_levels s t p q r =
 pub turn_on_border : (s t : HalfPlane) (p q r : Spot) → level s p ≡ pos 0 → level s q ≡ pos 0 → level t q ≡ pos 0
     → turn p q r *ℤ bend s t ≡ q.den *ℤ (level s r *ℤ level t p)
 turn_on_border s t p q r sp sq tq =
-    turn_by_levels s t p q r ∙ left_over _ _ _ _ _ _ _ (none_times (level s p) (level t r) sp) sq tq
+    turn_by_levels s t p q r ∙ left_over _ _ _ _ _ _ _ (zero_times (level s p) (level t r) sp) sq tq
   where
     left_over : (d m n u v x y : ℤ) → n ≡ pos 0 → u ≡ pos 0 → v ≡ pos 0 → d *ℤ (m -ℤ n) +ℤ u *ℤ x +ℤ v *ℤ y ≡ d *ℤ m
     left_over d m n u v x y hn hu hv =
-        let e = none_times u x hu in
-        let f = none_times v y hv in
+        let e = zero_times u x hu in
+        let f = zero_times v y hv in
         let g : m -ℤ n ≡ m = omega (arith, ints) in
         let h = ap (λ z. d *ℤ z) g in
         omega (arith, ints)

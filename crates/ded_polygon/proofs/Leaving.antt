@@ -3,10 +3,11 @@
 use Rattle.std.proofs.Common.{◌≡◌, List, [], ◌∷◌, refl, ap, ◌∙◌, arith}
 use Rattle.std.specs.Prelude.{ℤ, pos, ◌+ℤ◌, ◌-ℤ◌, ◌*ℤ◌, ◌<ℤ◌, ◌≤ℤ◌}
 use Rattle.std.proofs.lemmas.Int.{ints, by_lt_z}
+use Rattle.ded_num.proofs.Signs.{times_swap, zero_times}
 use Rattle.ded_polygon.specs.Plane.{HalfPlane, Spot, IsSameSpot, level, bend, crossing}
 use Rattle.ded_polygon.specs.Vertices.{LiesIn, IsVertex, IsEdge, IsEnclosed}
 use Rattle.ded_polygon.proofs.Polynomials.{nought, var, minus, times, identity}
-use Rattle.ded_polygon.proofs.Signs.{mul_swap, none_times, most_most, above_most, unscale_most}
+use Rattle.ded_polygon.proofs.Signs.{most_most, above_most, unscale_most}
 use Rattle.ded_polygon.proofs.Identities.{cramer, crossing_den, crossing_on_first, crossing_on_second, bend_swap}
 use Rattle.ded_polygon.proofs.Utmost.{Utmost, utmost_of}
 use Rattle.ded_polygon.proofs.Nearest.{Nearest, nearest_of}
@@ -24,13 +25,13 @@ crossing_inside s t w p positive on above lt lw h =
     by_lt_z (pos 0) (bend s w) h
     (λ most.
     let a = above_most (bend s t) (level w p) above lw in
-    let b = mul_swap (bend s t) (level w p) in
+    let b = times_swap (bend s t) (level w p) in
     let c = most_most (bend s w) (level t p) most lt in
     omega (arith, ints)) in
     let e = cramer w s t p in
-    let f = none_times (level s p) (bend t w) on in
+    let f = zero_times (level s p) (bend t w) on in
     let g = swapped (level t p) (bend w s) (bend s w) (bend_swap w s) in
-    let k = mul_swap p.den (level w (crossing s t)) in
+    let k = times_swap p.den (level w (crossing s t)) in
     unscale_most p.den _ positive (omega (arith, ints))
   where
     swapped : (l d e : ℤ) → d +ℤ e ≡ pos 0 → l *ℤ d ≡ pos 0 -ℤ e *ℤ l

@@ -1,31 +1,17 @@
 -- Rows that mention two slots alone, by a test of their coefficients.
-use Rattle.std.proofs.Common.{◌≡◌, ℕ, ◌<◌, ◌≤◌, length, get_or, Bool, true, false, ◌||◌, ◌&&◌, List, [], ◌∷◌, ◌⊎◌, inl, inr, refl, sym, subst, true≢false, arith}
+use Rattle.std.proofs.Common.{◌≡◌, ℕ, ◌<◌, ◌≤◌, length, get_or, Bool, true, ◌||◌, List, [], ◌∷◌, ◌⊎◌, inl, inr, refl, sym, subst, true≢false, arith}
 use Rattle.std.specs.Prelude.{ℤ}
 use Rattle.std.specs.List.{list_all, list_any}
+use Rattle.ded_num.proofs.Tests.{both}
 use Rattle.ded_model.specs.declared.slot.Slot.{Slot}
 use Rattle.ded_model.specs.Constraint.{LinearConstraint}
 use Rattle.ded_model.specs.Point.{same_slot}
 use Rattle.ded_model.specs.Row.{row_mentions}
 use Rattle.ded_model.proofs.Points.{same_slot_is, same_slot_refl, and_left, and_right}
+use Rattle.ded_model.proofs.Rows.{or_right, or_left}
+use Rattle.ded_model.proofs.Members.{or_split}
 use Rattle.ded_polygon.specs.Closures.{MentionsOnly, MentionOnly}
 use Rattle.ded_polygon.proofs.Places.{place_in}
-
--- the parts of `or`, and of them
-or_parts : (a b : Bool) → (a || b) ≡ true → (a ≡ true) ⊎ (b ≡ true)
-or_parts true b h = inl refl
-or_parts false b h = inr h
-
-or_left : (a b : Bool) → a ≡ true → (a || b) ≡ true
-or_left true b h = refl
-or_left false b h = absurd (true≢false (sym h))
-
-or_right : (a b : Bool) → b ≡ true → (a || b) ≡ true
-or_right true b h = refl
-or_right false b h = h
-
-both : (a b : Bool) → a ≡ true → b ≡ true → (a && b) ≡ true
-both true b h k = k
-both false b h k = absurd (true≢false (sym h))
 
 -- the slot is x or y
 abbrev is_of : Slot → Slot → Slot × ℤ → Bool
@@ -35,8 +21,8 @@ is_of x y c = same_slot c.0 x || same_slot c.0 y
 only_of : (x y : Slot) (cs : List (Slot × ℤ)) → list_all (is_of x y) cs ≡ true → (s : Slot) → list_any (λ c. same_slot c.0 s) cs ≡ true → (same_slot s x ≡ true) ⊎ (same_slot s y ≡ true)
 only_of x y [] h s m = absurd (true≢false (sym m))
 only_of x y (c ∷ cs) h s m =
-    elim (or_parts (same_slot c.0 s) (list_any (λ d. same_slot d.0 s) cs) m) [
-      | inl e ↦ subst (λ t. (same_slot t x ≡ true) ⊎ (same_slot t y ≡ true)) (same_slot_is c.0 s e) (or_parts (same_slot c.0 x) (same_slot c.0 y) (and_left (is_of x y c) (list_all (is_of x y) cs) h))
+    elim (or_split (same_slot c.0 s) (list_any (λ d. same_slot d.0 s) cs) m) [
+      | inl e ↦ subst (λ t. (same_slot t x ≡ true) ⊎ (same_slot t y ≡ true)) (same_slot_is c.0 s e) (or_split (same_slot c.0 x) (same_slot c.0 y) (and_left (is_of x y c) (list_all (is_of x y) cs) h))
       | inr i ↦ only_of x y cs (and_right (is_of x y c) (list_all (is_of x y) cs) h) s i
     ]
 

@@ -4,10 +4,11 @@
 use Rattle.std.proofs.Common.{◌≡◌, ℕ, zero, suc, ◌<◌, ◌≤◌, List, [], ◌∷◌, ◌⊎◌, inl, inr, refl, ap, sym, arith}
 use Rattle.std.specs.Prelude.{ℤ, pos, ◌+ℤ◌, ◌-ℤ◌, ◌*ℤ◌, ◌<ℤ◌, ◌≤ℤ◌}
 use Rattle.std.proofs.lemmas.Int.{ints, by_lt_z}
+use Rattle.ded_num.proofs.Signs.{times_swap}
 use Rattle.ded_polygon.specs.Plane.{HalfPlane, Spot, In, IsSameSpot, level, bend, crossing, turn}
 use Rattle.ded_polygon.specs.Vertices.{LiesIn, IsVertex, IsEdge, IsEnclosed}
 use Rattle.ded_polygon.proofs.Polynomials.{nought, var, plus, minus, times, identity}
-use Rattle.ded_polygon.proofs.Signs.{mul_swap, most_most, least_most, unscale_most, unscale_least}
+use Rattle.ded_polygon.proofs.Signs.{most_most, least_most, unscale_most, unscale_least}
 use Rattle.ded_polygon.proofs.Identities.{levels, turn_back, turn_round, turn_on_border, crossing_den, crossing_on_second}
 use Rattle.ded_polygon.proofs.Utmost.{proper_second}
 use Rattle.ded_polygon.proofs.Nearest.{nearest_of}
@@ -22,7 +23,7 @@ inside_left ss p q r e positive lies =
     let b = most_most (level e.side r) (level e.stop p) (lies e.side e.side_in) (let l = e.before in omega (arith, ints)) in
     let c = least_most q.den (pos 0 -ℤ level e.side r *ℤ level e.stop p) (omega (arith, ints)) (omega (arith, ints)) in
     let d = negative q.den (level e.side r *ℤ level e.stop p) in
-    let f = mul_swap (bend e.side e.stop) (turn p q r) in
+    let f = times_swap (bend e.side e.stop) (turn p q r) in
     unscale_least (bend e.side e.stop) (turn p q r) e.leaves (omega (arith, ints))
   where
     negative : (x y : ℤ) → x *ℤ (pos 0 -ℤ y) +ℤ x *ℤ y ≡ pos 0

@@ -9,6 +9,8 @@ use Rattle.std.proofs.lemmas.Int.{ints}
 use Rattle.std.proofs.lemmas.Bool.Decides.{Decides-int_eq}
 use Rattle.std.proofs.lemmas.Slice.Eq.{bytes_eq-Decides}
 use Rattle.ded_num.proofs.Ring.{parts, ring, ring_pos, diff_same}
+use Rattle.ded_num.proofs.Signs.{from_no_gap, times_regroup, more_law, none_law}
+use Rattle.ded_model.proofs.Points.{and_right}
 
 -- an expression in numbered variables
 pub data Expression : Type 0 where
@@ -100,16 +102,10 @@ product-with_variable zs k (j ∷ js) = variable_step zs k j js (nat_le k j) (pr
 one_times : (z : ℤ) → z ≡ pos 1 *ℤ z
 one_times z = rw (parts z) (simp ring_pos (diff_same _ _ _ _ (omega arith)))
 
-assoc : (a b c : ℤ) → a *ℤ (b *ℤ c) ≡ (a *ℤ b) *ℤ c
-assoc a b c = rw (parts a, parts b, parts c) (simp ring (diff_same _ _ _ _ (omega arith)))
-
 product-product_of : (zs : List ℤ) (js ks : Product) → product_at zs (product_of js ks) ≡ product_at zs js *ℤ product_at zs ks
 product-product_of zs [] ks = one_times (product_at zs ks)
 product-product_of zs (j ∷ js) ks =
-    product-with_variable zs j (product_of js ks) ∙ ap (λ w. number_in zs j *ℤ w) (product-product_of zs js ks) ∙ assoc (number_in zs j) (product_at zs js) (product_at zs ks)
-
-joined : (c d m r : ℤ) → (c +ℤ d) *ℤ m +ℤ r ≡ c *ℤ m +ℤ (d *ℤ m +ℤ r)
-joined c d m r = rw (parts c, parts d, parts m, parts r) (simp ring (diff_same _ _ _ _ (omega arith)))
+    product-with_variable zs j (product_of js ks) ∙ ap (λ w. number_in zs j *ℤ w) (product-product_of zs js ks) ∙ times_regroup (number_in zs j) (product_at zs js) (product_at zs ks)
 
 past : (a b r : ℤ) → a +ℤ (b +ℤ r) ≡ b +ℤ (a +ℤ r)
 past a b r = omega (arith, ints)
@@ -118,7 +114,7 @@ term_step : (zs : List ℤ) (c : ℤ) (m : Product) (t : ℤ × Product) (ts : P
     → polynomial_at zs (with_term c m ts) ≡ c *ℤ product_at zs m +ℤ polynomial_at zs ts
     → polynomial_at zs (cond b ((c +ℤ t.0, t.1) ∷ ts) (t ∷ with_term c m ts)) ≡ c *ℤ product_at zs m +ℤ polynomial_at zs (t ∷ ts)
 term_step zs c m t ts true e ih =
-    joined c t.0 (product_at zs t.1) (polynomial_at zs ts) ∙ ap (λ k. c *ℤ product_at zs k +ℤ polynomial_at zs (t ∷ ts)) (sym ((bytes_eq-Decides m t.1).0 e))
+    more_law c t.0 (product_at zs t.1) (polynomial_at zs ts) ∙ ap (λ k. c *ℤ product_at zs k +ℤ polynomial_at zs (t ∷ ts)) (sym ((bytes_eq-Decides m t.1).0 e))
 term_step zs c m t ts false e ih =
     ap (λ w. t.0 *ℤ product_at zs t.1 +ℤ w) ih ∙ past (t.0 *ℤ product_at zs t.1) (c *ℤ product_at zs m) (polynomial_at zs ts)
 
@@ -129,12 +125,9 @@ polynomial-with_term zs c m (t ∷ ts) = term_step zs c m t ts (bytes_eq m t.1) 
 scaled : (c d m n p q : ℤ) → (c *ℤ d) *ℤ (m *ℤ n) +ℤ ((c *ℤ m) *ℤ p +ℤ q) ≡ (c *ℤ m) *ℤ (d *ℤ n +ℤ p) +ℤ q
 scaled c d m n p q = rw (parts c, parts d, parts m, parts n, parts p, parts q) (simp ring (diff_same _ _ _ _ (omega arith)))
 
-none_times : (c q : ℤ) → q ≡ c *ℤ pos 0 +ℤ q
-none_times c q = rw (parts c, parts q) (simp ring_pos (diff_same _ _ _ _ (omega arith)))
-
 polynomial-with_terms : (zs : List ℤ) (c : ℤ) (m : Product) (p q : Polynomial)
     → polynomial_at zs (with_terms c m p q) ≡ (c *ℤ product_at zs m) *ℤ polynomial_at zs p +ℤ polynomial_at zs q
-polynomial-with_terms zs c m [] q = none_times (c *ℤ product_at zs m) (polynomial_at zs q)
+polynomial-with_terms zs c m [] q = none_law (c *ℤ product_at zs m) (polynomial_at zs q)
 polynomial-with_terms zs c m (t ∷ ts) q =
     polynomial-with_term zs (c *ℤ t.0) (product_of m t.1) (with_terms c m ts q)
     ∙ ap₂ (λ u w. (c *ℤ t.0) *ℤ u +ℤ w) (product-product_of zs m t.1) (polynomial-with_terms zs c m ts q)
@@ -182,10 +175,6 @@ zero_head z b h = (Decides-int_eq z (pos 0)).0 (left (int_eq z (pos 0)) b h)
     left true y h = refl
     left false y h = absurd (true≢false (sym h))
 
-zero_tail : (x y : Bool) → (x && y) ≡ true → y ≡ true
-zero_tail true y h = h
-zero_tail false y h = absurd (true≢false (sym h))
-
 gone : (m r : ℤ) → r ≡ pos 0 → pos 0 *ℤ m +ℤ r ≡ pos 0
 gone m r h = rw h (rw (parts m) (simp ring_pos (diff_same _ _ _ _ (omega arith))))
 
@@ -193,11 +182,8 @@ polynomial-zero : (zs : List ℤ) (p : Polynomial) → is_zero p ≡ true → po
 polynomial-zero zs [] h = refl
 polynomial-zero zs (t ∷ ts) h =
     ap (λ c. c *ℤ product_at zs t.1 +ℤ polynomial_at zs ts) (zero_head t.0 (is_zero ts) h)
-    ∙ gone (product_at zs t.1) (polynomial_at zs ts) (polynomial-zero zs ts (zero_tail (int_eq t.0 (pos 0)) (is_zero ts) h))
-
-equal_by : (a b : ℤ) → a -ℤ b ≡ pos 0 → a ≡ b
-equal_by a b h = omega (arith, ints)
+    ∙ gone (product_at zs t.1) (polynomial_at zs ts) (polynomial-zero zs ts (and_right (int_eq t.0 (pos 0)) (is_zero ts) h))
 
 -- the equation holds where the difference of both sides computes to 0
 pub identity : (zs : List ℤ) (e f : Expression) → is_zero (polynomial_of (minus e f)) ≡ true → expression_at zs e ≡ expression_at zs f
-identity zs e f h = equal_by (expression_at zs e) (expression_at zs f) (sym (polynomial-of zs (minus e f)) ∙ polynomial-zero zs (polynomial_of (minus e f)) h)
+identity zs e f h = from_no_gap (expression_at zs e) (expression_at zs f) (sym (polynomial-of zs (minus e f)) ∙ polynomial-zero zs (polynomial_of (minus e f)) h)

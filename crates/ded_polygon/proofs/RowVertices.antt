@@ -1,10 +1,11 @@
 -- Corners of rows over two slots are the vertices of their half planes, and where the rows are bounded, the half planes
 -- enclose what lies in them.
 use Rattle.std.proofs.Common.{◌≡◌, ◌<◌, Bool, true, false, true≢false, cond, List, ◌⊎◌, inl, inr, refl, sym, ap, ap₂, ◌∙◌, subst, arith}
-use Rattle.std.specs.Prelude.{ℤ, pos, negsuc, ◌+ℤ◌, ◌-ℤ◌, ◌*ℤ◌, ◌<ℤ◌, ◌≤ℤ◌, unsigned_abs}
+use Rattle.std.specs.Prelude.{ℤ, pos, ◌+ℤ◌, ◌-ℤ◌, ◌*ℤ◌, ◌<ℤ◌, ◌≤ℤ◌, unsigned_abs}
 use lib.IntN.{neg_ℤ}
 use Rattle.std.proofs.lemmas.Int.{ints, by_lt_z}
 use Rattle.ded_num.proofs.Ring.{parts, ring, diff_same}
+use Rattle.ded_num.proofs.Signs.{abs_above}
 use Rattle.ded_model.specs.declared.slot.Slot.{Slot}
 use Rattle.ded_model.specs.declared.row.RowOp.{RowOp}
 use Rattle.ded_model.specs.declared.row.RowOp.TheVariants.{Zero, AtMost, Below}
@@ -167,10 +168,6 @@ module _ (x y : Slot) (differ : same_slot x y ≡ false) (rows : List LinearCons
       }
 
 -- ---- the point of a spot
-magnitude : (z : ℤ) → pos 0 <ℤ z → pos (unsigned_abs z) ≡ z
-magnitude (pos n) h = refl
-magnitude (negsuc n) h = absurd (omega (arith, ints))
-
 spot_with : (x x' y y' d d' : ℤ) → x ≡ x' → y ≡ y' → d ≡ d' → ◌≡◌ {A = Spot} (record { x = x; y = y; den = d }) (record { x = x'; y = y'; den = d' })
 spot_with x x' y y' d d' ex ey ed = rw (ex, ey, ed) refl
 
@@ -183,7 +180,7 @@ spot_back x y differ c h = by_tests (same_slot x y) (same_slot x x) (same_slot y
       y = as_number (cond e (number c.y) (cond (same_slot y x) (number c.x) absent));
       den = pos (unsigned_abs c.den);
     }) c
-    by_tests false true true b' d' e' = spot_with c.x c.x c.y c.y _ c.den refl refl (magnitude c.den h)
+    by_tests false true true b' d' e' = spot_with c.x c.x c.y c.y _ c.den refl refl (abs_above c.den h)
     by_tests true d e b' d' e' = absurd (true≢false b')
     by_tests false false e b' d' e' = absurd (true≢false (sym d'))
     by_tests false true false b' d' e' = absurd (true≢false (sym e'))

@@ -2,11 +2,12 @@
 use Rattle.std.proofs.Common.{◌≡◌, List, [], ◌∷◌, refl, ap, ◌∙◌, sym, arith}
 use Rattle.std.specs.Prelude.{ℤ, pos, ◌+ℤ◌, ◌-ℤ◌, ◌*ℤ◌, ◌<ℤ◌, ◌≤ℤ◌}
 use Rattle.std.proofs.lemmas.Int.{ints, by_lt_z}
+use Rattle.ded_num.proofs.Signs.{times_swap, zero_times}
 use Rattle.ded_polygon.specs.Plane.{HalfPlane, Spot, level, bend, turn}
 use Rattle.ded_polygon.specs.Vertices.{LiesIn, IsEdge}
 use Rattle.ded_polygon.specs.Corners.{IsBetween}
 use Rattle.ded_polygon.proofs.Polynomials.{nought, var, plus, minus, times, identity}
-use Rattle.ded_polygon.proofs.Signs.{mul_swap, none_times, above_above, above_below, below_below, above_most, least_most, unscale_zero, unscale_most, unscale_below}
+use Rattle.ded_polygon.proofs.Signs.{above_above, above_below, below_below, above_most, least_most, unscale_zero, unscale_most, unscale_below}
 use Rattle.ded_polygon.proofs.Identities.{turn_back, turn_on_border}
 use Rattle.ded_polygon.proofs.Edges.{along}
 use Rattle.ded_polygon.proofs.Outline.{inside_left}
@@ -60,7 +61,7 @@ module _ (ss : List HalfPlane) (p q r : Spot) (e : IsEdge ss p q) (back : IsEdge
       let c = turn_back p q r in
       let z : turn p q r ≡ pos 0 = omega (arith, ints) in
       let f = turn_on_border e.side e.stop p q r e.begins e.ends e.reached in
-      let g : q.den *ℤ (level e.side r *ℤ level e.stop p) ≡ pos 0 = sym f ∙ none_times (turn p q r) (bend e.side e.stop) z in
+      let g : q.den *ℤ (level e.side r *ℤ level e.stop p) ≡ pos 0 = sym f ∙ zero_times (turn p q r) (bend e.side e.stop) z in
       let h : level e.side r *ℤ level e.stop p ≡ pos 0 = unscale_zero q.den _ pq g in
       let most = lies e.side e.side_in in
       by_lt_z (level e.side r) (pos 0)
@@ -75,11 +76,11 @@ module _ (ss : List HalfPlane) (p q r : Spot) (e : IsEdge ss p q) (back : IsEdge
   stops_back =
       let a = along e.side e.stop back.stop q p e.ends e.begins back.reached in
       let b = above_below (bend e.side e.stop *ℤ p.den) (level back.stop q) (factor p pp) back.before in
-      let c = mul_swap (bend e.side e.stop *ℤ p.den) (level back.stop q) in
-      let d = none_times (level e.stop q) p.den e.reached in
+      let c = times_swap (bend e.side e.stop *ℤ p.den) (level back.stop q) in
+      let d = zero_times (level e.stop q) p.den e.reached in
       let f = above_below q.den (level e.stop p) pq e.before in
-      let g = mul_swap q.den (level e.stop p) in
-      let h = mul_swap (bend e.side back.stop) (level e.stop q *ℤ p.den -ℤ level e.stop p *ℤ q.den) in
+      let g = times_swap q.den (level e.stop p) in
+      let h = times_swap (bend e.side back.stop) (level e.stop q *ℤ p.den -ℤ level e.stop p *ℤ q.den) in
       unscale_below (level e.stop q *ℤ p.den -ℤ level e.stop p *ℤ q.den) (bend e.side back.stop) (omega (arith, ints)) (omega (arith, ints))
 
   -- so the spot is not before p
@@ -87,7 +88,7 @@ module _ (ss : List HalfPlane) (p q r : Spot) (e : IsEdge ss p q) (back : IsEdge
   not_before =
       let a = along e.side e.stop back.stop r p on_border e.begins back.reached in
       let b = above_most (bend e.side e.stop *ℤ p.den) (level back.stop r) (factor p pp) (lies back.stop back.stop_in) in
-      let c = mul_swap (bend e.side e.stop *ℤ p.den) (level back.stop r) in
+      let c = times_swap (bend e.side e.stop *ℤ p.den) (level back.stop r) in
       by_lt_z (pos 0) (level e.stop p *ℤ r.den -ℤ level e.stop r *ℤ p.den)
       (λ above.
       let f = below_below (bend e.side back.stop) (level e.stop r *ℤ p.den -ℤ level e.stop p *ℤ r.den) stops_back (omega (arith, ints)) in
@@ -98,7 +99,7 @@ module _ (ss : List HalfPlane) (p q r : Spot) (e : IsEdge ss p q) (back : IsEdge
   not_behind : (level e.stop r *ℤ q.den) ≤ℤ pos 0
   not_behind =
       let a = above_most q.den (level e.stop r) pq (lies e.stop e.stop_in) in
-      let b = mul_swap q.den (level e.stop r) in
+      let b = times_swap q.den (level e.stop r) in
       omega (arith, ints)
 
   -- a border through the spot has p and q on either side of it, or on it
@@ -109,11 +110,11 @@ module _ (ss : List HalfPlane) (p q r : Spot) (e : IsEdge ss p q) (back : IsEdge
       let v = level e.stop q *ℤ r.den -ℤ level e.stop r *ℤ q.den in
       let a = along e.side e.stop w p r e.begins on_border on in
       let b = along e.side e.stop w q r e.ends on_border on in
-      let c = none_times (level e.stop q) r.den e.reached in
+      let c = zero_times (level e.stop q) r.den e.reached in
       let h = not_behind in
       let least : pos 0 ≤ℤ v = omega (arith, ints) in
       let f = squares (level w p) (level w q) k (bend e.side w) u v a b in
-      let g : (u *ℤ v) ≤ℤ pos 0 = (let m = least_most v u least not_before in let n = mul_swap v u in omega (arith, ints)) in
+      let g : (u *ℤ v) ≤ℤ pos 0 = (let m = least_most v u least not_before in let n = times_swap v u in omega (arith, ints)) in
       let m = least_most (bend e.side w *ℤ bend e.side w) (u *ℤ v) (square (bend e.side w)) g in
       let n = above_above k k (factor r pr) (factor r pr) in
       unscale_most (k *ℤ k) (level w p *ℤ level w q) n (omega (arith, ints))
@@ -122,7 +123,7 @@ module _ (ss : List HalfPlane) (p q r : Spot) (e : IsEdge ss p q) (back : IsEdge
       square z =
           by_lt_z z (pos 0) (λ below. let s = below_below z z below below in omega (arith, ints))
           (λ least. by_lt_z (pos 0) z (λ above. let s = above_above z z above above in omega (arith, ints))
-          (λ most. let n : z ≡ pos 0 = omega (arith, ints) in let s = none_times z z n in omega (arith, ints)))
+          (λ most. let n : z ≡ pos 0 = omega (arith, ints) in let s = zero_times z z n in omega (arith, ints)))
 
       grouped : (x k : ℤ) (y : ℤ) → (k *ℤ k) *ℤ (x *ℤ y) ≡ (x *ℤ k) *ℤ (y *ℤ k)
       grouped x k y = identity (x ∷ k ∷ y ∷ []) (times (times (var 1) (var 1)) (times (var 0) (var 2))) (times (times (var 0) (var 1)) (times (var 2) (var 1))) refl

@@ -1,26 +1,12 @@
 -- Signs of products, and factors that are taken away.
-use Rattle.std.proofs.Common.{◌≡◌, zero, suc, arith, refl, ◌∙◌}
+use Rattle.std.proofs.Common.{◌≡◌, zero, suc, arith, refl}
 use Rattle.std.specs.Prelude.{ℤ, pos, negsuc, ◌-ℤ◌, ◌*ℤ◌, ◌<ℤ◌, ◌≤ℤ◌}
 use Rattle.std.proofs.lemmas.Int.{ints}
 use lib.IntN.{neg_ℤ}
-use Rattle.ded_num.proofs.Ring.{parts, ring, ring_pos, diff_same}
+use Rattle.ded_num.proofs.Ring.{parts, ring, diff_same}
+use Rattle.ded_num.proofs.Signs.{neg_times_first, zero_times}
 use Rattle.ded_model.specs.declared.row.RowOp.TheVariants.{Zero, AtMost, Below}
 use Rattle.ded_model.proofs.Core.{pos_mul, times_neg, meets_scale, meets_unscale}
-
--- the factors the other way round
-pub mul_swap : (a b : ℤ) → a *ℤ b ≡ b *ℤ a
-mul_swap a b = rw (parts a, parts b) (simp ring (diff_same _ _ _ _ (omega arith)))
-
--- the negative of a first factor
-neg_times : (a b : ℤ) → neg_ℤ a *ℤ b ≡ neg_ℤ (a *ℤ b)
-neg_times a b = rw (parts a, parts b) (simp ring (diff_same _ _ _ _ (omega arith)))
-
--- nothing times a number, and a number times nothing
-pub none_times : (a b : ℤ) → a ≡ pos 0 → a *ℤ b ≡ pos 0
-none_times a b h = rw h (rw (parts b) (simp ring_pos (diff_same _ _ _ _ (omega arith))))
-
-pub times_none : (a b : ℤ) → b ≡ pos 0 → a *ℤ b ≡ pos 0
-times_none a b h = mul_swap a b ∙ none_times b a h
 
 -- ---- products
 pub above_above : (a b : ℤ) → pos 0 <ℤ a → pos 0 <ℤ b → pos 0 <ℤ (a *ℤ b)
@@ -32,7 +18,7 @@ above_below a b p q = meets_scale Below a b p q
 pub below_below : (a b : ℤ) → a <ℤ pos 0 → b <ℤ pos 0 → pos 0 <ℤ (a *ℤ b)
 below_below a b p q =
     let h : pos 0 <ℤ (neg_ℤ a *ℤ neg_ℤ b) = pos_mul (neg_ℤ a) (neg_ℤ b) (omega (arith, ints)) (omega (arith, ints)) in
-    let e = neg_times a (neg_ℤ b) in
+    let e = neg_times_first a (neg_ℤ b) in
     let f = times_neg a b in
     omega (arith, ints)
 
@@ -40,14 +26,14 @@ pub above_most : (a b : ℤ) → pos 0 <ℤ a → b ≤ℤ pos 0 → (a *ℤ b) 
 above_most a b p q = meets_scale AtMost a b p q
 
 pub least_most : (a b : ℤ) → pos 0 ≤ℤ a → b ≤ℤ pos 0 → (a *ℤ b) ≤ℤ pos 0
-least_most (pos zero) b p q = let e = none_times (pos 0) b refl in omega (arith, ints)
+least_most (pos zero) b p q = let e = zero_times (pos 0) b refl in omega (arith, ints)
 least_most (pos (suc a)) b p q = meets_scale AtMost (pos (suc a)) b (omega (arith, ints)) q
 least_most (negsuc a) b p q = absurd (omega (arith, ints))
 
 pub most_most : (a b : ℤ) → a ≤ℤ pos 0 → b ≤ℤ pos 0 → pos 0 ≤ℤ (a *ℤ b)
 most_most a b p q =
     let h : (neg_ℤ a *ℤ b) ≤ℤ pos 0 = least_most (neg_ℤ a) b (omega (arith, ints)) q in
-    let e = neg_times a b in
+    let e = neg_times_first a b in
     omega (arith, ints)
 
 -- ---- a positive factor that is taken away
@@ -75,7 +61,7 @@ unscale_least k z p h =
 -- a factor below 0 turns the sign
 pub unscale_under : (k z : ℤ) → k <ℤ pos 0 → pos 0 ≤ℤ (k *ℤ z) → z ≤ℤ pos 0
 unscale_under k z p h =
-    let f = neg_times k z in
+    let f = neg_times_first k z in
     meets_unscale AtMost (neg_ℤ k) z (omega (arith, ints)) (omega (arith, ints))
 
 -- equal products with an equal positive factor

@@ -32,7 +32,7 @@ one_place a b k j k' j' (neither p q r) (second p' q') e = absurd (p (omega (ari
 one_place a b k j k' j' (neither p q r) (neither p' q' r') e = omega (arith, r, r', e)
 
 -- equal, or not
-equal_or : (j k : ℕ) → (j ≡ k) ⊎ (j ≡ k → ⊥)
+pub equal_or : (j k : ℕ) → (j ≡ k) ⊎ (j ≡ k → ⊥)
 equal_or j k = grind arith
 
 -- one of two orders, where they differ

@@ -3,20 +3,22 @@
 use Rattle.std.proofs.Common.{◌≡◌, List, [], ◌∷◌, inl, inr, refl, ap, subst, ◌∙◌, sym, arith}
 use Rattle.std.specs.Prelude.{ℤ, pos, ◌+ℤ◌, ◌*ℤ◌, ◌<ℤ◌, ◌≤ℤ◌}
 use Rattle.std.proofs.lemmas.Int.{ints, by_lt_z}
+use Rattle.ded_num.proofs.Signs.{times_swap, zero_times}
+use Rattle.ded_model.proofs.Core.{zero_scale}
 use Rattle.ded_polygon.specs.Plane.{HalfPlane, Spot, In, IsSameSpot, level, bend, crossing}
 use Rattle.ded_polygon.specs.Vertices.{LiesIn, IsVertex}
-use Rattle.ded_polygon.proofs.Signs.{mul_swap, none_times, times_none, least_most, above_most, unscale_zero, unscale_under}
+use Rattle.ded_polygon.proofs.Signs.{least_most, above_most, unscale_zero, unscale_under}
 use Rattle.ded_polygon.proofs.Identities.{cramer, bend_swap, bend_self}
 use Rattle.ded_polygon.proofs.Sameness.{same_by}
 
 -- a half plane that bends has a border
 pub proper_first : (s t : HalfPlane) → pos 0 <ℤ bend s t → s.a ≡ pos 0 → s.b ≡ pos 0 → ⊥
 unfolding bend
-proper_first s t h ea eb = let e = none_times s.a t.b ea in let f = none_times s.b t.a eb in absurd (omega (arith, ints))
+proper_first s t h ea eb = let e = zero_times s.a t.b ea in let f = zero_times s.b t.a eb in absurd (omega (arith, ints))
 
 pub proper_second : (s t : HalfPlane) → pos 0 <ℤ bend s t → t.a ≡ pos 0 → t.b ≡ pos 0 → ⊥
 unfolding bend
-proper_second s t h ea eb = let e = times_none s.a t.b eb in let f = times_none s.b t.a ea in absurd (omega (arith, ints))
+proper_second s t h ea eb = let e = zero_scale s.a t.b eb in let f = zero_scale s.b t.a ea in absurd (omega (arith, ints))
 
 -- of the half planes ts of ss, s is the utmost at p, with r in all of them
 pub record Utmost (ss : List HalfPlane) (p r : Spot) (ts : List HalfPlane) : Type 0 where
@@ -32,9 +34,9 @@ three : (s t v : HalfPlane) (p r : Spot) → pos 0 <ℤ p.den → level s p ≡ 
     → level v r *ℤ bend s t +ℤ level s r *ℤ bend t v +ℤ level t r *ℤ bend v s ≡ pos 0
 three s t v p r positive es et ev =
     let z : level v (crossing s t) *ℤ p.den ≡ pos 0 =
-    cramer v s t p ∙ all_none _ _ _ (none_times (level v p) (bend s t) ev) (none_times (level s p) (bend t v) es) (none_times (level t p) (bend v s) et) in
-    let l : level v (crossing s t) ≡ pos 0 = unscale_zero p.den _ positive (mul_swap p.den _ ∙ z) in
-    sym (cramer v s t r) ∙ none_times _ r.den l
+    cramer v s t p ∙ all_none _ _ _ (zero_times (level v p) (bend s t) ev) (zero_times (level s p) (bend t v) es) (zero_times (level t p) (bend v s) et) in
+    let l : level v (crossing s t) ≡ pos 0 = unscale_zero p.den _ positive (times_swap p.den _ ∙ z) in
+    sym (cramer v s t r) ∙ zero_times _ r.den l
   where
     all_none : (x y z : ℤ) → x ≡ pos 0 → y ≡ pos 0 → z ≡ pos 0 → x +ℤ y +ℤ z ≡ pos 0
     all_none x y z ex ey ez = omega (arith, ints)
@@ -45,7 +47,7 @@ further : (s t v : HalfPlane) (p r : Spot) → pos 0 <ℤ p.den → level s p �
 further s t v p r positive es et ev above below most most' =
     let e = three s t v p r positive es et ev in
     let f : (level v r *ℤ bend s t) ≤ℤ pos 0 =
-    (let g = above_most (bend s t) (level v r) above most in let h = mul_swap (bend s t) (level v r) in omega (arith, ints)) in
+    (let g = above_most (bend s t) (level v r) above most in let h = times_swap (bend s t) (level v r) in omega (arith, ints)) in
     unscale_under (level s r) (bend t v) below (omega (arith, ints))
 
 module _ (ss : List HalfPlane) (p r : Spot) (positive : pos 0 <ℤ p.den) (here : LiesIn ss p) (there : LiesIn ss r) where
@@ -74,7 +76,7 @@ module _ (ss : List HalfPlane) (p r : Spot) (positive : pos 0 <ℤ p.den) (here 
         on = on;
         proper = proper_second u.side t above;
         final = λ z v ev most.
-            further u.side t v p r positive u.on on ev above below most (let e = none_times (level t r) (bend v u.side) z in omega (arith, ints));
+            further u.side t v p r positive u.on on ev above below most (let e = zero_times (level t r) (bend v u.side) z in omega (arith, ints));
         utmost = λ v j. each below v j;
       }
     where
@@ -84,7 +86,7 @@ module _ (ss : List HalfPlane) (p r : Spot) (positive : pos 0 <ℤ p.den) (here 
           let w = u.utmost v j ev in
           let f = bend_swap u.side v in
           let g = least_most (bend v u.side) (level t r) (omega (arith, ints)) (there t i) in
-          let h = mul_swap (level t r) (bend v u.side) in
+          let h = times_swap (level t r) (bend v u.side) in
           further u.side t v p r positive u.on on ev above below (there v (sub v j)) (omega (arith, ints))
 
   next : (ts : List HalfPlane) → Utmost ss p r ts → (t : HalfPlane) → ((v : HalfPlane) → In v ts → In v ss) → In t ss → Utmost ss p r (t ∷ ts)

@@ -1,6 +1,5 @@
 //! Vertices in the order in which edges lead around.
-ghost use Rattle.std.specs.Prelude.{◌≡◌, ◌<◌, ◌≤◌, ◌+◌, ◌-◌, ◌↔◌, ℕ, pos, ◌<ℤ◌, IsTrue, MatchOption, length};
-ghost use Rattle.ded_polygon.specs.Plane.{In, level, bend};
+ghost use Rattle.std.specs.Prelude.{◌<◌, ◌≤◌, ◌-◌, ◌↔◌, ℕ, IsTrue, MatchOption, length};
 ghost use Rattle.ded_polygon.specs.Vertices.{IsEdge, IsStop, IsEnclosed};
 ghost use Rattle.ded_polygon.specs.Lists.{spot_in, AreAllVertices, AreJoined};
 

@@ -1,6 +1,6 @@
 //! The vertices of half planes: where borders cross and that lies in all of them.
-ghost use Rattle.std.specs.Prelude.{◌≡◌, ◌<◌, ◌↔◌, ℕ, pos, ◌<ℤ◌, IsTrue, IfOk, OnOk, length};
-ghost use Rattle.ded_polygon.specs.Plane.{In, level, bend};
+ghost use Rattle.std.specs.Prelude.{◌≡◌, ◌<◌, ◌↔◌, ℕ, pos, IsTrue, IfOk, OnOk, length};
+ghost use Rattle.ded_polygon.specs.Plane.{In, level};
 ghost use Rattle.ded_polygon.specs.Vertices.{LiesIn};
 ghost use Rattle.ded_polygon.specs.Lists.{spot_in, side_in, AreVertices, AreAllVertices, Grows, HasCrossing};
 

@@ -14,19 +14,19 @@ use Rattle.ded_print.proofs.Runs.{first}
 
 -- ---- lines without line feeds
 
-integer_line : (z : ℤ) → is_one_line (integer_text z) ≡ true
+pub integer_line : (z : ℤ) → is_one_line (integer_text z) ≡ true
 integer_line (pos n) = number_line n
 integer_line (negsuc n) = number_line (suc n)
 
-multipliers_line : (ms : List ℤ) → is_one_line (multipliers_text ms) ≡ true
+pub multipliers_line : (ms : List ℤ) → is_one_line (multipliers_text ms) ≡ true
 multipliers_line [] = refl
 multipliers_line (m ∷ ms) = both_lines (integer_text m) (multipliers_text ms) (integer_line m) (multipliers_line ms)
 
-proof_line : (proof : Proof) → is_one_line (proof_text proof) ≡ true
+pub proof_line : (proof : Proof) → is_one_line (proof_text proof) ≡ true
 proof_line Text = refl
 proof_line (Multipliers ms) = multipliers_line ms
 
-entry_is_line : (e : Entry) → is_one_line (entry_line e) ≡ true
+pub entry_is_line : (e : Entry) → is_one_line (entry_line e) ≡ true
 entry_is_line e =
     both_lines (number_text e.first) (32 ∷ (number_text e.second ++ (32 ∷ proof_text e.proof))) (number_line e.first)
     (both_lines (number_text e.second) (32 ∷ proof_text e.proof) (number_line e.second) (proof_line e.proof))

@@ -6,6 +6,7 @@ use Rattle.std.proofs.Math.Dec.{leb-suc-suc}
 use Rattle.std.proofs.lemmas.Bool.{le-leb}
 use Rattle.std.proofs.lemmas.Bool.Decides.{eqb_tells, leb_tells}
 use Rattle.std.proofs.lemmas.List.{reverse-append}
+use Rattle.ded_model.proofs.CoefLemmas.{less}
 use Rattle.ded_print.specs.Counts.{added, carries, raised, raised_by}
 use Rattle.ded_print.specs.Numbers.{count_text}
 use Rattle.ded_print.proofs.Numerals.{glyph_is}
@@ -13,9 +14,6 @@ use Rattle.ded_print.proofs.Numerals.{glyph_is}
 pub raised_both : (m n : ℕ) (bs : List ℕ) → raised_by (m + n) bs ≡ raised_by n (raised_by m bs)
 raised_both zero n bs = ap (λ (k : ℕ). raised_by k bs) {x = 0 + n} {y = n} (omega arith)
 raised_both (suc m) n bs = ap (λ (k : ℕ). raised_by k bs) {x = suc m + n} {y = suc (m + n)} (omega arith) ∙ raised_both m n (raised 64 bs)
-
-less : (a b : ℕ) → a < b → nat_lt a b ≡ true
-less a b h = le-leb (suc a) b (omega (arith, h))
 
 -- a digit below 9 is the last one that changes
 pub added_here : (bs : List ℕ) (i : ℕ) → i < length bs → get_or bs i 0 < 57 → slice_set bs i (get_or bs i 0 + 1) ≡ take i bs ++ added (drop i bs)

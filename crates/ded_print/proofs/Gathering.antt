@@ -1,16 +1,15 @@
 -- What is put piece by piece is put in order.
-use Rattle.std.proofs.Common.{◌≡◌, ℕ, List, [], ◌++◌, refl, sym, ap, ◌∙◌, append_assoc, append-nil, subst, arith, Bool, true, false}
+use Rattle.std.proofs.Common.{◌≡◌, ℕ, List, [], ◌++◌, refl, sym, ◌∙◌, append_assoc, append-nil, subst, arith, Bool, true, false}
 use Rattle.std.specs.Prelude.{Result, Ok, Err, MatchResult, if◌then◌else◌}
 use Rattle.std.specs.declared.option.Option.{Option}
-use Rattle.std.specs.declared.option.Option.TheVariants.{Some, None}
-use Rattle.std.specs.Io.KnownBytes.{Appends}
+use Rattle.ded_num.proofs.Tests.{adds_none}
 use Rattle.ded_io.specs.declared.device.Failed.{Failed}
 use Rattle.ded_io.specs.Causes.{HasCause}
 use Rattle.ded_io.specs.Devices.{Sent, AddsAll}
 use Rattle.ded_io.proofs.Steps.{sent_whole, sent_both, sent_longer, all_sent}
 use Rattle.ded_print.specs.Gathering.{Output, Printed, Puts, SendsAfter, Finishes}
 
-differ : false ≡ true → ⊥
+pub differ : false ≡ true → ⊥
 differ e = cc
 
 -- one piece after another
@@ -108,10 +107,6 @@ pub direct : (contents held_now : Option (List ℕ)) (faults faults_now : ℕ) (
 direct contents held_now faults faults_now pending bytes so_far result none h = rw none (puts_sent so_far contents held_now faults faults_now [] bytes result h)
 
 -- ---- a whole reply
-
-adds_none : (contents : Option (List ℕ)) → Appends contents contents []
-adds_none None = tt
-adds_none (Some bytes) = sym (append-nil bytes)
 
 -- nothing was put yet
 begins : (contents : Option (List ℕ)) (faults : ℕ) → Printed contents faults [] (record { contents = contents; faults = faults; pending = []; sent = Ok tt })

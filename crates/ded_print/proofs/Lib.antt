@@ -21,3 +21,4 @@ pub mod SpanLines
 pub mod Telling
 pub mod Terms
 pub mod TuplesTold
+pub mod Shared

@@ -8,6 +8,7 @@ use Rattle.ded_model.specs.declared.command.Refusal.TheVariants.{LongStatement, 
 use Rattle.ded_print.specs.Lines.{LineReply, done, truth, numbered, met, refused, reply_line, reply_text, refusal_line, meeting_line, is_one_line}
 use Rattle.ded_print.specs.Numbers.{number_text}
 use Rattle.ded_print.proofs.Runs.{tails}
+use Rattle.ded_print.proofs.Gathering.{differ}
 
 -- ---- what has no line feed
 
@@ -59,9 +60,6 @@ refusal_lines Spent = refl
 refusal_lines Level = refl
 refusal_lines Wide = refl
 refusal_lines Memory = refl
-
-differ : false ≡ true → ⊥
-differ e = cc
 
 not_feed : (b : ℕ) (bs : List ℕ) → is_one_line (b ∷ bs) ≡ true → (b ≢ 10) × (is_one_line bs ≡ true)
 not_feed b bs h = ⊎_elim (λ e. let f = rw e.0 at h in absurd (differ f)) (λ e. let f = rw e.0 at h in (e.1, f)) (eqb_tells b 10)

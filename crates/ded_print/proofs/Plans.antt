@@ -22,7 +22,7 @@ use Rattle.ded_print.specs.Lines.{line_text, lines_text}
 use Rattle.ded_print.specs.Plans.{indent, later_slots_text, node_lines, part_lines, parts}
 use Rattle.ded_print.proofs.Terms.{suc_is}
 
-left_after : {A : Type 0} (xs : List A) (i : ℕ) (x : A) → i < length xs → x ≡ get_or xs i x → drop i xs ≡ x ∷ drop (i + 1) xs
+pub left_after : {A : Type 0} (xs : List A) (i : ℕ) (x : A) → i < length xs → x ≡ get_or xs i x → drop i xs ≡ x ∷ drop (i + 1) xs
 left_after xs i x there is =
     let split : drop i xs ≡ get_or xs i x ∷ drop (i + 1) xs = rw (suc_is i) (drop-cons xs i x there) in
     split ∙ ap (λ y. y ∷ drop (i + 1) xs) (sym is)

@@ -8,6 +8,7 @@ use Rattle.ded_model.specs.declared.slot.Sort.TheVariants.{Rat, Text}
 use Rattle.ded_model.specs.Logic.{atom, always, never, negation, every_of, some_of, implies, minus, exists, forall, Logics, none, also}
 use Rattle.ded_model.specs.PlanForm.{PlanAtom, scan, rows, PlanForm}
 use Rattle.ded_model.specs.Point.{Key, slot, name, IsSlotOf}
+use Rattle.ded_model.proofs.SlotLists.{slot_same_parts}
 use Rattle.ded_print.specs.Numbers.{number_text, count_text}
 use Rattle.ded_print.specs.Plans.{indent, later_slots_text, slots_text, plan_atom_text, key_text, sort_text, parts, node_lines, part_lines, plan_text}
 use Rattle.ded_print.specs.Quiet.{IsQuiet, IsQuietPlan, AreQuietPlans}
@@ -16,7 +17,6 @@ use Rattle.ded_print.specs.Tuples.{slot_names}
 use Rattle.ded_print.proofs.Numerals.{same_number}
 use Rattle.ded_print.proofs.QuotedLines.{number_quiet, closed_written, counted_lines}
 use Rattle.ded_print.proofs.QuotedTexts.{inner_nodes}
-use Rattle.ded_print.proofs.RowsTold.{one_slot}
 use Rattle.ded_print.proofs.Runs.{tails, no_byte, first, behind, Ends, Digit, number_run, same_slots}
 use Rattle.ded_print.proofs.TuplesTold.{same_tuples}
 
@@ -40,7 +40,7 @@ same_later_slots (s ∷ ss) (u ∷ us) k e =
     let sorts = sort_tails s.sort u.sort (sorts_of ss) (sorts_of us) k in
     let r = same_slots s u (later_slots_text ss ++ codes ")") (later_slots_text us ++ codes ")") (slots_end ss) (slots_end us)
     (sym (append_assoc (slot_names s) (later_slots_text ss) (codes ")")) ∙ ap (drop 2) e ∙ append_assoc (slot_names u) (later_slots_text us) (codes ")")) in
-    ap₂ (λ (x : Slot) (l : List Slot). x ∷ l) (one_slot s u r.0 sorts.0) (same_later_slots ss us sorts.1 r.1)
+    ap₂ (λ (x : Slot) (l : List Slot). x ∷ l) (slot_same_parts s u r.0 sorts.0) (same_later_slots ss us sorts.1 r.1)
 
 same_slot_lists : (ss us : List Slot) → sorts_of ss ≡ sorts_of us → slots_text ss ++ codes ")" ≡ slots_text us ++ codes ")" → ss ≡ us
 same_slot_lists [] [] k e = refl
@@ -50,7 +50,7 @@ same_slot_lists (s ∷ ss) (u ∷ us) k e =
     let sorts = sort_tails s.sort u.sort (sorts_of ss) (sorts_of us) k in
     let r = same_slots s u (later_slots_text ss ++ codes ")") (later_slots_text us ++ codes ")") (slots_end ss) (slots_end us)
     (sym (append_assoc (slot_names s) (later_slots_text ss) (codes ")")) ∙ e ∙ append_assoc (slot_names u) (later_slots_text us) (codes ")")) in
-    ap₂ (λ (x : Slot) (l : List Slot). x ∷ l) (one_slot s u r.0 sorts.0) (same_later_slots ss us sorts.1 r.1)
+    ap₂ (λ (x : Slot) (l : List Slot). x ∷ l) (slot_same_parts s u r.0 sorts.0) (same_later_slots ss us sorts.1 r.1)
 
 -- none of the bytes opens a parenthesis
 abbrev OpensNone : List ℕ → Type 0
@@ -121,7 +121,7 @@ same_keys : (s t : Sort) (k j : Key) → IsSlotOf s k → IsSlotOf t j → key_t
 same_keys s t (slot u) (slot w) h i e =
     let r = same_slots u w (sort_text s) (sort_text t) (sort_ends s) (sort_ends t) e in
     let sort = same_sorts s t r.1 in
-    (sort, ap slot (one_slot u w r.0 (h ∙ sort ∙ sym i)))
+    (sort, ap slot (slot_same_parts u w r.0 (h ∙ sort ∙ sym i)))
 same_keys s t (slot u) (name y) h i e = absurd i
 same_keys s t (name x) j h i e = absurd h
 

@@ -11,6 +11,7 @@ use Rattle.ded_model.specs.Coefs.{AreCoefs}
 use Rattle.ded_model.specs.Constraint.{LinearConstraint}
 use Rattle.ded_model.specs.Normal.{IsNormalRow, normal_row, constant_row, is_true_row}
 use Rattle.ded_model.specs.Row.{sign_meets}
+use Rattle.ded_model.proofs.SlotLists.{slot_same_parts}
 use Rattle.ded_print.specs.Numbers.{number_text, integer_text}
 use Rattle.ded_print.specs.Tuples.{slot_names, term_text, later_term_text, signed, later_terms_text, op_text, sides_text, row_with_text, row_text}
 use Rattle.ded_print.proofs.Runs.{tails, first, Ends, Digit, same_run, number_run, number_first, same_numbers, same_integers, same_slots, ends_at}
@@ -163,15 +164,12 @@ same_sides p q c d cs ds o r k j xs ys hx hy e =
 abbrev pub slot_of : ℕ → Sort → Slot
 slot_of n s = record { number = n; sort = s }
 
-pub one_slot : (s t : Slot) → s.number ≡ t.number → s.sort ≡ t.sort → s ≡ t
-one_slot s t e f = ap₂ slot_of e f
-
 pub same_coefs : (p : Bool) (cs ds : List (Slot × ℤ)) → AreCoefs cs → AreCoefs ds → AreAlike p p cs ds → cs ≡ ds
 same_coefs p [] [] h k e = refl
 same_coefs p [] (d ∷ ds) h k e = absurd e
 same_coefs p (c ∷ cs) [] h k e = absurd e
 same_coefs p (c ∷ cs) (d ∷ ds) h k e =
-    ap₂ (λ (x : Slot × ℤ) (l : List (Slot × ℤ)). x ∷ l) (ap₂ (λ (s : Slot) (z : ℤ). (s, z)) (one_slot c.0 d.0 e.0 (h.0 ∙ sym k.0)) (same_turned p c.1 d.1 e.1)) (same_coefs p cs ds h.4 k.4 e.2)
+    ap₂ (λ (x : Slot × ℤ) (l : List (Slot × ℤ)). x ∷ l) (ap₂ (λ (s : Slot) (z : ℤ). (s, z)) (slot_same_parts c.0 d.0 e.0 (h.0 ∙ sym k.0)) (same_turned p c.1 d.1 e.1)) (same_coefs p cs ds h.4 k.4 e.2)
 
 -- a row without coefficients that isn't true
 empty_row : (o : RowOp) (k : ℤ) → IsNormalRow (record { coefs = []; constant = k; op = o }) → is_true_row (record { coefs = []; constant = k; op = o }) ≡ false → record { coefs = []; constant = k; op = o } ≡ constant_row false
@@ -216,7 +214,7 @@ same_parts (c ∷ cs) (d ∷ ds) o r k j xs ys hc hd nc nd tc td hx hy e =
     let q : Bool = int_lt d.1 (pos 0) in
     let s = same_sides p q c d cs ds o r k j xs ys hx hy e in
     let pq : p ≡ q = turned_alike c d cs ds o r k j xs ys hc hd nc nd s in
-    let one : c ≡ d = ap₂ (λ (u : Slot) (z : ℤ). (u, z)) (one_slot c.0 d.0 s.slot (hc.0 ∙ sym hd.0)) (same_signed c.1 d.1 (sym (turned_abs p c.1) ∙ s.factor ∙ turned_abs q d.1) pq) in
+    let one : c ≡ d = ap₂ (λ (u : Slot) (z : ℤ). (u, z)) (slot_same_parts c.0 d.0 s.slot (hc.0 ∙ sym hd.0)) (same_signed c.1 d.1 (sym (turned_abs p c.1) ∙ s.factor ∙ turned_abs q d.1) pq) in
     let more : cs ≡ ds = same_coefs p cs ds hc.4 hd.4 (subst (λ x. AreAlike p x cs ds) (sym pq) s.more) in
     let number : k ≡ j = same_turned p k j (same_neg (signed p k) (signed p j) (s.constant ∙ ap (λ x. neg_ℤ (signed x j)) (sym pq))) in
     (ap₂ (λ (l : List (Slot × ℤ)) (z : ℤ). row_parts l z o) (ap₂ (λ (x : Slot × ℤ) (l : List (Slot × ℤ)). x ∷ l) one more) number ∙ ap (row_parts (d ∷ ds) j) s.op, s.rest)

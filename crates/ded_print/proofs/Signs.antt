@@ -5,6 +5,7 @@ use lib.IntN.{neg_ℤ}
 use Rattle.std.proofs.Math.IntN.{neg_ℤ-neg_ℤ}
 use Rattle.std.proofs.lemmas.Bool.Decides.{nat_tests}
 use Rattle.ded_num.specs.Gcd.{gcd_all}
+use Rattle.ded_num.proofs.Signs.{unsigned_abs-neg}
 use Rattle.ded_model.specs.declared.row.RowOp.{RowOp}
 use Rattle.ded_model.specs.declared.row.RowOp.TheVariants.{Zero, AtMost, Below}
 use Rattle.ded_model.specs.declared.slot.Slot.{Slot}
@@ -23,13 +24,8 @@ same_signed (pos m) (negsuc n) e s = absurd (true≢false (sym (sym (plus m) ∙
 same_signed (negsuc m) (pos n) e s = absurd (true≢false (s ∙ plus n))
 same_signed (negsuc m) (negsuc n) e s = let k : m ≡ n = omega (arith, e) in ap negsuc k
 
-pub neg_abs : (z : ℤ) → unsigned_abs (neg_ℤ z) ≡ unsigned_abs z
-neg_abs (pos zero) = refl
-neg_abs (pos (suc n)) = refl
-neg_abs (negsuc n) = refl
-
 pub turned_abs : (t : Bool) (z : ℤ) → unsigned_abs (signed t z) ≡ unsigned_abs z
-turned_abs true z = neg_abs z
+turned_abs true z = unsigned_abs-neg z
 turned_abs false z = refl
 
 pub same_neg : (a b : ℤ) → neg_ℤ a ≡ neg_ℤ b → a ≡ b

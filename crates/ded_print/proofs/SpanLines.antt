@@ -1,5 +1,5 @@
 -- The lines of a box that are put one after another, and the fractions in them.
-use Rattle.std.proofs.Common.{◌≡◌, ℕ, arith, ◌+◌, ◌<◌, ◌≤◌, true, false, cond, List, [], ◌∷◌, ◌++◌, length, drop, drop-cons, get_or, refl, sym, ap, ap₂, ◌∙◌, ⊎_elim, subst, append_assoc}
+use Rattle.std.proofs.Common.{◌≡◌, ℕ, arith, ◌+◌, ◌<◌, ◌≤◌, true, false, cond, List, [], ◌∷◌, ◌++◌, length, drop, get_or, refl, sym, ap, ap₂, ◌∙◌, ⊎_elim, subst, append_assoc}
 use Rattle.std.specs.Prelude.{ℤ, pos, ◌<ℤ◌, unsigned_abs, codes, ◌==◌}
 use Rattle.std.specs.Int.{IsGcd}
 use Rattle.std.proofs.Math.ListN.{drop_of_length-le}
@@ -16,7 +16,7 @@ use Rattle.ded_print.specs.Gathering.{Output, Puts}
 use Rattle.ded_print.specs.Lines.{line_text, lines_text}
 use Rattle.ded_print.specs.Numbers.{integer_text, lowest_text}
 use Rattle.ded_print.proofs.Gathering.{puts_both}
-use Rattle.ded_print.proofs.Terms.{suc_is}
+use Rattle.ded_print.proofs.Plans.{left_after}
 
 -- ---- fractions
 
@@ -43,10 +43,6 @@ span_parts a b name s h = subst (λ z. Puts a b z) (sym
     ∙ ap (λ z. name ++ z) (append_assoc (codes " in ") (lower_text s.0 ++ (codes ", " ++ upper_text s.1)) (10 ∷ [])
     ∙ ap (λ z. codes " in " ++ z) (append_assoc (lower_text s.0) (codes ", " ++ upper_text s.1) (10 ∷ [])
     ∙ ap (λ z. lower_text s.0 ++ z) (append_assoc (codes ", ") (upper_text s.1) (10 ∷ [])))))) h
-
-left_after : {A : Type 0} (xs : List A) (i : ℕ) (x : A) → i < length xs → x ≡ get_or xs i x → drop i xs ≡ x ∷ drop (i + 1) xs
-left_after xs i x there is = let split : drop i xs ≡ get_or xs i x ∷ drop (i + 1) xs = rw (suc_is i) (drop-cons xs i x there) in
-    split ∙ ap (λ y. y ∷ drop (i + 1) xs) (sym is)
 
 line_of : (c : Column) (cs : List Column) (s : Bound × Bound) (ss : List (Bound × Bound)) → same_sort c.sort Rat ≡ true → line_text (span_line c.name s) ++ spans_text cs ss ≡ spans_text (c ∷ cs) (s ∷ ss)
 line_of c cs s ss e = sym (ap (λ b. lines_text (span_lines (cond b (c.name ∷ rational_names cs) (rational_names cs)) (s ∷ ss))) e)

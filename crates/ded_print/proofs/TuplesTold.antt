@@ -12,10 +12,11 @@ use Rattle.ded_model.specs.declared.tuple.BothAtom.TheVariants.{First, Second}
 use Rattle.ded_model.specs.Normal.{IsNormalTheme, IsNormalAtom, IsNormalTuple, first_slot}
 use Rattle.ded_model.specs.Quoting.{doubled_byte, doubled, quoted}
 use Rattle.ded_model.specs.Row.{Atom}
+use Rattle.ded_model.proofs.SlotLists.{slot_same_parts}
 use Rattle.ded_print.specs.Numbers.{number_text, integer_text}
 use Rattle.ded_print.specs.Tuples.{slot_names, term_text, signed, later_terms_text, op_text, sides_text, row_with_text, theme_text, atom_text, later_atoms_text, tuple_text}
 use Rattle.ded_print.proofs.Runs.{tails, first, Ends, Digit, number_first, integer_first, same_slots, ends_at}
-use Rattle.ded_print.proofs.RowsTold.{ends_blank, laters_blank, laters_sign, op_stops, flat, one_slot, same_rows}
+use Rattle.ded_print.proofs.RowsTold.{ends_blank, laters_blank, laters_sign, op_stops, flat, same_rows}
 
 -- ---- quoted texts
 
@@ -86,7 +87,7 @@ pub same_themes : (a b : ThemeAtom) (xs ys : List ℕ) → IsNormalTheme a → I
 same_themes (EqText s t) (EqText u w) xs ys h k hx hy e =
     let f = same_fronts (EqText s t) (EqText u w) xs ys e in
     let r = same_quoted t w xs ys hx.quote hy.quote (ap (drop 3) f.1) in
-    (ap₂ EqText (one_slot s u f.0 (h.0 ∙ sym k.0)) r.0, r.1)
+    (ap₂ EqText (slot_same_parts s u f.0 (h.0 ∙ sym k.0)) r.0, r.1)
 same_themes (EqText s t) (NeText u w) xs ys h k hx hy e = absurd (omega (arith, ap (λ (l : List ℕ). first (drop 1 l)) (same_fronts (EqText s t) (NeText u w) xs ys e).1))
 same_themes (EqText s t) (EqSlot u w) xs ys h k hx hy e = absurd (omega (arith, ap (λ (l : List ℕ). first (drop 3 l)) (same_fronts (EqText s t) (EqSlot u w) xs ys e).1))
 same_themes (EqText s t) (NeSlot u w) xs ys h k hx hy e = absurd (omega (arith, ap (λ (l : List ℕ). first (drop 1 l)) (same_fronts (EqText s t) (NeSlot u w) xs ys e).1))
@@ -94,7 +95,7 @@ same_themes (NeText s t) (EqText u w) xs ys h k hx hy e = absurd (omega (arith, 
 same_themes (NeText s t) (NeText u w) xs ys h k hx hy e =
     let f = same_fronts (NeText s t) (NeText u w) xs ys e in
     let r = same_quoted t w xs ys hx.quote hy.quote (ap (drop 4) f.1) in
-    (ap₂ NeText (one_slot s u f.0 (h.0 ∙ sym k.0)) r.0, r.1)
+    (ap₂ NeText (slot_same_parts s u f.0 (h.0 ∙ sym k.0)) r.0, r.1)
 same_themes (NeText s t) (EqSlot u w) xs ys h k hx hy e = absurd (omega (arith, ap (λ (l : List ℕ). first (drop 1 l)) (same_fronts (NeText s t) (EqSlot u w) xs ys e).1))
 same_themes (NeText s t) (NeSlot u w) xs ys h k hx hy e = absurd (omega (arith, ap (λ (l : List ℕ). first (drop 4 l)) (same_fronts (NeText s t) (NeSlot u w) xs ys e).1))
 same_themes (EqSlot s t) (EqText u w) xs ys h k hx hy e = absurd (omega (arith, ap (λ (l : List ℕ). first (drop 3 l)) (same_fronts (EqSlot s t) (EqText u w) xs ys e).1))
@@ -102,7 +103,7 @@ same_themes (EqSlot s t) (NeText u w) xs ys h k hx hy e = absurd (omega (arith, 
 same_themes (EqSlot s t) (EqSlot u w) xs ys h k hx hy e =
     let f = same_fronts (EqSlot s t) (EqSlot u w) xs ys e in
     let r = same_slots t w xs ys hx.digits hy.digits (ap (drop 3) f.1) in
-    (ap₂ EqSlot (one_slot s u f.0 (h.0 ∙ sym k.0)) (one_slot t w r.0 (h.1 ∙ sym k.1)), r.1)
+    (ap₂ EqSlot (slot_same_parts s u f.0 (h.0 ∙ sym k.0)) (slot_same_parts t w r.0 (h.1 ∙ sym k.1)), r.1)
 same_themes (EqSlot s t) (NeSlot u w) xs ys h k hx hy e = absurd (omega (arith, ap (λ (l : List ℕ). first (drop 1 l)) (same_fronts (EqSlot s t) (NeSlot u w) xs ys e).1))
 same_themes (NeSlot s t) (EqText u w) xs ys h k hx hy e = absurd (omega (arith, ap (λ (l : List ℕ). first (drop 1 l)) (same_fronts (NeSlot s t) (EqText u w) xs ys e).1))
 same_themes (NeSlot s t) (NeText u w) xs ys h k hx hy e = absurd (omega (arith, ap (λ (l : List ℕ). first (drop 4 l)) (same_fronts (NeSlot s t) (NeText u w) xs ys e).1))
@@ -110,7 +111,7 @@ same_themes (NeSlot s t) (EqSlot u w) xs ys h k hx hy e = absurd (omega (arith, 
 same_themes (NeSlot s t) (NeSlot u w) xs ys h k hx hy e =
     let f = same_fronts (NeSlot s t) (NeSlot u w) xs ys e in
     let r = same_slots t w xs ys hx.digits hy.digits (ap (drop 4) f.1) in
-    (ap₂ NeSlot (one_slot s u f.0 (h.0 ∙ sym k.0)) (one_slot t w r.0 (h.1 ∙ sym k.1)), r.1)
+    (ap₂ NeSlot (slot_same_parts s u f.0 (h.0 ∙ sym k.0)) (slot_same_parts t w r.0 (h.1 ∙ sym k.1)), r.1)
 
 -- ---- a row is no text atom
 

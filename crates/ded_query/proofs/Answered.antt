@@ -20,7 +20,7 @@ use Rattle.ded_model.specs.Point.{slot, Point}
 use Rattle.ded_model.specs.Row.{Atom, atom_holds, tuples_hold, tuples_mention}
 use Rattle.ded_model.specs.Slotted.{goal_of}
 use Rattle.ded_model.specs.Width.{IsNarrowList}
-use Rattle.ded_orderly.specs.Orderly.{IsOrderly, IsShortReach, AreOrdered, reached_points}
+use Rattle.ded_width.specs.Orderly.{IsOrderly, IsShortReach, AreOrdered, reached_points}
 use Rattle.ded_atoms.specs.Orders.{are_orders, AreOrderAtoms}
 use Rattle.ded_sorts.proofs.Frees.{goal_free}
 use Rattle.ded_views.proofs.Views.{name_level, view_accepted}

@@ -1,14 +1,9 @@
 -- Points at the values of a heading's columns.
-use Rattle.std.proofs.Common.{◌≡◌, ℕ, suc, ◌+◌, ◌<◌, List, [], ◌∷◌, length, refl, ap}
-use Rattle.ded_model.specs.declared.slot.Sort.{Sort}
-use Rattle.ded_model.specs.declared.slot.Sort.TheVariants.{Rat, Text}
+use Rattle.std.proofs.Common.{◌≡◌, suc, List, [], ◌∷◌, length, refl, ap}
 use Rattle.ded_model.specs.declared.name.Column.{Column}
-use Rattle.ded_model.specs.Catalogue.{argument_coordinate, at_slots}
-use Rattle.ded_model.specs.Point.{AllBytes, IsValue, AreValues, IsPoint}
 use Rattle.ded_model.specs.Value.{Argument}
 use Rattle.ded_plan.specs.Plans.{AreArguments}
 use Rattle.ded_views.specs.Same.{AreByteArguments}
-use Rattle.ded_plan.proofs.PlansOfFormulas.{argument_value}
 
 -- the values of columns are byte arguments
 pub byte_arguments : (h : List Column) (xs : List Argument) → AreArguments h xs → AreByteArguments xs

@@ -1,26 +1,25 @@
 -- Relations and views as what is given of them.
-use Rattle.std.proofs.Common.{◌≡◌, ℕ, ◌-◌, ◌*◌, ◌<◌, ◌≤◌, arith, map, mul-pos, true, List, [], ◌∷◌, Option, Some, None, is_some, is_none, refl, sym, ap, ◌∙◌, subst, true≢false}
+use Rattle.std.proofs.Common.{◌≡◌, ℕ, ◌-◌, ◌*◌, ◌<◌, ◌≤◌, arith, map, mul-pos, true, List, Option, Some, None, is_some, is_none, refl, sym, ap, ◌∙◌, subst, true≢false}
 use Rattle.std.specs.Prelude.{◌↔◌, IsTrue}
 use Rattle.std.specs.List.{AllByRecursion}
 use Rattle.std.specs.Option.{option_map}
 use Rattle.std.proofs.lemmas.Option.{same_Some, none-some}
 use Rattle.ded_model.specs.declared.slot.Slot.{Slot}
 use Rattle.ded_model.specs.declared.name.Column.{Column}
-use Rattle.ded_model.specs.Row.{Atom, tuple_holds, tuples_hold, tuple_mentions, tuples_mention}
+use Rattle.ded_model.specs.Row.{Atom, tuple_holds, tuples_hold, tuples_mention}
 use Rattle.ded_model.specs.Catalogue.{Entry, relation, view, Catalogue, tuples_of, at_slots, at_names, meaning, Holds, GoalHolds}
 use Rattle.ded_model.specs.Entries.{known, entry_of, relation_in, view_in, columns_in}
 use Rattle.ded_model.specs.Form.{Form}
 use Rattle.ded_model.specs.Goal.{GoalForm, goal_mentions}
-use Rattle.ded_model.specs.Known.{Known, IsTupleOver, IsWellFormed, heading_slots, known_of, level_with, columns_with}
+use Rattle.ded_model.specs.Known.{Known, IsTupleOver, IsWellFormed, known_of, level_with, columns_with}
 use Rattle.ded_model.specs.Lines.{In}
 use Rattle.ded_model.specs.Made.{base}
 use Rattle.ded_model.specs.Measure.{Measure, measures, goal_lines, goal_clashes}
 use Rattle.ded_model.specs.Normal.{IsNormalTuple}
-use Rattle.ded_model.specs.Point.{slot, stands_in}
+use Rattle.ded_model.specs.Point.{slot}
 use Rattle.ded_model.specs.Slotted.{goal_of}
 use Rattle.ded_model.specs.Value.{slot_value, Argument, overs, arguments}
 use Rattle.ded_model.proofs.Made.{plain_base}
-use Rattle.ded_model.proofs.Rows.{or_left, or_right}
 use Rattle.ded_sorts.proofs.Frees.{goal_free}
 use Rattle.ded_sorts.proofs.Headings.{goals_mean}
 use Rattle.ded_sorts.proofs.KnownEntries.{columns_there}

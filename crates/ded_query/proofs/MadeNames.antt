@@ -6,7 +6,7 @@ use Rattle.std.specs.Option.{option_map}
 use Rattle.std.proofs.lemmas.Option.{none-some}
 use Rattle.ded_model.specs.declared.name.Column.{Column}
 use Rattle.ded_model.proofs.Sublists.{sublist_all}
-use Rattle.ded_model.specs.Catalogue.{Entry, Catalogue, tuples_of, at_slots, stored, meaning}
+use Rattle.ded_model.specs.Catalogue.{Entry, Catalogue, tuples_of, at_slots, meaning}
 use Rattle.ded_model.specs.Entries.{known, columns_in, entry_of, relation_in}
 use Rattle.ded_model.specs.Known.{Known, IsTupleOver, IsWellFormed}
 use Rattle.ded_model.specs.Lines.{In, IsSubset, tuples_lines, atoms_lines}
@@ -19,11 +19,10 @@ use Rattle.ded_complement.specs.Pieces.{all_atoms}
 use Rattle.ded_genrel.specs.Lists.{SomeConj}
 use Rattle.ded_model.specs.Row.{Atom, tuple_holds, tuples_hold}
 use Rattle.ded_model.specs.Sublists.{IsSublistWithout}
-use Rattle.ded_model.specs.Value.{Argument}
 use Rattle.ded_model.proofs.Rows.{or_left}
 use Rattle.ded_model.proofs.Members.{In-left, In-right, In-split}
 use Rattle.ded_model.proofs.Made.{behind_none, between_none, plain_base}
-use Rattle.ded_model.proofs.Entries.{meaning-plain, measure-plain}
+use Rattle.ded_model.proofs.Entries.{measure-plain}
 use Rattle.ded_algebra.specs.Evaluation.{given_tuples}
 use Rattle.ded_algebra.specs.declared.given.GivenRelation.{GivenRelation}
 use Rattle.ded_algebra.specs.Given.{given_catalogue, given_entry, has_name}

@@ -4,6 +4,7 @@ use Rattle.std.specs.Prelude.{◌↔◌, IsTrue, None}
 use Rattle.std.specs.List.{AllByRecursion, list_any}
 use Rattle.std.proofs.lemmas.List.Folds.{list_any-append}
 use Rattle.std.proofs.lemmas.Slice.Eq.{bytes_eq-Decides}
+use Rattle.ded_num.proofs.Tests.{from_same_texts, all-at}
 use Rattle.ded_model.specs.Catalogue.{Catalogue, meaning}
 use Rattle.ded_model.specs.Entries.{known, columns_in}
 use Rattle.ded_model.specs.Goal.{GoalForm}
@@ -19,7 +20,6 @@ use Rattle.ded_model.specs.Value.{slot_value, overs, arguments}
 use Rattle.ded_model.proofs.Rows.{or_left, or_right}
 use Rattle.ded_model.proofs.Bools.{bytes_eq-refl}
 use Rattle.ded_model.proofs.Members.{or_split}
-use Rattle.ded_complement.proofs.Cutting.{all-at}
 use Rattle.ded_genrel.proofs.Items.{done_to, all-push, all_weaker}
 use Rattle.ded_algebra.specs.Evaluation.{IsEvaluable, IsAnyAtom}
 use Rattle.ded_plan.specs.Planned.{IsPlanned}
@@ -86,9 +86,6 @@ module _ (c : Catalogue) (rs : List GivenRelation) where
       agree_all ss (turned (λ s r. s.name ≡ r.name → IsReadFrom c s r) ss rs (all_weaker (IsGivenNear c ss) (λ r. AllByRecursion (λ s. s.name ≡ r.name → IsReadFrom c s r) ss) rs (λ r own. own.reads) g)) u
 
 -- ---- one scan alone
-
-same_bytes : (n m : List ℕ) → bytes_eq n m ≡ true → n ≡ m
-same_bytes n m e = (bytes_eq-Decides n m).0 e
 
 -- no scan is of the name
 none_of : (n : List ℕ) (ss : List ScanWithin) (P : ScanWithin → Type 0) → scans_of n ss ≡ 0 → AllByRecursion (λ s. s.name ≡ n → P s) ss
@@ -223,9 +220,9 @@ added_new gs (r ∷ rs) n h = by (has_name r.name gs) refl (or_split (bytes_eq n
   where
     by : (b : Bool) → has_name r.name gs ≡ b → (bytes_eq n r.name ≡ true) ⊎ (has_name n rs ≡ true) → (has_name n rs ≡ true → has_name n (added gs rs) ≡ true) → (has_name n rs ≡ true → has_name n (added (gs ++ r ∷ []) rs) ≡ true)
         → has_name n (added (cond b gs (gs ++ r ∷ [])) rs) ≡ true
-    by true e (inl i) same more = added_kept gs rs n (ap (λ m. has_name m gs) (same_bytes n r.name i) ∙ e)
+    by true e (inl i) same more = added_kept gs rs n (ap (λ m. has_name m gs) (from_same_texts n r.name i) ∙ e)
     by true e (inr i) same more = same i
-    by false e (inl i) same more = added_kept (gs ++ r ∷ []) rs n (ap (λ m. has_name m (gs ++ r ∷ [])) (same_bytes n r.name i) ∙ has_last gs r)
+    by false e (inl i) same more = added_kept (gs ++ r ∷ []) rs n (ap (λ m. has_name m (gs ++ r ∷ [])) (from_same_texts n r.name i) ∙ has_last gs r)
     by false e (inr i) same more = more i
 
 -- ---- one more is added
@@ -257,7 +254,7 @@ holds_without t e p = ap (λ xs. tuple_holds xs p) e
 -- what is so of each scan is so of the name of one
 pub of_scans : (P : List ℕ → Type 0) (ss : List ScanWithin) (n : List ℕ) → AllByRecursion (λ s. P s.name) ss → list_any (λ s. bytes_eq n s.name) ss ≡ true → P n
 of_scans P [] n k h = absurd (true≢false (sym h))
-of_scans P (s ∷ ss) n k h = elim (or_split (bytes_eq n s.name) (list_any (λ x. bytes_eq n x.name) ss) h) [ inl e ↦ subst P (sym (same_bytes n s.name e)) k.0 | inr e ↦ of_scans P ss n k.1 e ]
+of_scans P (s ∷ ss) n k h = elim (or_split (bytes_eq n s.name) (list_any (λ x. bytes_eq n x.name) ss) h) [ inl e ↦ subst P (sym (from_same_texts n s.name e)) k.0 | inr e ↦ of_scans P ss n k.1 e ]
 
 module _ (c : Catalogue) (g : GoalForm) (plan : PlanForm) (level : ℕ) (p : IsPosed c g level) (k : IsPlanned g plan) (t : List Atom) (ss : List ScanWithin) (r : IsReadWithin plan t ss) where
   readable : (s : ScanWithin) → IsScanOf c p.formula (scan s.name s.slots) → IsOverSlots s.slots s.within → IsReadable c level s

@@ -9,11 +9,10 @@ use Rattle.ded_model.specs.Goal.{GoalForm}
 use Rattle.ded_model.specs.Known.{KnownNames, IsAccepted, level_with}
 use Rattle.ded_model.specs.Logic.{Logic, some_atom, AllAtoms}
 use Rattle.ded_model.specs.NormalGoal.{IsNormalGoal, IsNormalGoalAtom}
-use Rattle.ded_model.specs.PlanForm.{PlanAtom, scan, rows}
+use Rattle.ded_model.specs.PlanForm.{PlanAtom}
 use Rattle.ded_model.specs.Slotted.{goal_of}
 use Rattle.ded_algebra.specs.Compiled.{ComesFrom, comes_from}
 use Rattle.ded_plan.specs.Plans.{IsScanOf}
-use Rattle.ded_plan.proofs.GoalScans.{goal_use}
 use Rattle.ded_query.specs.Closing.{closing}
 use Rattle.ded_query.specs.Gathering.{IsPosed}
 use Rattle.ded_query.specs.Questions.{IsQuestion}

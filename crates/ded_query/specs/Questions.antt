@@ -14,7 +14,7 @@ use Rattle.ded_model.specs.Row.{Atom, tuples_hold, atom_holds}
 use Rattle.ded_model.specs.Slotted.{goal_of}
 use Rattle.ded_model.specs.Value.{Argument}
 use Rattle.ded_model.specs.Width.{IsNarrowList}
-use Rattle.ded_orderly.specs.Orderly.{IsOrderly, IsShortReach, AreOrdered, reached_points}
+use Rattle.ded_width.specs.Orderly.{IsOrderly, IsShortReach, AreOrdered, reached_points}
 use Rattle.ded_plan.specs.Plans.{AreArguments}
 
 -- the goal is that of the formula over the heading, none for a closed one, and the formula is accepted over the names

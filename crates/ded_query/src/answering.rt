@@ -23,15 +23,15 @@ use crate::gathering::{evaluated_by, give_all};
 use ded_algebra::{Evaluate, Given};
 use ded_atoms::{holds_everywhere, reduced};
 use ded_catalog::Snapshot;
-use ded_goals::laws;
 use ded_model::goal::Goal;
 use ded_model::limits;
 use ded_model::memory::Refused;
 use ded_model::name::{Heading, Name};
 use ded_model::plan::Plan;
 use ded_model::tuple::Tuples;
-use ded_orderly::laws::orderly_rows;
 use ded_plan::plan;
+use ded_resolve::laws;
+use ded_width::laws::orderly_rows;
 use std::alloc::Global;
 
 /// Whether a closed formula, given as its goal, is true over the catalogue. What is held of views is read in their place, and is

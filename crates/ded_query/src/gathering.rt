@@ -26,13 +26,13 @@ use crate::witness::{asked_view, truth, witnessed};
 use ded_algebra::{Evaluate, Given, GivenRelation};
 use ded_atoms::reduced;
 use ded_catalog::Snapshot;
-use ded_goals::laws;
 use ded_model::goal::Goal;
 use ded_model::memory::Refused;
 use ded_model::name::Name;
 use ded_model::plan::Plan;
 use ded_model::tuple::{Tuple, Tuples};
 use ded_plan::{ScanWithin, plan, scanned_names, scans_within};
+use ded_resolve::laws;
 use std::alloc::Global;
 
 /// Tuples that hold exactly where the goal of an accepted formula does over the catalogue, whose names have at most the level.

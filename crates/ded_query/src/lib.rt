@@ -15,7 +15,7 @@
 //! in as relations under the views' names ([`held_view`]). They are read in place of the views, without a copy, and are the same
 //! afterwards. [`give_names`] gathers views alone.
 //!
-//! It stands on `ded_goals` for the goals of formulas, on `ded_plan` for plans and their scans, on `ded_algebra` for what they are
+//! It stands on `ded_resolve` for the goals of formulas, on `ded_plan` for plans and their scans, on `ded_algebra` for what they are
 //! evaluated over and by, on `ded_topology` for closures and interiors, on `ded_atoms` for reduced tuples, on `ded_theory` and
 //! `ded_tuple` for tuples over other slots, on `ded_catalog` for what names stand for, on `ded_ranges` for windows of tuples, and on
 //! `ded_views` for what views mean. What evaluates is a type that the caller names.

@@ -17,7 +17,6 @@ use crate::gathering::evaluated_whole;
 use ded_algebra::{Evaluate, Given, everywhere, nowhere};
 use ded_atoms::holds_everywhere;
 use ded_catalog::Snapshot;
-use ded_goals::laws;
 use ded_model::goal::Goal;
 use ded_model::memory::{NoMemory, Refused};
 use ded_model::name::{Column, Name};
@@ -25,6 +24,7 @@ use ded_model::plan::Plan;
 use ded_model::slot::{Slot, Slots};
 use ded_model::tuple::Tuples;
 use ded_plan::plan;
+use ded_resolve::laws;
 use std::alloc::{AllocError, Global};
 
 /// The view of which the plan asks only whether it has a point, where nothing is given under its name. None says nothing: whether it is

@@ -6,9 +6,11 @@ use Rattle.std.specs.Option.{IfSome}
 use Rattle.std.proofs.lemmas.Int.{ints}
 use Rattle.ded_num.specs.Length.{IsShort}
 use Rattle.ded_num.proofs.Ring.{parts, diff_same, ring, ring_pos}
+use Rattle.ded_num.proofs.Tests.{both}
 use Rattle.ded_model.specs.declared.row.RowOp.{RowOp}
 use Rattle.ded_model.specs.declared.row.RowOp.TheVariants.{Zero, AtMost, Below}
 use Rattle.ded_model.proofs.Rows.{or_right}
+use Rattle.ded_model.proofs.Points.{and_right, and_left}
 use Rattle.ded_ranges.specs.declared.reach.Range.{Range}
 use Rattle.ded_ranges.specs.declared.limit.Limit.{Limit}
 use Rattle.ded_ranges.specs.Codes.{fine, is_up_to}
@@ -17,7 +19,7 @@ use Rattle.ded_ranges.specs.Limits.{Term, kept, plus, times, at_most_zero, below
 use Rattle.ded_ranges.specs.Boxes.{overlap, overlaps, least_with, IsRangeAround, StaysAround, may_pass, IsAround}
 use Rattle.ded_ranges.specs.Scaling.{lt_true, le_true, of_lt_true, of_le_true, of_lt_false, times_up, times_neg, le_unscale, lt_unscale, commute}
 use Rattle.ded_ranges.proofs.Numbers.{kept_same, kept_high, kept_short, short_low, short_high}
-use Rattle.ded_ranges.proofs.Sums.{and_both, and_first, and_second, le_trans}
+use Rattle.ded_ranges.proofs.Sums.{le_trans}
 
 -- ---- what is kept tells the sign of a sum
 
@@ -113,7 +115,7 @@ up_to_none (Some l) = refl
 pub high_around : (z p o : Option ℤ) (a c : ℤ) → z ≡ None → NotBelow p o → pos 0 <ℤ a → IfSome o (λ k. (neg_ℤ k *ℤ a) ≤ℤ (c *ℤ pos fine)) → IfSome o (λ k. IsShort (c *ℤ pos fine))
     → (r : Range) → at_most_zero (least_with a c r) ≡ true → overlap (record { low = z; high = p }) r ≡ true
 high_around z p o a c e f pa g s r m =
-    and_both (is_up_to z r.high) (is_up_to r.low p) (ap (λ z. is_up_to z r.high) e)
+    both (is_up_to z r.high) (is_up_to r.low p) (ap (λ z. is_up_to z r.high) e)
     (by r.low p o f g s (subst (λ b. at_most_zero (plus (kept (c *ℤ pos fine)) (times a (cond b r.low r.high))) ≡ true) (lt_true (pos 0) a pa) m))
   where
     by : (l p o : Option ℤ) → NotBelow p o → IfSome o (λ k. (neg_ℤ k *ℤ a) ≤ℤ (c *ℤ pos fine)) → IfSome o (λ k. IsShort (c *ℤ pos fine)) → at_most_zero (plus (kept (c *ℤ pos fine)) (times a l)) ≡ true → is_up_to l p ≡ true
@@ -125,7 +127,7 @@ high_around z p o a c e f pa g s r m =
 pub low_around : (z p o : Option ℤ) (a c : ℤ) → z ≡ None → NotAbove p o → a <ℤ pos 0 → IfSome o (λ k. (k *ℤ neg_ℤ a) ≤ℤ (c *ℤ pos fine)) → IfSome o (λ k. IsShort (c *ℤ pos fine))
     → (r : Range) → at_most_zero (least_with a c r) ≡ true → overlap (record { low = p; high = z }) r ≡ true
 low_around z p o a c e f pa g s r m =
-    and_both (is_up_to p r.high) (is_up_to r.low z)
+    both (is_up_to p r.high) (is_up_to r.low z)
     (by r.high p o f g s (subst (λ b. at_most_zero (plus (kept (c *ℤ pos fine)) (times a (cond b r.low r.high))) ≡ true) (not_positive a pa) m))
     (ap (λ z. is_up_to r.low z) e ∙ up_to_none r.low)
   where
@@ -167,9 +169,9 @@ high_met (Some a) (Some b) l e f = by (int_lt b a)
 
 overlap_met : (r s t : Range) → overlap r t ≡ true → overlap s t ≡ true → overlap (met r s) t ≡ true
 overlap_met r s t h k =
-    and_both (is_up_to (both_low r.low s.low) t.high) (is_up_to t.low (both_high r.high s.high))
-    (low_met r.low s.low t.high (and_first (is_up_to r.low t.high) (is_up_to t.low r.high) h) (and_first (is_up_to s.low t.high) (is_up_to t.low s.high) k))
-    (high_met r.high s.high t.low (and_second (is_up_to r.low t.high) (is_up_to t.low r.high) h) (and_second (is_up_to s.low t.high) (is_up_to t.low s.high) k))
+    both (is_up_to (both_low r.low s.low) t.high) (is_up_to t.low (both_high r.high s.high))
+    (low_met r.low s.low t.high (and_left (is_up_to r.low t.high) (is_up_to t.low r.high) h) (and_left (is_up_to s.low t.high) (is_up_to t.low s.high) k))
+    (high_met r.high s.high t.low (and_right (is_up_to r.low t.high) (is_up_to t.low r.high) h) (and_right (is_up_to s.low t.high) (is_up_to t.low s.high) k))
 
 -- by ops
 below_at_most : (o : Option ℤ) → below_zero o ≡ true → at_most_zero o ≡ true
@@ -181,7 +183,7 @@ below_at_most (Some z) h = weak z h
 
 pub zero_around : (r s : Range) (a c : ℤ) → ((t : Range) → at_most_zero (least_with a c t) ≡ true → overlap r t ≡ true) → ((t : Range) → at_most_zero (least_with (neg_ℤ a) (neg_ℤ c) t) ≡ true → overlap s t ≡ true) → IsRangeAround (met r s) a c Zero
 zero_around r s a c h k = λ t m.
-    overlap_met r s t (h t (and_first (at_most_zero (least_with a c t)) (at_most_zero (least_with (neg_ℤ a) (neg_ℤ c) t)) m)) (k t (and_second (at_most_zero (least_with a c t)) (at_most_zero (least_with (neg_ℤ a) (neg_ℤ c) t)) m))
+    overlap_met r s t (h t (and_left (at_most_zero (least_with a c t)) (at_most_zero (least_with (neg_ℤ a) (neg_ℤ c) t)) m)) (k t (and_right (at_most_zero (least_with a c t)) (at_most_zero (least_with (neg_ℤ a) (neg_ℤ c) t)) m))
 
 pub at_most_around : (r : Range) (a c : ℤ) → ((t : Range) → at_most_zero (least_with a c t) ≡ true → overlap r t ≡ true) → IsRangeAround r a c AtMost
 at_most_around r a c h = λ t m. h t m
@@ -195,9 +197,9 @@ overlaps_narrowed : (rs ss : List Range) (p : ℕ) (r : Range) → overlaps rs s
 overlaps_narrowed [] ss p r h k = refl
 overlaps_narrowed (x ∷ rs) [] zero r h k = refl
 overlaps_narrowed (x ∷ rs) [] (suc p) r h k = refl
-overlaps_narrowed (x ∷ rs) (s ∷ ss) zero r h k = and_both (overlap (met x r) s) (overlaps rs ss) (overlap_met x r s (and_first (overlap x s) (overlaps rs ss) h) k) (and_second (overlap x s) (overlaps rs ss) h)
+overlaps_narrowed (x ∷ rs) (s ∷ ss) zero r h k = both (overlap (met x r) s) (overlaps rs ss) (overlap_met x r s (and_left (overlap x s) (overlaps rs ss) h) k) (and_right (overlap x s) (overlaps rs ss) h)
 overlaps_narrowed (x ∷ rs) (s ∷ ss) (suc p) r h k =
-    and_both (overlap x s) (overlaps (narrowed rs p r) ss) (and_first (overlap x s) (overlaps rs ss) h) (overlaps_narrowed rs ss p r (and_second (overlap x s) (overlaps rs ss) h) k)
+    both (overlap x s) (overlaps (narrowed rs p r) ss) (and_left (overlap x s) (overlaps rs ss) h) (overlaps_narrowed rs ss p r (and_right (overlap x s) (overlaps rs ss) h) k)
 
 -- narrowed to a range around a term
 pub stays_around : (old new : List Range) (p : ℕ) (r : Range) (a c : ℤ) (op : RowOp) → new ≡ narrowed old p r → IsRangeAround r a c op → StaysAround (λ rs. may_be rs ((p, a) ∷ []) c op) old new
@@ -210,19 +212,19 @@ one_may_be rs ts t c op e m = subst (λ (ts : List Term). may_be rs ts c op ≡ 
 pub all_values_around : (n : ℕ) (rs : List Range) → overlaps (all_values n) rs ≡ true
 all_values_around zero rs = refl
 all_values_around (suc n) [] = refl
-all_values_around (suc n) (r ∷ rs) = and_both (overlap everywhere r) (overlaps (all_values n) rs) (everywhere_around r) (all_values_around n rs)
+all_values_around (suc n) (r ∷ rs) = both (overlap everywhere r) (overlaps (all_values n) rs) (everywhere_around r) (all_values_around n rs)
 
 pub is_around : (n : ℕ) (old new : List Range) (ls : List Limit) → old ≡ all_values n → StaysAround (λ rs. may_hold rs ls) old new → IsAround new ls
 is_around n old new ls e h = λ rs m. h rs (subst (λ (xs : List Range). overlaps xs rs ≡ true) (sym e) (all_values_around n rs)) m
 
 -- what may hold passes as far as the box and the limits of several terms tell
 pub passes : (b rs : List Range) (ls : List Limit) → IsAround b ls → may_hold rs ls ≡ true → (overlaps b rs && list_all (may_pass rs) ls) ≡ true
-passes b rs ls h m = and_both (overlaps b rs) (list_all (may_pass rs) ls) (h rs m) (each ls m)
+passes b rs ls h m = both (overlaps b rs) (list_all (may_pass rs) ls) (h rs m) (each ls m)
   where
     each : (ls : List Limit) → may_hold rs ls ≡ true → list_all (may_pass rs) ls ≡ true
     each [] m = refl
     each (l ∷ ls) m =
-        and_both (may_pass rs l) (list_all (may_pass rs) ls) (or_right (length l.terms.items == 1) (may_meet rs l) (and_first (may_meet rs l) (may_hold rs ls) m)) (each ls (and_second (may_meet rs l) (may_hold rs ls) m))
+        both (may_pass rs l) (list_all (may_pass rs) ls) (or_right (length l.terms.items == 1) (may_meet rs l) (and_left (may_meet rs l) (may_hold rs ls) m)) (each ls (and_right (may_meet rs l) (may_hold rs ls) m))
 
 -- ---- what the program computes
 

@@ -3,8 +3,8 @@ use Rattle.std.proofs.Common.{◌≡◌, ℕ, ◌<◌, ◌+◌, Bool, true, fals
 use Rattle.std.specs.Prelude.{ℤ, pos, ◌+ℤ◌, ◌*ℤ◌}
 use Rattle.std.specs.Str.{bytes_eq}
 use Rattle.std.specs.List.{list_all}
-use Rattle.std.proofs.lemmas.Slice.Eq.{bytes_eq-Decides}
 use Rattle.ded_num.specs.Length.{IsShort}
+use Rattle.ded_num.proofs.Tests.{both, from_same_texts, bytes_eq-of}
 use Rattle.ded_model.specs.declared.slot.Slot.{Slot}
 use Rattle.ded_model.specs.declared.slot.Sort.TheVariants.{Text}
 use Rattle.ded_model.specs.declared.tuple.ThemeAtom.{ThemeAtom}
@@ -15,7 +15,7 @@ use Rattle.ded_model.specs.Coefs.{AreCoefs}
 use Rattle.ded_model.specs.Normal.{IsNormalTuple}
 use Rattle.ded_model.specs.Point.{Point, IsPoint, slot, number_at, text_at}
 use Rattle.ded_model.specs.Row.{Atom, sum_at, sign_meets, row_holds, theme_holds, atom_holds, tuple_holds}
-use Rattle.ded_model.proofs.Points.{same_slot_is}
+use Rattle.ded_model.proofs.Points.{same_slot_is, and_right, and_left}
 use Rattle.ded_ranges.specs.declared.reach.Range.{Range}
 use Rattle.ded_ranges.specs.declared.window.Window.{Window}
 use Rattle.ded_ranges.specs.Reaches.{Lies}
@@ -24,7 +24,7 @@ use Rattle.ded_ranges.specs.Windows.{column_value, column_text, is_text_met, is_
 use Rattle.ded_ranges.specs.Tuples.{IsReachOf, terms_of, is_text_column, may_equal, may_differ, agrees, atom_may_hold, tuple_may_hold}
 use Rattle.ded_ranges.proofs.Taken.{taken_more}
 use Rattle.ded_ranges.proofs.Terms.{one_term}
-use Rattle.ded_ranges.proofs.Sums.{may_be_sound, and_both, and_first, and_second}
+use Rattle.ded_ranges.proofs.Sums.{may_be_sound}
 
 -- ---- rows
 
@@ -46,21 +46,15 @@ one_short cs c e h = (subst AreCoefs e h).1
 
 -- ---- text atoms
 
-same_from : (x y : List ℕ) → bytes_eq x y ≡ true → x ≡ y
-same_from x y h = (bytes_eq-Decides x y).0 h
-
-same_to : (x y : List ℕ) → x ≡ y → bytes_eq x y ≡ true
-same_to x y e = (bytes_eq-Decides x y).1 e
-
 -- the text that stands in the column of the slot
 stands : (p : Point) (s : Slot) (u : ℕ × List ℕ) → is_text_met p u ≡ true → is_text_column s u.0 ≡ true → text_at p (slot s) ≡ u.1
-stands p s u m e = ap (λ s. text_at p (slot s)) (same_slot_is s (record { number = u.0; sort = Text }) e) ∙ same_from (column_text p u.0) u.1 m
+stands p s u m e = ap (λ s. text_at p (slot s)) (same_slot_is s (record { number = u.0; sort = Text }) e) ∙ from_same_texts (column_text p u.0) u.1 m
 
 equal_agrees : (p : Point) (s : Slot) (t : List ℕ) (u : ℕ × List ℕ) → text_at p (slot s) ≡ t → is_text_met p u ≡ true → may_equal s t u ≡ true
 equal_agrees p s t u h m = by (is_text_column s u.0) refl
   where
     by : (b : Bool) → is_text_column s u.0 ≡ b → not (b && not (bytes_eq u.1 t)) ≡ true
-    by true e = ap (λ b. not (not b)) (same_to u.1 t (sym (stands p s u m e) ∙ h))
+    by true e = ap (λ b. not (not b)) (bytes_eq-of u.1 t (sym (stands p s u m e) ∙ h))
     by false e = refl
 
 other_agrees : (p : Point) (s : Slot) (t : List ℕ) (u : ℕ × List ℕ) → not (bytes_eq (text_at p (slot s)) t) ≡ true → is_text_met p u ≡ true → may_differ s t u ≡ true
@@ -73,16 +67,16 @@ other_agrees p s t u h m = by (is_text_column s u.0) refl
 each_equal : (p : Point) (s : Slot) (t : List ℕ) (us : List (ℕ × List ℕ)) → text_at p (slot s) ≡ t → list_all (is_text_met p) us ≡ true → list_all (may_equal s t) us ≡ true
 each_equal p s t [] h m = refl
 each_equal p s t (u ∷ us) h m =
-    and_both (may_equal s t u) (list_all (may_equal s t) us) (equal_agrees p s t u h (and_first (is_text_met p u) (list_all (is_text_met p) us) m)) (each_equal p s t us h (and_second (is_text_met p u) (list_all (is_text_met p) us) m))
+    both (may_equal s t u) (list_all (may_equal s t) us) (equal_agrees p s t u h (and_left (is_text_met p u) (list_all (is_text_met p) us) m)) (each_equal p s t us h (and_right (is_text_met p u) (list_all (is_text_met p) us) m))
 
 each_other : (p : Point) (s : Slot) (t : List ℕ) (us : List (ℕ × List ℕ)) → not (bytes_eq (text_at p (slot s)) t) ≡ true → list_all (is_text_met p) us ≡ true → list_all (may_differ s t) us ≡ true
 each_other p s t [] h m = refl
 each_other p s t (u ∷ us) h m =
-    and_both (may_differ s t u) (list_all (may_differ s t) us) (other_agrees p s t u h (and_first (is_text_met p u) (list_all (is_text_met p) us) m)) (each_other p s t us h (and_second (is_text_met p u) (list_all (is_text_met p) us) m))
+    both (may_differ s t u) (list_all (may_differ s t) us) (other_agrees p s t u h (and_left (is_text_met p u) (list_all (is_text_met p) us) m)) (each_other p s t us h (and_right (is_text_met p u) (list_all (is_text_met p) us) m))
 
 theme_agrees : (a : ThemeAtom) (p : Point) (us : List (ℕ × List ℕ)) → theme_holds a p ≡ true → list_all (is_text_met p) us ≡ true → agrees us a ≡ true
 unfolding theme_holds
-theme_agrees (EqText s t) p us h m = each_equal p s t us (same_from (text_at p (slot s)) t h) m
+theme_agrees (EqText s t) p us h m = each_equal p s t us (from_same_texts (text_at p (slot s)) t h) m
 theme_agrees (NeText s t) p us h m = each_other p s t us h m
 theme_agrees (EqSlot s t) p us h m = refl
 theme_agrees (NeSlot s t) p us h m = refl
@@ -99,20 +93,20 @@ module _ (rs : List Range) (us : List (ℕ × List ℕ)) (p : Point) (is : IsPoi
   unfolding tuple_holds
   tuple_may [] n h = refl
   tuple_may (a ∷ atoms) n h =
-      and_both (atom_may_hold rs us a) (tuple_may_hold rs us atoms) (atom_may a atoms n (and_first (atom_holds a p) (tuple_holds atoms p) h)) (tuple_may atoms n.2 (and_second (atom_holds a p) (tuple_holds atoms p) h))
+      both (atom_may_hold rs us a) (tuple_may_hold rs us atoms) (atom_may a atoms n (and_left (atom_holds a p) (tuple_holds atoms p) h)) (tuple_may atoms n.2 (and_right (atom_holds a p) (tuple_holds atoms p) h))
 
 -- ---- of the first elements, one more
 
 all_front : {A : Type 0} (f : A → Bool) (xs ys : List A) → list_all f (xs ++ ys) ≡ true → (list_all f xs ≡ true) × (list_all f ys ≡ true)
 all_front f [] ys h = (refl, h)
 all_front f (x ∷ xs) ys h =
-    let k = all_front f xs ys (and_second (f x) (list_all f (xs ++ ys)) h) in
-    (and_both (f x) (list_all f xs) (and_first (f x) (list_all f (xs ++ ys)) h) k.0, k.1)
+    let k = all_front f xs ys (and_right (f x) (list_all f (xs ++ ys)) h) in
+    (both (f x) (list_all f xs) (and_left (f x) (list_all f (xs ++ ys)) h) k.0, k.1)
 
 pub all_before : {A : Type 0} (f : A → Bool) (xs : List A) (i : ℕ) (x : A) → i < length xs → get_or xs i x ≡ x → list_all f (take (i + 1) xs) ≡ true → (list_all f (take i xs) ≡ true) × (f x ≡ true)
 all_before f xs i x h e m =
     let k = all_front f (take i xs) (x ∷ []) (subst (λ ys. list_all f ys ≡ true) (taken_more xs i x h ∙ ap (λ y. take i xs ++ y ∷ []) e) m) in
-    (k.0, and_first (f x) true k.1)
+    (k.0, and_left (f x) true k.1)
 
 -- what is no test of the one is none of the other
 pub contrary : (a b : Bool) → (a ≡ true → b ≡ true) → b ≡ false → a ≡ false
@@ -121,4 +115,4 @@ contrary false b h e = refl
 
 pub missed : (w : Window) (rs : List Range) (atoms : List Atom) → IsReachOf rs (is_within w) → IsNormalTuple atoms → tuple_may_hold rs w.texts.items atoms ≡ false → IsMissed w atoms
 missed w rs atoms reach n e p is within =
-    contrary (tuple_holds atoms p) (tuple_may_hold rs w.texts.items atoms) (tuple_may rs w.texts.items p is (reach p is within) (and_second (are_met (column_value p) p.den w.limits.items) (list_all (is_text_met p) w.texts.items) within) atoms n) e
+    contrary (tuple_holds atoms p) (tuple_may_hold rs w.texts.items atoms) (tuple_may rs w.texts.items p is (reach p is within) (and_right (are_met (column_value p) p.den w.limits.items) (list_all (is_text_met p) w.texts.items) within) atoms n) e

@@ -16,6 +16,7 @@ use Rattle.ded_ranges.specs.Codes.{fine, edge, shift, lowest, units_of, code_of,
 use Rattle.ded_ranges.specs.Coding.{code_under, units_low, units_high, units_own}
 use Rattle.ded_ranges.specs.Reaches.{IsAbove, IsBelow, IsFloor, IsCeil, NotAbove, NotBelow, lower_of, higher_of, both_low, both_high, IsPart, joined, everywhere}
 use Rattle.ded_ranges.specs.Scaling.{times_up, times_neg, le_self, of_lt_true, of_lt_false, le_unscale, not_negative, commute, quotient_at_most}
+use Rattle.ded_ranges.proofs.Sums.{le_trans, not_above_self}
 
 -- ---- rounding
 
@@ -65,10 +66,7 @@ units_are o u d r m h e f = subst (λ x. (u *ℤ d) ≤ℤ (x *ℤ pos fine)) f 
 
 -- ---- further out
 
-le_trans : (a b c : ℤ) → a ≤ℤ b → b ≤ℤ c → a ≤ℤ c
-le_trans a b c h k = omega (arith, ints)
-
-times_den : (a b : ℤ) (d : ℕ) → a ≤ℤ b → (a *ℤ pos d) ≤ℤ (b *ℤ pos d)
+pub times_den : (a b : ℤ) (d : ℕ) → a ≤ℤ b → (a *ℤ pos d) ≤ℤ (b *ℤ pos d)
 times_den a b d h = turn (pos d *ℤ a) (a *ℤ pos d) (pos d *ℤ b) (b *ℤ pos d) (commute (pos d) a) (commute (pos d) b) (times_up (pos d) a b (not_negative d) h)
   where
     turn : (a b c d : ℤ) → a ≡ b → c ≡ d → a ≤ℤ c → b ≤ℤ d
@@ -198,16 +196,12 @@ below_trans (Some a) (Some b) (Some c) h k = le_trans a b c h k
 pub part_trans : (r s t : Range) → IsPart r s → IsPart s t → IsPart r t
 part_trans r s t h k = record { low = above_trans r.low s.low t.low h.low k.low; high = below_trans r.high s.high t.high h.high k.high }
 
-above_self : (o : Option ℤ) → NotAbove o o
-above_self None = tt
-above_self (Some a) = le_self a
-
 below_self : (o : Option ℤ) → NotBelow o o
 below_self None = tt
 below_self (Some a) = le_self a
 
 pub part_self : (r : Range) → IsPart r r
-part_self r = record { low = above_self r.low; high = below_self r.high }
+part_self r = record { low = not_above_self r.low; high = below_self r.high }
 
 pub part_everywhere : (r : Range) → IsPart r everywhere
 part_everywhere r = record { low = tt; high = tt }

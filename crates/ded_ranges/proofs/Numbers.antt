@@ -1,11 +1,12 @@
 -- Numbers that are kept as far as 127 binary digits go, and products with signs.
-use Rattle.std.proofs.Common.{◌≡◌, ℕ, zero, suc, ◌-◌, ◌^◌, ◌<◌, ◌≤◌, Bool, true, false, cond, Option, Some, None, arith, refl, sym, ap, ◌∙◌, subst, true≢false, ◌⊎◌, inl, inr, SFits}
+use Rattle.std.proofs.Common.{◌≡◌, ℕ, suc, ◌-◌, ◌^◌, ◌<◌, ◌≤◌, Bool, true, false, cond, Option, Some, None, arith, refl, sym, ap, ◌∙◌, subst, true≢false, ◌⊎◌, inl, inr, SFits}
 use Rattle.std.specs.Prelude.{ℤ, pos, negsuc, ◌+ℤ◌, ◌*ℤ◌, ◌≤ℤ◌, ◌<ℤ◌, int_lt, int_le, neg_ℤ, unsigned_abs}
 use Rattle.std.specs.Int.{w128}
 use Rattle.std.specs.Option.{SomeIff}
 use Rattle.ded_num.specs.Length.{IsShort}
 use Rattle.std.proofs.lemmas.Int.{ints}
 use Rattle.std.proofs.Math.IntN.{*ℤ-zero}
+use Rattle.ded_num.proofs.Signs.{unsigned_abs-neg}
 use Rattle.ded_ranges.specs.Reaches.{NotAbove}
 use Rattle.ded_ranges.specs.Limits.{kept, turned, is_same_sign, beyond}
 use Rattle.ded_ranges.specs.Scaling.{lt_true, lt_false, of_lt_true, of_le_true, of_lt_false, le_self, times_up, times_neg}
@@ -142,13 +143,8 @@ turned_up n z h = omega (arith, ints)
 turned_down : (n : ℕ) (z : ℤ) → z ≤ℤ neg_ℤ (pos n) → pos n ≤ℤ neg_ℤ z
 turned_down n z h = omega (arith, ints)
 
-abs_turned : (z : ℤ) → unsigned_abs (neg_ℤ z) ≡ unsigned_abs z
-abs_turned (pos zero) = refl
-abs_turned (pos (suc n)) = refl
-abs_turned (negsuc n) = refl
-
 short_turned : (b : Bool) (z : ℤ) → IsShort z → IsShort (turned b z)
-short_turned true z h = subst (λ k. k < 2 ^ 127) (sym (abs_turned z)) h
+short_turned true z h = subst (λ k. k < 2 ^ 127) (sym (unsigned_abs-neg z)) h
 short_turned false z h = h
 
 pub kept_short : (z : ℤ) → IsShort z → kept z ≡ Some z

@@ -1,13 +1,16 @@
 -- The least sum of a limit in a reach: at most the sum at all values of the reach, and no higher in a wider reach.
-use Rattle.std.proofs.Common.{◌≡◌, ℕ, ◌<◌, Bool, true, false, cond, List, [], ◌∷◌, Option, Some, None, arith, refl, sym, ap, subst, true≢false}
-use Rattle.std.specs.Prelude.{ℤ, pos, ◌+ℤ◌, ◌*ℤ◌, ◌≤ℤ◌, ◌<ℤ◌, int_lt, neg_ℤ, ◌&&◌}
+use Rattle.std.proofs.Common.{◌≡◌, ℕ, ◌<◌, Bool, true, false, cond, List, [], ◌∷◌, Option, Some, None, arith, refl, sym, ap, subst}
+use Rattle.std.specs.Prelude.{ℤ, pos, ◌+ℤ◌, ◌*ℤ◌, ◌≤ℤ◌, ◌<ℤ◌, int_lt, neg_ℤ}
 use Rattle.std.specs.Ordering.{int_eq}
 use Rattle.std.proofs.lemmas.Int.{ints}
 use Rattle.ded_num.proofs.Ring.{parts, diff_same, ring, add-mul_ℤ, mul_assoc_ℤ}
+use Rattle.ded_num.proofs.Tests.{both}
+use Rattle.ded_num.proofs.Signs.{above_pos}
 use Rattle.ded_model.specs.declared.row.RowOp.{RowOp}
 use Rattle.ded_model.specs.declared.row.RowOp.TheVariants.{Zero, AtMost, Below}
 use Rattle.ded_model.specs.Row.{sign_meets}
 use Rattle.ded_model.proofs.Core.{Meets, meets_scale, meets_unscale}
+use Rattle.ded_model.proofs.Points.{and_right, and_left}
 use Rattle.ded_ranges.specs.declared.reach.Range.{Range}
 use Rattle.ded_ranges.specs.declared.limit.Limit.{Limit}
 use Rattle.ded_ranges.specs.Codes.{fine}
@@ -121,11 +124,8 @@ least_of_under rs v d ts c b h =
 
 -- ---- no values are lost
 
-positive : (d : ℕ) → 0 < d → pos 0 <ℤ pos d
-positive d h = omega (arith, ints)
-
 fine_positive : pos 0 <ℤ pos fine
-fine_positive = positive fine (omega arith)
+fine_positive = above_pos fine (omega arith)
 
 pub lt_le : (a b c : ℤ) → a ≤ℤ b → b <ℤ c → a <ℤ c
 lt_le a b c h k = omega (arith, ints)
@@ -136,20 +136,17 @@ may_be_at_most d None z p u h = refl
 may_be_at_most d (Some k) z p u h =
     let low : Meets AtMost (z *ℤ pos fine) = subst (Meets AtMost) (commute (pos fine) z) (meets_scale AtMost (pos fine) z fine_positive h) in
     let own : Meets AtMost (pos d *ℤ k) = subst (Meets AtMost) (commute k (pos d)) (le_trans (k *ℤ pos d) (z *ℤ pos fine) (pos 0) u low) in
-    le_true k (pos 0) (meets_unscale AtMost (pos d) k (positive d p) own)
+    le_true k (pos 0) (meets_unscale AtMost (pos d) k (above_pos d p) own)
 
 may_be_below : (d : ℕ) (o : Option ℤ) (z : ℤ) → 0 < d → Under d o (z *ℤ pos fine) → z <ℤ pos 0 → below_zero o ≡ true
 may_be_below d None z p u h = refl
 may_be_below d (Some k) z p u h =
     let low : Meets Below (z *ℤ pos fine) = subst (Meets Below) (commute (pos fine) z) (meets_scale Below (pos fine) z fine_positive h) in
     let own : Meets Below (pos d *ℤ k) = subst (Meets Below) (commute k (pos d)) (lt_le (k *ℤ pos d) (z *ℤ pos fine) (pos 0) u low) in
-    lt_true k (pos 0) (meets_unscale Below (pos d) k (positive d p) own)
+    lt_true k (pos 0) (meets_unscale Below (pos d) k (above_pos d p) own)
 
-zero_from : (z : ℤ) → int_eq z (pos 0) ≡ true → z ≡ pos 0
+pub zero_from : (z : ℤ) → int_eq z (pos 0) ≡ true → z ≡ pos 0
 zero_from z e = grind (arith, ints)
-
-pub and_both : (a b : Bool) → a ≡ true → b ≡ true → (a && b) ≡ true
-and_both a b e f = rw (e, f) refl
 
 -- a sum that stands to 0 as the op says at values of the reach
 pub may_be_sound : (rs : List Range) (v : ℕ → ℤ) (d : ℕ) (ts : List Term) (c : ℤ) (op : RowOp) → 0 < d → Lies rs v d → sign_meets op (sum_of ts v +ℤ c *ℤ pos d) ≡ true → may_be rs ts c op ≡ true
@@ -165,22 +162,14 @@ may_be_sound rs v d ts c op p h m = by op (sum_of ts v +ℤ c *ℤ pos d) m (lea
     zero_turned z e = omega (arith, ints)
 
     by : (op : RowOp) (z : ℤ) → sign_meets op z ≡ true → (o n : Option ℤ) → Under d o (z *ℤ pos fine) → Under d n (neg_ℤ z *ℤ pos fine) → may_stand op o n ≡ true
-    by Zero z m o n u v = and_both (at_most_zero o) (at_most_zero n) (may_be_at_most d o z p u (zero_low z (zero_is z m))) (may_be_at_most d n (neg_ℤ z) p v (zero_turned z (zero_is z m)))
+    by Zero z m o n u v = both (at_most_zero o) (at_most_zero n) (may_be_at_most d o z p u (zero_low z (zero_is z m))) (may_be_at_most d n (neg_ℤ z) p v (zero_turned z (zero_is z m)))
     by AtMost z m o n u v = may_be_at_most d o z p u (of_le_true z (pos 0) m)
     by Below z m o n u v = may_be_below d o z p u (of_lt_true z (pos 0) m)
 
-pub and_first : (a b : Bool) → (a && b) ≡ true → a ≡ true
-and_first true b h = refl
-and_first false b h = h
-
-pub and_second : (a b : Bool) → (a && b) ≡ true → b ≡ true
-and_second true b h = h
-and_second false b h = absurd (true≢false (sym h))
-
 pub may_hold_sound : (rs : List Range) (v : ℕ → ℤ) (d : ℕ) (ls : List Limit) → 0 < d → Lies rs v d → are_met v d ls ≡ true → may_hold rs ls ≡ true
 may_hold_sound rs v d [] p h m = refl
-may_hold_sound rs v d (l ∷ ls) p h m = and_both (may_meet rs l) (may_hold rs ls)
-    (may_be_sound rs v d l.terms.items l.constant l.op p h (and_first (is_met v d l) (are_met v d ls) m)) (may_hold_sound rs v d ls p h (and_second (is_met v d l) (are_met v d ls) m))
+may_hold_sound rs v d (l ∷ ls) p h m = both (may_meet rs l) (may_hold rs ls)
+    (may_be_sound rs v d l.terms.items l.constant l.op p h (and_left (is_met v d l) (are_met v d ls) m)) (may_hold_sound rs v d ls p h (and_right (is_met v d l) (are_met v d ls) m))
 
 -- ---- a wider reach
 
@@ -216,7 +205,7 @@ least_wider rs ss w [] s s' h = h
 least_wider rs ss w (t ∷ ts) s s' h = least_wider rs ss w ts (plus s (times t.1 (least_end t.1 (range_at rs t.0)))) (plus s' (times t.1 (least_end t.1 (range_at ss t.0))))
     (plus_wider s s' (times t.1 (least_end t.1 (range_at rs t.0))) (times t.1 (least_end t.1 (range_at ss t.0))) h (times_wider t.1 (range_at rs t.0) (range_at ss t.0) (w t.0)))
 
-not_above_self : (o : Option ℤ) → NotAbove o o
+pub not_above_self : (o : Option ℤ) → NotAbove o o
 not_above_self None = tt
 not_above_self (Some k) = le_self k
 
@@ -231,7 +220,7 @@ lower_below None (Some k) h e = absurd h
 lower_below (Some j) (Some k) h e = lt_true k (pos 0) (lt_le k j (pos 0) h (of_lt_true j (pos 0) e))
 
 may_stand_wider : (op : RowOp) (o n o' n' : Option ℤ) → NotAbove o' o → NotAbove n' n → may_stand op o n ≡ true → may_stand op o' n' ≡ true
-may_stand_wider Zero o n o' n' h k e = and_both (at_most_zero o') (at_most_zero n') (lower_at_most o o' h (and_first (at_most_zero o) (at_most_zero n) e)) (lower_at_most n n' k (and_second (at_most_zero o) (at_most_zero n) e))
+may_stand_wider Zero o n o' n' h k e = both (at_most_zero o') (at_most_zero n') (lower_at_most o o' h (and_left (at_most_zero o) (at_most_zero n) e)) (lower_at_most n n' k (and_right (at_most_zero o) (at_most_zero n) e))
 may_stand_wider AtMost o n o' n' h k e = lower_at_most o o' h e
 may_stand_wider Below o n o' n' h k e = lower_below o o' h e
 
@@ -247,4 +236,4 @@ may_meet_wider rs ss l w e =
 -- what may hold in a reach may hold in a wider one
 pub may_hold_wider : (rs ss : List Range) (ls : List Limit) → IsWithin rs ss → may_hold rs ls ≡ true → may_hold ss ls ≡ true
 may_hold_wider rs ss [] w e = refl
-may_hold_wider rs ss (l ∷ ls) w e = and_both (may_meet ss l) (may_hold ss ls) (may_meet_wider rs ss l w (and_first (may_meet rs l) (may_hold rs ls) e)) (may_hold_wider rs ss ls w (and_second (may_meet rs l) (may_hold rs ls) e))
+may_hold_wider rs ss (l ∷ ls) w e = both (may_meet ss l) (may_hold ss ls) (may_meet_wider rs ss l w (and_left (may_meet rs l) (may_hold rs ls) e)) (may_hold_wider rs ss ls w (and_right (may_meet rs l) (may_hold rs ls) e))

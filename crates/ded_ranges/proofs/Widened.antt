@@ -79,7 +79,7 @@ widened-length [] ss (suc i) = refl
 widened-length (r ∷ rs) [] (suc i) = ap suc (widened-length rs [] i)
 widened-length (r ∷ rs) (s ∷ ss) (suc i) = ap suc (widened-length rs ss i)
 
-hull-length : (rs ss : List Range) → length (hull rs ss) ≡ length rs
+pub hull-length : (rs ss : List Range) → length (hull rs ss) ≡ length rs
 hull-length [] ss = refl
 hull-length (r ∷ rs) [] = ap suc (hull-length rs [])
 hull-length (r ∷ rs) (s ∷ ss) = ap suc (hull-length rs ss)

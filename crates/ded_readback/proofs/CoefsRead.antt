@@ -3,7 +3,6 @@ use Rattle.std.proofs.Common.{◌≡◌, ◌≢◌, ℕ, ◌^◌, ◌<◌, List,
 use Rattle.std.specs.Prelude.{ℤ, pos, unsigned_abs, nat_lt, Option, Some, None, ◌&&◌}
 use Rattle.std.proofs.lemmas.Bool.{lt-ltb}
 use Rattle.std.proofs.lemmas.Bool.Decides.{nat_tests}
-use Rattle.ded_model.specs.declared.slot.Sort.{Sort}
 use Rattle.ded_model.specs.declared.slot.Sort.TheVariants.{Rat}
 use Rattle.ded_model.specs.declared.slot.Slot.{Slot}
 use Rattle.ded_model.specs.Point.{same_sort}
@@ -11,6 +10,7 @@ use Rattle.ded_model.specs.Coefs.{AllAbove, AllBelow, AreCoefs, with_coef}
 use Rattle.ded_model.proofs.Points.{cond_true}
 use Rattle.ded_model.proofs.Atoms.{and_to}
 use Rattle.ded_model.proofs.CoefLemmas.{lesser_slot, not_zero}
+use Rattle.ded_model.proofs.RationalColumns.{rational_sort}
 use Rattle.ded_print.specs.Tuples.{signed}
 use Rattle.ded_readback.specs.Reading.{◌>>=◌, is_short, with_term, coefs_from}
 use Rattle.ded_print.proofs.Signs.{turned_abs}
@@ -50,16 +50,13 @@ rest_coefs (x ∷ xs) cs h = rest_coefs xs cs h.4
 pub short_is : (n : ℕ) → n < 2 ^ 127 → is_short n ≡ true
 short_is n h = lt-ltb n (2 ^ 127) h
 
-rational : (s : Sort) → s ≡ Rat → same_sort s Rat ≡ true
-rational s e = rw e refl
-
 one_read : (turned : Bool) (done : List (Slot × ℤ)) (c : Slot × ℤ) (cs : List (Slot × ℤ)) → AreCoefs (done ++ c ∷ cs) → with_term turned done (summand_of turned c) ≡ Some (done ++ c ∷ [])
 one_read turned done c cs k =
     let front = front_coefs done c cs k in
     let here = rest_coefs done (c ∷ cs) k in
     let z = signed turned c.1 in
     let magnitude : unsigned_abs z < 2 ^ 127 = subst (λ n. n < 2 ^ 127) (sym (turned_abs turned c.1)) here.1 in
-    cond_true (same_sort c.0.sort Rat && is_short (unsigned_abs z)) _ None (and_to _ _ (rational c.0.sort here.0, short_is (unsigned_abs z) magnitude))
+    cond_true (same_sort c.0.sort Rat && is_short (unsigned_abs z)) _ None (and_to _ _ (rational_sort c.0.sort here.0, short_is (unsigned_abs z) magnitude))
     ∙ ap (λ (y : ℤ). Some (with_coef c.0 y done)) (number_back turned c.1)
     ∙ ap (λ (l : List (Slot × ℤ)). Some l) (set_last c.0 c.1 done here.2 front.1 front.0)
 

@@ -5,14 +5,12 @@ use Rattle.std.specs.Fmt.{digit_glyph, digits_onto}
 use Rattle.std.proofs.lemmas.Bool.Decides.{nat_tests}
 use Rattle.std.proofs.lemmas.Bool.{eqb-true}
 use Rattle.ded_lex.specs.Lexemes.{digit_byte, BeginsWith, BeginsNot}
+use Rattle.ded_lex.proofs.Shared.{is_digit}
 use Rattle.ded_print.specs.Numbers.{number_text, integer_text, count_text}
 use Rattle.ded_print.proofs.Numerals.{glyph_is, onto_append, steps, as_steps, count_is}
 use Rattle.ded_readback.specs.Reading.{behind, with_digit, digits_from, with_minus, integer_by, integer_at}
 
 -- ---- digits
-
-is_digit : (d : ℕ) → d < 10 → digit_byte (48 + d) ≡ true
-is_digit d h = grind (arith, nat_tests)
 
 below_10 : (n : ℕ) → n % 10 < 10
 below_10 n = omega arith

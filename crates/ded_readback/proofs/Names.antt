@@ -17,14 +17,9 @@ use Rattle.ded_print.specs.Tuples.{column_at, column_names}
 use Rattle.ded_readback.specs.Plain.{IsWord, IsPlainHeading}
 use Rattle.ded_readback.specs.Reading.{with_rest, numbered, column_slot, slot_at}
 use Rattle.ded_model.proofs.Bools.{bytes_eq-refl}
+use Rattle.ded_print.proofs.Shared.{other_name}
 
 -- ---- columns
-
--- the names of further columns are other ones
-other_name : (x : List ℕ) (cs : List Column) (k : ℕ) → k < length cs → list_any (λ d. bytes_eq x d.name) cs ≡ false → bytes_eq x (column_at cs k) ≡ false
-other_name x [] k l e = absurd (omega (arith, l))
-other_name x (c ∷ cs) zero l e = (or_parts (bytes_eq x c.name) (list_any (λ d. bytes_eq x d.name) cs) e).0
-other_name x (c ∷ cs) (suc k) l e = other_name x cs k (omega (arith, l)) (or_parts (bytes_eq x c.name) (list_any (λ d. bytes_eq x d.name) cs) e).1
 
 -- the slot is column number k of these, counted from i on, and found by its name
 pub record IsColumn (i : ℕ) (h : List Column) (s : Slot) : Type 0 where

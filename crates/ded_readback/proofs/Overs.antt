@@ -20,6 +20,7 @@ use Rattle.ded_model.proofs.Points.{same_slot_is, same_slot_refl}
 use Rattle.ded_readback.specs.Spelling.{IsShortTuple}
 use Rattle.ded_readback.specs.Over.{is_column, coefs_over, theme_over, atom_over}
 use Rattle.std.proofs.lemmas.Bool.{or_cases}
+use Rattle.ded_num.proofs.Tests.{or_false_none}
 use Rattle.ded_model.proofs.Atoms.{and_to, and_from}
 use Rattle.ded_model.proofs.Rows.{or_left, or_right}
 use Rattle.ded_readback.proofs.AnswersRead.{AreOver}
@@ -33,16 +34,12 @@ later_not j (c ∷ cs) s l =
     let e : (j == s.number) ≡ false = grind (arith, nat_tests) in
     rw e (later_not (j + 1) cs s (omega arith))
 
-or_none : (b : Bool) → b ≡ (b || false)
-or_none true = refl
-or_none false = refl
-
 -- a slot is column number n where it has that number and the column's sort
 pub column_is : (i n : ℕ) (h : List Column) (d : Column) (s : Slot) → s.number ≡ i + n → n < length h → same_sort (slice_index_or h n d).sort s.sort ≡ stands_in (heading_slots i h) s
 column_is i n [] d s e l = absurd (omega (arith, l))
 column_is i zero (c ∷ cs) d s e l =
     let here : (i == s.number) ≡ true = grind (arith, nat_tests) in
-    rw here (or_none (same_sort c.sort s.sort) ∙ ap (λ (b : Bool). same_sort c.sort s.sort || b) (sym (later_not (i + 1) cs s (omega (arith, e)))))
+    rw here (or_false_none (same_sort c.sort s.sort) ∙ ap (λ (b : Bool). same_sort c.sort s.sort || b) (sym (later_not (i + 1) cs s (omega (arith, e)))))
 column_is i (suc n) (c ∷ cs) d s e l =
     let past : (i == s.number) ≡ false = grind (arith, nat_tests) in
     rw past (column_is (i + 1) n cs d s (omega (arith, e)) (omega (arith, l)))

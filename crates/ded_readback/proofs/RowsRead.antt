@@ -26,10 +26,11 @@ use Rattle.ded_readback.specs.Plain.{IsPlainHeading}
 use Rattle.ded_readback.specs.Reading.{◌>>=◌, with_rest, term_of, term_at, later_at, comparison_at, is_short, coefs_from, row_with, row_of, row_by, row_behind, row_at, atom_by, atom_at}
 use Rattle.ded_readback.proofs.Digits.{integer_read}
 use Rattle.ded_readback.proofs.Names.{IsNamed, no_column}
-use Rattle.ded_readback.proofs.Signs.{constant_back, constant_abs, first_plus}
+use Rattle.ded_readback.proofs.Signs.{constant_back, constant_abs}
 use Rattle.ded_readback.proofs.TermsRead.{summand, summand_of, IsFactor, term_read, later_begins, terms_read, terms_length}
 use Rattle.ded_readback.proofs.CoefsRead.{short_is, coefs_read}
 use Rattle.std.proofs.lemmas.Bool.{or_parts}
+use Rattle.ded_print.proofs.Shared.{first_plus}
 
 -- ---- the op
 

@@ -1,10 +1,11 @@
 -- Signs that are printed and read back.
-use Rattle.std.proofs.Common.{◌≡◌, suc, Bool, true, false, not, refl, ap, ◌∙◌}
+use Rattle.std.proofs.Common.{◌≡◌, Bool, true, false, not, refl, ap, ◌∙◌}
 use Rattle.std.specs.Prelude.{ℤ, pos, negsuc, int_lt, unsigned_abs}
 use lib.IntN.{neg_ℤ}
 use Rattle.std.proofs.Math.IntN.{neg_ℤ-neg_ℤ}
+use Rattle.ded_num.proofs.Signs.{unsigned_abs-neg}
 use Rattle.ded_print.specs.Tuples.{signed}
-use Rattle.ded_print.proofs.Signs.{plus, neg_abs, turned_abs}
+use Rattle.ded_print.proofs.Signs.{plus, turned_abs}
 use Rattle.ded_readback.specs.Reading.{number_of}
 
 turned_twice : (t : Bool) (z : ℤ) → signed t (signed t z) ≡ z
@@ -27,9 +28,4 @@ pub constant_back : (t : Bool) (z : ℤ) → number_of (not t) (int_lt (neg_ℤ 
 constant_back t z = ap (signed (not t)) (sign_back (neg_ℤ (signed t z))) ∙ back_over t z
 
 pub constant_abs : (t : Bool) (z : ℤ) → unsigned_abs (neg_ℤ (signed t z)) ≡ unsigned_abs z
-constant_abs t z = neg_abs (signed t z) ∙ turned_abs t z
-
--- where all signs are turned exactly if the first number is negative, that number is printed as a positive one
-pub first_plus : (z : ℤ) → int_lt (signed (int_lt z (pos 0)) z) (pos 0) ≡ false
-first_plus (pos n) = ap (λ (b : Bool). int_lt (signed b (pos n)) (pos 0)) (plus n) ∙ plus n
-first_plus (negsuc n) = plus (suc n)
+constant_abs t z = unsigned_abs-neg (signed t z) ∙ turned_abs t z

@@ -12,8 +12,10 @@ use Rattle.ded_model.specs.declared.tuple.BothAtom.TheVariants.{First, Second}
 use Rattle.ded_model.specs.Row.{Atom}
 use Rattle.ded_model.proofs.Rows.{or_right}
 use Rattle.ded_model.specs.Normal.{IsNormalAtom, BeginsAfter, IsNormalTuple, place_atom, ordered_atoms}
-use Rattle.ded_tuple.specs.TrueRows.{is_true_atom, without_true}
+use Rattle.ded_tuple.specs.TrueRows.{without_true}
+use Rattle.ded_tuple.proofs.Shared.{not_true}
 use Rattle.ded_lex.specs.Lexemes.{digit_byte, letter_byte, word_byte, quote_byte, BeginsWith, BeginsNot}
+use Rattle.ded_lex.proofs.FrontReads.{letter_is_word}
 use Rattle.ded_print.specs.Lines.{line_text, lines_text}
 use Rattle.ded_print.specs.Numbers.{number_text}
 use Rattle.ded_print.specs.Tuples.{column_names, term_text, signed, row_with_text, atom_text, later_atoms_text, tuple_text}
@@ -38,12 +40,9 @@ atom_read h (Second a) rest plain normal readable stops closed = theme_read h a 
 
 -- ---- what an atom begins with
 
-letter_word : (b : ℕ) → letter_byte b ≡ true → word_byte b ≡ true
-letter_word b h = rw h refl
-
 begins_word : (w rest : List ℕ) → IsWord w → BeginsWith word_byte (w ++ rest)
 begins_word [] rest h = absurd h.0
-begins_word (b ∷ w) rest h = letter_word b h.0
+begins_word (b ∷ w) rest h = letter_is_word b h.0
 
 begins_number : (ds rest : List ℕ) → BeginsWith digit_byte ds → BeginsWith word_byte (ds ++ rest)
 begins_number [] rest h = absurd h
@@ -114,10 +113,6 @@ atoms_length h [] = omega arith
 atoms_length h (a ∷ atoms) = omega (arith, atoms_length h atoms, length-append (atom_text (column_names h) a) (later_atoms_text (column_names h) atoms))
 
 -- ---- tuples
-
-not_true : (a : Atom) → IsNormalAtom a → is_true_atom a ≡ false
-not_true (First r) h = h.2
-not_true (Second a) h = refl
 
 placed_first : (a : Atom) (atoms : List Atom) → BeginsAfter a atoms → place_atom a atoms ≡ a ∷ atoms
 placed_first a [] h = refl

@@ -10,7 +10,7 @@ use Rattle.ded_model.specs.declared.slot.Slot.{Slot}
 use Rattle.ded_model.specs.declared.tuple.Negated.{Negated}
 use Rattle.ded_model.specs.declared.tuple.Negated.TheVariants.{One, Two}
 use Rattle.ded_model.specs.Point.{Point, IsPoint}
-use Rattle.ded_model.specs.Cell.{conj_holds, HoldsSomewhere, IsReduced}
+use Rattle.ded_model.specs.Cell.{conj_holds, HoldsSomewhere, IsReduced, HoldsNowhere}
 use Rattle.ded_model.specs.Lines.{Line, In, IsSubset}
 use Rattle.ded_model.specs.Sublists.{IsSublist}
 use Rattle.ded_model.specs.Negation.{EachPiece, some_piece_holds}
@@ -21,7 +21,7 @@ use Rattle.ded_model.proofs.Sublists.{sublist_refl, sublist_trans, sublist_all}
 use Rattle.ded_theory.specs.declared.answers.Verdict.{Verdict}
 use Rattle.ded_theory.specs.declared.answers.Verdict.TheVariants.{Empty, Inhabited, Unknown}
 use Rattle.ded_theory.specs.Conjunctions.{conj_mentions, conj_lines, IsWide}
-use Rattle.ded_theory.specs.Verdicts.{HoldsNowhere, IsVerdict}
+use Rattle.ded_theory.specs.Verdicts.{IsVerdict}
 use Rattle.ded_theory.proofs.Conjunctions.{conj_holds-append, conj_mentions-append}
 use Rattle.ded_theory.proofs.Parted.{wide_more}
 use Rattle.ded_genrel.proofs.Laws.{conj_lines-append}
@@ -30,18 +30,9 @@ use Rattle.ded_reduce.proofs.Sublists.{sublist_without, length_without, parted_a
 use Rattle.std.proofs.lemmas.Bool.{not-true}
 use Rattle.ded_model.proofs.Bools.{and_swap}
 use Rattle.std.proofs.Math.Bool.{or-false, and-true}
+use Rattle.ded_num.proofs.Tests.{implied, and_over_or}
 
 -- ---- tests
-
--- what doesn't go with the negation goes with it
-implied_same : (x a : Bool) → (x && not a) ≡ false → x ≡ (x && a)
-implied_same true true e = refl
-implied_same true false e = e
-implied_same false a e = refl
-
-with_either : (x a b c : Bool) → (a || b) ≡ c → (x && c) ≡ ((x && a) || (x && b))
-with_either true a b c e = sym e
-with_either false a b c e = refl
 
 module _ {A : Type 0} (D : Type 0) (h : A → Point → Bool) (m : A → Slot → Bool) (l : A → List Line) where
   push_holds : (xs : List A) (a : A) (p : Point) → conj_holds h (xs ++ a ∷ []) p ≡ (conj_holds h xs p && h a p)
@@ -90,7 +81,7 @@ module _ {A : Type 0} (D : Type 0) (h : A → Point → Bool) (m : A → Slot �
       → HoldsNowhere (λ p. conj_holds h others p && not (h a p))
   two_nowhere others copies a b c n e f k y z =
       let i = subst (IsNegation a) e k in
-      λ p j. with_either (conj_holds h others p) (h b p) (h c p) (not (h a p)) (i.holds p j.positive) ∙ ap₂ (λ u v. u || v) (ap (λ xs. conj_holds h xs p && h b p) (sym f) ∙ y p j) (z p j)
+      λ p j. and_over_or (conj_holds h others p) (h b p) (h c p) (not (h a p)) (i.holds p j.positive) ∙ ap₂ (λ u v. u || v) (ap (λ xs. conj_holds h xs p && h b p) (sym f) ∙ y p j) (z p j)
 
   pub first_somewhere : (others copies : List A) (a b c : A) (n : Negated A) → n ≡ Two b c → copies ≡ others → IsNegation a n → ((MayBeOpen D m l (copies ++ b ∷ []) → ⊥) → HoldsSomewhere (λ p. conj_holds h copies p && h b p))
       → (MayBeOpen D m l (others ++ a ∷ []) → ⊥) → HoldsSomewhere (λ p. conj_holds h others p && not (h a p))
@@ -99,7 +90,7 @@ module _ {A : Type 0} (D : Type 0) (h : A → Point → Bool) (m : A → Slot �
       let v = z (λ x. w (open_piece others a b i.slots.0 i.lines.0 (subst (λ xs. MayBeOpen D m l (xs ++ b ∷ [])) f x))) in (
         v.0,
         v.1,
-        with_either (conj_holds h others v.0) (h b v.0) (h c v.0) (not (h a v.0)) (i.holds v.0 v.1.positive)
+        and_over_or (conj_holds h others v.0) (h b v.0) (h c v.0) (not (h a v.0)) (i.holds v.0 v.1.positive)
             ∙ or_left (conj_holds h others v.0 && h b v.0) (conj_holds h others v.0 && h c v.0) (ap (λ xs. conj_holds h xs v.0 && h b v.0) (sym f) ∙ v.2),
       )
 
@@ -110,7 +101,7 @@ module _ {A : Type 0} (D : Type 0) (h : A → Point → Bool) (m : A → Slot �
       let v = z (λ x. w (open_piece others a c i.slots.1 i.lines.1 x)) in (
         v.0,
         v.1,
-        with_either (conj_holds h others v.0) (h b v.0) (h c v.0) (not (h a v.0)) (i.holds v.0 v.1.positive)
+        and_over_or (conj_holds h others v.0) (h b v.0) (h c v.0) (not (h a v.0)) (i.holds v.0 v.1.positive)
             ∙ or_right (conj_holds h others v.0 && h b v.0) (conj_holds h others v.0 && h c v.0) v.2,
       )
 
@@ -196,7 +187,7 @@ module _ {A : Type 0} (D : Type 0) (h : A → Point → Bool) (m : A → Slot �
       → Sifting normal old left index removed → Sifting normal old new index true
   sifting_removed normal old left new index removed d lt at e z s = subst (λ xs. Sifting normal old xs index true) (sym e) (record {
     kept = sublist_trans _ (take index left ++ drop (suc index) left) left old (sublist_without left index lt) s.kept;
-    holds = λ p i. implied_same (conj_holds h (take index left ++ drop (suc index) left) p) (h d p) (z d at p i) ∙ sym (others_hold left index d p lt at) ∙ s.holds p i;
+    holds = λ p i. implied (conj_holds h (take index left ++ drop (suc index) left) p) (h d p) (z d at p i) ∙ sym (others_hold left index d p lt at) ∙ s.holds p i;
     all_normal = sublist_all _ normal (take index left ++ drop (suc index) left) left (sublist_without left index lt) s.all_normal;
     shorter = λ _. shorter removed refl;
     same = λ f. absurd (true≢false f);

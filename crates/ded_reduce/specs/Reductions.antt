@@ -3,11 +3,10 @@ use Rattle.std.specs.Prelude.{◌≡◌, ℕ, suc, ◌<◌, Bool, true, false, n
 use Rattle.std.specs.List.{AllByRecursion}
 use Rattle.ded_model.specs.declared.slot.Slot.{Slot}
 use Rattle.ded_model.specs.Point.{Point, IsPoint}
-use Rattle.ded_model.specs.Cell.{conj_holds}
+use Rattle.ded_model.specs.Cell.{conj_holds, HoldsNowhere}
 use Rattle.ded_model.specs.Lines.{Line}
 use Rattle.ded_model.specs.Sublists.{IsSublist}
 use Rattle.ded_theory.specs.Conjunctions.{IsWide}
-use Rattle.ded_theory.specs.Verdicts.{HoldsNowhere}
 use Rattle.ded_reduce.specs.declared.reduction.Reduced.{Reduced}
 use Rattle.ded_reduce.specs.declared.reduction.Reduced.TheVariants.{Gone, Kept}
 

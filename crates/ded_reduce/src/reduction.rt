@@ -3,11 +3,10 @@ ghost use Rattle.std.specs.Prelude.{◌≡◌, true, IfOk};
 ghost use Rattle.std.specs.List.{AllByRecursion};
 ghost use Rattle.ded_model.specs.declared.slot.Slot.{Slot};
 ghost use Rattle.ded_model.specs.Point.{Point, IsPoint};
-ghost use Rattle.ded_model.specs.Cell.{conj_holds, IsReduced};
+ghost use Rattle.ded_model.specs.Cell.{conj_holds, IsReduced, HoldsNowhere};
 ghost use Rattle.ded_model.specs.Lines.{IsSubset};
 ghost use Rattle.ded_model.specs.Sublists.{IsSublist};
 ghost use Rattle.ded_theory.specs.Conjunctions.{conj_mentions, conj_lines, IsWide};
-ghost use Rattle.ded_theory.specs.Verdicts.{HoldsNowhere};
 ghost use Rattle.ded_reduce.specs.Reductions.{IfGone, IfKept};
 
 use crate::superfluous::sift;

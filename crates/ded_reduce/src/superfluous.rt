@@ -1,8 +1,7 @@
 //! Atoms that others imply.
 ghost use Rattle.std.specs.Prelude.{◌≡◌, ◌<◌, true, false, not, ◌&&◌, [], ◌∷◌, ◌++◌, length, IfOk};
 ghost use Rattle.std.specs.List.{AllByRecursion};
-ghost use Rattle.ded_model.specs.Cell.{conj_holds, HoldsSomewhere};
-ghost use Rattle.ded_theory.specs.Verdicts.{HoldsNowhere};
+ghost use Rattle.ded_model.specs.Cell.{conj_holds, HoldsSomewhere, HoldsNowhere};
 ghost use Rattle.ded_reduce.specs.Reductions.{MayBeOpen, IsNeeded, IsImplied, IsSifted};
 
 use ded_genrel::{both_conjs, copy_conj};

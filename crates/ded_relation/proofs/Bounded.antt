@@ -1,35 +1,21 @@
 -- The values of a slot at the points of a tuple lie between the bounds of the slot, rounded outward.
-use Rattle.std.proofs.Common.{◌≡◌, ◌&&◌, Bool, true, List, [], ◌∷◌, refl, sym, ap, ◌∙◌, true≢false}
-use Rattle.std.specs.List.{AllByRecursion}
+use Rattle.std.proofs.Common.{◌≡◌, Bool, true, List, sym, ◌∙◌, true≢false}
 use Rattle.ded_model.specs.declared.slot.Slot.{Slot}
 use Rattle.ded_model.specs.declared.bound.Bound.{Bound}
 use Rattle.ded_model.specs.declared.bound.Bound.TheVariants.{Infinite, Excluded, Included}
-use Rattle.ded_model.specs.declared.tuple.BothAtom.TheVariants.{First, Second}
 use Rattle.ded_model.specs.Bound.{End, lower, upper, value_at}
-use Rattle.ded_model.specs.Cell.{conj_holds}
+use Rattle.ded_model.specs.Cell.{conj_holds, HoldsNowhere}
 use Rattle.ded_model.specs.Interval.{IsExactBound}
-use Rattle.ded_model.specs.Normal.{IsNormalTheme, IsNormalTuple}
 use Rattle.ded_model.specs.Point.{Point, IsPoint, slot, number_at}
-use Rattle.ded_model.specs.Row.{Atom, row_holds, theme_holds, atom_holds, tuple_holds}
-use Rattle.ded_theory.specs.Both.{by_kind, IsByKind}
-use Rattle.ded_theory.specs.Verdicts.{HoldsNowhere, IsBound}
-use Rattle.ded_elimination.specs.LinearAtoms.{IsLinearAtom}
+use Rattle.ded_model.specs.Row.{Atom, row_holds, theme_holds, tuple_holds}
+use Rattle.ded_theory.specs.Both.{by_kind}
+use Rattle.ded_theory.specs.Verdicts.{IsBound}
+use Rattle.ded_theory.proofs.Shared.{holds_alike}
 use Rattle.ded_ranges.specs.declared.reach.Range.{Range}
 use Rattle.ded_ranges.specs.Reaches.{NotOutside, IsFloor, IsCeil}
 use Rattle.ded_relation.specs.Ends.{IsRangeOf}
 
 -- ---- a tuple as a conjunction
-
-holds_alike : (t : List Atom) (p : Point) → conj_holds (by_kind row_holds theme_holds) t p ≡ tuple_holds t p
-unfolding tuple_holds atom_holds
-holds_alike [] p = refl
-holds_alike (First r ∷ t) p = ap (λ b. row_holds r p && b) (holds_alike t p)
-holds_alike (Second a ∷ t) p = ap (λ b. theme_holds a p && b) (holds_alike t p)
-
-pub atoms_normal : (t : List Atom) → IsNormalTuple t → AllByRecursion (IsByKind IsLinearAtom IsNormalTheme) t
-atoms_normal [] n = tt
-atoms_normal (First r ∷ t) n = (record { coefs = n.0.0; row = n.0.1 }, atoms_normal t n.2)
-atoms_normal (Second a ∷ t) n = (n.0, atoms_normal t n.2)
 
 -- ---- within bounds
 

@@ -16,10 +16,9 @@ use Rattle.std.proofs.lemmas.Map.Views.{range_contains-from_IsInRange}
 use Rattle.std.proofs.lemmas.List.Sorted.{Contains-permutation}
 use Rattle.std.proofs.lemmas.List.Kept.{Contains-dedup_nat}
 use Rattle.std.proofs.lemmas.Map.Keys.{IsStrictlyIncreasing-dedup}
-use Rattle.std.proofs.lemmas.Slice.Eq.{bytes_eq-Decides}
 use Rattle.std.specs.List.{dedup}
-use Rattle.std.specs.Str.{bytes_eq}
 use lib.Dec.{eqb, ltb}
+use Rattle.ded_num.proofs.Tests.{from_same_texts}
 use Rattle.ded_model.specs.declared.name.Column.{Column}
 use Rattle.ded_model.specs.declared.slot.Sort.TheVariants.{Text}
 use Rattle.ded_model.specs.declared.tuple.ThemeAtom.{ThemeAtom}
@@ -27,10 +26,9 @@ use Rattle.ded_model.specs.declared.tuple.ThemeAtom.TheVariants.{EqText, NeText,
 use Rattle.ded_model.specs.declared.tuple.BothAtom.TheVariants.{First, Second}
 use Rattle.ded_model.specs.Point.{Point, slot, text_at}
 use Rattle.ded_model.specs.Row.{Atom, atom_holds, theme_holds, tuple_holds}
-use Rattle.ded_model.proofs.Points.{same_slot_is}
+use Rattle.ded_model.proofs.Points.{same_slot_is, and_right, and_left}
 use Rattle.ded_ranges.specs.Tuples.{is_text_column}
 use Rattle.ded_ranges.specs.Windows.{column_text, is_text_met}
-use Rattle.ded_ranges.proofs.Sums.{and_first, and_second}
 use Rattle.ded_hull.proofs.Found.{Has, has_from}
 use Rattle.ded_relation.specs.declared.hashing.NameHashing.{NameHashing}
 use Rattle.ded_relation.specs.Texts.{is_text, is_text_at, theme_text, atom_text, first_of, text_in, code, key, IsThere, Grows, Keeps, IsGone, HasAll, AreWith}
@@ -210,9 +208,6 @@ text_none i all k h so_far = sym (ap (text_in i) (drop-all all k h)) ∙ so_far
     drop-all [] (suc k) h = refl
     drop-all (x ∷ xs) (suc k) h = drop-all xs k (omega (arith, h))
 
-bytes_same : (a b : List ℕ) → bytes_eq a b ≡ true → a ≡ b
-bytes_same a b h = (bytes_eq-Decides a b).0 h
-
 some_same : (t u : List ℕ) → Some t ≡ Some u → t ≡ u
 some_same t u e = cc
 
@@ -225,7 +220,7 @@ unfolding theme_holds
 theme_there i (EqText s u) p t h e = by (is_text_column s i) refl e
   where
     by : (b : Bool) → is_text_column s i ≡ b → cond b (Some u) None ≡ Some t → column_text p i ≡ t
-    by true is f = ap (λ s. text_at p (slot s)) (sym (same_slot_is s (record { number = i; sort = Text }) is)) ∙ bytes_same (text_at p (slot s)) u h ∙ some_same u t f
+    by true is f = ap (λ s. text_at p (slot s)) (sym (same_slot_is s (record { number = i; sort = Text }) is)) ∙ from_same_texts (text_at p (slot s)) u h ∙ some_same u t f
     by false is f = absurd (none_some t f)
 theme_there i (NeText s u) p t h e = absurd (none_some t e)
 theme_there i (EqSlot s u) p t h e = absurd (none_some t e)
@@ -239,11 +234,11 @@ atom_there i (Second a) p t h e = theme_there i a p t h e
 there : (i : ℕ) (atoms : List Atom) (p : Point) (t : List ℕ) → tuple_holds atoms p ≡ true → text_in i atoms ≡ Some t → column_text p i ≡ t
 unfolding tuple_holds
 there i [] p t h e = absurd (none_some t e)
-there i (a ∷ rest) p t h e = by (atom_text i a) refl e (λ f. there i rest p t (and_second (atom_holds a p) (tuple_holds rest p) h) f)
+there i (a ∷ rest) p t h e = by (atom_text i a) refl e (λ f. there i rest p t (and_right (atom_holds a p) (tuple_holds rest p) h) f)
   where
     by : (o : Option (List ℕ)) → atom_text i a ≡ o → first_of o (text_in i rest) ≡ Some t → (text_in i rest ≡ Some t → column_text p i ≡ t) → column_text p i ≡ t
     by None is f later = later f
-    by (Some u) is f later = atom_there i a p t (and_first (atom_holds a p) (tuple_holds rest p) h) (is ∙ f)
+    by (Some u) is f later = atom_there i a p t (and_left (atom_holds a p) (tuple_holds rest p) h) (is ∙ f)
 
 -- ---- what is found
 
@@ -252,7 +247,7 @@ pub found_one : (hs : NameHashing) (cs : List Column) (s : BTreeSet ℕ) (u : �
     → IsPermutation both sorted → IsSorted nat_cmp sorted → ids ≡ dedup eqb sorted → AreWith hs cs s (u ∷ []) ids
 found_one hs cs s u none one both sorted ids text fixed open_ p up is = record {
   ascending = subst IsStrictlyIncreasing (sym is) (IsStrictlyIncreasing-dedup sorted up);
-  complete = λ t p there_ holds met. kept t.0 (by t p there_ holds (and_first (is_text_met p u) true met) (text_in u.0 t.1) refl);
+  complete = λ t p there_ holds met. kept t.0 (by t p there_ holds (and_left (is_text_met p u) true met) (text_in u.0 t.1) refl);
 }
   where
     kept : (k : ℕ) → Contains both k → Contains ids k
@@ -261,5 +256,5 @@ found_one hs cs s u none one both sorted ids text fixed open_ p up is = record {
     by : (t : ℕ × List Atom) (p : Point) → IsThere hs cs s t → tuple_holds t.1 p ≡ true → is_text_met p u ≡ true → (o : Option (List ℕ)) → text_in u.0 t.1 ≡ o → Contains both t.0
     by t p h holds met None e = open_.all t.0 h.fits (subst (λ o. contains nat_cmp s (key (code hs u.0 o) t.0) ≡ true) e (h.keys u.0 text))
     by t p h holds met (Some v) e =
-        let same : v ≡ u.1 = sym (there u.0 t.1 p v holds e) ∙ bytes_same (column_text p u.0) u.1 met in
+        let same : v ≡ u.1 = sym (there u.0 t.1 p v holds e) ∙ from_same_texts (column_text p u.0) u.1 met in
         open_.stay t.0 (fixed.all t.0 h.fits (subst (λ o. contains nat_cmp s (key (code hs u.0 o) t.0) ≡ true) (e ∙ ap Some same) (h.keys u.0 text)))

@@ -17,12 +17,12 @@ use Rattle.ded_hull.specs.Entries.{of_keys, IsComplete}
 use Rattle.ded_ranges.specs.Limits.{are_met}
 use Rattle.ded_ranges.specs.Reaches.{Lies}
 use Rattle.ded_ranges.specs.Windows.{column_value, is_text_met, IsMissed}
-use Rattle.ded_ranges.proofs.Sums.{and_first}
 use Rattle.std.specs.List.{list_all}
 use Rattle.ded_relation.specs.Relations.{IsEntryOf, IsIndex, Indexes}
 use Rattle.ded_relation.specs.Tuples.{AreUpTo}
 use Rattle.ded_relation.proofs.Numbers.{above_none, found_numbered, cut}
 use Rattle.ded_model.proofs.Bools.{or_false_left, or_false_right}
+use Rattle.ded_model.proofs.Points.{and_left}
 
 -- ---- some element, by place
 
@@ -129,7 +129,7 @@ pub missed : (w : Window) (es : List Entry) (ids : List ℕ) (t : ℕ × List At
 missed w es ids t complete some none p is within = apart_from (tuple_holds t.1 p) true (λ holds e. none (there es (complete (column_value p) p.den is.positive met) some holds)) refl
   where
     met : are_met (column_value p) p.den w.limits.items ≡ true
-    met = and_first (are_met (column_value p) p.den w.limits.items) (list_all (is_text_met p) w.texts.items) within
+    met = and_left (are_met (column_value p) p.den w.limits.items) (list_all (is_text_met p) w.texts.items) within
 
     there : (es : List Entry) → Every (λ e. Lies e.reach (column_value p) p.den → Contains ids e.id) es → Some (IsEntryOf t) es → tuple_holds t.1 p ≡ true → Contains ids t.0
     there [] c s h = absurd s

@@ -6,7 +6,7 @@ use Rattle.std.specs.Ordering.{nat_cmp}
 use Rattle.ded_model.specs.Row.{Atom}
 use Rattle.ded_ranges.specs.declared.window.Window.{Window}
 use Rattle.ded_ranges.specs.Windows.{IsMissed}
-use Rattle.ded_hull.proofs.Found.{taken_more}
+use Rattle.ded_ranges.proofs.Taken.{taken_more}
 use Rattle.ded_model.proofs.Sublists.{sublist_append}
 use Rattle.ded_relation.specs.Nearby.{AreNear, AddsNear, with_number, picked}
 

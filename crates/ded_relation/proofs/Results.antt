@@ -13,16 +13,6 @@ pub if_err : {A E : Type 0} (r : Result A E) (P Q R : E → Type 0) → ((x : E)
 if_err (Ok x) P Q R f p q = tt
 if_err (Err e) P Q R f p q = f e p q
 
--- from one fact of an answer
-pub if_ok_by : {A E : Type 0} (r : Result A E) (P R : A → Type 0) → ((x : A) → P x → R x) → IfOk r P → IfOk r R
-if_ok_by (Ok x) P R f p = f x p
-if_ok_by (Err e) P R f p = tt
-
--- from one fact of an error
-pub if_err_by : {A E : Type 0} (r : Result A E) (P R : E → Type 0) → ((x : E) → P x → R x) → IfErr r P → IfErr r R
-if_err_by (Ok x) P R f p = tt
-if_err_by (Err e) P R f p = f e p
-
 -- a fact of an answer that is no error
 pub not_err : {A E : Type 0} (r : Result A E) (G : Type 0) → is_err r ≡ false → OnOk r G → G
 not_err (Ok x) G h g = g

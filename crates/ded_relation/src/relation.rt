@@ -14,7 +14,6 @@ ghost use Rattle.ded_relation.specs.Tuples.{AreUpTo, refusal_of, IsSame, Pushes,
 use crate::finding::{listed, looked_up, picked, sifted};
 use crate::hashing::NameHashing;
 use crate::index::Index;
-use ded_ranges::{Sieve, Window};
 use ded_model::command::Refusal;
 use ded_model::limits;
 use ded_model::memory::NoMemory;

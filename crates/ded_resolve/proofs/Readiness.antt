@@ -14,7 +14,7 @@ use Rattle.ded_model.specs.Slotted.{tuple_of}
 use Rattle.ded_model.specs.Plain.{IsPlainCommand}
 use Rattle.ded_sorts.specs.Checks.{HasNoCause, forms_of}
 use Rattle.ded_model.specs.Entries.{known, columns_in}
-use Rattle.ded_goals.proofs.Accepted.{sums_of-accepted, comparisons_of-accepted, few-accepted}
+use Rattle.ded_resolve.proofs.Accepted.{sums_of-accepted, comparisons_of-accepted, few-accepted}
 use Rattle.ded_resolve.specs.Ready.{IsReady, AreReady}
 use Rattle.ded_model.proofs.Bools.{or_false_left}
 

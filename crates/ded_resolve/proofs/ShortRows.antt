@@ -16,6 +16,7 @@ use Rattle.std.proofs.lemmas.Nat.Gcd.{dvd-zero, le_of_dvd}
 use Rattle.ded_num.specs.Gcd.{nat_gcd, gcd_from, gcd_all}
 use Rattle.ded_num.specs.Length.{IsWithin}
 use Rattle.ded_num.proofs.Gcds.{IsGcd-nat_gcd, DividesAll, DividesAll-gcd_all}
+use Rattle.ded_num.proofs.Signs.{unsigned_abs-neg}
 use Rattle.ded_model.specs.declared.slot.Slot.{Slot}
 use Rattle.ded_model.specs.declared.row.RowOp.{RowOp}
 use Rattle.ded_model.specs.declared.row.RowOp.TheVariants.{Zero, AtMost, Below}
@@ -29,8 +30,8 @@ use Rattle.ded_model.specs.Plain.{ShareDenominator}
 use Rattle.ded_model.specs.Slotted.{SlotScope, slot_sum, difference_row, comparison_row, is_text_operand}
 use Rattle.ded_model.proofs.Divisors.{abs_divisor, positive_divisor, divisor-whole, divisor-whole_constant}
 use Rattle.ded_model.proofs.LineCoefs.{AllNonzero, nonzero-nonzero}
-use Rattle.ded_goals.specs.Scope.{sum_over}
-use Rattle.ded_goals.proofs.Denominators.{plain_rows, plain_rows_turned}
+use Rattle.ded_resolve.specs.Scope.{sum_over}
+use Rattle.ded_resolve.proofs.Denominators.{plain_rows, plain_rows_turned}
 use Rattle.ded_resolve.proofs.SlotNumbers.{AreNumbers, AllHave, side_row, row_has, turned_row_has, constant_has, turned_constant_has}
 use Rattle.ded_model.proofs.Bools.{or_false_left, or_false_right}
 
@@ -54,17 +55,14 @@ pub record IsFit (g : ℕ) (z : ℤ) : Type 0 where
 fit_zero : (g : ℕ) → 0 < g → IsFit g (pos 0)
 fit_zero g h = record { divides = dvd-zero g; below = omega arith }
 
-same_abs : (z : ℤ) → unsigned_abs (neg_ℤ z) ≡ unsigned_abs z
-same_abs z = omega (arith, ints)
-
 fit_turned : (g : ℕ) (z : ℤ) → IsFit g z → IsFit g (neg_ℤ z)
-fit_turned g z h = record { divides = subst (λ n. g ∣ n) (sym (same_abs z)) h.divides; below = subst (λ n. n < 2 ^ 63 * g) (sym (same_abs z)) h.below }
+fit_turned g z h = record { divides = subst (λ n. g ∣ n) (sym (unsigned_abs-neg z)) h.divides; below = subst (λ n. n < 2 ^ 63 * g) (sym (unsigned_abs-neg z)) h.below }
 
 -- what is below b times g after division by g
 under : (n g b : ℕ) → 0 < g → n / g < b → n < b * g
 under n g b h k = let m : g * (n / g + 1) ≤ g * b = mul-le-mul_left g (omega arith) in omega (arith, m)
 
-quotient_below : (n : ℕ) → nat_le (2 ^ 63) n ≡ false → n < 2 ^ 63
+pub quotient_below : (n : ℕ) → nat_le (2 ^ 63) n ≡ false → n < 2 ^ 63
 quotient_below n e = grind (arith, nat_tests)
 
 -- numbers that g divides, where none is long over g

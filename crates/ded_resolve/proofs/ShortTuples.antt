@@ -26,9 +26,9 @@ use Rattle.ded_model.specs.Known.{is_unbound_operand, is_unbound_atom, is_text_s
 use Rattle.ded_model.specs.LongRows.{denominator_of, row_coefs, row_constant, is_long_row, is_quoted, is_long_atom}
 use Rattle.ded_model.specs.Plain.{IsPlain, IsPlainOperand, IsPlainAtom}
 use Rattle.ded_model.specs.Slotted.{SlotScope, heading_scope, slot_sum, comparison_row, sums_goal, TextSide, at, word, text_side, same_text_goal, other_text_goal, texts_goal, is_text_operand, goal_below, goal_atoms, comparison_atoms, tuple_of}
-use Rattle.ded_goals.specs.Scope.{sorts_of, AreApart}
-use Rattle.ded_goals.specs.Tuples.{is_missorted_comparison}
-use Rattle.ded_goals.proofs.Reading.{numbered_heading, sorts_heading}
+use Rattle.ded_resolve.specs.Scope.{sorts_of, AreApart}
+use Rattle.ded_resolve.specs.Tuples.{is_missorted_comparison}
+use Rattle.ded_resolve.proofs.Reading.{numbered_heading, sorts_heading}
 use Rattle.ded_resolve.specs.Ready.{AreReady}
 use Rattle.ded_resolve.proofs.SlotNumbers.{summable_parts}
 use Rattle.ded_resolve.proofs.ShortRows.{AllShort, constant_short, IsNumeric, comparison_short}
@@ -64,7 +64,7 @@ short-ordered (x ∷ xs) h = short-place x (ordered_atoms xs) h.0 (short-ordered
 
 -- ---- lengths
 
-greatest_of : (zs : List ℤ) → AllShort zs → greatest_length zs ≤ 63
+pub greatest_of : (zs : List ℤ) → AllShort zs → greatest_length zs ≤ 63
 greatest_of [] h = omega arith
 greatest_of (z ∷ zs) h = most (length_of z) (greatest_length zs) (length_of-le z 63 h.0) (greatest_of zs h.1)
   where
@@ -120,13 +120,13 @@ texts_short l r op.GreaterEq = never_short
 texts_short l r op.Greater = never_short
 
 -- what is no text is not quoted
-unquoted : (scope : SlotScope) (t : Operand) → is_text_operand scope t ≡ false → is_quoted t ≡ false
+pub unquoted : (scope : SlotScope) (t : Operand) → is_text_operand scope t ≡ false → is_quoted t ≡ false
 unquoted scope (Single x) e = refl
 unquoted scope (Sum t) e = refl
 unquoted scope (Quoted t) e = e
 
 -- the denominator of two operands
-positive_denominator : (l r : Operand) → IsPlainOperand l → IsPlainOperand r → pos 0 <ℤ denominator_of l r
+pub positive_denominator : (l r : Operand) → IsPlainOperand l → IsPlainOperand r → pos 0 <ℤ denominator_of l r
 positive_denominator (Sum t) r h k = h.0
 positive_denominator (Single x) (Sum u) h k = k.0
 positive_denominator (Single x) (Single y) h k = omega (arith, ints)
@@ -136,7 +136,7 @@ positive_denominator (Quoted t) (Single y) h k = omega (arith, ints)
 positive_denominator (Quoted t) (Quoted u) h k = omega (arith, ints)
 
 -- what is left of a test
-third : (a b c : Bool) → a ≡ false → b ≡ false → ((not a && not b) && c) ≡ false → c ≡ false
+pub third : (a b c : Bool) → a ≡ false → b ≡ false → ((not a && not b) && c) ≡ false → c ≡ false
 third a b c e f h = sym (ap (λ x. (not x && not b) && c) e ∙ ap (λ x. (not false && not x) && c) f) ∙ h
 
 -- what of a comparison has to be so

@@ -4,7 +4,7 @@
 -- the one name that has the slot, or 0 where no name of `l` or `r` has it. What 0 has, and with a number its negative, and
 -- all differences at names, each coefficient by slots has too.
 use Rattle.std.proofs.Common.{◌≡◌, ℕ, Bool, true, false, cond, List, [], ◌∷◌, ◌++◌, map, ◌⊎◌, inl, inr, arith, refl, sym, ap, ap₂, ◌∙◌, subst, true≢false, bytes_eq}
-use Rattle.std.specs.Prelude.{ℤ, pos, negsuc, ◌+ℤ◌, ◌-ℤ◌, ◌*ℤ◌}
+use Rattle.std.specs.Prelude.{ℤ, pos, ◌+ℤ◌, ◌-ℤ◌}
 use lib.IntN.{neg_ℤ}
 use Rattle.std.proofs.lemmas.Int.{ints}
 use Rattle.std.proofs.lemmas.Slice.Eq.{bytes_eq-Decides}
@@ -23,11 +23,12 @@ use Rattle.ded_model.specs.Slotted.{SlotScope, slot_of, add_parts, is_text_opera
 use Rattle.ded_model.proofs.Points.{same_slot_is, same_slot_refl}
 use Rattle.ded_model.proofs.CoefLemmas.{coef_at-above, coef_at-here, coef_at-past}
 use Rattle.ded_model.proofs.LineCoefs.{coef_at-mixed, coef_at-nonzero}
-use Rattle.ded_goals.specs.Scope.{sorts_of, AreApart, AreSummable, sum_over}
-use Rattle.ded_goals.proofs.Denominators.{plain_row}
-use Rattle.ded_goals.proofs.Ascending.{Ascend, AllRational, ascend-mixed, ascend-nonzero}
-use Rattle.ded_goals.proofs.Summing.{slots_apart, sort_in-slot, rest_summable, ascend-parts, one_part}
+use Rattle.ded_resolve.specs.Scope.{sorts_of, AreApart, AreSummable, sum_over}
+use Rattle.ded_resolve.proofs.Denominators.{plain_row}
+use Rattle.ded_resolve.proofs.Ascending.{Ascend, AllRational, ascend-mixed, ascend-nonzero}
+use Rattle.ded_resolve.proofs.Summing.{slots_apart, sort_in-slot, rest_summable, ascend-parts, one_part}
 use Rattle.std.proofs.lemmas.Bool.{or_from}
+use Rattle.ded_num.proofs.Signs.{one_times}
 use Rattle.ded_model.proofs.Definable.{neg_times}
 use Rattle.ded_model.proofs.Bools.{or_false_left}
 
@@ -86,10 +87,6 @@ unfolding at_slot
 at_name m scope l r x h b = ap₂ (λ y z. y -ℤ z) (coef_of_name scope (parts_over m l) x h.left b) (coef_of_name scope (parts_over m r) x h.right b)
 
 -- ---- the row
-
-one_times : (x : ℤ) → pos 1 *ℤ x ≡ x
-one_times (pos n) = omega (arith, ints)
-one_times (negsuc n) = omega (arith, ints)
 
 minus_is : (x y : ℤ) → x +ℤ neg_ℤ y ≡ x -ℤ y
 minus_is x y = omega (arith, ints)

@@ -6,8 +6,8 @@ use Rattle.ded_model.specs.Known.{has_unbound, scope_of}
 use Rattle.ded_model.specs.Logic.{Logics, every_of, some_below, some_atom_of, quantifiers}
 use Rattle.ded_model.specs.LongRows.{is_long_atom}
 use Rattle.ded_model.specs.Plain.{IsPlain}
-use Rattle.ded_goals.specs.TextSums.{has_text_sum}
-use Rattle.ded_goals.specs.Tuples.{is_missorted_comparison}
+use Rattle.ded_resolve.specs.TextSums.{has_text_sum}
+use Rattle.ded_resolve.specs.Tuples.{is_missorted_comparison}
 
 -- each variable is bound, each sum has each name once, a denominator above 0 and no text variable, the sums of a comparison are over one denominator,
 -- and there are few slots

@@ -16,7 +16,7 @@ ghost use Rattle.ded_resolve.specs.Ready.{IsReady, AreReady};
 ghost use Rattle.ded_resolve.specs.Storing.{IsStorable};
 
 use crate::checked::Checked;
-use ded_goals::{goal, tuple};
+use crate::{goal, tuple};
 use ded_model::command::{Command, Refusal};
 use ded_model::formula::Formula;
 use ded_model::goal::Goal;

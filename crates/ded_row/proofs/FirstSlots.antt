@@ -1,5 +1,5 @@
 -- The first slot of two lists of coefficients, read off at their places.
-use Rattle.std.proofs.Common.{◌≡◌, ℕ, zero, suc, ◌+◌, ◌<◌, ◌≤◌, List, [], ◌∷◌, ◌⊎◌, inl, inr, length, get_or, drop, drop-cons, add-one, arith, refl, sym, ap, ◌∙◌, subst}
+use Rattle.std.proofs.Common.{◌≡◌, ℕ, ◌+◌, ◌<◌, ◌≤◌, List, ◌∷◌, ◌⊎◌, inl, inr, length, get_or, drop, drop-cons, add-one, arith, refl, sym, ap, ◌∙◌, subst}
 use Rattle.std.proofs.Math.ListN.{drop_of_length-le}
 use Rattle.std.specs.Prelude.{ℤ, pos}
 use Rattle.std.specs.Int.{w128}
@@ -9,6 +9,7 @@ use Rattle.ded_model.specs.declared.slot.Sort.TheVariants.{Rat}
 use Rattle.ded_model.specs.declared.slot.Slot.{Slot}
 use Rattle.ded_model.specs.Coefs.{AllAbove, AreCoefs}
 use Rattle.ded_model.proofs.CoefLemmas.{above_lesser, equal_by_number}
+use Rattle.ded_model.proofs.CoefLists.{drop-kept}
 use Rattle.ded_row.specs.Merging.{IsFirst, in_left, in_right, in_both}
 
 -- what is read where there is nothing
@@ -22,12 +23,6 @@ entry xs i = get_or xs i (record { number = 0; sort = Rat }, pos 0)
 -- as the code has it
 abbrev pub in_code : ℤ → ℤ
 in_code z = to_z w128 (of_z w128 z)
-
--- what is left of a list of coefficients is one
-pub drop-kept : (xs : List (Slot × ℤ)) (i : ℕ) → AreCoefs xs → AreCoefs (drop i xs)
-drop-kept xs zero h = h
-drop-kept [] (suc i) h = tt
-drop-kept (x ∷ xs) (suc i) h = drop-kept xs i h.4
 
 -- the first of it and the rest
 pub split : (xs : List (Slot × ℤ)) (i : ℕ) → i < length xs → drop i xs ≡ entry xs i ∷ drop (i + 1) xs

@@ -2,11 +2,10 @@ pub mod FirstSlots
 pub mod Forms
 pub mod MixedLines
 pub mod Mixes
-pub mod Normals
 pub mod Orders
 pub mod Pieces
 pub mod RenamedLines
 pub mod Scaling
-pub mod Sums
 pub mod Targets
 pub mod Walks
+pub mod Shared

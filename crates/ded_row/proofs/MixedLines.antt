@@ -12,6 +12,7 @@ use Rattle.std.proofs.lemmas.Bool.Decides.{same_from_decides, Decides-int_eq}
 use Rattle.std.proofs.Math.IntN.{*ℤ-zero, neg_ℤ-neg_ℤ}
 use Rattle.ded_num.specs.Gcd.{gcd_all}
 use Rattle.ded_num.proofs.Ring.{parts, ring, diff_same, mul-add_ℤ}
+use Rattle.ded_num.proofs.Signs.{neg_times_first, times_regroup}
 use Rattle.ded_model.specs.declared.slot.Slot.{Slot}
 use Rattle.ded_model.specs.declared.row.RowOp.{RowOp}
 use Rattle.ded_model.specs.declared.row.RowOp.TheVariants.{Zero}
@@ -24,10 +25,9 @@ use Rattle.ded_model.proofs.Divisors.{abs_divisor, divisor-whole, divisor-whole_
 use Rattle.ded_model.proofs.LineCoefs.{AllNonzero, nonzero-nonzero}
 use Rattle.ded_row.specs.Multiples.{coefs_times}
 use Rattle.ded_row.specs.Mixing.{factor, mixed_coefs, mixed_row, mix_of, sum_is_long, long_at, coefs_are_long}
-use Rattle.ded_row.proofs.Scaling.{BeginsNonzero, cancel_factor, product_nonzero, regroup}
+use Rattle.ded_row.proofs.Scaling.{BeginsNonzero, cancel_factor, product_nonzero}
 use Rattle.ded_row.proofs.Forms.{coefs_back, row_lines-times, row_lines-normal}
 use Rattle.ded_row.proofs.Pieces.{neg_is, normal_gcd}
-use Rattle.ded_row.proofs.Normals.{turned_law}
 use Rattle.ded_row.proofs.Mixes.{IsPair, turned_first, turned_second, factors}
 use Rattle.ded_model.proofs.LineLengths.{sum_is_difference}
 
@@ -47,12 +47,12 @@ times-put j s z (c ∷ cs) = go (same_slot c.0 s) (nat_lt s.number c.0.number) (
 -- of a sum of multiples
 pub times-put_all : (j k : ℤ) (xs ys : List (Slot × ℤ)) → coefs_times j (put_all k xs ys) ≡ put_all (j *ℤ k) xs (coefs_times j ys)
 times-put_all j k [] ys = refl
-times-put_all j k (x ∷ xs) ys = times-put j x.0 (k *ℤ x.1) (put_all k xs ys) ∙ ap₂ (put x.0) (regroup j k x.1) (times-put_all j k xs ys)
+times-put_all j k (x ∷ xs) ys = times-put j x.0 (k *ℤ x.1) (put_all k xs ys) ∙ ap₂ (put x.0) (times_regroup j k x.1) (times-put_all j k xs ys)
 
 -- a sum of multiples of multiples
 put_all-times : (k j : ℤ) (xs ys : List (Slot × ℤ)) → put_all k (coefs_times j xs) ys ≡ put_all (k *ℤ j) xs ys
 put_all-times k j [] ys = refl
-put_all-times k j (x ∷ xs) ys = ap₂ (put x.0) (regroup k j x.1) (put_all-times k j xs ys)
+put_all-times k j (x ∷ xs) ys = ap₂ (put x.0) (times_regroup k j x.1) (put_all-times k j xs ys)
 
 -- a multiple without a slot
 pub times-cut : (j : ℤ) (s : Slot) (cs : List (Slot × ℤ)) → coefs_times j (cut s cs) ≡ cut s (coefs_times j cs)
@@ -106,7 +106,7 @@ combination_with s xs c ys d = line_with (mixed_coefs s (coef_at ys s) xs (neg_�
 turned_difference : (b c a d : ℤ) → neg_ℤ b *ℤ c +ℤ a *ℤ d ≡ neg_ℤ (b *ℤ c -ℤ a *ℤ d)
 turned_difference b c a d = rw (parts b, parts c, parts a, parts d) (simp ring (diff_same _ _ _ _ (omega arith)))
 
-minus_one : negsuc 0 ≢ pos 0
+pub minus_one : negsuc 0 ≢ pos 0
 minus_one e = absurd (omega (arith, ap unsigned_abs e))
 
 -- with either factor turned
@@ -152,10 +152,10 @@ long-turned z = ap is_long (neg_is z) ∙ long-times (negsuc 0) z refl
 long_pair : (a b k m c d : ℤ) → IsPair a b k m → sum_is_long k c m d ≡ products_clash b c a d
 long_pair a b k m c d (turned_first e f) =
     ap₂ (λ u v. sum_is_long u c v d) e f
-    ∙ ap₂ (λ p q. p || is_long (a *ℤ d) || q) (ap is_long (turned_law b c) ∙ long-turned (b *ℤ c)) (ap is_long (turned_difference b c a d) ∙ long-turned (b *ℤ c -ℤ a *ℤ d))
+    ∙ ap₂ (λ p q. p || is_long (a *ℤ d) || q) (ap is_long (neg_times_first b c) ∙ long-turned (b *ℤ c)) (ap is_long (turned_difference b c a d) ∙ long-turned (b *ℤ c -ℤ a *ℤ d))
 long_pair a b k m c d (turned_second e f) =
     ap₂ (λ u v. sum_is_long u c v d) e f
-    ∙ ap₂ (λ p q. is_long (b *ℤ c) || p || q) (ap is_long (turned_law a d) ∙ long-turned (a *ℤ d)) (ap is_long (sum_is_difference b c a d))
+    ∙ ap₂ (λ p q. is_long (b *ℤ c) || p || q) (ap is_long (neg_times_first a d) ∙ long-turned (a *ℤ d)) (ap is_long (sum_is_difference b c a d))
 
 -- at the slots of a list
 long_slots : (s : Slot) (q r : LinearConstraint) (k m : ℤ) (cs : List (Slot × ℤ)) → IsPair (coef_at q.coefs s) (coef_at r.coefs s) k m
@@ -208,7 +208,7 @@ outer_product h b j c = rw (parts h, parts b, parts j, parts c) (simp ring (diff
 inner_product : (h j a d : ℤ) → (j *ℤ a) *ℤ (h *ℤ d) ≡ (h *ℤ j) *ℤ (a *ℤ d)
 inner_product h j a d = rw (parts h, parts j, parts a, parts d) (simp ring (diff_same _ _ _ _ (omega arith)))
 
-difference_product : (g x y : ℤ) → g *ℤ x -ℤ g *ℤ y ≡ g *ℤ (x -ℤ y)
+pub difference_product : (g x y : ℤ) → g *ℤ x -ℤ g *ℤ y ≡ g *ℤ (x -ℤ y)
 difference_product g x y = rw (parts g, parts x, parts y) (simp ring (diff_same _ _ _ _ (omega arith)))
 
 -- a combination of multiples is that of the lines

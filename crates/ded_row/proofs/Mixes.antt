@@ -9,6 +9,7 @@ use Rattle.std.proofs.lemmas.Int.{ints}
 use Rattle.std.proofs.lemmas.Bool.Decides.{nat_tests, Decides-int_eq}
 use Rattle.std.proofs.Math.IntN.{zero-*ℤ}
 use Rattle.ded_num.proofs.Ring.{parts, ring, diff-pos, diff_same}
+use Rattle.ded_num.proofs.Signs.{above_test}
 use Rattle.ded_model.specs.declared.slot.Slot.{Slot}
 use Rattle.ded_model.specs.declared.row.RowOp.{RowOp}
 use Rattle.ded_model.specs.declared.row.RowOp.TheVariants.{Zero, AtMost, Below}
@@ -20,10 +21,10 @@ use Rattle.ded_model.proofs.Points.{same_slot_is, same_slot_refl}
 use Rattle.ded_model.proofs.LineCoefs.{coef_at-mixed}
 use Rattle.ded_model.proofs.LineSlots.{has_slot, put_all_slots, cut_slots, nonzero_slots}
 use Rattle.ded_row.specs.Mixing.{BoundsAbove, BoundsBelow, factor, join_op, mixed_coefs, mixed_row, mix_of}
-use Rattle.ded_row.proofs.Normals.{normal_row-holds}
+use Rattle.ded_model.proofs.Normals.{normal_row-holds}
 use Rattle.ded_row.proofs.Scaling.{IsFactor, IsSignFor, magnitude, sign_times}
 use Rattle.ded_row.proofs.Forms.{row_mentions-normal}
-use Rattle.ded_row.proofs.Sums.{sum_at-mixed, sum_at-nonzero}
+use Rattle.ded_model.proofs.Sums.{sum_at-mixed, sum_at-nonzero}
 use Rattle.ded_model.proofs.Numbers.{cancel_pair}
 
 -- ---- the factors
@@ -82,10 +83,6 @@ below_nonzero Zero b h = h
 below_nonzero AtMost b h = λ e. absurd (omega (arith, ints))
 below_nonzero Below b h = λ e. absurd (omega (arith, ints))
 
--- what is above 0 passes the test
-passes : (a : ℤ) → pos 0 <ℤ a → int_lt (pos 0) a ≡ true
-passes a h = grind (arith, ints)
-
 -- a magnitude with a sign isn't 0
 sign_nonzero : (t : Bool) (n : ℕ) → by_sign t (suc n) ≢ pos 0
 unfolding by_sign
@@ -106,7 +103,7 @@ factor_suits op a b h n =
     positive n m e = omega (arith, ints)
 
     is_above : pos 0 <ℤ a → pos 0 <ℤ factor a b
-    is_above h = let size = magnitude b n in subst (λ z. pos 0 <ℤ z) (sym (ap (λ t. by_sign t (unsigned_abs b)) (passes a h))) (positive (unsigned_abs b) size.0 size.1)
+    is_above h = let size = magnitude b n in subst (λ z. pos 0 <ℤ z) (sym (ap (λ t. by_sign t (unsigned_abs b)) (above_test a h))) (positive (unsigned_abs b) size.0 size.1)
 
     by_op : (op : RowOp) → BoundsAbove op a → IsSignFor op (factor a b)
     by_op Zero h = tt
@@ -147,7 +144,7 @@ spread_law : (k x c m y d n : ℤ) → (k *ℤ x +ℤ m *ℤ y) +ℤ (k *ℤ c +
 spread_law k x c m y d n = rw (parts k, parts x, parts c, parts m, parts y, parts d, parts n) (simp ring (diff_same _ _ _ _ (omega arith)))
 
 -- a part that is 0
-nothing_more : (x z n y : ℤ) → z ≡ pos 0 → x +ℤ z *ℤ n ≡ y → x ≡ y
+pub nothing_more : (x z n y : ℤ) → z ≡ pos 0 → x +ℤ z *ℤ n ≡ y → x ≡ y
 nothing_more x z n y e f = sym (ap (λ w. x +ℤ w) (ap (λ w. w *ℤ n) e ∙ zero-*ℤ n) ∙ +ℤ_idr x) ∙ f
 
 pub row_at-mixed : (s : Slot) (k : ℤ) (q : LinearConstraint) (m : ℤ) (r : LinearConstraint) (p : Point) → IsPair (coef_at q.coefs s) (coef_at r.coefs s) k m → row_at (mixed_row s k q m r) p ≡ k *ℤ row_at q p +ℤ m *ℤ row_at r p

@@ -18,7 +18,7 @@ cmp_less m n h = grind (arith, nat_tests)
 cmp_greater : (m n : ℕ) → n < m → nat_cmp m n ≡ Greater
 cmp_greater m n h = grind (arith, nat_tests)
 
-cmp_same : (m : ℕ) → nat_cmp m m ≡ Equal
+pub cmp_same : (m : ℕ) → nat_cmp m m ≡ Equal
 cmp_same m = grind (arith, nat_tests)
 
 -- the first list is ahead

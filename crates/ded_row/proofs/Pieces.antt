@@ -20,7 +20,7 @@ use Rattle.ded_model.proofs.LineSlots.{has_slot}
 use Rattle.ded_row.specs.Multiples.{coefs_times, row_times, with_op, turned}
 use Rattle.ded_model.specs.Negation.{EachPiece, some_piece_holds, both_pieces_hold}
 use Rattle.ded_row.specs.Negation.{negated_by, negated_with, negated_row}
-use Rattle.ded_row.proofs.Normals.{constant_row-holds, no_coefs}
+use Rattle.ded_model.proofs.Normals.{constant_row-holds, no_coefs}
 use Rattle.ded_row.proofs.Scaling.{BeginsNonzero, cancel_factor, exact_quotient, gcd_all-times}
 use Rattle.ded_row.proofs.Forms.{constant_row-normal, row_lines-times}
 

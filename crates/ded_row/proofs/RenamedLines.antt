@@ -2,8 +2,9 @@
 --
 -- A row is a multiple of its line, and a multiple is renamed as the row is: so the renamed row has the line of the renamed
 -- line.
-use Rattle.std.proofs.Common.{◌≡◌, ◌≢◌, List, [], ◌∷◌, ◌++◌, inl, refl, sym, ap, ap₂, ◌∙◌}
+use Rattle.std.proofs.Common.{◌≡◌, ◌≢◌, List, [], ◌∷◌, inl, refl, sym, ap, ap₂, ◌∙◌}
 use Rattle.std.specs.Prelude.{ℤ, pos, ◌*ℤ◌}
+use Rattle.ded_num.proofs.Tests.{append_none}
 use Rattle.ded_model.specs.declared.slot.Slot.{Slot}
 use Rattle.ded_model.specs.declared.row.RowOp.TheVariants.{Zero}
 use Rattle.ded_model.specs.Constraint.{LinearConstraint}
@@ -37,10 +38,6 @@ onto_begins : (map : List (Slot × Slot)) (out cs : List (Slot × ℤ)) → Begi
 onto_begins map out [] h = h
 onto_begins map out (c ∷ cs) h =
     onto_begins map (with_coef (renamed map c.0) c.1 out) cs (nonzero_begins (with_coef (renamed map c.0) c.1 out) (nonzero-nonzero (put (renamed map c.0) c.1 (cut (renamed map c.0) out))))
-
-append_none : {A : Type 0} (xs : List A) → xs ++ [] ≡ xs
-append_none [] = refl
-append_none (x ∷ xs) = ap (λ ys. x ∷ ys) (append_none xs)
 
 -- the renamed row has the row's lines over the new slots
 pub renamed-lines : (map : List (Slot × Slot)) (r : LinearConstraint) → AreCoefs r.coefs → row_lines (normal_row (renamed_row map r)) ≡ mapped_lines map (row_lines r)

@@ -14,6 +14,7 @@ use Rattle.std.proofs.lemmas.Nat.Gcd.{IsGcd-from_zero, IsGcd-from_mod}
 use Rattle.ded_num.specs.Gcd.{gcd_within, nat_gcd, gcd_from, gcd_all}
 use Rattle.ded_num.proofs.Gcds.{nat_gcd_is}
 use Rattle.ded_num.proofs.Ring.{parts, ring, diff_same}
+use Rattle.ded_num.proofs.Signs.{neg_times_first, times_regroup}
 use Rattle.ded_model.specs.declared.slot.Slot.{Slot}
 use Rattle.ded_model.specs.declared.slot.Sort.TheVariants.{Rat}
 use Rattle.ded_model.specs.declared.row.RowOp.{RowOp}
@@ -23,7 +24,7 @@ use Rattle.ded_model.specs.Row.{sign_meets}
 use Rattle.ded_model.specs.Normal.{DivideWhole, divisor_for, divisor_of, coefs_over, row_over, constant_row, normal_with, normal_row}
 use Rattle.ded_model.proofs.Divisors.{all_whole, divisor-whole, divisor-whole_constant, divisor-nonzero_first}
 use Rattle.ded_row.specs.Multiples.{coefs_times, row_times}
-use Rattle.ded_row.proofs.Normals.{sign_meets-times, sign_meets-turned, turned_law}
+use Rattle.ded_model.proofs.Normals.{sign_meets-times, sign_meets-turned}
 
 -- ---- common divisors of multiples
 
@@ -77,7 +78,7 @@ gcd_all-times k m n cs e =
 -- ---- the divisor of a multiple
 
 -- the negative of a multiple is the multiple of the negative
-inner_law : (k z : ℤ) → neg_ℤ (k *ℤ z) ≡ k *ℤ neg_ℤ z
+pub inner_law : (k z : ℤ) → neg_ℤ (k *ℤ z) ≡ k *ℤ neg_ℤ z
 inner_law k z = rw (parts k, parts z) (simp ring (diff_same _ _ _ _ (omega arith)))
 
 -- two negatives
@@ -92,7 +93,7 @@ lt_neg (negsuc m) n = grind (arith, ints)
 
 -- the sign of a negative multiple
 lt_negative : (n : ℕ) (z : ℤ) → z ≢ pos 0 → int_lt (negsuc n *ℤ z) (pos 0) ≡ not (int_lt z (pos 0))
-lt_negative n z h = ap (λ w. int_lt w (pos 0)) (turned_law (pos (suc n)) z ∙ inner_law (pos (suc n)) z) ∙ sign_meets-times Below n (neg_ℤ z) ∙ lt_neg z h
+lt_negative n z h = ap (λ w. int_lt w (pos 0)) (neg_times_first (pos (suc n)) z ∙ inner_law (pos (suc n)) z) ∙ sign_meets-times Below n (neg_ℤ z) ∙ lt_neg z h
 
 -- above 0 where the row is an inequality
 abbrev pub IsSignFor : RowOp → ℤ → Type 0
@@ -123,7 +124,7 @@ divisor_for-times Zero (negsuc k) first n g e f h =
   where
     go : (b : Bool) → cond (not b) (neg_ℤ (pos (suc k * g))) (pos (suc k * g)) ≡ negsuc k *ℤ cond b (neg_ℤ (pos g)) (pos g)
     go true = both_law (pos (suc k)) (pos g)
-    go false = sym (turned_law (pos (suc k)) (pos g))
+    go false = sym (neg_times_first (pos (suc k)) (pos g))
 divisor_for-times AtMost (negsuc k) first n g e f h = let p = f.sign in absurd (omega (arith, ints))
 divisor_for-times Below (negsuc k) first n g e f h = let p = f.sign in absurd (omega (arith, ints))
 
@@ -164,10 +165,6 @@ exact_quotient d q h =
     let divides : DivideWhole d alone = all_whole d alone (subst (λ m. unsigned_abs d ∣ m) (sym (unsigned_abs-mul d q)) (dvd-mul_right (unsigned_abs d) (unsigned_abs q)), tt) in
     cancel_factor d (int_div (d *ℤ q) d) q h divides.0
 
--- a factor goes past another one
-pub regroup : (k d q : ℤ) → k *ℤ (d *ℤ q) ≡ (k *ℤ d) *ℤ q
-regroup k d q = rw (parts k, parts d, parts q) (simp ring (diff_same _ _ _ _ (omega arith)))
-
 -- a product of numbers that are not 0
 pub product_nonzero : (k d : ℤ) → k ≢ pos 0 → d ≢ pos 0 → k *ℤ d ≢ pos 0
 product_nonzero k d h l e = l (cancel_factor k d (pos 0) h (e ∙ sym (*ℤ-zero k)))
@@ -175,7 +172,7 @@ product_nonzero k d h l e = l (cancel_factor k d (pos 0) h (e ∙ sym (*ℤ-zero
 -- a multiple divided by a multiple
 quotient_times : (k z d : ℤ) → k ≢ pos 0 → d ≢ pos 0 → d *ℤ int_div z d ≡ z → int_div (k *ℤ z) (k *ℤ d) ≡ int_div z d
 quotient_times k z d h l e =
-    ap (λ w. int_div (k *ℤ w) (k *ℤ d)) (sym e) ∙ ap (λ w. int_div w (k *ℤ d)) (regroup k d (int_div z d)) ∙ exact_quotient (k *ℤ d) (int_div z d) (product_nonzero k d h l)
+    ap (λ w. int_div (k *ℤ w) (k *ℤ d)) (sym e) ∙ ap (λ w. int_div w (k *ℤ d)) (times_regroup k d (int_div z d)) ∙ exact_quotient (k *ℤ d) (int_div z d) (product_nonzero k d h l)
 
 -- of all coefficients
 coefs_over-times : (k d : ℤ) (cs : List (Slot × ℤ)) → k ≢ pos 0 → d ≢ pos 0 → DivideWhole d cs → coefs_over (k *ℤ d) (coefs_times k cs) ≡ coefs_over d cs
@@ -193,7 +190,7 @@ BeginsNonzero (c ∷ cs) = c.1 ≢ pos 0
 pub sign_times : (op : RowOp) (k z : ℤ) → IsFactor op k → sign_meets op (k *ℤ z) ≡ sign_meets op z
 sign_times op (pos zero) z f = absurd (f.nonzero refl)
 sign_times op (pos (suc k)) z f = sign_meets-times op k z
-sign_times Zero (negsuc k) z f = ap (sign_meets Zero) (turned_law (pos (suc k)) z) ∙ sign_meets-turned (pos (suc k) *ℤ z) ∙ sign_meets-times Zero k z
+sign_times Zero (negsuc k) z f = ap (sign_meets Zero) (neg_times_first (pos (suc k)) z) ∙ sign_meets-turned (pos (suc k) *ℤ z) ∙ sign_meets-times Zero k z
 sign_times AtMost (negsuc k) z f = let p = f.sign in absurd (omega (arith, ints))
 sign_times Below (negsuc k) z f = let p = f.sign in absurd (omega (arith, ints))
 

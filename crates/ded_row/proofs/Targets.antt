@@ -7,6 +7,7 @@ use Rattle.std.specs.Prelude.{ℤ, pos, ◌+ℤ◌, ◌*ℤ◌}
 use Rattle.std.proofs.lemmas.Bool.{false_from_ne_true}
 use Rattle.std.proofs.lemmas.Int.{ints}
 use lib.IntN.{+ℤ_idl, +ℤ_idr}
+use Rattle.ded_num.proofs.Signs.{plus_swap}
 use Rattle.ded_model.specs.declared.slot.Slot.{Slot}
 use Rattle.ded_model.specs.declared.slot.Sort.TheVariants.{Rat}
 use Rattle.ded_model.specs.Constraint.{LinearConstraint}
@@ -20,11 +21,12 @@ use Rattle.ded_model.proofs.CoefLemmas.{greater_slot, coef_at-here, coef_at-past
 use Rattle.ded_model.proofs.LineCoefs.{coef_at-put, coef_at-nonzero}
 use Rattle.ded_model.proofs.LineSlots.{has_slot, put_slots, cut_slots, nonzero_slots}
 use Rattle.ded_model.specs.Renaming.{renamed, renamed_onto, IsOneToOne, KeepsSorts, HaveOneValue, IsRenamedPoint}
+use Rattle.ded_model.proofs.CoefLists.{drop-kept}
 use Rattle.ded_row.specs.Renaming.{renamed_row}
-use Rattle.ded_row.proofs.FirstSlots.{entry, split, drop-kept}
-use Rattle.ded_row.proofs.Normals.{normal_row-holds}
+use Rattle.ded_row.proofs.FirstSlots.{entry, split}
+use Rattle.ded_model.proofs.Normals.{normal_row-holds}
 use Rattle.ded_row.proofs.Forms.{row_mentions-normal}
-use Rattle.ded_row.proofs.Sums.{sum_at-put, sum_at-nonzero}
+use Rattle.ded_model.proofs.Sums.{sum_at-put, sum_at-nonzero}
 
 -- ---- the walk
 
@@ -87,10 +89,6 @@ free_step map out c cs h k = record {
   apart = λ s t e f g. h.apart s t (or_right (same_slot c.0 s) _ e) (or_right (same_slot c.0 t) _ f) g;
 }
 
--- a sum with one more, in another order
-pub swap_law : (x y z : ℤ) → (x +ℤ y) +ℤ z ≡ y +ℤ (x +ℤ z)
-swap_law x y z = omega (arith, ints)
-
 -- the sum at the new slots
 sum_at-onto : (map : List (Slot × Slot)) (out cs : List (Slot × ℤ)) (p q : Point) → AreFree map out cs → AreCoefs cs → ((s : Slot) → has_slot cs s ≡ true → number_at q (slot (renamed map s)) ≡ number_at p (slot s))
     → sum_at (renamed_onto map out cs) q ≡ sum_at out q +ℤ sum_at cs p
@@ -102,7 +100,7 @@ sum_at-onto map out (c ∷ cs) p q h k n =
     let x = c.1 *ℤ number_at p (slot c.0) in
     sum_at-onto map (with_coef (renamed map c.0) c.1 out) cs p q (free_step map out c cs h k) k.4 (λ s e. n s (or_right (same_slot c.0 s) _ e))
     ∙ ap (λ z. z +ℤ sum_at cs p) (sum_at-with_coef (renamed map c.0) c.1 out q (h.free c.0 (or_left _ _ (same_slot_refl c.0))) ∙ ap (λ m. c.1 *ℤ m +ℤ sum_at out q) (n c.0 (or_left _ _ (same_slot_refl c.0))))
-    ∙ swap_law x (sum_at out q) (sum_at cs p)
+    ∙ plus_swap x (sum_at out q) (sum_at cs p)
 
 -- at first all are free
 free_first : (map : List (Slot × Slot)) (r : LinearConstraint) → IsOneToOne map (row_mentions r) → AreFree map [] r.coefs
@@ -168,7 +166,7 @@ coef_at-onto map out (c ∷ cs) s h k n =
     coef_at-onto map (with_coef (renamed map c.0) c.1 out) cs s (free_step map out c cs h k) k.4 (λ t e f. n t (or_right (same_slot c.0 t) _ e) f)
     ∙ ap (λ z. z +ℤ coef_at cs s) (coef_at-with_coef (renamed map c.0) c.1 out (renamed map s) (h.free c.0 (or_left _ _ (same_slot_refl c.0)))
     ∙ ap (λ b. cond b c.1 (pos 0) +ℤ coef_at out (renamed map s)) (same_target map c.0 s (n c.0 (or_left _ _ (same_slot_refl c.0)))))
-    ∙ swap_law (cond (same_slot c.0 s) c.1 (pos 0)) (coef_at out (renamed map s)) (coef_at cs s)
+    ∙ plus_swap (cond (same_slot c.0 s) c.1 (pos 0)) (coef_at out (renamed map s)) (coef_at cs s)
 
 -- a slot that is mentioned has a coefficient other than 0
 pub coef_at-mentioned : (cs : List (Slot × ℤ)) (s : Slot) → AreCoefs cs → has_slot cs s ≡ true → coef_at cs s ≢ pos 0

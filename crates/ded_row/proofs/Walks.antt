@@ -18,6 +18,7 @@ use Rattle.ded_model.specs.Coefs.{AllAbove, AllBelow, AreCoefs, coef_at, put, pu
 use Rattle.ded_model.proofs.Points.{same_slot_is, same_slot_refl}
 use Rattle.ded_model.proofs.Rows.{or_left, or_right}
 use Rattle.ded_model.proofs.CoefLemmas.{not_zero, lesser_slot, put-above, coef_at-above, coef_at-here, coef_at-past}
+use Rattle.ded_model.proofs.CoefLists.{AllAbove-put}
 use Rattle.ded_model.proofs.LineLengths.{not_long}
 use Rattle.ded_model.proofs.LineSlots.{has_slot}
 use Rattle.ded_row.specs.Merging.{IsFirst, in_left, in_right, in_both}
@@ -25,30 +26,20 @@ use Rattle.ded_row.specs.Mixing.{mixed_coefs, sum_is_long, long_at, coefs_are_lo
 
 -- ---- sums of multiples, from the front
 
--- putting keeps above a lesser number
-pub AllAbove-put : (n : ℕ) (s : Slot) (z : ℤ) (cs : List (Slot × ℤ)) → n < s.number → AllAbove n cs → AllAbove n (put s z cs)
-AllAbove-put n s z [] h k = (h, tt)
-AllAbove-put n s z (c ∷ cs) h k = go (same_slot c.0 s) (nat_lt s.number c.0.number) (AllAbove-put n s z cs h k.1)
-  where
-    go : (b d : Bool) → AllAbove n (put s z cs) → AllAbove n (cond b ((c.0, z +ℤ c.1) ∷ cs) (cond d ((s, z) ∷ c ∷ cs) (c ∷ put s z cs)))
-    go true d i = k
-    go false true i = (h, k)
-    go false false i = (k.0, i)
-
--- so do all multiples
+-- putting all multiples keeps above a lesser number
 AllAbove-put_all : (n : ℕ) (k : ℤ) (xs zs : List (Slot × ℤ)) → AllAbove n xs → AllAbove n zs → AllAbove n (put_all k xs zs)
 AllAbove-put_all n k [] zs h l = l
 AllAbove-put_all n k (x ∷ xs) zs h l = AllAbove-put n x.0 (k *ℤ x.1) (put_all k xs zs) h.0 (AllAbove-put_all n k xs zs h.1 l)
 
 -- a number that isn't less
-not_less : (m n : ℕ) → n < m → nat_lt m n ≡ false
+pub not_less : (m n : ℕ) → n < m → nat_lt m n ≡ false
 not_less m n h = grind (arith, nat_tests)
 
 -- putting goes past a lesser slot
 put-past : (s : Slot) (z : ℤ) (c : Slot × ℤ) (cs : List (Slot × ℤ)) → c.0.number < s.number → put s z (c ∷ cs) ≡ c ∷ put s z cs
 put-past s z c cs h = rw (lesser_slot c.0 s h, not_less s.number c.0.number h) refl
 
--- so do all multiples
+-- putting all multiples keeps above a lesser number
 put_all-past : (k : ℤ) (xs : List (Slot × ℤ)) (c : Slot × ℤ) (zs : List (Slot × ℤ)) → AllAbove c.0.number xs → put_all k xs (c ∷ zs) ≡ c ∷ put_all k xs zs
 put_all-past k [] c zs h = refl
 put_all-past k (x ∷ xs) c zs h = ap (put x.0 (k *ℤ x.1)) (put_all-past k xs c zs h.1) ∙ put-past x.0 (k *ℤ x.1) c (put_all k xs zs) h.0

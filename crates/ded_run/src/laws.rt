@@ -1,5 +1,5 @@
 //! Laws of what is written, as the contracts of functions that do nothing.
-ghost use Rattle.std.specs.Prelude.{◌≡◌, ◌≤◌, List, ℕ};
+ghost use Rattle.std.specs.Prelude.{◌≡◌, ◌≤◌, List};
 ghost use Rattle.std.specs.List.{AllByRecursion};
 ghost use Rattle.ded_lex.specs.Pieces.{Statement};
 ghost use Rattle.ded_model.specs.declared.command.Language.{Language};

@@ -1,5 +1,5 @@
 //! The made script, fed statement by statement.
-ghost use Rattle.std.specs.Prelude.{◌<◌, ◌≤◌, ◌-◌, [], IfOk, OnErr, map};
+ghost use Rattle.std.specs.Prelude.{◌<◌, ◌≤◌, ◌-◌, IfOk, OnErr, map};
 ghost use Rattle.std.specs.List.{flat_map};
 ghost use Rattle.ded_io.specs.Causes.{HasCause};
 ghost use Rattle.ded_dialogue.specs.Streams.{Grows, Breaks};

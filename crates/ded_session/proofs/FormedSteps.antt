@@ -3,7 +3,7 @@ use Rattle.std.proofs.Common.{◌≡◌, ◌<◌, ◌≤◌, ℕ, nat_le, arith,
 use Rattle.std.specs.List.{list_any}
 use Rattle.std.proofs.lemmas.Bool.{false_from_ne_true}
 use Rattle.std.proofs.lemmas.Bool.Decides.{nat_tests}
-use Rattle.ded_goals.specs.Tuples.{is_missorted_comparison}
+use Rattle.ded_resolve.specs.Tuples.{is_missorted_comparison}
 use Rattle.ded_lex.specs.Pieces.{Statement, Whole}
 use Rattle.ded_lex.specs.Pieces as pieces
 use Rattle.ded_model.specs.declared.command.Language.{Language}
@@ -37,7 +37,7 @@ use Rattle.ded_syntax.specs.Spelling.{IsRead}
 use Rattle.ded_terminals.proofs.MemberNames.{unmade_word}
 use Rattle.ded_views.proofs.Changing.{entry_there}
 use Rattle.ded_views.proofs.Placing.{none_known, known-is}
-use Rattle.ded_wording.proofs.WordsRead.{inserts_good}
+use Rattle.ded_reread.proofs.WordsRead.{inserts_good}
 use Rattle.ded_session.proofs.Accepted.{none_of, at_most, new_relation, accepted}
 use Rattle.ded_session.proofs.Formed.{over_more, over_changed, over_dropped}
 use Rattle.ded_session.proofs.InsertedTuples.{tuple_stored}

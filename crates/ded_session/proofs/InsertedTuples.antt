@@ -5,7 +5,7 @@ use lib.IntN.{neg_ℤ}
 use Rattle.std.specs.List.{AllByRecursion, list_any}
 use Rattle.std.proofs.Math.Bool.{or-false}
 use Rattle.std.proofs.lemmas.Bool.Decides.{nat_tests}
-use Rattle.ded_goals.specs.Tuples.{is_missorted_comparison}
+use Rattle.ded_resolve.specs.Tuples.{is_missorted_comparison}
 use Rattle.ded_lex.specs.Lexemes.{Each, text_byte}
 use Rattle.ded_model.specs.declared.formula.CompareOp.{CompareOp}
 use Rattle.ded_model.specs.declared.formula.CompareOp.TheVariants.{Less, LessEq, Equal, NotEqual, GreaterEq, Greater}
@@ -24,7 +24,7 @@ use Rattle.ded_model.specs.Goal as goal
 use Rattle.ded_model.specs.Known.{IsTupleOver, has_unbound, is_unbound_atom, scope_of, heading_slots}
 use Rattle.ded_model.specs.Logic.{atom, always, never, negation, every_of, some_of, implies, minus, exists, forall, Logics, none, also, AllAtoms, AllAtomsOf, logics, some_atom, some_below}
 use Rattle.ded_model.specs.LongRows.{is_long_atom}
-use Rattle.ded_model.specs.Normal.{IsNormalTheme, IsNormalAtom, IsNormalTuple, constant_row, normal_row, is_true_row, ordered_atoms}
+use Rattle.ded_model.specs.Normal.{IsNormalTheme, IsNormalAtom, constant_row, normal_row, is_true_row, ordered_atoms}
 use Rattle.ded_model.specs.NormalGoal.{IsOrderedTheme, IsNormalGoal}
 use Rattle.ded_model.specs.Point.{slot, stands_in, AllBytes}
 use Rattle.ded_model.specs.Row.{Atom, row_mentions, atom_mentions, tuple_mentions}
@@ -39,18 +39,20 @@ use Rattle.ded_model.proofs.Points.{and_right}
 use Rattle.ded_model.proofs.Rows.{or_left, or_right}
 use Rattle.ded_num.specs.Length.{length_of}
 use Rattle.ded_num.proofs.Lengths.{within_from_length}
-use Rattle.ded_orderly.proofs.Ties.{normal_sound}
+use Rattle.ded_width.proofs.Ties.{normal_sound}
 use Rattle.ded_resolve.specs.Ready.{AreReady}
 use Rattle.ded_resolve.proofs.ShortTuples.{tuple_short}
-use Rattle.ded_restored.specs.Words.{HasTexts, TupleHasTexts, AtomHasWords}
-use Rattle.ded_restored.proofs.Texts.{tuple_says}
+use Rattle.ded_reread.specs.Words.{HasTexts, TupleHasTexts, AtomHasWords}
+use Rattle.ded_reread.proofs.Texts.{tuple_says}
 use Rattle.ded_sorts.specs.Checks.{forms_of}
 use Rattle.ded_sorts.proofs.Frees.{goal_free}
-use Rattle.ded_tuple.specs.TrueRows.{IsNormalOrTrue, is_true_atom, without_true}
-use Rattle.ded_tuple.proofs.Ordered.{mentions-ordered, normal-normal}
+use Rattle.ded_tuple.specs.TrueRows.{IsNormalOrTrue, without_true}
+use Rattle.ded_tuple.proofs.Ordered.{mentions-ordered, ordered-normal}
+use Rattle.ded_tuple.proofs.Shared.{not_true}
 use Rattle.ded_width.specs.Reach.{AreAscending, IsAscendingGoal}
 use Rattle.ded_width.proofs.AscendingGoals.{accepted_ascending}
-use Rattle.ded_wording.specs.Words.{IsName, IsMember, IsText}
+use Rattle.ded_plan.proofs.AtomsWithin.{normal_atom}
+use Rattle.ded_reread.specs.ScriptWords.{IsName, IsMember, IsText}
 
 -- ---- atoms
 
@@ -146,26 +148,13 @@ both : (xs ys : List Atom) → AllByRecursion IsNormalAtom xs → AllByRecursion
 both [] ys p q = q
 both (x ∷ xs) ys p q = (p.0, both xs ys p.1 q)
 
--- normal atoms aren't true
-or_true : (a : Atom) → IsNormalAtom a → IsNormalOrTrue a
-or_true (First r) n = (n.0, n.1)
-or_true (Second a) n = n
-
-untrue : (a : Atom) → IsNormalAtom a → is_true_atom a ≡ false
-untrue (First r) n = n.2
-untrue (Second a) n = refl
-
 all_or_true : (xs : List Atom) → AllByRecursion IsNormalAtom xs → AllByRecursion IsNormalOrTrue xs
 all_or_true [] p = tt
-all_or_true (x ∷ xs) p = (or_true x p.0, all_or_true xs p.1)
+all_or_true (x ∷ xs) p = (normal_atom x p.0, all_or_true xs p.1)
 
 none_true : (xs : List Atom) → AllByRecursion IsNormalAtom xs → without_true xs ≡ xs
 none_true [] p = refl
-none_true (x ∷ xs) p = ap (λ b. cond b (without_true xs) (x ∷ without_true xs)) (untrue x p.0) ∙ ap (λ l. x ∷ l) (none_true xs p.1)
-
--- so in order they are a normal tuple
-in_order : (xs : List Atom) → AllByRecursion IsNormalAtom xs → IsNormalTuple (ordered_atoms xs)
-in_order xs p = subst (λ l. IsNormalTuple (ordered_atoms l)) (none_true xs p) (normal-normal xs (all_or_true xs p))
+none_true (x ∷ xs) p = ap (λ b. cond b (without_true xs) (x ∷ without_true xs)) (not_true x p.0) ∙ ap (λ l. x ∷ l) (none_true xs p.1)
 
 -- what some atom of two lists mentions
 mentioned : (xs ys : List Atom) (s : Slot) (X : Type 0) → (tuple_mentions xs s ≡ true → X) → (tuple_mentions ys s ≡ true → X) → tuple_mentions (xs ++ ys) s ≡ true → X
@@ -278,6 +267,6 @@ module _ (normal_goals : (h : List Column) (f : Form) → some_below is_missorte
   unfolding tuple_of
   tuple_stored fs k p =
       let atoms = comparison_atoms (heading_scope 0 h) (forms_of fs) in (
-        record { normal = in_order atoms (all_normal fs k p); slots = λ s m. all_over fs k.bound s (mentions-ordered atoms s m) },
+        record { normal = ordered-normal atoms (all_normal fs k p); slots = λ s m. all_over fs k.bound s (mentions-ordered atoms s m) },
         tuple_short h (forms_of fs) (subst (AreReady h) (sym (logics_are fs)) k),
       )

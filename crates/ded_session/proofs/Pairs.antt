@@ -3,7 +3,7 @@
 -- Both are refusals or replies to one command, since bytes spell one command at most, and a command is answered in one way. Of
 -- a box it is known besides that there is a point, or none; and whether a column is rational is known of the heading.
 use Rattle.std.proofs.Common.{◌≡◌, ◌+◌, ℕ, Bool, true, false, not, List, [], ◌∷◌, length, refl, sym, ◌∙◌, subst, ◌⊎◌, inl, inr, ⊎_elim, true≢false, arith}
-use Rattle.std.specs.Prelude.{◌&&◌, if◌then◌else◌}
+use Rattle.std.specs.Prelude.{if◌then◌else◌}
 use Rattle.std.proofs.lemmas.Slice.Eq.{bytes_eq-Decides}
 use Rattle.ded_box.specs.Extents.{BoundsAt, AreBounds, IsBox}
 use Rattle.ded_lex.specs.Pieces.{Statement, Whole}
@@ -40,6 +40,7 @@ use Rattle.ded_session.proofs.PlainNames.{plain_columns}
 use Rattle.ded_session.proofs.PlainSpelling.{spelled_names}
 use Rattle.ded_model.proofs.Points.{and_left, and_right}
 use Rattle.std.proofs.lemmas.Bool.{or_from}
+use Rattle.ded_num.proofs.Tests.{and_false}
 
 -- ---- names that a formula uses
 
@@ -63,10 +64,6 @@ mutual
 
 -- ---- plans mention no names
 
-still_false : (a b : Bool) → b ≡ false → (a && b) ≡ false
-still_false true b e = e
-still_false false b e = refl
-
 no_name : (x : List ℕ) (a : PlanAtom) → in_plan_atom a (name x) ≡ false
 no_name x a = refl
 
@@ -80,8 +77,8 @@ mutual
   no_names x (some_of fs) = no_names_of x fs
   no_names x (implies f g) = or_from _ _ (no_names x f) (no_names x g)
   no_names x (minus f g) = or_from _ _ (no_names x f) (no_names x g)
-  no_names x (exists s k f) = still_false _ _ (no_names x f)
-  no_names x (forall s k f) = still_false _ _ (no_names x f)
+  no_names x (exists s k f) = and_false _ _ (no_names x f)
+  no_names x (forall s k f) = and_false _ _ (no_names x f)
 
   no_names_of : (x : List ℕ) (fs : Logics PlanAtom) → any_mentions in_plan_atom fs (name x) ≡ false
   no_names_of x none = refl

@@ -83,7 +83,7 @@ pub fn formed_catalogues()
     ensures run { (limit : ℕ) (script : List ℕ) (replies : List ReplyForm) (last : Catalogue) →
         Run limit script replies last → IsWellFormed last }
 {
-    ded_goals::laws::normal_goals();
+    ded_resolve::laws::normal_goals();
 }
 
 /// A statement over a well formed catalogue, as each is to which a run leads, is refused as too wide only where it is

@@ -11,7 +11,7 @@
 //! It stands on `ded_syntax` for commands, on `ded_resolve` for commands by slots, on `ded_database` for the catalogue
 //! and the lists of kept views, on `ded_packed` for the tuples of the catalogue, on `ded_plan` for plans, on `ded_atoms` for bounds,
 //! on `ded_cert` for certificates, on `ded_print` for texts and on `ded_model` for what formulas mean. That a run leads to a well
-//! formed catalogue ([`laws`]) stands on `ded_orderly`, `ded_restored` and `ded_wording` besides, for the tuples that statements insert.
+//! formed catalogue ([`laws`]) stands on `ded_width`, `ded_reread` and `ded_reread` besides, for the tuples that statements insert.
 #![tactic(auto)]
 
 mod boxes;

@@ -14,12 +14,12 @@ ghost use Rattle.ded_session.specs.Steps.{Does, MayBeWide};
 use crate::reply::Reply;
 use ded_database::Database;
 use ded_eval::Engine;
-use ded_goals::laws;
 use ded_model::answer::Answer;
 use ded_model::goal::Goal;
 use ded_model::memory::Refused;
 use ded_model::name::Heading;
 use ded_plan::plan;
+use ded_resolve::laws;
 use std::alloc::Global;
 
 /// The reply that says whether a closed formula, given as its goal, is true.

@@ -2,6 +2,7 @@
 use Rattle.std.proofs.Common.{◌≡◌, Bool, true, false, cond, ◌||◌, List, [], ◌∷◌, ◌++◌, inl, inr, refl, sym, ap, ◌∙◌, subst}
 use Rattle.std.specs.Prelude.{ℤ}
 use Rattle.std.specs.List.{list_any}
+use Rattle.ded_num.proofs.Tests.{or_false_both}
 use Rattle.ded_model.specs.declared.slot.Slot.{Slot}
 use Rattle.ded_model.specs.Constraint.{LinearConstraint}
 use Rattle.ded_model.specs.Point.{same_slot, stands_in}
@@ -12,10 +13,6 @@ use Rattle.ded_model.proofs.Points.{same_slot_is, same_slot_refl}
 use Rattle.ded_model.proofs.Rows.{or_left, or_right}
 use Rattle.ded_theory.specs.Conjunctions.{conj_mentions}
 use Rattle.ded_shapes.specs.Projections.{is_among, with_other, with_others, with_all_others}
-
-pub both_false : (a b : Bool) → a ≡ false → b ≡ false → (a || b) ≡ false
-both_false true b h k = h
-both_false false b h k = k
 
 stands_append : (ss ts : List Slot) (u : Slot) → stands_in (ss ++ ts) u ≡ (stands_in ss u || stands_in ts u)
 stands_append [] ts u = refl
@@ -70,7 +67,7 @@ module _ (x y : Slot) where
           (stands_append ss (s ∷ []) s ∙ or_right (stands_in ss s) (stands_in (s ∷ []) s) (or_left (same_slot s s) false (same_slot_refl s)))
 
       without_it : (t : Slot) → stands_in ss t ≡ false → same_slot s t ≡ false → stands_in (ss ++ s ∷ []) t ≡ false
-      without_it t h e = stands_append ss (s ∷ []) t ∙ both_false (stands_in ss t) (stands_in (s ∷ []) t) h (both_false (same_slot s t) false e refl)
+      without_it t h e = stands_append ss (s ∷ []) t ∙ or_false_both (stands_in ss t) (stands_in (s ∷ []) t) h (or_false_both (same_slot s t) false e refl)
 
       free : AreFree x y ss → (b : Bool) → is_among x y ss s ≡ b → AreFree x y (cond b ss (ss ++ s ∷ []))
       free f true e = f

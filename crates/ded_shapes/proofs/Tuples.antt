@@ -3,44 +3,33 @@ use Rattle.std.proofs.Common.{◌≡◌, Bool, true, false, ◌&&◌, List, [], 
 use Rattle.std.specs.Prelude.{IsTrue}
 use Rattle.std.specs.List.{AllByRecursion}
 use Rattle.ded_model.specs.declared.slot.Slot.{Slot}
-use Rattle.ded_model.specs.declared.slot.Sort.TheVariants.{Rat, Text}
+use Rattle.ded_model.specs.declared.slot.Sort.TheVariants.{Rat}
 use Rattle.ded_model.specs.Point.{slot, Point, IsPoint}
 use Rattle.ded_model.specs.Row.{Atom, row_holds, row_mentions, theme_holds, theme_mentions, tuple_holds}
-use Rattle.ded_model.specs.Cell.{conj_holds, HoldsSomewhere}
+use Rattle.ded_model.specs.Cell.{conj_holds, HoldsSomewhere, HoldsNowhere}
 use Rattle.ded_model.specs.Lines.{row_lines}
 use Rattle.ded_model.specs.Normal.{IsNormalTheme, IsNormalTuple}
 use Rattle.ded_model.specs.Width.{IsNarrowList}
 use Rattle.ded_model.proofs.Points.{and_left}
-use Rattle.ded_model.proofs.Rows.{row_holds-same, theme_holds-same}
 use Rattle.ded_model.specs.declared.tuple.ThemeAtom.{ThemeAtom}
 use Rattle.ded_theory.specs.declared.answers.Verdict.{Verdict}
 use Rattle.ded_theory.specs.declared.answers.Verdict.TheVariants.{Empty, Inhabited, Unknown}
 use Rattle.ded_theory.specs.Conjunctions.{IsWide}
-use Rattle.ded_theory.specs.Verdicts.{HoldsNowhere, IsVerdict}
+use Rattle.ded_theory.specs.Verdicts.{IsVerdict}
 use Rattle.ded_theory.specs.Both.{firsts, seconds}
 use Rattle.ded_theory.proofs.TwoKinds.{parts_hold, firsts_normal, seconds_normal}
 use Rattle.ded_theory.proofs.Merged.{merged, merged_first, merged_is}
-use Rattle.ded_theory.proofs.PartLaws.{IsOfSort, only_texts, both_hold, nowhere_second, verdicts_joined}
-use Rattle.ded_theme.specs.Sources.{owns_sort}
-use Rattle.ded_theme.specs.Laws.{owned-slots}
+use Rattle.ded_theory.proofs.PartLaws.{both_hold, nowhere_second, verdicts_joined}
+use Rattle.ded_theory.proofs.Shared.{holds_alike}
+use Rattle.ded_theme.proofs.Shared.{text_laws}
 use Rattle.ded_elimination.specs.LinearAtoms.{IsLinearAtom}
-use Rattle.ded_linear.specs.Laws.{rational_slots, slots_of_lines}
-use Rattle.ded_atoms.proofs.Conjunctive.{normal-is, tuple_holds-is}
+use Rattle.ded_elimination.proofs.Shared.{atoms_normal}
+use Rattle.ded_linear.proofs.Shared.{row_laws}
 use Rattle.ded_atoms.proofs.Narrowness.{narrow_is}
 use Rattle.ded_shapes.specs.declared.projecting.Projection.{Projection}
 use Rattle.ded_shapes.specs.declared.projecting.Projection.TheVariants.{Nowhere, Rows}
 use Rattle.ded_shapes.specs.Projections.{IsProjection}
 use Rattle.ded_shapes.proofs.Without.{same_then}
-
-row_laws : IsOfSort row_holds row_mentions row_lines IsLinearAtom Rat
-row_laws = record { respects = row_holds-same; sort = rational_slots; line_slots = slots_of_lines }
-
-text_laws : IsOfSort theme_holds theme_mentions (λ a. []) IsNormalTheme Text
-text_laws = record {
-  respects = λ a p q i j same. theme_holds-same a p q same;
-  sort = λ a t n m. only_texts owns_sort refl t.sort (owned-slots a t n m);
-  line_slots = λ a l s none. absurd none;
-}
 
 -- texts that neither hold nowhere nor are undecided
 pub inhabited : (texts seen : List ThemeAtom) (v : Verdict) → seen ≡ texts → (v ≡ Empty → ⊥) → (v ≡ Unknown → ⊥) → IsVerdict theme_holds theme_mentions (λ a. []) seen v
@@ -55,29 +44,29 @@ empty texts seen v e f h =
 
 module _ (t : List Atom) (n : IsNormalTuple t) where
   pub rows_normal : AllByRecursion IsLinearAtom (firsts t)
-  rows_normal = firsts_normal IsLinearAtom IsNormalTheme t (normal-is t n)
+  rows_normal = firsts_normal IsLinearAtom IsNormalTheme t (atoms_normal t n)
 
   pub texts_normal : AllByRecursion IsNormalTheme (seconds t)
-  texts_normal = seconds_normal IsLinearAtom IsNormalTheme t (normal-is t n)
+  texts_normal = seconds_normal IsLinearAtom IsNormalTheme t (atoms_normal t n)
 
   split : (p : Point) → tuple_holds t p ≡ (conj_holds row_holds (firsts t) p && conj_holds theme_holds (seconds t) p)
-  split p = sym (tuple_holds-is t p) ∙ parts_hold row_holds theme_holds t p
+  split p = sym (holds_alike t p) ∙ parts_hold row_holds theme_holds t p
 
   pub no_text : HoldsNowhere (conj_holds theme_holds (seconds t)) → HoldsNowhere (tuple_holds t)
   no_text h p i =
-      sym (tuple_holds-is t p)
-      ∙ nowhere_second row_holds row_mentions row_lines IsLinearAtom row_laws theme_holds theme_mentions (λ a. []) IsNormalTheme text_laws t (normal-is t n) h p i
+      sym (holds_alike t p)
+      ∙ nowhere_second row_holds row_mentions row_lines IsLinearAtom row_laws theme_holds theme_mentions (λ a. []) IsNormalTheme text_laws t (atoms_normal t n) h p i
 
   module _ (texts : HoldsSomewhere (conj_holds theme_holds (seconds t))) where
     pub too_wide : IsWide row_mentions row_lines (firsts t) → IsNarrowList t → ⊥
     too_wide w narrow =
         narrow_is t n narrow
-        (verdicts_joined row_holds row_mentions row_lines IsLinearAtom row_laws theme_holds theme_mentions (λ a. []) IsNormalTheme text_laws t (normal-is t n) Unknown Inhabited w texts)
+        (verdicts_joined row_holds row_mentions row_lines IsLinearAtom row_laws theme_holds theme_mentions (λ a. []) IsNormalTheme text_laws t (atoms_normal t n) Unknown Inhabited w texts)
 
     with_text : (p : Point) → IsPoint p → IsTrue (conj_holds row_holds (firsts t) p) → IsTrue (tuple_holds t (merged p texts.0))
     with_text p i h =
-        sym (tuple_holds-is t (merged p texts.0))
-        ∙ both_hold row_holds row_mentions row_lines IsLinearAtom row_laws theme_holds theme_mentions (λ a. []) IsNormalTheme text_laws t (normal-is t n) p texts.0 i texts.1 h texts.2
+        sym (holds_alike t (merged p texts.0))
+        ∙ both_hold row_holds row_mentions row_lines IsLinearAtom row_laws theme_holds theme_mentions (λ a. []) IsNormalTheme text_laws t (atoms_normal t n) p texts.0 i texts.1 h texts.2
 
     rows_hold : (p : Point) → IsTrue (tuple_holds t p) → IsTrue (conj_holds row_holds (firsts t) p)
     rows_hold p h = and_left (conj_holds row_holds (firsts t) p) (conj_holds theme_holds (seconds t) p) (sym (split p) ∙ h)

@@ -11,6 +11,7 @@ use Rattle.ded_model.specs.Row.{row_at, sign_meets, row_holds}
 use Rattle.ded_model.specs.Cell.{conj_holds}
 use Rattle.ded_model.proofs.Eliminating.{meets-decides}
 use Rattle.ded_model.proofs.Points.{and_left, and_right}
+use Rattle.ded_model.proofs.Given.{same_self}
 use Rattle.ded_polygon.specs.Plane.{Spot}
 use Rattle.ded_polygon.specs.Vertices.{LiesIn, IsVertex}
 use Rattle.ded_polygon.specs.Closures.{IsInClosure, weakened, holds_weakly, MentionOnly, point_at, spot_of}
@@ -23,7 +24,6 @@ use Rattle.ded_polygon.proofs.RowPlanes.{in_right, in_either}
 use Rattle.ded_polygon.proofs.RowVertices.{enclosed, closure_lies, corner_point_of, spot_back}
 use Rattle.ded_shapes.specs.Projections.{AreProjected}
 use Rattle.ded_shapes.proofs.Cornered.{some_vertex}
-use Rattle.ded_shapes.proofs.Without.{same_self}
 
 -- ---- closures
 weaker : (op : RowOp) (r : LinearConstraint) (p : Point) → sign_meets op (row_at r p) ≡ true → sign_meets (weakened op) (row_at r p) ≡ true

@@ -4,40 +4,39 @@ use Rattle.std.specs.Prelude.{ℤ, pos, ◌*ℤ◌, ◌<ℤ◌, ◌↔◌, IsTru
 use Rattle.std.specs.List.{AllByRecursion}
 use Rattle.std.proofs.lemmas.Int.{ints}
 use Rattle.ded_num.proofs.Ring.{parts, ring, diff_same}
+use Rattle.ded_num.proofs.Tests.{or_false_both}
 use Rattle.ded_model.specs.declared.memory.Refused.{Refused}
 use Rattle.ded_model.specs.declared.slot.Slot.{Slot}
 use Rattle.ded_model.specs.declared.slot.Sort.TheVariants.{Rat}
 use Rattle.ded_model.specs.Constraint.{LinearConstraint}
 use Rattle.ded_model.specs.Point.{Key, slot, Point, IsPoint, IsSameAt, IsExtension, IsNumberExtension, number_at, same_slot, stands_in}
 use Rattle.ded_model.specs.Row.{row_holds, row_mentions}
-use Rattle.ded_model.specs.Cell.{conj_holds, HoldsSomewhere}
+use Rattle.ded_model.specs.Cell.{conj_holds, HoldsSomewhere, HoldsNowhere}
 use Rattle.ded_model.specs.Lines.{IsSubset, row_lines, elim_at, clash_at}
 use Rattle.ded_model.proofs.Bools.{or_false_left, or_false_right}
 use Rattle.ded_model.proofs.Members.{or_split}
 use Rattle.ded_model.proofs.Points.{same_slot_is}
 use Rattle.ded_model.proofs.Rows.{or_left, or_right, row_holds-same}
 use Rattle.ded_model.proofs.Unused.{extension_same}
+use Rattle.ded_model.proofs.SlotLists.{same_slot-turned}
+use Rattle.ded_model.proofs.Given.{same_self}
 use Rattle.ded_theory.specs.declared.answers.Eliminated.{Eliminated}
 use Rattle.ded_theory.specs.declared.answers.Eliminated.TheVariants.{Never, Conj}
 use Rattle.ded_theory.specs.Conjunctions.{conj_mentions, conj_lines, IsWide}
 use Rattle.ded_theory.specs.Eliminations.{SomeExtension, eliminated_atoms, eliminated_holds}
 use Rattle.ded_theory.specs.declared.answers.Verdict.{Verdict}
-use Rattle.ded_theory.specs.Verdicts.{HoldsNowhere, IsVerdict}
+use Rattle.ded_theory.specs.Verdicts.{IsVerdict}
 use Rattle.ded_theory.proofs.Conjunctions.{conj_holds-same}
 use Rattle.ded_elimination.specs.LinearAtoms.{IsLinearAtom}
 use Rattle.ded_linear.proofs.Shadows.{itself, extension_point}
 use Rattle.ded_linear.proofs.Steps.{mentioned_rational}
 use Rattle.ded_linear.proofs.Wide.{wide_later, wide_now}
 use Rattle.ded_polygon.specs.Plane.{In}
-use Rattle.ded_polygon.proofs.Framing.{differ_back}
 use Rattle.ded_polygon.proofs.Signs.{cancel}
 use Rattle.ded_shapes.specs.Projections.{AreProjected, IsWithout, with_all_others}
-use Rattle.ded_shapes.proofs.Others.{both_false, gathers_rows}
+use Rattle.ded_shapes.proofs.Others.{gathers_rows}
 
 -- ---- points with the same values
-pub same_self : (p : Point) (k : Key) → IsSameAt p p k
-same_self p k = record { number = refl; text = refl }
-
 crossed : (x y z a b c : ℤ) → pos 0 <ℤ b → x *ℤ b ≡ y *ℤ a → y *ℤ c ≡ z *ℤ b → x *ℤ c ≡ z *ℤ a
 crossed x y z a b c h e f =
     cancel b (x *ℤ c) (z *ℤ a) h (inwards b x c ∙ ap (λ w. w *ℤ c) e ∙ swapped y a c ∙ ap (λ w. w *ℤ a) f ∙ sym (inwards b z a))
@@ -80,7 +79,7 @@ unmentioned t v n h = untouched (t ∷ []) v n (λ s m. by s m (same_slot t s) r
   where
     by : (s : Slot) → conj_mentions row_mentions v.items s ≡ true → (b : Bool) → same_slot t s ≡ b → (same_slot t s || false) ≡ false
     by s m true e = absurd (true≢false (sym m ∙ ap (λ u. conj_mentions row_mentions v.items u) (sym (same_slot_is t s e)) ∙ h))
-    by s m false e = both_false (same_slot t s) false e refl
+    by s m false e = or_false_both (same_slot t s) false e refl
 
 -- a slot that is eliminated
 module _ (t : Slot) (rows : List LinearConstraint) (e : Eliminated LinearConstraint) (rational : t.sort ≡ Rat)
@@ -90,10 +89,10 @@ module _ (t : Slot) (rows : List LinearConstraint) (e : Eliminated LinearConstra
   number_extension p h = subst (λ o. (q : Point) × IsExtension o p (slot t) q × IsTrue (conj_holds row_holds rows q)) rational h
 
   apart : (s : Slot) → stands_in (t ∷ []) s ≡ false → same_slot s t ≡ false
-  apart s f = differ_back t s (or_false_left (same_slot t s) false f)
+  apart s f = same_slot-turned t s (or_false_left (same_slot t s) false f)
 
   other : (s : Slot) → conj_mentions row_mentions (eliminated_atoms e) s ≡ true → stands_in (t ∷ []) s ≡ false
-  other s m = both_false (same_slot t s) false (differ_back s t (slots s m).0) refl
+  other s m = or_false_both (same_slot t s) false (same_slot-turned s t (slots s m).0) refl
 
   pub one_less : conj_mentions row_mentions rows t ≡ true → AllByRecursion IsLinearAtom (eliminated_atoms e)
       → IsSubset (conj_lines row_lines (eliminated_atoms e)) (elim_at t (conj_lines row_lines rows)) → IsWithout (t ∷ []) rows e
@@ -131,7 +130,7 @@ module _ (t : Slot) (ss : List Slot) (rows : List LinearConstraint) where
             u.0,
             u.1,
             (λ s f. same_then p w.0 u.0 (slot s) w.1.positive (w.2 s (or_false_right (same_slot t s) (stands_in ss s) f))
-                (u.2 s (both_false (same_slot t s) false (or_false_left (same_slot t s) (stands_in ss s) f) refl))),
+                (u.2 s (or_false_both (same_slot t s) false (or_false_left (same_slot t s) (stands_in ss s) f) refl))),
             u.3,
           )),
       λ w. (let mid = (a.holds w.0 w.1).1 (w.0, w.1, (λ s f. same_self w.0 (slot s)), w.3) in
@@ -145,7 +144,7 @@ module _ (t : Slot) (ss : List Slot) (rows : List LinearConstraint) where
       neither : (s : Slot) → conj_mentions row_mentions (eliminated_atoms e) s ≡ true → stands_in (t ∷ ss) s ≡ false
       neither s m =
           let k = b.slots s m in
-          both_false (same_slot t s) (stands_in ss s) (or_false_left (same_slot t s) false (a.slots s k.1).0) k.0
+          or_false_both (same_slot t s) (stands_in ss s) (or_false_left (same_slot t s) false (a.slots s k.1).0) k.0
 
   pub then_never : IsWithout (t ∷ []) rows Never → IsWithout (t ∷ ss) rows Never
   then_never a = record {

@@ -5,12 +5,11 @@ use Rattle.ded_model.specs.declared.slot.Slot.{Slot}
 use Rattle.ded_model.specs.Constraint.{LinearConstraint}
 use Rattle.ded_model.specs.Point.{Point, IsPoint, IsSameAt, slot, same_slot, stands_in}
 use Rattle.ded_model.specs.Row.{row_holds, row_mentions}
-use Rattle.ded_model.specs.Cell.{conj_holds, HoldsSomewhere}
+use Rattle.ded_model.specs.Cell.{conj_holds, HoldsSomewhere, HoldsNowhere}
 use Rattle.ded_model.specs.Lines.{row_lines}
 use Rattle.ded_theory.specs.declared.answers.Eliminated.{Eliminated}
 use Rattle.ded_theory.specs.Conjunctions.{conj_mentions, IsWide}
 use Rattle.ded_theory.specs.Eliminations.{eliminated_atoms, eliminated_holds}
-use Rattle.ded_theory.specs.Verdicts.{HoldsNowhere}
 use Rattle.ded_elimination.specs.LinearAtoms.{IsLinearAtom}
 use Rattle.ded_polygon.specs.Closures.{MentionOnly}
 use Rattle.ded_shapes.specs.declared.projecting.Projection.{Projection}

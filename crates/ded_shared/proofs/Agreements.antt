@@ -2,7 +2,7 @@
 use Rattle.std.proofs.Common.{◌≡◌, ℕ, Bool, true, false, not, ◌&&◌, ◌||◌, List, ◌++◌, refl, sym, ◌∙◌, ap, true≢false, bytes_eq}
 use Rattle.std.proofs.lemmas.List.Folds.{list_any-append}
 use Rattle.ded_model.specs.Catalogue.{Catalogue}
-use Rattle.ded_frame.specs.Agreeing.{Agree}
+use Rattle.ded_shared.specs.Agreeing.{Agree}
 use Rattle.ded_shared.specs.Conflicts.{NoneInBoth}
 use Rattle.ded_shared.specs.State.{is_among}
 

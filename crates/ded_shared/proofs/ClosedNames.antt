@@ -6,6 +6,7 @@ use Rattle.std.specs.List.{list_any}
 use Rattle.std.proofs.Math.Bool.{or-false}
 use Rattle.std.proofs.lemmas.List.Folds.{list_any-append, list_any_more, list_any_at}
 use Rattle.std.proofs.lemmas.Slice.Eq.{bytes_eq-Decides}
+use Rattle.ded_num.proofs.Tests.{bytes_eq-swap}
 use Rattle.ded_model.specs.declared.name.Column.{Column}
 use Rattle.ded_model.specs.Catalogue.{Entry, relation, view, Catalogue}
 use Rattle.ded_model.specs.Command.{CommandForm}
@@ -19,14 +20,13 @@ use Rattle.ded_model.proofs.Members.{or_split}
 use Rattle.ded_model.proofs.Rows.{or_left, or_right}
 use Rattle.ded_catalog.specs.Mentions.{AreMentions}
 use Rattle.ded_sorts.specs.Causes.{formula_in, passes_with}
-use Rattle.ded_sorts.proofs.Sides.{bytes_eq-sym}
 use Rattle.ded_views.specs.Reaching.{atom_reaches, reaches}
 use Rattle.ded_views.proofs.Atoms.{some_passes}
 use Rattle.ded_views.proofs.Named.{some_named, named_passes}
 use Rattle.ded_views.proofs.Placing.{unreached}
 use Rattle.ded_views.proofs.Views.{name_level, lesser_level, relation_reaches, view_reaches, used_reaches}
-use Rattle.ded_frame.specs.Touching.{names_beside, name_touches, touches}
-use Rattle.ded_frame.proofs.Reach.{some_reached, used_itself}
+use Rattle.ded_shared.specs.Touching.{names_beside, name_touches, touches}
+use Rattle.ded_shared.proofs.Reach.{some_reached, used_itself}
 use Rattle.ded_shared.specs.Gathering.{AreBelow, AreNamed, IsClosed, Touches, TouchesAll}
 use Rattle.ded_shared.specs.State.{is_among}
 
@@ -141,7 +141,7 @@ module _ (c : Catalogue) where
         among_more mid n m
         ∙ ap (λ b. b || bytes_eq m n) (t.all m)
         ∙ regroup (is_among old m) (list_any (λ k. name_touches c k m) ms) (bytes_eq m n)
-        ∙ ap (λ b. is_among old m || (b || list_any (λ k. name_touches c k m) ms)) (bytes_eq-sym m n)
+        ∙ ap (λ b. is_among old m || (b || list_any (λ k. name_touches c k m) ms)) (bytes_eq-swap m n)
         ∙ ap (λ b. is_among old m || b) (sym (is m))
 
     closed_last : IsClosed c (mid ++ n ∷ [])

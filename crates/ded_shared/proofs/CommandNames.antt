@@ -1,8 +1,9 @@
 -- The names that a command has, and those that it changes where it is accepted.
-use Rattle.std.proofs.Common.{◌≡◌, ℕ, ◌+◌, ◌<◌, Bool, ◌||◌, true, false, List, [], ◌∷◌, ◌++◌, drop, length, get_or, refl, sym, ap, ◌∙◌, bytes_eq}
+use Rattle.std.proofs.Common.{◌≡◌, ℕ, ◌+◌, ◌<◌, ◌||◌, List, [], ◌∷◌, ◌++◌, drop, length, get_or, sym, ap, ◌∙◌, bytes_eq}
 use Rattle.std.proofs.Math.Bool.{or-false}
 use Rattle.std.proofs.lemmas.List.{at_drop_more}
 use Rattle.std.proofs.lemmas.List.Folds.{list_any-append}
+use Rattle.ded_num.proofs.Tests.{bytes_eq-swap}
 use Rattle.ded_model.specs.declared.formula.Formula.{Formula}
 use Rattle.ded_model.specs.declared.name.Column.{Column}
 use Rattle.ded_model.specs.Command.{insert, view}
@@ -10,17 +11,10 @@ use Rattle.ded_model.specs.Form.{Form, FormAtom, form, forms, atom_speaks_of, sp
 use Rattle.ded_model.specs.Logic.{Logics, some_atom_of}
 use Rattle.ded_model.proofs.Bools.{or_assoc}
 use Rattle.ded_catalog.specs.Mentions.{AreMentions}
-use Rattle.ded_sorts.proofs.Sides.{bytes_eq-sym}
+use Rattle.ded_database.proofs.Losing.{or_comm}
 use Rattle.ded_shared.specs.Gathering.{AreNamed}
 use Rattle.ded_shared.specs.State.{is_among}
 use Rattle.ded_shared.proofs.ClosedNames.{among_more}
-
--- in the other order
-or_swap : (a b : Bool) → (a || b) ≡ (b || a)
-or_swap true true = refl
-or_swap true false = refl
-or_swap false true = refl
-or_swap false false = refl
 
 -- ---- names of a command
 
@@ -30,7 +24,7 @@ named_view m h f spoken ns a e = record {
   all = λ n.
       ap (λ l. is_among l n) e
       ∙ among_more spoken m n
-      ∙ or_swap (is_among spoken n) (bytes_eq n m)
+      ∙ or_comm (is_among spoken n) (bytes_eq n m)
       ∙ ap (λ b. bytes_eq n m || b) (a.all n)
       ∙ ap (λ b. b || speaks_of n f) (sym (or-false (bytes_eq n m)));
 }
@@ -68,6 +62,6 @@ pub view_changed : (m : List ℕ) (f : Form) (spoken ns : List (List ℕ)) → A
 view_changed m f spoken ns a e n =
     ap (λ l. is_among l n) e
     ∙ among_more spoken m n
-    ∙ or_swap (is_among spoken n) (bytes_eq n m)
+    ∙ or_comm (is_among spoken n) (bytes_eq n m)
     ∙ ap (λ b. bytes_eq n m || b) (a.all n)
-    ∙ ap (λ b. b || speaks_of n f) (bytes_eq-sym n m)
+    ∙ ap (λ b. b || speaks_of n f) (bytes_eq-swap n m)

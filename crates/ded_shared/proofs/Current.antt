@@ -1,6 +1,7 @@
 -- Transactions since whose begin nothing was changed: their accepted changes make their own catalogue of the shared one.
 use Rattle.std.proofs.Common.{◌≡◌, ◌≤◌, ℕ, Bool, true, false, not, ◌&&◌, ◌||◌, List, [], ◌∷◌, ◌++◌, Option, Some, None, if◌then◌else◌, get_or, slice_set, length, IfSome, refl, sym, ap, ◌∙◌, subst, true≢false, bytes_eq}
 use Rattle.std.proofs.lemmas.Bool.{and_parts, not-true}
+use Rattle.ded_num.proofs.Tests.{and_false_left}
 use Rattle.ded_lex.specs.Pieces.{Whole}
 use Rattle.ded_model.specs.declared.command.Language.TheVariants.{One}
 use Rattle.ded_model.specs.Catalogue.{Catalogue}
@@ -8,7 +9,7 @@ use Rattle.ded_model.specs.Command.{CommandForm, relation, insert, delete, drop,
 use Rattle.ded_model.proofs.Bools.{bytes_eq-refl, or_false_left, or_false_right}
 use Rattle.ded_syntax.specs.Spelling.{IsRead}
 use Rattle.ded_catalog.specs.State.{Table, catalogue_of}
-use Rattle.ded_frame.specs.Touching.{changes}
+use Rattle.ded_shared.specs.Touching.{changes}
 use Rattle.ded_session.specs.Replies.{ReplyForm, is_refusal}
 use Rattle.ded_session.specs.Steps.{Step}
 use Rattle.ded_shared.specs.Gathering.{changed_by}
@@ -46,16 +47,12 @@ changeless c (verify m k es) none = refl
 
 -- ---- outside of transactions
 
-no_and : (a b : Bool) → a ≡ false → (a && b) ≡ false
-no_and true b e = absurd (true≢false e)
-no_and false b e = refl
-
 -- a command that changes no name leaves the catalogue
 pub unnamed_same : (c d : Catalogue) (bytes : List ℕ) (x : CommandForm) → IsRead One bytes x → (reply : ReplyForm) → Step One c (Whole bytes) reply d → (names : List (List ℕ))
     → ((n : List ℕ) → is_among names n ≡ changed_by c x n) → names ≡ [] → d ≡ c
 unnamed_same c d bytes x read reply step names are none =
     no_change c d bytes x read.depth reply read.spells
-    (no_and (is_change x) (not (is_refusal reply)) (changeless c x (λ n. sym (are n) ∙ ap (λ (l : List (List ℕ)). is_among l n) none))) step
+    (and_false_left (is_change x) (not (is_refusal reply)) (changeless c x (λ n. sym (are n) ∙ ap (λ (l : List (List ℕ)). is_among l n) none))) step
 
 -- ---- in a transaction
 

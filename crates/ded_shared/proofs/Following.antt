@@ -6,11 +6,11 @@ use Rattle.ded_model.specs.Catalogue.{Catalogue}
 use Rattle.ded_model.specs.Command.{CommandForm}
 use Rattle.ded_model.specs.Known.{IsWellFormed}
 use Rattle.ded_syntax.specs.Spelling.{Spells}
-use Rattle.ded_frame.specs.Agreeing.{Agree}
-use Rattle.ded_frame.specs.Touching.{touches, changes, depends_on_names}
-use Rattle.ded_frame.proofs.Kept.{step_keeps}
-use Rattle.ded_frame.proofs.Replaced.{agree_itself}
-use Rattle.ded_frame.proofs.Replying.{reply_over}
+use Rattle.ded_shared.specs.Agreeing.{Agree}
+use Rattle.ded_shared.specs.Touching.{touches, changes, depends_on_names}
+use Rattle.ded_shared.proofs.Kept.{step_keeps}
+use Rattle.ded_shared.proofs.Replaced.{agree_itself}
+use Rattle.ded_shared.proofs.Replying.{reply_over}
 use Rattle.ded_session.specs.Replies.{ReplyForm}
 use Rattle.ded_session.specs.Steps.{Step}
 use Rattle.ded_shared.specs.Events.{Told}

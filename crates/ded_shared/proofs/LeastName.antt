@@ -10,6 +10,7 @@ use Rattle.std.proofs.lemmas.Cmp.{nat_list_cmp_total}
 use Rattle.std.proofs.lemmas.List.{take_more}
 use Rattle.std.proofs.lemmas.List.Folds.{list_any-append}
 use Rattle.std.proofs.lemmas.Slice.Eq.{bytes_eq-Decides}
+use Rattle.ded_weighing.proofs.Shown.{fails}
 use Rattle.ded_shared.specs.State.{is_among}
 use Rattle.ded_shared.specs.Conflicts.{in_both, NoneInBoth, IsLeastInBoth, is_below}
 
@@ -57,10 +58,6 @@ in_there : (a b s : Bool) → (a && s) ≡ true → ((a || (b || false)) && s) �
 in_there true b s e = e
 in_there false b s e = absurd (true≢false (sym e))
 
-never : (b : Bool) → (b ≡ true → ⊥) → b ≡ false
-never true none = absurd (none refl)
-never false none = refl
-
 right_false : (a b : Bool) → b ≡ false → (a && b) ≡ true → ⊥
 right_false true b e f = true≢false (sym f ∙ e)
 right_false false b e f = true≢false (sym f)
@@ -101,7 +98,7 @@ module _ (touched stale : List (List ℕ)) (n : List ℕ) where
 
   -- the name isn't in the other list
   pub least_passed : (o : Option (List ℕ)) → LeastOf touched stale o → is_among stale n ≡ false → LeastOf more stale o
-  least_passed None none s = λ m. never (in_both more stale m) (λ e. ⊎_elim
+  least_passed None none s = λ m. fails (in_both more stale m) (λ e. ⊎_elim
       (λ (h : in_both touched stale m ≡ true). true≢false (sym h ∙ none m))
       (λ (h : (m ≡ n) × (is_among stale m ≡ true)). true≢false (sym h.1 ∙ ap (is_among stale) h.0 ∙ s))
       (in_more m e))

@@ -6,9 +6,9 @@ use Rattle.ded_model.specs.declared.command.Language.TheVariants.{One}
 use Rattle.ded_model.specs.declared.command.Refusal.TheVariants.{Memory}
 use Rattle.ded_model.specs.Catalogue.{Catalogue}
 use Rattle.ded_model.specs.Known.{IsWellFormed}
-use Rattle.ded_frame.specs.Agreeing.{Agree}
-use Rattle.ded_frame.specs.Touching.{changes}
-use Rattle.ded_frame.proofs.Kept.{step_keeps}
+use Rattle.ded_shared.specs.Agreeing.{Agree}
+use Rattle.ded_shared.specs.Touching.{changes}
+use Rattle.ded_shared.proofs.Kept.{step_keeps}
 use Rattle.ded_session.specs.Replies.{ReplyForm, done, refused}
 use Rattle.ded_shared.specs.Events.{Told, Open, with_open, opens, told_in, unless_open, ends}
 use Rattle.ded_shared.specs.Forms.{SharedForm, plain, begun, not_begun, conflict}

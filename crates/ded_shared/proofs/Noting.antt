@@ -8,7 +8,7 @@ use Rattle.ded_model.specs.Command.{CommandForm, relation, insert, delete, drop 
 use Rattle.ded_syntax.specs.Spelling.{Spells, IsRead}
 use Rattle.ded_syntax.proofs.One.{one_command}
 use Rattle.ded_catalog.specs.State.{Table, catalogue_of}
-use Rattle.ded_frame.specs.Touching.{changes}
+use Rattle.ded_shared.specs.Touching.{changes}
 use Rattle.ded_session.specs.Replies.{ReplyForm, done, number, refused, is_refusal}
 use Rattle.ded_session.specs.Steps.{Does, Step, Accepts}
 use Rattle.ded_shared.specs.Gathering.{changed_by}

@@ -15,7 +15,7 @@ use Rattle.ded_terminals.specs.Literals.{exact}
 use Rattle.ded_syntax.specs.Spelling.{Spells, AppliesIn, IsLeastIn, IsRead}
 use Rattle.ded_terminals.specs.Symbols.{Symbol, symbol}
 use Rattle.ded_terminals.proofs.Seen.{one_list}
-use Rattle.ded_frame.specs.Touching.{depends_on_names}
+use Rattle.ded_shared.specs.Touching.{depends_on_names}
 use Rattle.ded_session.specs.Replies.{ReplyForm, refused}
 use Rattle.ded_session.specs.Steps.{MayRefuse}
 use Rattle.ded_session.proofs.StepLemmas.{may_refuse}

@@ -13,10 +13,11 @@ use Rattle.ded_model.specs.Known.{IsWellFormed}
 use Rattle.ded_syntax.specs.Spelling.{Spells, IsRead}
 use Rattle.ded_syntax.proofs.One.{one_command}
 use Rattle.ded_catalog.specs.State.{catalogue_of}
+use Rattle.ded_topology.proofs.Closed.{or_none}
 use Rattle.ded_session.specs.Replies.{ReplyForm, is_refusal, done, number, truth, tuples, stored, boxes, steps, script, apart, meeting, refused}
 use Rattle.ded_session.specs.Steps.{Does, Accepted, Step}
-use Rattle.ded_frame.specs.Touching.{touches, changes, depends_on_names}
-use Rattle.ded_frame.proofs.Changed.{changed_touched}
+use Rattle.ded_shared.specs.Touching.{touches, changes, depends_on_names}
+use Rattle.ded_shared.proofs.Changed.{changed_touched}
 use Rattle.ded_shared.specs.Gathering.{changed_by}
 use Rattle.ded_shared.specs.Parts.{ArePieces, KeepsFronts, Recalls, transaction_in}
 use Rattle.ded_shared.specs.Rules.{Remembers, is_change}
@@ -107,10 +108,6 @@ both true t g h = refl
 both false true g h = refl
 both false false true h = h refl
 both false false false h = refl
-
-or_none : (a g : Bool) → g ≡ false → a ≡ (a || g)
-or_none true g e = refl
-or_none false g e = sym e
 
 among_both : (new old more : List (List ℕ)) (n : List ℕ) → new ≡ old ++ more → is_among new n ≡ (is_among old n || is_among more n)
 among_both new old more n e = ap (λ l. is_among l n) e ∙ list_any-append (bytes_eq n) old more

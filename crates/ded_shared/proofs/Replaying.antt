@@ -11,9 +11,9 @@ use Rattle.ded_model.proofs.Bools.{bytes_eq-refl}
 use Rattle.ded_model.proofs.Rows.{or_left}
 use Rattle.ded_syntax.specs.Spelling.{Spells}
 use Rattle.ded_syntax.proofs.One.{one_command}
-use Rattle.ded_frame.specs.Agreeing.{Agree}
-use Rattle.ded_frame.specs.Touching.{touches, changes, depends_on_names, uses_name}
-use Rattle.ded_frame.proofs.OneCatalogue.{one_after}
+use Rattle.ded_shared.specs.Agreeing.{Agree}
+use Rattle.ded_shared.specs.Touching.{touches, changes, depends_on_names, uses_name}
+use Rattle.ded_shared.proofs.OneCatalogue.{one_after}
 use Rattle.ded_session.proofs.Making.{Makes, step_makes}
 use Rattle.ded_session.specs.Replies.{ReplyForm, is_refusal, done, number, truth, tuples, stored, boxes, steps, script, apart, meeting, refused}
 use Rattle.ded_session.specs.Runs.{Steps}

@@ -8,7 +8,7 @@ use Rattle.ded_model.specs.Entries.{entry_of, known}
 use Rattle.ded_model.specs.Form.{speaks_of}
 use Rattle.ded_model.specs.Known.{level_with}
 use Rattle.ded_sorts.specs.Causes.{formula_in, passes_with}
-use Rattle.ded_frame.specs.Touching.{names_beside, name_touches, uses_name}
+use Rattle.ded_shared.specs.Touching.{names_beside, name_touches, uses_name}
 use Rattle.ded_shared.specs.State.{is_among}
 
 -- the names that a command has, in its formula and beside it

@@ -11,7 +11,7 @@ use Rattle.ded_model.specs.declared.command.Refusal.{Refusal}
 use Rattle.ded_model.specs.declared.command.Refusal.TheVariants.{LongStatement, Unfinished, Memory}
 use Rattle.ded_model.specs.Catalogue.{Catalogue}
 use Rattle.ded_model.specs.Command.{CommandForm, relation, insert, delete, drop as drops, view}
-use Rattle.ded_frame.specs.Touching.{touches, changes, depends_on_names}
+use Rattle.ded_shared.specs.Touching.{touches, changes, depends_on_names}
 use Rattle.ded_session.specs.Following.{long_step, rest_step}
 use Rattle.ded_session.specs.Replies.{refused}
 use Rattle.ded_session.specs.Steps.{MayRefuse}

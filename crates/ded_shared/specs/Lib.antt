@@ -1,3 +1,4 @@
+pub mod Agreeing
 pub mod Answered
 pub mod Conflicts
 pub mod Deciding
@@ -13,7 +14,8 @@ pub mod PlainNames
 pub mod Rules
 pub mod Serial
 pub mod State
-pub mod Tags
 pub mod TagTokens
+pub mod Tags
 pub mod Texts
+pub mod Touching
 pub mod Verbs

@@ -4,7 +4,7 @@ use Rattle.std.specs.List.{AllByRecursion}
 use Rattle.ded_model.specs.Catalogue.{Catalogue}
 use Rattle.ded_model.specs.Command.{CommandForm}
 use Rattle.ded_catalog.specs.State.{Table, catalogue_of}
-use Rattle.ded_frame.specs.Touching.{touches}
+use Rattle.ded_shared.specs.Touching.{touches}
 use Rattle.ded_shared.specs.Gathering.{changed_by}
 use Rattle.ded_shared.specs.Rules.{is_change, Replays}
 use Rattle.ded_shared.specs.State.{Transaction, State, is_among}

@@ -6,7 +6,7 @@ use Rattle.ded_model.specs.declared.command.Refusal.TheVariants.{Memory}
 use Rattle.ded_model.specs.Catalogue.{Catalogue}
 use Rattle.ded_model.specs.Command.{CommandForm, relation, insert, delete, drop, view}
 use Rattle.ded_syntax.specs.Spelling.{Spells}
-use Rattle.ded_frame.specs.Touching.{touches, changes, depends_on_names}
+use Rattle.ded_shared.specs.Touching.{touches, changes, depends_on_names}
 use Rattle.ded_session.specs.Replies.{ReplyForm, done, refused, is_refusal}
 use Rattle.ded_session.specs.Steps.{Step}
 use Rattle.ded_shared.specs.Conflicts.{NoneInBoth, IsLeastInBoth}

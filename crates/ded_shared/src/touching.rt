@@ -7,7 +7,7 @@ ghost use Rattle.ded_model.specs.Form.{forms, atom_speaks_of};
 ghost use Rattle.ded_model.specs.Known.{level_with};
 ghost use Rattle.ded_model.specs.Logic.{some_atom_of};
 ghost use Rattle.ded_catalog.specs.State.{catalogue_of};
-ghost use Rattle.ded_frame.specs.Touching.{touches, uses_name};
+ghost use Rattle.ded_shared.specs.Touching.{touches, uses_name};
 ghost use Rattle.ded_shared.specs.Gathering.{AreBelow, AreNamed, IsClosed, Touches, TouchesAll, changed_by};
 ghost use Rattle.ded_shared.specs.State.{is_among};
 

@@ -43,7 +43,7 @@ impl Transaction {
     ghost use Rattle.ded_model.specs.Command.{command_form};
     ghost use Rattle.ded_syntax.specs.Spelling.{IsRead};
     ghost use Rattle.ded_catalog.specs.State.{catalogue_of};
-    ghost use Rattle.ded_frame.specs.Touching.{depends_on_names};
+    ghost use Rattle.ded_shared.specs.Touching.{depends_on_names};
     ghost use Rattle.ded_session.specs.Answered.{reply_form};
     ghost use Rattle.ded_session.specs.Replies.{is_refusal};
     ghost use Rattle.ded_session.specs.Steps.{Step};

@@ -7,7 +7,7 @@ ghost use Rattle.ded_model.specs.LongRows.{has_long_row};
 ghost use Rattle.ded_model.specs.Plain.{IsPlainCommand};
 ghost use Rattle.ded_syntax.specs.Spelling.{IsRead};
 ghost use Rattle.ded_catalog.specs.State.{catalogue_of};
-ghost use Rattle.ded_frame.specs.Touching.{depends_on_names};
+ghost use Rattle.ded_shared.specs.Touching.{depends_on_names};
 ghost use Rattle.ded_session.specs.Answered.{reply_form};
 ghost use Rattle.ded_session.specs.PlainNames.{NamesPlainly};
 ghost use Rattle.ded_session.specs.Steps.{Step};

@@ -11,15 +11,16 @@ use Rattle.ded_model.specs.declared.row.RowOp.TheVariants.{Zero, AtMost, Below}
 use Rattle.ded_model.specs.Constraint.{LinearConstraint}
 use Rattle.ded_model.specs.Point.{slot, Point, IsPoint, number_at}
 use Rattle.ded_model.specs.Bound.{Fraction, End, lower, upper, is_outside, value_at, NoneOutside, IsUnbounded, IsIncluded, IsExcluded}
-use Rattle.ded_model.specs.Cell.{conj_holds}
+use Rattle.ded_model.specs.Cell.{conj_holds, HoldsNowhere}
 use Rattle.ded_model.specs.Row.{row_at, sign_meets, row_holds}
 use Rattle.ded_model.proofs.Core.{Meets, meets_scale, below_at_most}
 use Rattle.ded_model.proofs.Eliminating.{meets-decides}
 use Rattle.ded_model.proofs.Points.{and_left, and_right}
-use Rattle.ded_theory.specs.Verdicts.{HoldsNowhere}
+use Rattle.ded_model.proofs.Given.{level_turned}
 use Rattle.ded_box.proofs.Gaps.{gap_at, outside_decides, chain_at}
 use Rattle.ded_weighing.specs.Meeting.{point_of, number_from, meets_row, meets, leans}
 use Rattle.ded_weighing.proofs.Meetings.{number_is, not_negative_is, is_point, all_hold}
+use Rattle.ded_weighing.proofs.Shown.{fails}
 use Rattle.ded_simplex.specs.Ends.{IsValue, beyond_row, goes}
 use Rattle.ded_simplex.proofs.Moving.{over, beyond_each}
 
@@ -55,10 +56,6 @@ none_so rs s e f op n p i t m =
     named lower op h = h
     named upper op h = h
 
-fails : (b : Bool) → (b ≡ true → ⊥) → b ≡ false
-fails true h = absurd (h refl)
-fails false h = refl
-
 none_outside : (rs : List LinearConstraint) (s : Slot) (e : End) (f : Fraction) → HoldsNowhere (conj_holds row_holds (beyond_row e s f Below ∷ rs)) → NoneOutside (conj_holds row_holds rs) s e f
 none_outside rs s e f n p i t = fails (is_outside e (value_at s p) f) (λ o. none_so rs s e f Below n p i t ((outside_decides e (value_at s p) f).0 o))
 
@@ -68,9 +65,6 @@ none_at_most rs s e f n p i t = fails (is_outside e (value_at s p) f) (λ o. non
 -- a value that is the fraction leaves no difference
 level : (x y : ℤ) → x ≡ y → Meets Zero (x -ℤ y)
 level x y h = omega (arith, ints)
-
-level_turned : (x y : ℤ) → x ≡ y → Meets Zero (y -ℤ x)
-level_turned x y h = omega (arith, ints)
 
 no_gap : (e : End) (n d : ℤ) (f : Fraction) → n *ℤ f.den ≡ f.num *ℤ d → Meets Zero (gap_at e (over n d) f)
 no_gap lower n d f h = level (n *ℤ f.den) (f.num *ℤ d) h

@@ -7,6 +7,7 @@ use Rattle.std.proofs.lemmas.Int.{ints}
 use Rattle.std.proofs.Math.IntN.{*ℤ-zero}
 use lib.IntN.{+ℤ_idl}
 use Rattle.ded_num.proofs.Ring.{parts, ring, diff_same}
+use Rattle.ded_num.proofs.Signs.{product_above}
 use Rattle.ded_model.specs.declared.slot.Slot.{Slot}
 use Rattle.ded_model.specs.declared.row.RowOp.{RowOp}
 use Rattle.ded_model.specs.declared.row.RowOp.TheVariants.{Zero, AtMost, Below}
@@ -108,11 +109,6 @@ pub record AreDenominators (d e t : ℤ) : Type 0 where
   pub not_negative : pos 0 ≤ℤ e
   pub times : pos 0 <ℤ t
 
-none_less : (t e : ℤ) → pos 0 <ℤ t → pos 0 ≤ℤ e → pos 0 ≤ℤ (t *ℤ e)
-none_less (pos n) (pos m) p h = omega (arith, ints)
-none_less (pos n) (negsuc m) p h = absurd (omega (arith, ints))
-none_less (negsuc n) e p h = absurd (omega (arith, ints))
-
 sum_positive : (d x : ℤ) → pos 0 <ℤ d → pos 0 ≤ℤ x → pos 0 <ℤ (d +ℤ x)
 sum_positive d x h k = omega (arith, ints)
 
@@ -133,7 +129,7 @@ module _ (vs : List (Slot × ℤ)) (d : ℤ) (ws : List (Slot × ℤ)) (e t : �
   den_along = sym (not_negative_is e h.not_negative)
 
   den_positive : pos 0 <ℤ (d +ℤ t *ℤ e)
-  den_positive = sum_positive d (t *ℤ e) h.positive (none_less t e h.times h.not_negative)
+  den_positive = sum_positive d (t *ℤ e) h.positive (product_above t e h.times h.not_negative)
 
   den_there : pos (unsigned_abs (d +ℤ t *ℤ e)) ≡ d +ℤ t *ℤ e
   den_there = sym (not_negative_is (d +ℤ t *ℤ e) (sum_not_negative (d +ℤ t *ℤ e) den_positive))

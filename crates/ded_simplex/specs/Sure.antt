@@ -3,14 +3,14 @@ use Rattle.std.specs.Prelude.{List}
 use Rattle.ded_model.specs.declared.slot.Slot.{Slot}
 use Rattle.ded_model.specs.Bound.{lower, upper}
 use Rattle.ded_model.specs.Constraint.{LinearConstraint}
-use Rattle.ded_model.specs.Cell.{conj_holds, HoldsSomewhere}
+use Rattle.ded_model.specs.Cell.{conj_holds, HoldsSomewhere, HoldsNowhere}
 use Rattle.ded_model.specs.Interval.{IsExactBound}
 use Rattle.ded_model.specs.Row.{row_holds}
 use Rattle.ded_theory.specs.declared.answers.Span.{Span}
 use Rattle.ded_theory.specs.declared.answers.Span.TheVariants.{Nothing, Exact, Around}
 use Rattle.ded_theory.specs.declared.answers.Verdict.{Verdict}
 use Rattle.ded_theory.specs.declared.answers.Verdict.TheVariants.{Empty, Inhabited, Unknown}
-use Rattle.ded_theory.specs.Verdicts.{HoldsNowhere, IsBound}
+use Rattle.ded_theory.specs.Verdicts.{IsBound}
 
 -- `Empty` and `Inhabited` are so
 abbrev pub IsSure : List LinearConstraint → Verdict → Type 0

@@ -3,11 +3,10 @@ ghost use Rattle.std.specs.Prelude.{◌≡◌, ◌∷◌, true, IfOk, MatchOptio
 ghost use Rattle.ded_model.specs.declared.bound.Bound.TheVariants.{Infinite};
 ghost use Rattle.std.specs.List.{AllByRecursion};
 ghost use Rattle.ded_model.specs.declared.slot.Sort.TheVariants.{Rat};
-ghost use Rattle.ded_model.specs.Cell.{conj_holds};
+ghost use Rattle.ded_model.specs.Cell.{conj_holds, HoldsNowhere};
 ghost use Rattle.ded_model.specs.Coefs.{AreCoefs};
 ghost use Rattle.ded_model.specs.Interval.{IsExactBound};
 ghost use Rattle.ded_model.specs.Row.{row_holds};
-ghost use Rattle.ded_theory.specs.Verdicts.{HoldsNowhere};
 ghost use Rattle.ded_box.specs.Intervals.{end_of};
 ghost use Rattle.ded_weighing.specs.Columns.{lent};
 ghost use Rattle.ded_weighing.specs.Meeting.{meets};

@@ -6,6 +6,7 @@ use Rattle.std.proofs.Common.{◌≡◌, ℕ, ◌+◌, ◌≤◌, ◌<◌, Bool,
 use Rattle.std.specs.Prelude.{◌↔◌}
 use Rattle.std.specs.List.{list_any}
 use Rattle.std.proofs.lemmas.Slice.Eq.{bytes_eq-Decides}
+use Rattle.ded_num.proofs.Tests.{bytes_eq-swap}
 use Rattle.ded_model.specs.declared.slot.Slot.{Slot}
 use Rattle.ded_model.specs.declared.slot.Sort.{Sort}
 use Rattle.ded_model.specs.declared.slot.Sort.TheVariants.{Rat, Text}
@@ -19,7 +20,6 @@ use Rattle.ded_model.specs.Catalogue.{AtomHolds, argument_coordinate, at_slots, 
 use Rattle.ded_model.specs.Slotted.{nearest, slot_of, heading_scope, goal_of}
 use Rattle.ded_model.specs.Known.{KnownNames, has_twice, has_unbound, has_missorted, scope_of, is_unbound_name, is_unbound_atom, is_missorted_atom}
 use Rattle.ded_model.proofs.Points.{same_key_refl, cond_true, cond_false}
-use Rattle.ded_sorts.proofs.Sides.{bytes_eq-sym}
 use Rattle.ded_sorts.proofs.Scopes.{sorts_of, no_slot, older_slot, newer_slot, IsOnlyOf, Agrees}
 use Rattle.ded_sorts.proofs.Meanings.{goal_means}
 use Rattle.ded_model.proofs.Bools.{or_false_left, or_false_right}
@@ -75,7 +75,7 @@ first_names : (c : Column) (cs : List Column) (a : Argument) (xs : List Argument
     → last_from absent (at_names (c ∷ cs) (a ∷ xs)) (name x) ≡ argument_coordinate c.sort a
 first_names c cs a xs x e h =
     other_names cs xs _ x (ap (λ y. list_any (λ d. bytes_eq y d.name) cs) (sym ((bytes_eq-Decides c.name x).0 e)) ∙ h)
-    ∙ cond_true (bytes_eq x c.name) (argument_coordinate c.sort a) absent (bytes_eq-sym x c.name ∙ e)
+    ∙ cond_true (bytes_eq x c.name) (argument_coordinate c.sort a) absent (bytes_eq-swap x c.name ∙ e)
 
 -- and at its slot
 first_slots : (i : ℕ) (c : Column) (cs : List Column) (a : Argument) (xs : List Argument)
@@ -103,7 +103,7 @@ later_same i c cs [] x u e s =
 later_same i c cs (a ∷ xs) x u e s =
     let r = s xs in
     let names : last_from absent (at_names (c ∷ cs) (a ∷ xs)) (name x) ≡ last_from absent (at_names cs xs) (name x) =
-    ap (λ w. last_from w (at_names cs xs) (name x)) (cond_false (bytes_eq x c.name) (argument_coordinate c.sort a) absent (bytes_eq-sym x c.name ∙ e)) in
+    ap (λ w. last_from w (at_names cs xs) (name x)) (cond_false (bytes_eq x c.name) (argument_coordinate c.sort a) absent (bytes_eq-swap x c.name ∙ e)) in
     let slots : last_from absent (at_slots i (c ∷ cs) (a ∷ xs)) (slot u) ≡ last_from absent (at_slots (i + 1) cs xs) (slot u) =
     ap (λ w. last_from w (at_slots (i + 1) cs xs) (slot u)) (cond_false (same_key (slot u) (slot (record { number = i; sort = c.sort }))) (argument_coordinate c.sort a) absent (newer_slot u i c.sort (omega (arith, r.from)))) in
     record { from = omega (arith, r.from); below = omega (arith, r.below); value = names ∙ r.value ∙ sym slots; only = rw slots r.only }

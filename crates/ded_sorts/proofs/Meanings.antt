@@ -23,14 +23,15 @@ use Rattle.ded_model.specs.Value.{OperandValue, parts_at, operand_value, compare
 use Rattle.ded_model.specs.Catalogue.{AtomHolds}
 use Rattle.ded_model.specs.Slotted.{SlotScope, slot_of, add_parts, slot_sum, sums_goal, text_side, texts_goal, is_text_operand, compare_goal, place_of, atom_goal, goal_below, goals_below}
 use Rattle.ded_model.specs.Known.{KnownNames, is_unbound_name, is_unbound_operand, is_unbound_atom, operand_sort, is_text_sum, sorts_differ, is_equality, is_missorted_atom}
-use Rattle.ded_row.proofs.Sums.{sum_at-put, sum_at-nonzero}
+use Rattle.ded_model.proofs.Sums.{sum_at-put, sum_at-nonzero}
 use Rattle.ded_sorts.proofs.Sums.{IsSumValue, sums_mean}
 use Rattle.ded_sorts.proofs.Sides.{IsSideValue, texts_mean}
 use Rattle.ded_sorts.proofs.Scopes.{sorts_of, sort_in-slot, IsOnlyOf, Agrees, extend_slots, extend_names}
 use Rattle.ded_model.proofs.Bools.{or_false_left, or_false_right}
+use Rattle.ded_model.proofs.Given.{one}
 
 -- a choice of true and true doesn't fail
-never_false : (b : Bool) → cond b true true ≡ false → ⊥
+pub never_false : (b : Bool) → cond b true true ≡ false → ⊥
 never_false true e = true≢false e
 never_false false e = true≢false e
 
@@ -65,11 +66,6 @@ sorted_value-only Text n t h = rw h refl
 -- a sum of one number
 single_law : (n d : ℤ) → n ≡ (pos 1 *ℤ n +ℤ pos 0) +ℤ pos 0 *ℤ d
 single_law n d = rw (parts n, parts d, diff-pos 1, diff-pos 0) (simp ring (diff_same _ _ _ _ (omega arith)))
-
--- the denominator of a single name
-one : denominator (pos 1) ≡ 1
-unfolding denominator
-one = refl
 
 module _ (slots : SlotScope) (n : ℕ) (p q : Point) (A : Agrees slots n p q) where
   -- the sum of the slots is that of the names

@@ -2,11 +2,10 @@
 --
 -- A quantifier has a slot of its own sort. A comparison has a row only where neither side is a text, and a sum that is not
 -- refused has no text variable, so all slots that rows and sums are made of are rational.
-use Rattle.std.proofs.Common.{◌≡◌, ℕ, ◌+◌, Bool, false, ◌||◌, List, [], ◌∷◌, map, refl, sym, ap, ◌∙◌, true≢false}
+use Rattle.std.proofs.Common.{◌≡◌, ℕ, ◌+◌, Bool, false, ◌||◌, List, [], ◌∷◌, map, refl, sym, ap, ◌∙◌}
 use Rattle.std.specs.Prelude.{ℤ}
 use Rattle.std.specs.List.{list_any}
 use Rattle.ded_model.specs.declared.slot.Slot.{Slot}
-use Rattle.ded_model.specs.declared.slot.Sort.{Sort}
 use Rattle.ded_model.specs.declared.slot.Sort.TheVariants.{Rat, Text}
 use Rattle.ded_model.specs.declared.name.Column.{Column}
 use Rattle.ded_model.specs.declared.formula.Operand.{Operand}
@@ -27,6 +26,7 @@ use Rattle.ded_sorts.proofs.Scopes.{sorts_of, sort_in-slot}
 use Rattle.ded_sorts.proofs.Headings.{sorts_of-heading}
 use Rattle.ded_sorts.proofs.Overs.{AreSlots, IsSideOver, ArePlacesOver, IsOver, put_slots, nonzero_slots, comparison_over}
 use Rattle.ded_model.proofs.Bools.{or_false_left, or_false_right}
+use Rattle.ded_model.proofs.SlotLists.{rational}
 
 -- ---- sorted goals
 
@@ -105,11 +105,6 @@ Rational u = u.sort ≡ Rat
 -- no property, of the others
 abbrev Any : Slot → Type 0
 Any u = Unit {0}
-
--- what is no text is rational
-rational : (s : Sort) → same_sort s Text ≡ false → s ≡ Rat
-rational Rat h = refl
-rational Text h = absurd (true≢false h)
 
 -- each side has any slot
 any_side : (l : TextSide) → IsSideOver Any l

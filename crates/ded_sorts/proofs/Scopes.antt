@@ -8,6 +8,7 @@ use Rattle.std.proofs.Common.{◌≡◌, ℕ, ◌+◌, ◌*◌, ◌<◌, ◌==�
 use Rattle.std.specs.Prelude.{ℤ, pos, ◌*ℤ◌}
 use Rattle.std.proofs.Math.IntN.{zero-*ℤ}
 use Rattle.std.proofs.lemmas.Bool.Decides.{nat_tests}
+use Rattle.ded_num.proofs.Tests.{bytes_eq-swap}
 use Rattle.ded_model.specs.declared.slot.Slot.{Slot}
 use Rattle.ded_model.specs.declared.slot.Sort.{Sort}
 use Rattle.ded_model.specs.declared.slot.Sort.TheVariants.{Rat, Text}
@@ -16,7 +17,6 @@ use Rattle.ded_model.specs.Logic.{Scope}
 use Rattle.ded_model.specs.Slotted.{SlotScope, nearest, slot_of}
 use Rattle.ded_model.specs.Known.{is_unbound_name, sort_in, sort_with}
 use Rattle.ded_model.proofs.Points.{same_key_refl, number_at-extended, number_at-kept, text_at-number_extended, text_at-number_kept, text_at-extended, text_at-kept, number_at-text_extended, number_at-text_kept, positive-extension}
-use Rattle.ded_sorts.proofs.Sides.{bytes_eq-sym}
 
 -- ---- scopes
 
@@ -74,7 +74,7 @@ only-same Text n m t u i j h = i ∙ h
 -- keys are compared in either order
 same_key_sym : (k : Key) (x : List ℕ) → same_key (name x) k ≡ same_key k (name x)
 same_key_sym (slot s) x = refl
-same_key_sym (name y) x = bytes_eq-sym x y
+same_key_sym (name y) x = bytes_eq-swap x y
 
 -- a slot of another number is another one
 other_number : (v : Slot) (n : ℕ) (s : Sort) → (v.number == n) ≡ false → same_key (slot v) (slot (record { number = n; sort = s })) ≡ false

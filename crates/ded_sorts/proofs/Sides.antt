@@ -5,8 +5,7 @@
 use Rattle.std.proofs.Common.{◌≡◌, ℕ, nat_lt, Bool, true, false, not, cond, List, refl, sym, ap, ◌∙◌, true≢false}
 use Rattle.std.specs.Prelude.{pos, ◌↔◌, IsTrue}
 use Rattle.std.specs.Str.{bytes_eq}
-use Rattle.std.proofs.lemmas.Slice.Eq.{bytes_eq-Decides}
-use Rattle.std.proofs.lemmas.Bool.Decides.{same_from_decides}
+use Rattle.ded_num.proofs.Tests.{bytes_eq-of, bytes_eq-swap}
 use Rattle.ded_model.specs.declared.slot.Slot.{Slot}
 use Rattle.ded_model.specs.declared.formula.CompareOp.{CompareOp}
 use Rattle.ded_model.specs.declared.formula.CompareOp.TheVariants.{Less, LessEq, Equal, NotEqual, GreaterEq, Greater}
@@ -33,14 +32,6 @@ pub record IsSideValue (v : OperandValue) (l : TextSide) (q : Point) : Type 0 wh
   pub text : v.text ≡ side_text l q
 
 -- ---- tests
-
--- texts are compared in either order
-pub bytes_eq-sym : (x y : List ℕ) → bytes_eq x y ≡ bytes_eq y x
-bytes_eq-sym x y = same_from_decides _ _ (bytes_eq-Decides x y) (λ e. sym ((bytes_eq-Decides y x).0 e), λ e. (bytes_eq-Decides y x).1 (sym e))
-
--- a text is the same as itself
-bytes_eq-same : (x y : List ℕ) → x ≡ y → bytes_eq x y ≡ true
-bytes_eq-same x y e = (bytes_eq-Decides x y).1 e
 
 -- ---- goals
 
@@ -71,24 +62,24 @@ module _ (I : Meaning) (q : Point) where
   same_slots_mean : (s t : Slot) (b b' : Bool) → same_slot s t ≡ b
       → Means (cond b always (cond b' (atom (theme (EqSlot s t))) (atom (theme (EqSlot t s))))) (bytes_eq (text_at q (slot s)) (text_at q (slot t)))
   unfolding theme_holds
-  same_slots_mean s t true b' e = always_means _ (bytes_eq-same _ _ (ap (λ u. text_at q (slot u)) (same_slot_is s t e)))
+  same_slots_mean s t true b' e = always_means _ (bytes_eq-of _ _ (ap (λ u. text_at q (slot u)) (same_slot_is s t e)))
   same_slots_mean s t false true e = iff_true _ _ refl
-  same_slots_mean s t false false e = iff_true _ _ (bytes_eq-sym (text_at q (slot t)) (text_at q (slot s)))
+  same_slots_mean s t false false e = iff_true _ _ (bytes_eq-swap (text_at q (slot t)) (text_at q (slot s)))
 
   -- two slots that differ
   other_slots_mean : (s t : Slot) (b b' : Bool) → same_slot s t ≡ b
       → Means (cond b never (cond b' (atom (theme (NeSlot s t))) (atom (theme (NeSlot t s))))) (not (bytes_eq (text_at q (slot s)) (text_at q (slot t))))
   unfolding theme_holds
-  other_slots_mean s t true b' e = never_means _ (ap not (bytes_eq-same _ _ (ap (λ u. text_at q (slot u)) (same_slot_is s t e))))
+  other_slots_mean s t true b' e = never_means _ (ap not (bytes_eq-of _ _ (ap (λ u. text_at q (slot u)) (same_slot_is s t e))))
   other_slots_mean s t false true e = iff_true _ _ refl
-  other_slots_mean s t false false e = iff_true _ _ (ap not (bytes_eq-sym (text_at q (slot t)) (text_at q (slot s))))
+  other_slots_mean s t false false e = iff_true _ _ (ap not (bytes_eq-swap (text_at q (slot t)) (text_at q (slot s))))
 
   -- two sides
   same_text_means : (l r : TextSide) → Means (same_text_goal l r) (bytes_eq (side_text l q) (side_text r q))
   unfolding theme_holds
   same_text_means (at s) (at t) = same_slots_mean s t (same_slot s t) (nat_lt s.number t.number) refl
   same_text_means (at s) (word t) = iff_true _ _ refl
-  same_text_means (word t) (at s) = iff_true _ _ (bytes_eq-sym (text_at q (slot s)) t)
+  same_text_means (word t) (at s) = iff_true _ _ (bytes_eq-swap (text_at q (slot s)) t)
   same_text_means (word t) (word u) = truth_means (bytes_eq t u)
 
   -- two sides that differ
@@ -96,7 +87,7 @@ module _ (I : Meaning) (q : Point) where
   unfolding theme_holds
   other_text_means (at s) (at t) = other_slots_mean s t (same_slot s t) (nat_lt s.number t.number) refl
   other_text_means (at s) (word t) = iff_true _ _ refl
-  other_text_means (word t) (at s) = iff_true _ _ (ap not (bytes_eq-sym (text_at q (slot s)) t))
+  other_text_means (word t) (at s) = iff_true _ _ (ap not (bytes_eq-swap (text_at q (slot s)) t))
   other_text_means (word t) (word u) = turned_means (bytes_eq t u)
 
 -- two texts are the same value where they are equal

@@ -21,8 +21,8 @@ use Rattle.ded_model.specs.Goal.{GoalAtomHolds}
 use Rattle.ded_model.specs.Value.{OperandValue, crosswise, is_same_value, values_compare, Meaning}
 use Rattle.ded_model.specs.Slotted.{difference_row, sums_goal}
 use Rattle.ded_model.proofs.Values.{lt_by_sign, le_by_sign, eq_by_sign}
-use Rattle.ded_row.proofs.Normals.{normal_row-holds}
-use Rattle.ded_row.proofs.Sums.{sum_at-mixed, sum_at-nonzero}
+use Rattle.ded_model.proofs.Normals.{normal_row-holds}
+use Rattle.ded_model.proofs.Sums.{sum_at-mixed, sum_at-nonzero}
 use Rattle.std.proofs.Math.Bool.{and-true}
 
 -- ---- values of sums

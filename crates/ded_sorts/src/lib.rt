@@ -6,8 +6,7 @@
 //! of a name, and the name that a closure or an interior is made of. A formula names its variables; its goal has a numbered slot for each. The laws say that a goal holds at a
 //! point by slots exactly where the formula does at that point by names, and that goals are over sorted slots.
 //!
-//! It stands on `ded_model`, whose specifications say what formulas, goals and points are, on the laws of rows of `ded_row`
-//! and on the laws of numbers of `ded_num`.
+//! It stands on `ded_model`, whose specifications say what formulas, goals and points are, and on the laws of numbers of `ded_num`.
 #![tactic(auto)]
 
 mod atoms;

@@ -1,15 +1,18 @@
 -- What holds at the points between two spots that no border parts.
-use Rattle.std.proofs.Common.{◌≡◌, ℕ, zero, suc, ◌<◌, Bool, true, false, ◌&&◌, ◌||◌, List, [], ◌∷◌, refl, sym, ap, ap₂, ◌∙◌, subst, true≢false, arith}
-use Rattle.std.specs.Prelude.{ℤ, pos, negsuc, ◌+ℤ◌, ◌*ℤ◌, ◌<ℤ◌, ◌≤ℤ◌, int_lt}
+use Rattle.std.proofs.Common.{◌≡◌, ℕ, ◌<◌, true, false, ◌&&◌, ◌||◌, List, [], ◌∷◌, refl, sym, ap, ap₂, ◌∙◌, subst, true≢false, arith}
+use Rattle.std.specs.Prelude.{ℤ, pos, ◌+ℤ◌, ◌*ℤ◌, ◌<ℤ◌, ◌≤ℤ◌, int_lt}
 use Rattle.std.specs.List.{list_all, list_any}
 use Rattle.std.specs.Ordering.{int_eq}
-use Rattle.std.proofs.lemmas.Bool.Decides.{nat_tests}
 use Rattle.std.proofs.lemmas.Int.{ints, by_lt_z}
+use Rattle.ded_num.proofs.Tests.{and_false}
+use Rattle.ded_num.proofs.Signs.{above_test, product_above}
 use Rattle.ded_model.specs.Row.{sign_meets}
 use Rattle.ded_model.proofs.Bools.{or_false_left, or_false_right}
+use Rattle.ded_model.proofs.Rows.{or_right}
+use Rattle.ded_model.proofs.Core.{zero_scale}
 use Rattle.ded_polygon.specs.Plane.{HalfPlane, Spot, level}
 use Rattle.ded_polygon.proofs.Polynomials.{plus, times, var, identity}
-use Rattle.ded_polygon.proofs.Signs.{times_none, above_above, above_below, above_most}
+use Rattle.ded_polygon.proofs.Signs.{above_above, above_below, above_most}
 use Rattle.ded_strokes.specs.Bounds.{Limit, piece_holds, union_holds}
 use Rattle.ded_strokes.specs.Near.{Direction, Near, turned, growth, soon, piece_soon}
 use Rattle.ded_strokes.specs.Strokes.{between, IsSeam, HasStroke, HaveStroke, parts_levels, is_parted, first_level, level_between, union_between, union_soon}
@@ -41,12 +44,6 @@ between_positive p q i j hp hq hi hj =
     omega (arith, ints)
 
 -- ---- signs between
-pub above_least : (a b : ℤ) → pos 0 <ℤ a → pos 0 ≤ℤ b → pos 0 ≤ℤ (a *ℤ b)
-above_least a b p q =
-    by_lt_z (pos 0) b
-    (λ h. (let e = above_above a b p h in omega (arith, ints)))
-    (λ h. (let o : b ≡ pos 0 = omega (arith, ints) in let e = times_none a b o in omega (arith, ints)))
-
 -- z is not 0
 first_is : (z y : ℤ) → int_eq z (pos 0) ≡ false → first_level z y ≡ z
 first_is z y h = rw h refl
@@ -54,24 +51,11 @@ first_is z y h = rw h refl
 second_is : (z y : ℤ) → z ≡ pos 0 → first_level z y ≡ y
 second_is z y h = rw h refl
 
-pub above_test : (y : ℤ) → pos 0 <ℤ y → int_lt (pos 0) y ≡ true
-above_test (pos zero) k = absurd (omega (arith, ints))
-above_test (pos (suc n)) k = grind (arith, nat_tests)
-above_test (negsuc n) k = absurd (omega (arith, ints))
-
-and_false : (a b : Bool) → b ≡ false → (a && b) ≡ false
-and_false true b h = h
-and_false false b h = refl
-
-or_true : (a b : Bool) → b ≡ true → (a || b) ≡ true
-or_true true b h = refl
-or_true false b h = h
-
 pub parted_up : (z y : ℤ) → z <ℤ pos 0 → pos 0 <ℤ y → parts_levels z y ≡ true
 parted_up z y h k = ap₂ (λ a b. (a && b) || (int_lt (pos 0) z && int_lt y (pos 0))) (lt_below z h) (above_test y k)
 
 pub parted_down : (z y : ℤ) → pos 0 <ℤ z → y <ℤ pos 0 → parts_levels z y ≡ true
-parted_down z y h k = or_true (int_lt z (pos 0) && int_lt (pos 0) y) (int_lt (pos 0) z && int_lt y (pos 0)) (ap₂ (λ a b. a && b) (above_test z h) (lt_below y k))
+parted_down z y h k = or_right (int_lt z (pos 0) && int_lt (pos 0) y) (int_lt (pos 0) z && int_lt y (pos 0)) (ap₂ (λ a b. a && b) (above_test z h) (lt_below y k))
 
 module _ (i j : ℕ) (hi : 0 < i) (hj : 0 < j) where
   pi : pos 0 <ℤ pos i
@@ -87,7 +71,7 @@ module _ (i j : ℕ) (hi : 0 < i) (hj : 0 < j) where
       (λ b. (let n = above_below (pos j) y pj b in both_below (omega (arith, ints)) b))
       (λ b. by_lt_z (pos 0) y
       (λ a. (let n = above_above (pos j) y pj a in both_above (omega (arith, ints)) a))
-      (λ a. (let o : y ≡ pos 0 = omega (arith, ints) in let n = times_none (pos j) y o in both_none (omega (arith, ints)) o)))
+      (λ a. (let o : y ≡ pos 0 = omega (arith, ints) in let n = zero_scale (pos j) y o in both_none (omega (arith, ints)) o)))
 
   sign_is : (z y : ℤ) → parts_levels z y ≡ false → SameSign (pos i *ℤ z +ℤ pos j *ℤ y) (first_level z y)
   sign_is z y apart =
@@ -101,7 +85,7 @@ module _ (i j : ℕ) (hi : 0 < i) (hj : 0 < j) where
       (λ k. kept (first_is z y (eq_above z a)) (both_above (sum_above a k) a)))
       (λ a.
       (let o : z ≡ pos 0 = omega (arith, ints) in
-      kept (second_is z y o) (of_second (pos i *ℤ z) y (times_none (pos i) z o)))))
+      kept (second_is z y o) (of_second (pos i *ℤ z) y (zero_scale (pos i) z o)))))
     where
       kept : {y' : ℤ} → first_level z y ≡ y' → SameSign (pos i *ℤ z +ℤ pos j *ℤ y) y' → SameSign (pos i *ℤ z +ℤ pos j *ℤ y) (first_level z y)
       kept e h = subst (SameSign (pos i *ℤ z +ℤ pos j *ℤ y)) (sym e) h
@@ -110,7 +94,7 @@ module _ (i j : ℕ) (hi : 0 < i) (hj : 0 < j) where
       sum_below b k = let m = above_below (pos i) z pi b in let n = above_most (pos j) y pj k in omega (arith, ints)
 
       sum_above : pos 0 <ℤ z → pos 0 ≤ℤ y → pos 0 <ℤ (pos i *ℤ z +ℤ pos j *ℤ y)
-      sum_above b k = let m = above_above (pos i) z pi b in let n = above_least (pos j) y pj k in omega (arith, ints)
+      sum_above b k = let m = above_above (pos i) z pi b in let n = product_above (pos j) y pj k in omega (arith, ints)
 
   module _ (p q : Spot) where
     pub limit_sign : (b : Limit) → parts_levels (level b.plane p) (level b.plane q) ≡ false → SameSign (level b.plane (between p q i j)) (level_between b p q)

@@ -3,9 +3,11 @@ use Rattle.std.proofs.Common.{◌≡◌, ◌<◌, ◌≤◌, Bool, true, false, 
 use Rattle.std.specs.Prelude.{ℤ, pos, ◌+ℤ◌, ◌-ℤ◌, ◌*ℤ◌, ◌<ℤ◌, if◌then◌else◌}
 use Rattle.std.specs.List.{list_any}
 use Rattle.std.proofs.lemmas.Int.{ints}
+use Rattle.ded_num.proofs.Signs.{zero_times}
+use Rattle.ded_model.proofs.Core.{zero_scale}
 use Rattle.ded_polygon.specs.Plane.{HalfPlane, Spot, In, level, bend}
 use Rattle.ded_polygon.proofs.Polynomials.{plus, minus, times, var, identity}
-use Rattle.ded_polygon.proofs.Signs.{none_times, times_none, above_above, above_below, unscale_zero}
+use Rattle.ded_polygon.proofs.Signs.{above_above, above_below, unscale_zero}
 use Rattle.ded_polygon.proofs.RowPlanes.{in_left, in_right, in_either}
 use Rattle.ded_strokes.specs.Bounds.{Limit}
 use Rattle.ded_strokes.specs.Strokes.{parts_levels, is_parted}
@@ -68,15 +70,15 @@ module _ (s t : HalfPlane) (level_along : bend s t ≡ pos 0) where
   by_a : (p : Spot) → level s p ≡ pos 0 → s.a *ℤ level t p ≡ (s.a *ℤ t.c -ℤ s.c *ℤ t.a) *ℤ p.den
   by_a p on =
       let e = along_a s t p in
-      let f = times_none t.a (level s p) on in
-      let g = none_times (bend s t) p.y level_along in
+      let f = zero_scale t.a (level s p) on in
+      let g = zero_times (bend s t) p.y level_along in
       omega (arith, ints)
 
   by_b : (p : Spot) → level s p ≡ pos 0 → s.b *ℤ level t p ≡ (s.b *ℤ t.c -ℤ s.c *ℤ t.b) *ℤ p.den
   by_b p on =
       let e = along_b s t p in
-      let f = times_none t.b (level s p) on in
-      let g = none_times (bend s t) p.x level_along in
+      let f = zero_scale t.b (level s p) on in
+      let g = zero_times (bend s t) p.x level_along in
       omega (arith, ints)
 
   -- it is crossed between no two of its spots

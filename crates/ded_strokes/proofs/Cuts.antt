@@ -1,12 +1,14 @@
 -- Where a border crosses between two spots of another one, and what parts the ways up to there and from there on.
-use Rattle.std.proofs.Common.{◌≡◌, ℕ, zero, suc, ◌<◌, Bool, true, false, ◌&&◌, ◌||◌, ◌⊎◌, inl, inr, refl, sym, ap, ap₂, ◌∙◌, subst, true≢false, arith}
+use Rattle.std.proofs.Common.{◌≡◌, ℕ, ◌<◌, Bool, true, false, ◌&&◌, ◌||◌, ◌⊎◌, inl, inr, refl, sym, ap, ap₂, ◌∙◌, subst, true≢false, arith}
 use Rattle.std.specs.Prelude.{ℤ, pos, negsuc, ◌+ℤ◌, ◌*ℤ◌, ◌<ℤ◌, ◌≤ℤ◌, unsigned_abs, int_lt}
 use Rattle.std.proofs.lemmas.Bool.Decides.{nat_tests}
 use Rattle.std.proofs.lemmas.Int.{ints, by_lt_z}
 use lib.IntN.{neg_ℤ}
 use Rattle.ded_num.proofs.Ring.{parts, ring_pos, diff_same}
+use Rattle.ded_num.proofs.Signs.{abs_above, is_positive, product_above, abs_below}
+use Rattle.ded_model.proofs.Core.{zero_scale}
 use Rattle.ded_polygon.specs.Plane.{HalfPlane, Spot, IsSameSpot, level, bend, crossing}
-use Rattle.ded_polygon.proofs.Signs.{times_none, above_above, above_below, above_most}
+use Rattle.ded_polygon.proofs.Signs.{above_above, above_below, above_most}
 use Rattle.ded_polygon.proofs.Identities.{crossing_den, crossing_on_first, crossing_on_second, bend_swap}
 use Rattle.ded_polygon.proofs.Sameness.{same_by, zero_same, below_same}
 use Rattle.ded_polygon.proofs.RowPlanes.{level_opposite}
@@ -15,7 +17,7 @@ use Rattle.ded_strokes.specs.Strokes.{between, parts_levels}
 use Rattle.ded_strokes.specs.Bounds.{Limit}
 use Rattle.ded_strokes.specs.Cuts.{LiesBetween, IsCut}
 use Rattle.ded_strokes.proofs.Soon.{SameSign, both_below, both_none, both_above}
-use Rattle.ded_strokes.proofs.Between.{level_is, between_positive, above_least, parted_up, parted_down}
+use Rattle.ded_strokes.proofs.Between.{level_is, between_positive, parted_up, parted_down}
 
 -- ---- opposite signs
 -- one is below 0, and the other above it
@@ -29,26 +31,15 @@ below_true (pos n) h = absurd (true≢false (sym h ∙ not_below n))
     not_below n = grind (arith, nat_tests)
 below_true (negsuc n) h = omega (arith, ints)
 
-pub above_true : (z : ℤ) → int_lt (pos 0) z ≡ true → pos 0 <ℤ z
-above_true (pos zero) h = absurd (true≢false (sym h))
-above_true (pos (suc n)) h = omega (arith, ints)
-above_true (negsuc n) h = absurd (true≢false (sym h))
-
-above_abs : (z : ℤ) → pos 0 <ℤ z → pos (unsigned_abs z) ≡ z
-above_abs z h = omega (arith, ints)
-
-below_abs : (z : ℤ) → z <ℤ pos 0 → pos (unsigned_abs z) ≡ neg_ℤ z
-below_abs z h = omega (arith, ints)
-
 pub opposite_of : (z y : ℤ) → parts_levels z y ≡ true → AreOpposite z y
 opposite_of z y h = split (int_lt z (pos 0)) (int_lt (pos 0) y) (int_lt (pos 0) z) (int_lt y (pos 0)) refl refl refl refl h
   where
     split : (a b c d : Bool) → int_lt z (pos 0) ≡ a → int_lt (pos 0) y ≡ b → int_lt (pos 0) z ≡ c → int_lt y (pos 0) ≡ d → ((a && b) || (c && d)) ≡ true → AreOpposite z y
-    split true true c d ea eb ec ed g = inl (below_true z ea, above_true y eb)
-    split true false true true ea eb ec ed g = inr (above_true z ec, below_true y ed)
+    split true true c d ea eb ec ed g = inl (below_true z ea, is_positive y eb)
+    split true false true true ea eb ec ed g = inr (is_positive z ec, below_true y ed)
     split true false true false ea eb ec ed g = absurd (true≢false (sym g))
     split true false false d ea eb ec ed g = absurd (true≢false (sym g))
-    split false b true true ea eb ec ed g = inr (above_true z ec, below_true y ed)
+    split false b true true ea eb ec ed g = inr (is_positive z ec, below_true y ed)
     split false b true false ea eb ec ed g = absurd (true≢false (sym g))
     split false b false d ea eb ec ed g = absurd (true≢false (sym g))
 
@@ -72,15 +63,15 @@ sign_same s p q hp hq e =
 -- ---- weights that make a sum nothing
 balanced : (z y : ℤ) → AreOpposite z y → pos (unsigned_abs y) *ℤ z +ℤ pos (unsigned_abs z) *ℤ y ≡ pos 0
 balanced z y (inl h) =
-    let e : pos (unsigned_abs y) ≡ y = above_abs y h.1 in
-    let f : pos (unsigned_abs z) ≡ neg_ℤ z = below_abs z h.0 in
+    let e : pos (unsigned_abs y) ≡ y = abs_above y h.1 in
+    let f : pos (unsigned_abs z) ≡ neg_ℤ z = abs_below z h.0 in
     ap₂ (λ a b. a *ℤ z +ℤ b *ℤ y) e f ∙ law z y
   where
     law : (z y : ℤ) → y *ℤ z +ℤ neg_ℤ z *ℤ y ≡ pos 0
     law z y = rw (parts z, parts y) (simp ring_pos (diff_same _ _ _ _ (omega arith)))
 balanced z y (inr h) =
-    let e : pos (unsigned_abs y) ≡ neg_ℤ y = below_abs y h.1 in
-    let f : pos (unsigned_abs z) ≡ z = above_abs z h.0 in
+    let e : pos (unsigned_abs y) ≡ neg_ℤ y = abs_below y h.1 in
+    let f : pos (unsigned_abs z) ≡ z = abs_above z h.0 in
     ap₂ (λ a b. a *ℤ z +ℤ b *ℤ y) e f ∙ law z y
   where
     law : (z y : ℤ) → neg_ℤ y *ℤ z +ℤ z *ℤ y ≡ pos 0
@@ -95,7 +86,7 @@ other_way z y (inl h) = inr (h.1, h.0)
 other_way z y (inr h) = inl (h.1, h.0)
 
 no_sum : (i j z y : ℤ) → z ≡ pos 0 → y ≡ pos 0 → i *ℤ z +ℤ j *ℤ y ≡ pos 0
-no_sum i j z y h k = let e = times_none i z h in let f = times_none j y k in omega (arith, ints)
+no_sum i j z y h k = let e = zero_scale i z h in let f = zero_scale j y k in omega (arith, ints)
 
 -- ---- where a border crosses
 pub crosses : (s t : HalfPlane) (p q c : Spot) → level s p ≡ pos 0 → level s q ≡ pos 0 → level s c ≡ pos 0 → level t c ≡ pos 0 → (pos 0 <ℤ bend s t) ⊎ (pos 0 <ℤ bend t s)
@@ -118,7 +109,7 @@ most_sum : (i j : ℕ) (z y : ℤ) → 0 < i → 0 < j → z <ℤ pos 0 → y �
 most_sum i j z y hi hj h k = let a = above_below (pos i) z (omega (arith, ints)) h in let b = above_most (pos j) y (omega (arith, ints)) k in omega (arith, ints)
 
 least_sum : (i j : ℕ) (z y : ℤ) → 0 < i → 0 < j → pos 0 <ℤ z → pos 0 ≤ℤ y → pos 0 <ℤ (pos i *ℤ z +ℤ pos j *ℤ y)
-least_sum i j z y hi hj h k = let a = above_above (pos i) z (omega (arith, ints)) h in let b = above_least (pos j) y (omega (arith, ints)) k in omega (arith, ints)
+least_sum i j z y hi hj h k = let a = above_above (pos i) z (omega (arith, ints)) h in let b = product_above (pos j) y (omega (arith, ints)) k in omega (arith, ints)
 
 second_above : (i j : ℕ) (z y : ℤ) → 0 < i → 0 < j → z <ℤ pos 0 → pos 0 <ℤ (pos i *ℤ z +ℤ pos j *ℤ y) → pos 0 <ℤ y
 second_above i j z y hi hj h k = by_lt_z (pos 0) y (λ a. a) (λ a. (let m = most_sum i j z y hi hj h a in absurd (omega (arith, ints))))

@@ -1,12 +1,16 @@
 -- Pieces that are idle between two spots: without them every point there is drawn the same.
-use Rattle.std.proofs.Common.{◌≡◌, ℕ, ◌<◌, Bool, true, false, not, ◌&&◌, ◌||◌, ◌⊎◌, inl, inr, List, [], ◌∷◌, refl, sym, ap, ap₂, ◌∙◌, subst, true≢false, arith}
+use Rattle.std.proofs.Common.{◌≡◌, ◌<◌, Bool, true, false, not, ◌&&◌, ◌||◌, ◌⊎◌, inl, inr, List, [], ◌∷◌, refl, sym, ap, ap₂, ◌∙◌, subst, true≢false, arith}
 use Rattle.std.specs.Prelude.{ℤ, pos, ◌+ℤ◌, ◌*ℤ◌, ◌<ℤ◌, int_lt, int_le, unsigned_abs, if◌then◌else◌}
 use Rattle.std.specs.List.{list_all, list_any}
 use Rattle.std.specs.Ordering.{int_eq}
 use Rattle.std.proofs.lemmas.Int.{ints}
+use Rattle.ded_num.proofs.Tests.{and_false, same_tests, not_true_false}
+use Rattle.ded_num.proofs.Signs.{abs_above, above_pos, abs_positive, above_test, is_positive}
 use Rattle.ded_model.specs.declared.row.RowOp.{RowOp}
 use Rattle.ded_model.specs.declared.row.RowOp.TheVariants.{Zero, AtMost, Below}
 use Rattle.ded_model.specs.Row.{sign_meets}
+use Rattle.ded_model.proofs.Rows.{or_right}
+use Rattle.ded_model.proofs.Members.{or_split}
 use Rattle.ded_polygon.specs.Plane.{Spot, In, IsSameSpot, level}
 use Rattle.ded_polygon.proofs.Polynomials.{plus, times, var, identity}
 use Rattle.ded_polygon.proofs.Signs.{above_above}
@@ -18,24 +22,20 @@ use Rattle.ded_strokes.specs.Stretches.{is_off, is_idle, IsIdle, AreEnough, keep
 use Rattle.ded_strokes.specs.declared.stretch.Stroke.{Stroke}
 use Rattle.ded_strokes.specs.declared.stretch.Stroke.TheVariants.{Seam, Solid, Dashed}
 use Rattle.ded_strokes.proofs.Soon.{SameSign, both_below, both_none, both_above, lt_above, eq_below, eq_above, le_above}
-use Rattle.ded_strokes.proofs.Between.{between_positive, above_test, limit_sign}
-use Rattle.ded_strokes.proofs.Cuts.{above_true, sign_same}
+use Rattle.ded_strokes.proofs.Between.{between_positive, limit_sign}
+use Rattle.ded_strokes.proofs.Cuts.{sign_same}
 use Rattle.ded_strokes.proofs.Unions.{near_of, of_near, union_settles}
 
 -- ---- limits that are off
-not_true : (b : Bool) → not b ≡ true → b ≡ false
-not_true true h = absurd (true≢false (sym h))
-not_true false h = refl
-
 off_meets : (op : RowOp) (z : ℤ) → is_off op z ≡ true → sign_meets op z ≡ false
-off_meets Zero z h = not_true (int_eq z (pos 0)) h
-off_meets AtMost z h = le_above z (above_true z h)
-off_meets Below z h = lt_above z (above_true z h)
+off_meets Zero z h = not_true_false (int_eq z (pos 0)) h
+off_meets AtMost z h = le_above z (is_positive z h)
+off_meets Below z h = lt_above z (is_positive z h)
 
 off_soon : (op : RowOp) (z g : ℤ) → is_off op z ≡ true → soon op z g ≡ false
-off_soon Zero z g h = ap (λ b. b && int_eq g (pos 0)) (not_true (int_eq z (pos 0)) h)
-off_soon AtMost z g h = ap₂ (λ b d. b || (d && int_le g (pos 0))) (lt_above z (above_true z h)) (eq_above z (above_true z h))
-off_soon Below z g h = ap₂ (λ b d. b || (d && int_lt g (pos 0))) (lt_above z (above_true z h)) (eq_above z (above_true z h))
+off_soon Zero z g h = ap (λ b. b && int_eq g (pos 0)) (not_true_false (int_eq z (pos 0)) h)
+off_soon AtMost z g h = ap₂ (λ b d. b || (d && int_le g (pos 0))) (lt_above z (is_positive z h)) (eq_above z (is_positive z h))
+off_soon Below z g h = ap₂ (λ b d. b || (d && int_lt g (pos 0))) (lt_above z (is_positive z h)) (eq_above z (is_positive z h))
 
 not_above : (z : ℤ) → z <ℤ pos 0 → int_lt (pos 0) z ≡ false
 not_above z h = grind (arith, ints)
@@ -49,26 +49,14 @@ same_off Zero z y (both_above h k) = ap not (eq_above z h ∙ sym (eq_above y k)
 same_off AtMost z y (both_above h k) = above_test z h ∙ sym (above_test y k)
 same_off Below z y (both_above h k) = above_test z h ∙ sym (above_test y k)
 
-either : (a b : Bool) → (a || b) ≡ true → (a ≡ true) ⊎ (b ≡ true)
-either true b h = inl refl
-either false b h = inr h
-
-and_none : (a b : Bool) → b ≡ false → (a && b) ≡ false
-and_none true b h = h
-and_none false b h = refl
-
-or_right : (a b : Bool) → b ≡ true → (a || b) ≡ true
-or_right true b h = refl
-or_right false b h = h
-
 -- ---- idle pieces
 module _ (m : Spot) where
   -- a test that no limit which is off passes
   none_pass : (test : Limit → Bool) → ((b : Limit) → is_off b.op (level b.plane m) ≡ true → test b ≡ false) → (bs : List Limit) → is_idle bs m ≡ true → list_all test bs ≡ false
   none_pass test fails [] h = absurd (true≢false (sym h))
-  none_pass test fails (b ∷ bs) h = elim (either (is_off b.op (level b.plane m)) (is_idle bs m) h) [
+  none_pass test fails (b ∷ bs) h = elim (or_split (is_off b.op (level b.plane m)) (is_idle bs m) h) [
     | inl e ↦ ap (λ x. x && list_all test bs) (fails b e)
-    | inr e ↦ and_none (test b) (list_all test bs) (none_pass test fails bs e)
+    | inr e ↦ and_false (test b) (list_all test bs) (none_pass test fails bs e)
   ]
 
   pub idle_holds : (bs : List Limit) → is_idle bs m ≡ true → piece_holds bs m ≡ false
@@ -92,7 +80,7 @@ module _ (p q : Spot) (hp : pos 0 <ℤ p.den) (hq : pos 0 <ℤ q.den) where
 
   pub misses_idle : (bs : List Limit) → misses p q bs ≡ true → IsIdle p q bs
   misses_idle [] h = λ m hm l. h
-  misses_idle (b ∷ bs) h = λ m hm l. elim (either (keeps_off b.op (level b.plane p) (level b.plane q)) (misses p q bs) h) [
+  misses_idle (b ∷ bs) h = λ m hm l. elim (or_split (keeps_off b.op (level b.plane p) (level b.plane q)) (misses p q bs) h) [
     | inl e ↦ ap (λ x. x || is_idle bs m) (keeps_is b e m hm l)
     | inr e ↦ or_right (is_off b.op (level b.plane m)) (is_idle bs m) (misses_idle bs e m hm l)
   ]
@@ -132,7 +120,7 @@ enough_more p q few some pieces a b = record {
 -- ---- unions at a point between
 any_in : (f : List Limit → Bool) (ps : List (List Limit)) → list_any f ps ≡ true → (bs : List Limit) × In bs ps × (f bs ≡ true)
 any_in f [] h = absurd (true≢false (sym h))
-any_in f (bs ∷ ps) h = elim (either (f bs) (list_any f ps) h) [
+any_in f (bs ∷ ps) h = elim (or_split (f bs) (list_any f ps) h) [
   | inl e ↦ (bs, inl refl, e)
   | inr e ↦ (let k = any_in f ps e in (k.0, inr k.1, k.2))
 ]
@@ -142,15 +130,10 @@ in_any f [] bs i h = absurd i
 in_any f (cs ∷ ps) bs (inl e) h = ap (λ x. x || list_any f ps) (ap f (sym e) ∙ h)
 in_any f (cs ∷ ps) bs (inr i) h = or_right (f cs) (list_any f ps) (in_any f ps bs i h)
 
-both_ways : (a b : Bool) → (a ≡ true → b ≡ true) → (b ≡ true → a ≡ true) → a ≡ b
-both_ways true b h k = sym (h refl)
-both_ways false true h k = k refl
-both_ways false false h k = refl
-
 module _ (p q : Spot) (few pieces : List (List Limit)) (enough : AreEnough p q few pieces) where
   any_same : (f : List Limit → Bool) → ((bs : List Limit) → IsIdle p q bs → f bs ≡ false) → list_any f few ≡ list_any f pieces
   any_same f fails =
-      both_ways (list_any f few) (list_any f pieces)
+      same_tests (list_any f few) (list_any f pieces)
       (λ h. let k = any_in f few h in in_any f pieces k.0 (enough.some k.0 k.1) k.2)
       (λ h. let k = any_in f pieces h in elim (enough.others k.0 k.1) [ inl i ↦ absurd (true≢false (sym k.2 ∙ fails k.0 i)) | inr i ↦ in_any f few k.0 i k.2 ])
 
@@ -251,12 +234,6 @@ coordinate i j k l px pd qx qd cx cd mx md hc hm =
         (var 9))
         refl
 
-size : (z : ℤ) → pos 0 <ℤ z → pos (unsigned_abs z) ≡ z
-size z h = omega (arith, ints)
-
-sized : (z : ℤ) → pos 0 <ℤ z → 0 < unsigned_abs z
-sized z h = omega (arith, ints)
-
 -- the spot lies between two others by whole numbers above 0
 lies_by : (p q m : Spot) (I J : ℤ) → pos 0 <ℤ I → pos 0 <ℤ J → m.x *ℤ (I *ℤ p.den +ℤ J *ℤ q.den) ≡ (I *ℤ p.x +ℤ J *ℤ q.x) *ℤ m.den
     → m.y *ℤ (I *ℤ p.den +ℤ J *ℤ q.den) ≡ (I *ℤ p.y +ℤ J *ℤ q.y) *ℤ m.den → LiesBetween p q m
@@ -264,21 +241,18 @@ unfolding between
 lies_by p q m I J hi hj ex ey = record {
   i = unsigned_abs I;
   j = unsigned_abs J;
-  some_i = sized I hi;
-  some_j = sized J hj;
+  some_i = abs_positive I hi;
+  some_j = abs_positive J hj;
   is = record {
-    x = subst (λ i. m.x *ℤ (i *ℤ p.den +ℤ pos (unsigned_abs J) *ℤ q.den) ≡ (i *ℤ p.x +ℤ pos (unsigned_abs J) *ℤ q.x) *ℤ m.den) (sym (size I hi))
-        (subst (λ j. m.x *ℤ (I *ℤ p.den +ℤ j *ℤ q.den) ≡ (I *ℤ p.x +ℤ j *ℤ q.x) *ℤ m.den) (sym (size J hj)) ex);
-    y = subst (λ i. m.y *ℤ (i *ℤ p.den +ℤ pos (unsigned_abs J) *ℤ q.den) ≡ (i *ℤ p.y +ℤ pos (unsigned_abs J) *ℤ q.y) *ℤ m.den) (sym (size I hi))
-        (subst (λ j. m.y *ℤ (I *ℤ p.den +ℤ j *ℤ q.den) ≡ (I *ℤ p.y +ℤ j *ℤ q.y) *ℤ m.den) (sym (size J hj)) ey);
+    x = subst (λ i. m.x *ℤ (i *ℤ p.den +ℤ pos (unsigned_abs J) *ℤ q.den) ≡ (i *ℤ p.x +ℤ pos (unsigned_abs J) *ℤ q.x) *ℤ m.den) (sym (abs_above I hi))
+        (subst (λ j. m.x *ℤ (I *ℤ p.den +ℤ j *ℤ q.den) ≡ (I *ℤ p.x +ℤ j *ℤ q.x) *ℤ m.den) (sym (abs_above J hj)) ex);
+    y = subst (λ i. m.y *ℤ (i *ℤ p.den +ℤ pos (unsigned_abs J) *ℤ q.den) ≡ (i *ℤ p.y +ℤ pos (unsigned_abs J) *ℤ q.y) *ℤ m.den) (sym (abs_above I hi))
+        (subst (λ j. m.y *ℤ (I *ℤ p.den +ℤ j *ℤ q.den) ≡ (I *ℤ p.y +ℤ j *ℤ q.y) *ℤ m.den) (sym (abs_above J hj)) ey);
   };
 }
 
 two_above : (a b : ℤ) → pos 0 <ℤ a → pos 0 <ℤ b → pos 0 <ℤ (a +ℤ b)
 two_above a b h k = omega (arith, ints)
-
-above_pos : (n : ℕ) → 0 < n → pos 0 <ℤ pos n
-above_pos n h = omega (arith, ints)
 
 module _ (p q c : Spot) (hp : pos 0 <ℤ p.den) (hq : pos 0 <ℤ q.den) (hc : pos 0 <ℤ c.den) where
   -- between p and c

@@ -6,13 +6,14 @@ use Rattle.std.proofs.lemmas.Bool.Decides.{nat_tests}
 use Rattle.std.proofs.lemmas.Int.{ints, by_lt_z, unsigned_abs-mul}
 use lib.IntN.{neg_ℤ}
 use Rattle.ded_num.proofs.Ring.{parts, ring, ring_pos, diff_same}
+use Rattle.ded_num.proofs.Signs.{zero_times}
 use Rattle.ded_model.specs.declared.row.RowOp.{RowOp}
 use Rattle.ded_model.specs.declared.row.RowOp.TheVariants.{Zero, AtMost, Below}
 use Rattle.ded_model.specs.Row.{sign_meets}
-use Rattle.ded_model.proofs.Core.{meets_scale}
+use Rattle.ded_model.proofs.Core.{meets_scale, zero_scale}
 use Rattle.ded_polygon.specs.Plane.{HalfPlane, Spot, level}
 use Rattle.ded_polygon.proofs.Polynomials.{plus, times, var, identity}
-use Rattle.ded_polygon.proofs.Signs.{times_none, none_times, above_above, above_below}
+use Rattle.ded_polygon.proofs.Signs.{above_above, above_below}
 use Rattle.ded_strokes.specs.Bounds.{Limit, limit_holds}
 use Rattle.ded_strokes.specs.Near.{Direction, moved, growth, soon, limit_soon}
 
@@ -138,7 +139,7 @@ scaled_sign n g e p q =
     (λ b. both_below (rw (law n g e) (above_below (pos n *ℤ e) g f b)) b)
     (λ b. by_lt_z (pos 0) g
     (λ a. both_above (rw (law n g e) (above_above (pos n *ℤ e) g f a)) a)
-    (λ a. (let z : g ≡ pos 0 = omega (arith, ints) in both_none (law n g e ∙ times_none (pos n *ℤ e) g z) z)))
+    (λ a. (let z : g ≡ pos 0 = omega (arith, ints) in both_none (law n g e ∙ zero_scale (pos n *ℤ e) g z) z)))
   where
     f : pos 0 <ℤ (pos n *ℤ e)
     f = above_above (pos n) e (omega (arith, ints)) q
@@ -155,7 +156,7 @@ soon_is op z g e n k q p l =
     (λ a. same_meets op _ z (both_above (stays_above z (g *ℤ e) n k a p l) a) ∙ sym (soon_above op z g a))
     (λ a.
     (let o : z ≡ pos 0 = omega (arith, ints) in
-    ap (sign_meets op) (nothing_more (z *ℤ pos k) (pos n *ℤ (g *ℤ e)) (pos n *ℤ (g *ℤ e)) (none_times z (pos k) o) refl)
+    ap (sign_meets op) (nothing_more (z *ℤ pos k) (pos n *ℤ (g *ℤ e)) (pos n *ℤ (g *ℤ e)) (zero_times z (pos k) o) refl)
     ∙ same_meets op _ g (scaled_sign n g e p q)
     ∙ sym (soon_none op z g o))))
 

@@ -1,13 +1,14 @@
 -- Coordinates are near to what they stand for, and are read as they were written.
 use Rattle.std.proofs.Common.{◌≡◌, ◌<◌, ◌≤◌, ℕ, suc, ◌+◌, ◌*◌, ◌/◌, ◌%◌, Bool, true, false, List, [], ◌∷◌, ◌++◌, refl, sym, ap, ◌∙◌, subst, arith, append_assoc, leb-true, leb-false}
-use Rattle.std.specs.Prelude.{◌==◌, nat_le, ℤ, pos, negsuc, ◌*ℤ◌, ◌-ℤ◌, ◌<ℤ◌, neg_ℤ, int_lt, unsigned_abs, if◌then◌else◌}
+use Rattle.std.specs.Prelude.{◌==◌, nat_le, ℤ, pos, negsuc, ◌*ℤ◌, ◌-ℤ◌, ◌<ℤ◌, neg_ℤ, unsigned_abs, if◌then◌else◌}
 use Rattle.std.proofs.Math.Nat.{div-add-mod, mod-lt}
 use Rattle.std.proofs.lemmas.Bool.Decides.{nat_tests}
 use Rattle.std.proofs.lemmas.Int.{ints}
-use Rattle.ded_num.proofs.Ring.{parts, diff_same, ring}
+use Rattle.ded_num.proofs.Signs.{neg_times_first}
 use Rattle.ded_model.specs.Bound.{Fraction, IsFraction}
 use Rattle.ded_print.proofs.Numerals.{by_digits}
 use Rattle.ded_print.specs.Numbers.{number_text}
+use Rattle.ded_print.proofs.Signs.{plus}
 use Rattle.ded_svg.specs.Coordinates.{nearest, nearest_whole, hundredths_of, IsNear, coordinate_text, magnitude_text, digits_read, hundredths_read}
 
 -- ---- near
@@ -24,27 +25,21 @@ nearest_rounds m d some = by (nat_le d (2 * (m % d))) refl
     by true e = let all = div-add-mod m d in let less = mod-lt m some in let up = leb-true d (2 * (m % d)) e in record { above = omega (arith, all, less, up); below = omega (arith, all, less, up) }
     by false e = let all = div-add-mod m d in let less = mod-lt m some in let down = leb-false d (2 * (m % d)) e in record { above = omega (arith, all, less, down); below = omega (arith, all, less, down) }
 
-apart : (a b k : ℕ) → 2 * a ≤ 2 * b + k → 2 * b ≤ 2 * a + k → 2 * unsigned_abs (pos a -ℤ pos b) ≤ k
+pub apart : (a b k : ℕ) → 2 * a ≤ 2 * b + k → 2 * b ≤ 2 * a + k → 2 * unsigned_abs (pos a -ℤ pos b) ≤ k
 apart a b k h i = omega (arith, ints, h, i)
 
 apart_below : (a b k : ℕ) → 2 * a ≤ 2 * b + k → 2 * b ≤ 2 * a + k → 2 * unsigned_abs (neg_ℤ (pos a) -ℤ neg_ℤ (pos b)) ≤ k
 apart_below a b k h i = omega (arith, ints, h, i)
 
-negative_times : (a b : ℤ) → neg_ℤ a *ℤ b ≡ neg_ℤ (a *ℤ b)
-negative_times a b = rw (parts a, parts b) (simp ring (diff_same _ _ _ _ (omega arith)))
-
-not_negative : (m : ℕ) → int_lt (pos m) (pos 0) ≡ false
-not_negative m = grind (arith, ints)
-
 near_whole : (z den : ℤ) → pos 0 <ℤ den → 2 * unsigned_abs (nearest_whole z den *ℤ den -ℤ z) ≤ unsigned_abs den
 near_whole (pos m) (pos d) some =
     let h = nearest_rounds m d (omega (arith, ints, some)) in
     let q = nearest m d in
-    subst (λ (b : Bool). 2 * unsigned_abs ((if b then neg_ℤ (pos q) else pos q) *ℤ pos d -ℤ pos m) ≤ d) (sym (not_negative m)) (apart (q * d) m d h.above h.below)
+    subst (λ (b : Bool). 2 * unsigned_abs ((if b then neg_ℤ (pos q) else pos q) *ℤ pos d -ℤ pos m) ≤ d) (sym (plus m)) (apart (q * d) m d h.above h.below)
 near_whole (negsuc m) (pos d) some =
     let h = nearest_rounds (suc m) d (omega (arith, ints, some)) in
     let q = nearest (suc m) d in
-    subst (λ (x : ℤ). 2 * unsigned_abs (x -ℤ negsuc m) ≤ d) (sym (negative_times (pos q) (pos d))) (apart_below (q * d) (suc m) d h.above h.below)
+    subst (λ (x : ℤ). 2 * unsigned_abs (x -ℤ negsuc m) ≤ d) (sym (neg_times_first (pos q) (pos d))) (apart_below (q * d) (suc m) d h.above h.below)
 near_whole (pos m) (negsuc d) some = absurd (omega (arith, ints, some))
 near_whole (negsuc m) (negsuc d) some = absurd (omega (arith, ints, some))
 
@@ -79,5 +74,5 @@ number_unsigned = by_digits (λ n ds. (rest : List ℕ) → hundredths_read (ds 
 
 pub coordinate_read : (z : ℤ) → hundredths_read (coordinate_text z) ≡ z
 coordinate_read (pos n) =
-    ap (λ (b : Bool). hundredths_read ((if b then (45 ∷ []) else []) ++ magnitude_text n)) (not_negative n) ∙ number_unsigned (n / 100) _ ∙ ap pos (magnitude_read n)
+    ap (λ (b : Bool). hundredths_read ((if b then (45 ∷ []) else []) ++ magnitude_text n)) (plus n) ∙ number_unsigned (n / 100) _ ∙ ap pos (magnitude_read n)
 coordinate_read (negsuc n) = ap (λ (k : ℕ). neg_ℤ (pos k)) (magnitude_read (suc n))

@@ -1,7 +1,6 @@
 //! Coordinates.
 ghost use Rattle.std.specs.Prelude.{◌≡◌, ◌<◌, ◌≤◌, ◌^◌, ◌+◌, ◌++◌, ◌*ℤ◌, ◌<ℤ◌, pos, OnOk};
 ghost use Rattle.std.specs.Option.{SomeIff};
-ghost use Rattle.ded_model.specs.Bound.{Fraction};
 ghost use Rattle.ded_num.specs.Length.{IsShort};
 ghost use Rattle.ded_print.specs.Numbers.{number_text};
 ghost use Rattle.ded_svg.specs.Coordinates.{coordinate_text, hundredths_of, magnitude_text, nearest, nearest_whole, sign_text, with_sign_of};

@@ -1,5 +1,5 @@
 //! Elements of markup.
-ghost use Rattle.std.specs.Prelude.{◌≡◌, ◌++◌, codes, IfOk, OnOk};
+ghost use Rattle.std.specs.Prelude.{◌≡◌, ◌++◌, IfOk, OnOk};
 ghost use Rattle.ded_print.specs.Numbers.{number_text};
 ghost use Rattle.ded_svg.specs.Coordinates.{coordinate_text};
 ghost use Rattle.ded_svg.specs.Markup.{attribute_text, markup_text};

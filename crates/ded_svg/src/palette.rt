@@ -1,6 +1,6 @@
 //! Colours.
-ghost use Rattle.std.specs.Prelude.{◌≡◌, ◌++◌, codes, IfOk};
-ghost use Rattle.ded_svg.specs.Palette.{hatch, hatch_of, ink, ink_of, pattern_name, pattern_reference, tint, tint_of};
+ghost use Rattle.std.specs.Prelude.{◌≡◌, IfOk};
+ghost use Rattle.ded_svg.specs.Palette.{hatch, ink, pattern_name, pattern_reference, tint};
 
 use crate::coordinate::put_number;
 use crate::element::number_between;

@@ -1,6 +1,6 @@
 -- Drafts as values of the reader, and what holds of each result.
 use Rattle.std.proofs.Common.{◌≡◌, Bool, true, false, List, refl, sym, ap, subst, ◌∙◌}
-use Rattle.std.specs.Prelude.{◌↔◌, IsTrue, Result, Ok, Err, IfOk, IfErr}
+use Rattle.std.specs.Prelude.{◌↔◌, IsTrue}
 use Rattle.ded_grammar.specs.declared.terminal.Terminal.{Terminal}
 use Rattle.ded_grammar.specs.declared.scan.Spot.TheVariants.{Start}
 use Rattle.ded_grammar.specs.Forms.{terminal_forms}
@@ -11,14 +11,6 @@ use Rattle.ded_grammar.proofs.Sound.{spelled}
 use Rattle.ded_grammar.proofs.Tells.{scanned}
 use Rattle.ded_syntax.specs.CommandReading as reading
 use Rattle.ded_syntax.specs.Meaning.{MeansDeep}
-
-pub if_ok : {X E : Type 0} (r : Result X E) (P Q : X → Type 0) → ((x : X) → P x → Q x) → IfOk r P → IfOk r Q
-if_ok (Ok x) P Q f h = f x h
-if_ok (Err e) P Q f h = h
-
-pub if_err : {X E : Type 0} (r : Result X E) (P Q : E → Type 0) → ((e : E) → P e → Q e) → IfErr r P → IfErr r Q
-if_err (Ok x) P Q f h = h
-if_err (Err e) P Q f h = f e h
 
 -- whether the terminals spell a formula is what scanning them says
 pub scan_told : (ps : List TerminalForm) (b : Bool) → (IsTrue b ↔ ((w : Whole) × (spell w ≡ ps))) → b ≡ scan Start 0 ps

@@ -78,7 +78,7 @@ compared_exact l r op free = by (are_long_over (common ls) ls) refl
 pub comparison_exact : (c : Comparison) → some_atom is_marked_atom (comparison_form marked c) ≡ false → comparison_form marked c ≡ comparison_form exact c
 comparison_exact c free = compared_exact (reading_of (λ n. n) c.left) (reading_of (λ n. n) c.right) c.op free
 
-argument_exact : (s : Side) → is_marked (argument marked s) ≡ false → argument marked s ≡ argument exact s
+pub argument_exact : (s : Side) → is_marked (argument marked s) ≡ false → argument marked s ≡ argument exact s
 argument_exact s free = by (are_long_over (common ls) ls) refl
   where
     r : Reading
@@ -95,13 +95,13 @@ argument_exact s free = by (are_long_over (common ls) ls) refl
     by true e = absurd (true≢false (sym (one ls refl e) ∙ ap (λ (m : ℕ). is_marked (operand_over marked m r)) (sym (marks ls e)) ∙ free))
     by false e = ap (λ (m : ℕ). operand_over marked m r) (unmarked ls e) ∙ operand_same (common ls) (low_of ls e) r
 
-arguments_exact : (ss : List Side) → list_any is_marked (map (argument marked) ss) ≡ false → map (argument marked) ss ≡ map (argument exact) ss
+pub arguments_exact : (ss : List Side) → list_any is_marked (map (argument marked) ss) ≡ false → map (argument marked) ss ≡ map (argument exact) ss
 arguments_exact [] free = refl
 arguments_exact (s ∷ ss) free =
     let both = or_parts _ _ free in
     ap₂ (λ (x : Operand) (xs : List Operand). x ∷ xs) (argument_exact s both.0) (arguments_exact ss both.1)
 
-atom_exact : (a : Atom) → some_atom is_marked_atom (atom_form marked a) ≡ false → atom_form marked a ≡ atom_form exact a
+pub atom_exact : (a : Atom) → some_atom is_marked_atom (atom_form marked a) ≡ false → atom_form marked a ≡ atom_form exact a
 atom_exact (truth true) free = refl
 atom_exact (truth false) free = refl
 atom_exact (relates c) free = comparison_exact c free

@@ -1,17 +1,15 @@
 -- Decimals as loops find their digits.
-use Rattle.std.proofs.Common.{◌≡◌, ◌≢◌, ℕ, zero, suc, ◌+◌, ◌-◌, ◌*◌, ◌<◌, ◌≤◌, List, [], ◌∷◌, ◌++◌, length, take, drop, get_or, refl, sym, ap, ◌∙◌, arith, add-one, drop-cons, append-nil, append_assoc}
+use Rattle.std.proofs.Common.{◌≡◌, ◌≢◌, ℕ, zero, suc, ◌+◌, ◌-◌, ◌*◌, ◌<◌, ◌≤◌, List, [], ◌∷◌, ◌++◌, length, take, drop, get_or, refl, sym, ap, ◌∙◌, arith, add-one, append-nil, append_assoc}
 use Rattle.std.specs.Prelude.{◌^◌, ◌==◌, nat_le, Bool, true, false}
 use Rattle.std.proofs.Math.Nat.{le-mul_of_pos_right, pow-suc}
 use Rattle.std.proofs.Math.Seq.{take-suc}
 use Rattle.std.proofs.lemmas.Bool.Decides.{nat_tests}
+use Rattle.ded_lex.proofs.Counting.{drop_first}
 use Rattle.ded_terminals.specs.Symbols.{number_from, number_of, before_point, behind_point, trimmed_to, trimmed}
 use Rattle.ded_terminals.specs.Literals.{capped}
 use Rattle.ded_terminals.proofs.Numbers.{capped_same}
 
 -- ---- the point
-
-drop_first : (bs : List ℕ) (i : ℕ) → i < length bs → drop i bs ≡ get_or bs i 0 ∷ drop (i + 1) bs
-drop_first bs i lt = rw add-one (drop-cons bs i 0 lt)
 
 take_first : (bs : List ℕ) (i : ℕ) → i < length bs → take (i + 1) bs ≡ take i bs ++ get_or bs i 0 ∷ []
 take_first bs i lt = ap (λ k. take k bs) (add-one i) ∙ take-suc bs i 0 lt
@@ -68,7 +66,7 @@ trim_none ds n is e = ap (λ k. take k ds) is ∙ ap (λ k. trimmed (take k ds))
 
 -- ---- powers of ten
 
-pow_some : (n : ℕ) → 0 < 10 ^ n
+pub pow_some : (n : ℕ) → 0 < 10 ^ n
 pow_some zero = omega arith
 pow_some (suc n) = omega (arith, pow_some n)
 

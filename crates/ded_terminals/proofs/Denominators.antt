@@ -1,5 +1,5 @@
 -- What sums are over: at least 1, and as the reader finds it.
-use Rattle.std.proofs.Common.{◌≡◌, ℕ, zero, suc, ◌≤◌, ◌<◌, ◌*◌, ◌/◌, Bool, true, false, ◌+◌, List, [], ◌∷◌, ◌++◌, length, drop, get_or, add-one, drop-cons, refl, sym, ap, subst, ◌∙◌, arith}
+use Rattle.std.proofs.Common.{◌≡◌, ℕ, ◌≤◌, ◌<◌, ◌*◌, ◌/◌, Bool, true, false, ◌+◌, List, [], ◌∷◌, ◌++◌, length, drop, get_or, add-one, drop-cons, refl, sym, ap, subst, ◌∙◌, arith}
 use Rattle.std.specs.Prelude.{◌^◌, ◌==◌, ◌||◌, nat_le, Option, Some, None, if◌then◌else◌}
 use Rattle.std.specs.List.{AllByRecursion, list_any}
 use Rattle.std.proofs.Math.Nat.{div-mul_cancel, pos_of_dvd_of_pos, mul-le-mul_left}
@@ -15,6 +15,7 @@ use Rattle.ded_terminals.specs.declared.side.Part.{Part as ReadPart}
 use Rattle.ded_terminals.specs.Views.{seen_literal, seen_part, seen_parts, AreSmall}
 use Rattle.ded_terminals.proofs.Tests.{any_split}
 use Rattle.std.proofs.lemmas.Bool.{or_parts}
+use Rattle.ded_terminals.proofs.Decimals.{pow_some}
 
 -- ---- literals
 
@@ -32,14 +33,10 @@ divided_some n d h =
 not_zero : (n : ℕ) → (n == 0) ≡ false → 0 < n
 not_zero n h = grind (arith, nat_tests)
 
-power_some : (n : ℕ) → 0 < 10 ^ n
-power_some zero = omega arith
-power_some (suc n) = omega (arith, power_some n)
-
 literal_some : (s : Scalar) → 0 < (literal (λ n. n) s).1
 literal_some (whole d) = omega arith
 literal_some (quotient d e z) = divided_some (number_of d) (number_of e) (not_zero (number_of e) z)
-literal_some (decimal t) = divided_some _ (decimal_power t) (power_some _)
+literal_some (decimal t) = divided_some _ (decimal_power t) (pow_some _)
 
 factor_some : (p : Product) → 0 < (factor (λ n. n) p).0.1
 factor_some (scaled s n) = literal_some s

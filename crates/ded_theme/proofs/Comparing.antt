@@ -2,10 +2,9 @@
 use Rattle.std.proofs.Common.{◌≡◌, ℕ, ◌<◌, ◌||◌, Bool, true, false, not, cond, List, arith, refl, sym, ap, ap₂, ◌∙◌, true≢false, bytes_eq}
 use Rattle.std.specs.Prelude.{nat_lt, if◌then◌else◌}
 use Rattle.std.proofs.Math.Bool.{or-false, or_comm}
-use Rattle.std.proofs.lemmas.Slice.Eq.{bytes_eq-Decides}
 use Rattle.std.proofs.lemmas.Bool.Decides.{nat_tests}
+use Rattle.ded_num.proofs.Tests.{from_same_texts, bytes_eq-of, bytes_eq-swap}
 use Rattle.ded_model.specs.declared.slot.Slot.{Slot}
-use Rattle.ded_model.specs.declared.slot.Sort.{Sort}
 use Rattle.ded_model.specs.declared.slot.Sort.TheVariants.{Text}
 use Rattle.ded_model.specs.declared.tuple.ThemeAtom.{ThemeAtom}
 use Rattle.ded_model.specs.declared.tuple.ThemeAtom.TheVariants.{EqText, NeText, EqSlot, NeSlot}
@@ -13,6 +12,8 @@ use Rattle.ded_model.specs.Point.{Point, AllBytes, same_slot}
 use Rattle.ded_model.specs.Row.{theme_holds, theme_mentions}
 use Rattle.ded_model.specs.Normal.{IsNormalTheme}
 use Rattle.ded_model.proofs.Points.{same_slot_is, same_slot_refl}
+use Rattle.ded_model.proofs.CoefLemmas.{is_lesser}
+use Rattle.ded_model.proofs.SlotLists.{slot_same_parts}
 use Rattle.ded_theme.specs.declared.substitution.Made.TheVariants.{Always, Never, Atom}
 use Rattle.ded_theme.specs.Sources.{Source, at, quoted, is_at, text_of, texts, left, right, is_equality, compares, IsNormalSource}
 use Rattle.ded_theme.specs.Replacing.{text_atom, slots_atom, made_holds, made_mentions, IsNormalMade}
@@ -50,13 +51,6 @@ right_normal (NeSlot s t) n = n.1
 
 -- ---- comparisons
 
--- equal texts are found equal
-pub same_texts : (s t : List ℕ) → s ≡ t → bytes_eq s t ≡ true
-same_texts s t e = (bytes_eq-Decides s t).1 e
-
-pub from_same_texts : (s t : List ℕ) → bytes_eq s t ≡ true → s ≡ t
-from_same_texts s t e = (bytes_eq-Decides s t).0 e
-
 -- texts that aren't equal are found to differ
 pub other_texts : (s t : List ℕ) → (s ≡ t → ⊥) → bytes_eq s t ≡ false
 other_texts s t n = by (bytes_eq s t) refl
@@ -65,21 +59,14 @@ other_texts s t n = by (bytes_eq s t) refl
     by true e = absurd (n (from_same_texts s t e))
     by false e = e
 
-bytes_eq-swap : (s t : List ℕ) → bytes_eq s t ≡ bytes_eq t s
-bytes_eq-swap s t = by (bytes_eq s t) refl
-  where
-    by : (b : Bool) → bytes_eq s t ≡ b → bytes_eq s t ≡ bytes_eq t s
-    by true e = e ∙ sym (same_texts t s (sym (from_same_texts s t e)))
-    by false e = e ∙ sym (other_texts t s (λ f. true≢false (sym (same_texts s t (sym f)) ∙ e)))
-
 pub compares-swap : (e : Bool) (v w : Source) (f : Slot → List ℕ) → compares e v w f ≡ compares e w v f
 compares-swap true v w f = bytes_eq-swap (text_of v f) (text_of w f)
 compares-swap false v w f = ap not (bytes_eq-swap (text_of v f) (text_of w f))
 
 -- a comparison of equal texts
 pub compares-same : (e : Bool) (v w : Source) (f : Slot → List ℕ) → text_of v f ≡ text_of w f → compares e v w f ≡ e
-compares-same true v w f h = same_texts (text_of v f) (text_of w f) h
-compares-same false v w f h = ap not (same_texts (text_of v f) (text_of w f) h)
+compares-same true v w f h = bytes_eq-of (text_of v f) (text_of w f) h
+compares-same false v w f h = ap not (bytes_eq-of (text_of v f) (text_of w f) h)
 
 -- a comparison of texts that differ
 pub compares-other : (e : Bool) (v w : Source) (f : Slot → List ℕ) → (text_of v f ≡ text_of w f → ⊥) → compares e v w f ≡ not e
@@ -126,27 +113,19 @@ slots_atom-holds e s t p = by e (nat_lt s.number t.number) refl
     by true false h = rw h (bytes_eq-swap (texts p t) (texts p s))
     by false false h = rw h (ap not (bytes_eq-swap (texts p t) (texts p s)))
 
--- orders of numbers, from a test
-below : (m n : ℕ) → nat_lt m n ≡ true → m < n
-below m n h = grind (arith, nat_tests, h)
-
 above : (m n : ℕ) → nat_lt m n ≡ false → (m ≡ n → ⊥) → n < m
 above m n h k = grind (arith, nat_tests, h, k)
 
--- two slots of one number and one sort are one
-pub same_parts : (s t : Slot) → s.number ≡ t.number → s.sort ≡ t.sort → s ≡ t
-same_parts s t e f = let slot_of : ℕ → Sort → Slot = λ n x. record { number = n; sort = x } in ap₂ slot_of e f
-
 -- two text slots that differ have two numbers
 pub numbers_differ : (s t : Slot) → s.sort ≡ Text → t.sort ≡ Text → (s ≡ t → ⊥) → s.number ≡ t.number → ⊥
-numbers_differ s t h k n e = n (same_parts s t e (h ∙ sym k))
+numbers_differ s t h k n e = n (slot_same_parts s t e (h ∙ sym k))
 
 pub slots_atom-normal : (e : Bool) (s t : Slot) → s.sort ≡ Text → t.sort ≡ Text → (s ≡ t → ⊥) → IsNormalTheme (slots_atom e s t)
 slots_atom-normal e s t h k n = by e (nat_lt s.number t.number) refl
   where
     by : (e b : Bool) → nat_lt s.number t.number ≡ b → IsNormalTheme (slots_atom e s t)
-    by true true l = rw l (h, k, below s.number t.number l)
-    by false true l = rw l (h, k, below s.number t.number l)
+    by true true l = rw l (h, k, is_lesser s.number t.number l)
+    by false true l = rw l (h, k, is_lesser s.number t.number l)
     by true false l = rw l (k, h, above s.number t.number l (numbers_differ s t h k n))
     by false false l = rw l (k, h, above s.number t.number l (numbers_differ s t h k n))
 

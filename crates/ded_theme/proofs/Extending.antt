@@ -10,6 +10,7 @@ use Rattle.ded_model.proofs.Unused.{extension_same}
 use Rattle.ded_model.proofs.Texts.{zeros, zeros-bytes, text_extended, text_extended_is}
 use Rattle.ded_theme.specs.Sources.{Source, at, quoted, is_at, text_of, texts, IsNormalSource}
 use Rattle.ded_model.proofs.PointTexts.{last-value, text-bytes}
+use Rattle.ded_model.proofs.SlotLists.{rational_no_text}
 
 -- ---- sources at a slot
 
@@ -52,9 +53,6 @@ extended_by s p t e h =
     let x : IsTextExtension p (slot s) q = text_extended_is (slot s) t p h in
     (q, subst (λ z. IsExtension z p (slot s) q) (sym e) x, text_at-extended p (slot s) q x (slot s) (same_slot_refl s))
 
-rat_text : Rat ≡ Text → ⊥
-rat_text e = cc
-
 -- some extension, by so many zeros where it is one by a text
 pub extended_far : (s : Slot) (p : Point) (n : ℕ) → (q : Point) × IsExtension s.sort p (slot s) q × (s.sort ≡ Text → texts q s ≡ zeros n)
 extended_far s p n = by s.sort refl
@@ -63,4 +61,4 @@ extended_far s p n = by s.sort refl
     by Text e = let y = extended_by s p (zeros n) e (zeros-bytes n) in (y.0, y.1, λ _. y.2)
     by Rat e =
         let q : Point = record { den = p.den * 1; coords = all_times 1 p.coords ++ (slot s, number (pos 0)) ∷ [] } in
-        (q, subst (λ z. IsExtension z p (slot s) q) (sym e) (record { factor = 1; positive = omega arith; value = pos 0; den = refl; coords = refl }), λ f. absurd (rat_text (sym e ∙ f)))
+        (q, subst (λ z. IsExtension z p (slot s) q) (sym e) (record { factor = 1; positive = omega arith; value = pos 0; den = refl; coords = refl }), λ f. absurd (rational_no_text (sym e ∙ f)))

@@ -17,8 +17,9 @@ use Rattle.ded_theme.specs.Sources.{Source, at, quoted, text_of, texts, left, ri
 use Rattle.ded_theme.specs.Classes.{class_of, IsShortSource, AreShortSources, AreRulesOf, AreSplit}
 use Rattle.ded_model.proofs.Rows.{or_left, or_right}
 use Rattle.std.proofs.lemmas.Bool.{or_cases}
+use Rattle.ded_model.proofs.SlotLists.{slot_same_parts}
 use Rattle.ded_theme.proofs.Lists.{all_both, test_from_all}
-use Rattle.ded_theme.proofs.Comparing.{same_parts, theme_holds-is, left_normal, right_normal, compares-same, compares-other, compares-by}
+use Rattle.ded_theme.proofs.Comparing.{theme_holds-is, left_normal, right_normal, compares-same, compares-other, compares-by}
 use Rattle.ded_theme.proofs.Ruling.{class_short, class_quoted}
 
 -- ---- a number for each slot
@@ -39,7 +40,7 @@ parts_equal m n Text Text e = (omega (arith, e), refl)
 
 slot_equal : (s t : Slot) → slot_number s ≡ slot_number t → s ≡ t
 unfolding slot_number
-slot_equal s t e = let h = parts_equal s.number t.number s.sort t.sort e in same_parts s t h.0 h.1
+slot_equal s t e = let h = parts_equal s.number t.number s.sort t.sort e in slot_same_parts s t h.0 h.1
 
 -- ---- a text for each class
 

@@ -9,3 +9,4 @@ pub mod Pinning
 pub mod Ruling
 pub mod Turning
 pub mod Unlike
+pub mod Shared

@@ -4,9 +4,8 @@ use Rattle.ded_model.specs.declared.slot.Slot.{Slot}
 use Rattle.ded_model.specs.declared.tuple.ThemeAtom.{ThemeAtom}
 use Rattle.ded_model.specs.Point.{Point, same_slot}
 use Rattle.ded_model.specs.Row.{theme_holds}
-use Rattle.ded_model.specs.Cell.{conj_holds}
+use Rattle.ded_model.specs.Cell.{conj_holds, HoldsNowhere}
 use Rattle.ded_model.proofs.Points.{same_slot_is, same_slot_refl}
-use Rattle.ded_theory.specs.Verdicts.{HoldsNowhere}
 use Rattle.ded_theme.specs.declared.classes.Rule.{Rule}
 use Rattle.ded_theme.specs.Sources.{Source, at, quoted, source, text_of, texts, left, right, is_equality}
 use Rattle.ded_theme.specs.Replacing.{replaced}

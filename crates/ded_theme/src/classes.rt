@@ -8,9 +8,8 @@ ghost use Rattle.std.specs.Prelude.{◌≡◌, ◌↔◌, IfOk, IsTrue, MatchOpt
 ghost use Rattle.std.specs.List.{AllByRecursion};
 ghost use Rattle.ded_model.specs.Point.{Point};
 ghost use Rattle.ded_model.specs.Row.{theme_holds};
-ghost use Rattle.ded_model.specs.Cell.{conj_holds, HoldsSomewhere};
+ghost use Rattle.ded_model.specs.Cell.{conj_holds, HoldsSomewhere, HoldsNowhere};
 ghost use Rattle.ded_model.specs.Normal.{IsNormalTheme};
-ghost use Rattle.ded_theory.specs.Verdicts.{HoldsNowhere};
 ghost use Rattle.ded_theme.specs.Sources.{source, texts};
 ghost use Rattle.ded_theme.specs.Classes.{rules_of, class_of, Solves, AreUnited, IsBound, AreApart, AreRulesOf, AreSplit};
 

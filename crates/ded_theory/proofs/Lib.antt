@@ -4,3 +4,4 @@ pub mod Parted
 pub mod PartLaws
 pub mod Pieces
 pub mod TwoKinds
+pub mod Shared

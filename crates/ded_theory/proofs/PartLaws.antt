@@ -13,7 +13,7 @@ use Rattle.ded_model.specs.declared.tuple.BothAtom.{BothAtom}
 use Rattle.ded_model.specs.Point.{slot, same_slot, Point, IsPoint, IsSameAt, IsExtension}
 use Rattle.ded_model.specs.Row.{row_mentions}
 use Rattle.ded_model.specs.Bound.{lower, upper}
-use Rattle.ded_model.specs.Cell.{conj_holds, HoldsSomewhere}
+use Rattle.ded_model.specs.Cell.{conj_holds, HoldsSomewhere, HoldsNowhere}
 use Rattle.ded_model.specs.Lines.{Line, In, IsSubset, elim_at}
 use Rattle.ded_model.proofs.Points.{and_left, and_right, same_slot_is}
 use Rattle.ded_model.proofs.Rows.{or_left, or_right}
@@ -25,13 +25,14 @@ use Rattle.ded_theory.specs.declared.answers.Span.{Span}
 use Rattle.ded_theory.specs.declared.answers.Span.TheVariants.{Nothing, Exact, Around}
 use Rattle.ded_theory.specs.Conjunctions.{conj_mentions, conj_lines, IsWide}
 use Rattle.ded_theory.specs.Eliminations.{SomeExtension, IsElimination}
-use Rattle.ded_theory.specs.Verdicts.{HoldsNowhere, IsVerdict, IsSpan, IsAround, joined_verdict, joined_span}
+use Rattle.ded_theory.specs.Verdicts.{IsVerdict, IsSpan, IsAround, joined_verdict, joined_span}
 use Rattle.ded_theory.specs.Both.{by_kind, IsByKind, firsts, seconds}
 use Rattle.ded_theory.proofs.Conjunctions.{conj_holds-same, conj_holds-extended, conj_slots, conj_line_slots}
 use Rattle.ded_theory.proofs.TwoKinds.{parts_hold, parts_mention, parts_normal, firsts_normal, seconds_normal, parts_lines, first_lines, second_lines}
 use Rattle.ded_theory.proofs.Merged.{merged, merged_first, merged_second, merged_is}
 use Rattle.ded_theory.proofs.Parted.{joined_exact, wide_more, SharesValues, exact_shared, bound_within, exact_bound}
 use Rattle.ded_model.proofs.Bools.{and_swap}
+use Rattle.ded_model.proofs.SlotLists.{rational_no_text}
 
 -- ---- a theory of one sort
 
@@ -49,13 +50,6 @@ only_rational owned other Text e = absurd (true≢false (sym e ∙ other))
 pub only_texts : (owned : Sort → Bool) → owned Rat ≡ false → (s : Sort) → owned s ≡ true → s ≡ Text
 only_texts owned other Rat e = absurd (true≢false (sym e ∙ other))
 only_texts owned other Text e = refl
-
-sorts_apart : Rat ≡ Text → ⊥
-sorts_apart e = true≢false (ap sort_test e)
-  where
-    sort_test : Sort → Bool
-    sort_test Rat = true
-    sort_test Text = false
 
 not_both : (a b : Bool) → (a ≡ false) ⊎ (b ≡ false) → (a && b) ≡ false
 not_both true b (inl e) = absurd (true≢false e)
@@ -88,7 +82,7 @@ module _ {A B : Type 0} (hA : A → Point → Bool) (mA : A → Slot → Bool) (
   -- ---- eliminations from the first part
   module _ (xs : List (BothAtom A B)) (s : Slot) (r : s.sort ≡ Rat) (k : AllByRecursion (IsByKind nA nB) xs) where
     not_text : s.sort ≡ Text → ⊥
-    not_text e = sorts_apart (sym r ∙ e)
+    not_text e = rational_no_text (sym r ∙ e)
 
     pub never_first : IsElimination hA mA lA nA (firsts xs) s Never → IsElimination (by_kind hA hB) (by_kind mA mB) (by_kind lA lB) (IsByKind nA nB) xs s Never
     never_first e = record {
@@ -127,7 +121,7 @@ module _ {A B : Type 0} (hA : A → Point → Bool) (mA : A → Slot → Bool) (
   -- ---- eliminations from the second part
   module _ (xs : List (BothAtom A B)) (s : Slot) (r : s.sort ≡ Text) (k : AllByRecursion (IsByKind nA nB) xs) where
     not_rational : s.sort ≡ Rat → ⊥
-    not_rational e = sorts_apart (sym e ∙ r)
+    not_rational e = rational_no_text (sym e ∙ r)
 
     pub never_second : IsElimination hB mB lB nB (seconds xs) s Never → IsElimination (by_kind hA hB) (by_kind mA mB) (by_kind lA lB) (IsByKind nA nB) xs s Never
     never_second e = record {

@@ -2,6 +2,7 @@
 use Rattle.std.proofs.Common.{◌≡◌, Bool, true, false, ◌&&◌, ◌||◌, List, [], ◌∷◌, ◌++◌, ◌⊎◌, inl, inr, ⊎_elim, refl, sym, ap, ◌∙◌}
 use Rattle.std.proofs.Math.Bool.{and_assoc, or_assoc}
 use Rattle.std.specs.List.{AllByRecursion}
+use Rattle.ded_num.proofs.Tests.{and_swap_first, append_none}
 use Rattle.ded_model.specs.declared.slot.Slot.{Slot}
 use Rattle.ded_model.specs.declared.tuple.BothAtom.{BothAtom}
 use Rattle.ded_model.specs.declared.tuple.BothAtom.TheVariants.{First, Second}
@@ -12,16 +13,7 @@ use Rattle.ded_model.proofs.Members.{In-left, In-right, In-split}
 use Rattle.ded_theory.specs.Conjunctions.{conj_mentions, conj_lines}
 use Rattle.ded_theory.specs.Both.{by_kind, IsByKind, firsts, seconds}
 
-append_none : {A : Type 0} (xs : List A) → xs ++ [] ≡ xs
-append_none [] = refl
-append_none (x ∷ xs) = ap (λ ys. x ∷ ys) (append_none xs)
-
 -- ---- the parts of a conjunction
-
-swap_and : (a b c : Bool) → (a && (b && c)) ≡ (b && (a && c))
-swap_and true b c = refl
-swap_and false true c = refl
-swap_and false false c = refl
 
 swap_or : (a b c : Bool) → (a || (b || c)) ≡ (b || (a || c))
 swap_or true true c = refl
@@ -44,7 +36,7 @@ module _ {A B : Type 0} where
       → conj_holds (by_kind hA hB) xs p ≡ (conj_holds hA (firsts xs) p && conj_holds hB (seconds xs) p)
   parts_hold hA hB [] p = refl
   parts_hold hA hB (First a ∷ xs) p = ap (λ b. hA a p && b) (parts_hold hA hB xs p) ∙ sym (and_assoc (hA a p) _ _)
-  parts_hold hA hB (Second b ∷ xs) p = ap (λ c. hB b p && c) (parts_hold hA hB xs p) ∙ swap_and (hB b p) _ _
+  parts_hold hA hB (Second b ∷ xs) p = ap (λ c. hB b p && c) (parts_hold hA hB xs p) ∙ and_swap_first (hB b p) _ _
 
   -- it mentions what one of them does
   pub parts_mention : (mA : A → Slot → Bool) (mB : B → Slot → Bool) (xs : List (BothAtom A B)) (s : Slot)

@@ -1,10 +1,10 @@
 -- Answers on whether something satisfies a conjunction, and between which bounds.
-use Rattle.std.specs.Prelude.{◌≡◌, Bool, false, List}
+use Rattle.std.specs.Prelude.{Bool, List}
 use Rattle.ded_model.specs.declared.slot.Slot.{Slot}
 use Rattle.ded_model.specs.declared.bound.Bound.{Bound}
 use Rattle.ded_model.specs.declared.bound.Bound.TheVariants.{Infinite, Excluded, Included}
-use Rattle.ded_model.specs.Point.{Point, IsPoint}
-use Rattle.ded_model.specs.Cell.{conj_holds, HoldsSomewhere}
+use Rattle.ded_model.specs.Point.{Point}
+use Rattle.ded_model.specs.Cell.{conj_holds, HoldsSomewhere, HoldsNowhere}
 use Rattle.ded_model.specs.Bound.{End, lower, upper, NoneOutside, SomeAt}
 use Rattle.ded_model.specs.Interval.{IsExactBound}
 use Rattle.ded_model.specs.Lines.{Line}
@@ -13,10 +13,6 @@ use Rattle.ded_theory.specs.declared.answers.Verdict.TheVariants.{Empty, Inhabit
 use Rattle.ded_theory.specs.declared.answers.Span.{Span}
 use Rattle.ded_theory.specs.declared.answers.Span.TheVariants.{Nothing, Exact, Around}
 use Rattle.ded_theory.specs.Conjunctions.{IsWide}
-
--- no point passes the test
-abbrev pub HoldsNowhere : (Point → Bool) → Type 0
-HoldsNowhere test = (p : Point) → IsPoint p → test p ≡ false
 
 -- `Empty` and `Inhabited` are so, and `Unknown` comes only of wide atoms
 abbrev pub IsVerdict : {A : Type 0} → (A → Point → Bool) → (A → Slot → Bool) → (A → List Line) → List A → Verdict → Type 0

@@ -4,7 +4,7 @@ use Rattle.std.specs.Prelude.{ℤ, pos, ◌+ℤ◌, int_lt, if◌then◌else◌,
 use Rattle.std.specs.Int.{w128}
 use Rattle.std.proofs.lemmas.Int.{ints}
 use Rattle.ded_num.specs.Length.{IsShort, IsWithin}
-use Rattle.ded_polygon.proofs.Short.{read}
+use Rattle.ded_num.proofs.Signs.{short_in_code}
 use Rattle.ded_svg.specs.declared.picture.Tick.{Tick}
 use Rattle.ded_ticks.specs.declared.scale.Scale.{Scale}
 use Rattle.ded_ticks.specs.Scales.{high_of, low_of, step_of}
@@ -34,7 +34,7 @@ one_more (suc k) s step value some h =
 -- ---- the list that is made, over numbers as they are read
 
 test_read : (b : Bool) (high value top : ℤ) → high ≡ top → IsWithin 62 high → IsWithin 64 value → int_lt (to_z w128 (of_z w128 high)) (to_z w128 (of_z w128 value)) ≡ b → int_lt top value ≡ b
-test_read b high value top is h k test = sym (ap₂ int_lt (read high (omega (arith, h)) ∙ is) (read value (omega (arith, k)))) ∙ test
+test_read b high value top is h k test = sym (ap₂ int_lt (short_in_code high (omega (arith, h)) ∙ is) (short_in_code value (omega (arith, k)))) ∙ test
 
 none_added : (old rest : List Tick) → rest ≡ [] → old ≡ old ++ rest
 none_added old rest none = sym (ap (λ z. old ++ z) none ∙ append-nil old)
@@ -59,10 +59,10 @@ pub added_one : {A E : Type 0} (r : Result A E) (old middle now : List Tick) (t 
     → middle ≡ old ++ t ∷ [] → OnOk r (now ≡ middle ++ ticks_from (left - 1) s (to_z w128 (of_z w128 step)) (to_z w128 (of_z w128 (to_z w128 (of_z w128 value) +ℤ to_z w128 (of_z w128 step)))))
     → OnOk r (now ≡ old ++ ticks_from left s step value)
 added_one r old middle now t left s step value high some is h k l test is_t pushed rest =
-    let same_value : to_z w128 (of_z w128 value) ≡ value = read value (omega (arith, k)) in
-    let same_step : to_z w128 (of_z w128 step) ≡ step = read step (omega (arith, l)) in
+    let same_value : to_z w128 (of_z w128 value) ≡ value = short_in_code value (omega (arith, k)) in
+    let same_step : to_z w128 (of_z w128 step) ≡ step = short_in_code step (omega (arith, l)) in
     let next = to_z w128 (of_z w128 (to_z w128 (of_z w128 value) +ℤ to_z w128 (of_z w128 step))) in
-    let same_next : next ≡ value +ℤ step = ap₂ (λ (x y : ℤ). to_z w128 (of_z w128 (x +ℤ y))) same_value same_step ∙ read (value +ℤ step) (sum_short value step k l) in
+    let same_next : next ≡ value +ℤ step = ap₂ (λ (x y : ℤ). to_z w128 (of_z w128 (x +ℤ y))) same_value same_step ∙ short_in_code (value +ℤ step) (sum_short value step k l) in
     let same_t : t ≡ tick_at s value = is_t ∙ ap (λ (z : ℤ). tick_at s z) same_value in
     let same_rest : ticks_from (left - 1) s (to_z w128 (of_z w128 step)) next ≡ ticks_from (left - 1) s step (value +ℤ step) = ap₂ (λ (x y : ℤ). ticks_from (left - 1) s x y) same_step same_next in
     let more = one_more left s step value some (test_read false high value (high_of s.axis s.window) is h k test) in
@@ -74,8 +74,8 @@ pub all_ticks : (old now : List Tick) (s : Scale) (step low first : ℤ) → old
     → now ≡ old ++ ticks_from 9 s (to_z w128 (of_z w128 step)) (to_z w128 (of_z w128 first)) → now ≡ ticks_of s
 unfolding ticks_of
 all_ticks old now s step low first none is_step h is_low k is_first l added =
-    let same_step : to_z w128 (of_z w128 step) ≡ pos (step_of s.axis s.window) = read step (omega (arith, h)) ∙ is_step in
-    let same_low : to_z w128 (of_z w128 low) ≡ low_of s.axis s.window = read low (omega (arith, k)) ∙ is_low in
+    let same_step : to_z w128 (of_z w128 step) ≡ pos (step_of s.axis s.window) = short_in_code step (omega (arith, h)) ∙ is_step in
+    let same_low : to_z w128 (of_z w128 low) ≡ low_of s.axis s.window = short_in_code low (omega (arith, k)) ∙ is_low in
     let same_first : to_z w128 (of_z w128 first) ≡ first_multiple (low_of s.axis s.window) (pos (step_of s.axis s.window)) =
-    read first (omega (arith, l)) ∙ is_first ∙ ap₂ (λ (x y : ℤ). first_multiple x y) same_low same_step in
+    short_in_code first (omega (arith, l)) ∙ is_first ∙ ap₂ (λ (x y : ℤ). first_multiple x y) same_low same_step in
     added ∙ ap (λ z. z ++ ticks_from 9 s (to_z w128 (of_z w128 step)) (to_z w128 (of_z w128 first))) none ∙ ap₂ (λ (x y : ℤ). ticks_from 9 s x y) same_step same_first

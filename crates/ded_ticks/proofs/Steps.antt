@@ -4,7 +4,7 @@ use Rattle.std.specs.Prelude.{nat_le, ℤ, pos, negsuc, ◌+ℤ◌, ◌*ℤ◌, 
 use Rattle.std.specs.Int.{w128}
 use Rattle.std.proofs.lemmas.Int.{ints, to_z-of_z}
 use Rattle.ded_num.specs.Length.{IsWithin}
-use Rattle.ded_polygon.proofs.Short.{read}
+use Rattle.ded_num.proofs.Signs.{short_in_code}
 use Rattle.ded_axes.specs.Around.{ceiling, floor}
 use Rattle.ded_axes.proofs.Exponents.{is_le, is_not_le, chosen, other}
 use Rattle.ded_axes.proofs.Floors.{is_floor}
@@ -56,7 +56,7 @@ multiple_within low (negsuc n) h k positive = absurd (omega (arith, ints, positi
 pub product_read : (low step count : ℤ) → IsWithin 62 low → IsWithin 63 step → pos 0 <ℤ step → SFits w128 count → count ≡ ceiling (to_z w128 (of_z w128 low)) (to_z w128 (of_z w128 step))
     → IsWithin 64 (to_z w128 (of_z w128 count) *ℤ to_z w128 (of_z w128 step))
 product_read low step count h k positive fits is =
-    let same_low = read low (omega (arith, h)) in
-    let same_step = read step (omega (arith, k)) in
+    let same_low = short_in_code low (omega (arith, h)) in
+    let same_step = short_in_code step (omega (arith, k)) in
     let same_count : to_z w128 (of_z w128 count) ≡ ceiling low step = to_z-of_z w128 count fits ∙ is ∙ ap₂ ceiling same_low same_step in
     subst (IsWithin 64) (sym (ap₂ (λ (x y : ℤ). x *ℤ y) same_count same_step)) (multiple_within low step h k positive)

@@ -1,6 +1,6 @@
 -- Arguments near others are the columns of points that are near: the point of near arguments is near, and near a point of arguments
 -- are points whose values at the columns, over a greater denominator, are near arguments.
-use Rattle.std.proofs.Common.{◌≡◌, ℕ, suc, ◌+◌, ◌*◌, ◌<◌, Bool, true, false, cond, List, [], ◌∷◌, length, inl, inr, arith, refl, sym, ap, ap₂, ◌∙◌, subst, true≢false, mul-pos}
+use Rattle.std.proofs.Common.{◌≡◌, ℕ, ◌+◌, ◌*◌, ◌<◌, Bool, true, false, cond, List, [], ◌∷◌, length, inl, inr, arith, refl, sym, ap, ap₂, ◌∙◌, subst, true≢false, mul-pos}
 use Rattle.std.specs.Prelude.{ℤ, pos, ◌-ℤ◌, ◌*ℤ◌, unsigned_abs}
 use Rattle.std.proofs.Math.IntN.{zero-*ℤ}
 use Rattle.std.proofs.Math.Nat.{mul-lt-mul_of_pos_right}
@@ -12,12 +12,12 @@ use Rattle.ded_model.specs.declared.slot.Sort.TheVariants.{Rat, Text}
 use Rattle.ded_model.specs.Catalogue.{argument_coordinate, at_slots}
 use Rattle.ded_model.specs.Known.{heading_slots}
 use Rattle.ded_model.specs.Near.{IsNear, AreNear, IsNearPoint}
-use Rattle.ded_model.specs.Point.{Key, slot, Value, AllBytes, AreValues, IsValue, Point, IsPoint, absent, last_from, as_number, as_text, number_at, text_at, same_key, same_slot, stands_in}
+use Rattle.ded_model.specs.Point.{Key, slot, Value, AreValues, IsValue, Point, IsPoint, absent, last_from, as_number, as_text, number_at, text_at, same_key, same_slot, stands_in}
 use Rattle.ded_model.specs.Value.{Argument}
-use Rattle.ded_model.proofs.CoefLemmas.{lesser_slot}
 use Rattle.ded_model.proofs.Members.{or_split}
 use Rattle.ded_model.proofs.Nearness.{abs_times}
 use Rattle.ded_model.proofs.Points.{same_slot_is, same_slot_refl}
+use Rattle.ded_model.proofs.SlotLists.{rational_no_text, passed}
 use Rattle.ded_views.specs.Same.{AreByteArguments}
 
 -- ---- distances
@@ -94,13 +94,6 @@ arguments_point d h xs i b = record { positive = i; bytes = values_there 0 h xs 
 
 -- ---- what stands at the columns
 
--- no later column has a slot of a lesser number
-passed : (n : ℕ) (h : List Column) (xs : List Argument) (s : Slot) (v : Value) → s.number < n → last_from v (at_slots n h xs) (slot s) ≡ v
-passed n [] xs s v l = refl
-passed n (c ∷ h) [] s v l = refl
-passed n (c ∷ h) (x ∷ xs) s v l =
-    ap (λ b. last_from (cond b (argument_coordinate c.sort x) v) (at_slots (n + 1) h xs) (slot s)) (lesser_slot s (record { number = n; sort = c.sort }) l) ∙ passed (n + 1) h xs s v (omega (arith, l))
-
 -- the values at the slots of the columns are those of the arguments
 abbrev Stand : (Slot → Value) → ℕ → List Column → List Argument → Type 0
 Stand f n [] xs = Unit {0}
@@ -153,18 +146,11 @@ record SameThere (d : ℕ) (q : Point) (f g : Slot → Value) (s : Slot) : Type 
   number : s.sort ≡ Rat → as_number (g s) ≡ number_at q (slot s) *ℤ pos d
   text : s.sort ≡ Text → as_text (g s) ≡ as_text (f s)
 
-sorts_apart : Rat ≡ Text → ⊥
-sorts_apart e = true≢false (ap is_rational e)
-  where
-    is_rational : Sort → Bool
-    is_rational Rat = true
-    is_rational Text = false
-
 module _ (d : ℕ) (q : Point) (f g : Slot → Value) where
   one_same : (s : Sort) (x : Argument) (n : ℕ) → f (record { number = n; sort = s }) ≡ argument_coordinate s x → g (record { number = n; sort = s }) ≡ argument_coordinate s (number_of s x n d q, x.1)
       → SameThere d q f g (record { number = n; sort = s })
-  one_same Rat x n e h = record { number = λ o. ap as_number h; text = λ o. absurd (sorts_apart o) }
-  one_same Text x n e h = record { number = λ o. absurd (sorts_apart (sym o)); text = λ o. ap as_text h ∙ sym (ap as_text e) }
+  one_same Rat x n e h = record { number = λ o. ap as_number h; text = λ o. absurd (rational_no_text o) }
+  one_same Text x n e h = record { number = λ o. absurd (rational_no_text (sym o)); text = λ o. ap as_text h ∙ sym (ap as_text e) }
 
   all_same : (n : ℕ) (h : List Column) (xs : List Argument) → length xs ≡ length h → Stand f n h xs → Stand g n h (arguments_of n h xs d q) → (s : Slot) → stands_in (heading_slots n h) s ≡ true → SameThere d q f g s
   all_same n [] xs l t u s e = absurd (true≢false (sym e))

@@ -5,7 +5,7 @@ use Rattle.std.specs.Prelude.{◌↔◌, IsTrue}
 use Rattle.std.specs.List.{AllByRecursion}
 use Rattle.std.proofs.Math.Bool.{or-false}
 use Rattle.ded_model.specs.declared.slot.Slot.{Slot}
-use Rattle.ded_model.specs.Cell.{conj_holds, HoldsSomewhere}
+use Rattle.ded_model.specs.Cell.{conj_holds, HoldsSomewhere, HoldsNowhere}
 use Rattle.ded_model.specs.Lines.{IsSubset, row_lines, atoms_lines, tuples_lines}
 use Rattle.ded_model.specs.Near.{IsCloseAt, weak_tuple, weak_tuples, AreSortedAtoms, AreSortedTuples, AreInhabited}
 use Rattle.ded_model.specs.Normal.{IsNormalTheme}
@@ -14,15 +14,15 @@ use Rattle.ded_model.specs.Row.{Atom, row_holds, theme_holds, row_mentions, them
 use Rattle.ded_model.specs.Width.{IsNarrowList}
 use Rattle.ded_model.proofs.Rows.{or_left, or_right}
 use Rattle.ded_model.proofs.Members.{subset_append, or_split, In-left}
+use Rattle.ded_model.proofs.TupleLists.{tuples_hold-push, tuples_lines-push}
+use Rattle.ded_model.proofs.SlotLists.{tuples_mention-push}
 use Rattle.ded_laws.proofs.Weakened.{closure_is}
 use Rattle.ded_theory.specs.Both.{by_kind, IsByKind}
 use Rattle.ded_theory.specs.Conjunctions.{IsWide}
-use Rattle.ded_theory.specs.Verdicts.{HoldsNowhere}
+use Rattle.ded_theory.proofs.Shared.{holds_alike}
 use Rattle.ded_elimination.specs.LinearAtoms.{IsLinearAtom}
 use Rattle.ded_genrel.specs.Lists.{conjs_of, AreNormal, SomeConj}
-use Rattle.ded_atoms.proofs.Conjunctive.{tuple_holds-is}
 use Rattle.ded_atoms.proofs.Narrowness.{narrow_atoms}
-use Rattle.ded_atoms.proofs.TuplesRead.{tuples_hold-push, tuples_mention-push, tuples_lines-push}
 use Rattle.ded_topology.specs.Closing.{IsClosed}
 use Rattle.ded_topology.specs.Weakening.{weakened}
 use Rattle.ded_topology.proofs.Weak.{weakened_is, sorted_atoms, weak_slots, weak_lines}
@@ -32,7 +32,7 @@ use Rattle.ded_topology.proofs.Weak.{weakened_is, sorted_atoms, weak_slots, weak
 pub closed_none : IsClosed [] []
 closed_none = record { kept = []; list = refl; holds = λ p i. refl; inhabited = tt; sorted = tt; slots = λ s e. e; lines = λ l i. i }
 
-or_none : (a b : Bool) → b ≡ false → a ≡ (a || b)
+pub or_none : (a b : Bool) → b ≡ false → a ≡ (a || b)
 or_none a b e = sym (ap (λ x. a || x) e ∙ or-false a)
 
 -- one that holds nowhere
@@ -40,7 +40,7 @@ pub closed_dropped : (conjs out : List (List Atom)) (t : List Atom) → HoldsNow
 closed_dropped conjs out t z k = record {
   kept = k.kept;
   list = k.list;
-  holds = λ p i. k.holds p i ∙ or_none (tuples_hold conjs p) (tuple_holds t p) (sym (tuple_holds-is t p) ∙ z p i) ∙ sym (tuples_hold-push conjs t p);
+  holds = λ p i. k.holds p i ∙ or_none (tuples_hold conjs p) (tuple_holds t p) (sym (holds_alike t p) ∙ z p i) ∙ sym (tuples_hold-push conjs t p);
   inhabited = k.inhabited;
   sorted = k.sorted;
   slots = λ s e. tuples_mention-push conjs t s ∙ or_left (tuples_mention conjs s) (tuple_mentions t s) (k.slots s e);
@@ -63,7 +63,7 @@ sorted_push (x ∷ ts) t h k = (h.0, sorted_push ts t h.1 k)
 pub closed_kept : (conjs out out' : List (List Atom)) (t : List Atom) → AllByRecursion (IsByKind IsLinearAtom IsNormalTheme) t → HoldsSomewhere (conj_holds (by_kind row_holds theme_holds) t) → out' ≡ out ++ weakened t ∷ []
     → IsClosed conjs out → IsClosed (conjs ++ t ∷ []) out'
 closed_kept conjs out out' t n w e k =
-    let holds : tuple_holds t w.0 ≡ true = sym (tuple_holds-is t w.0) ∙ w.2 in
+    let holds : tuple_holds t w.0 ≡ true = sym (holds_alike t w.0) ∙ w.2 in
     record {
       kept = k.kept ++ t ∷ [];
       list = e ∙ ap₂ (λ xs x. xs ++ x ∷ []) k.list (weakened_is t w.0 n holds) ∙ sym (weak_push k.kept t);

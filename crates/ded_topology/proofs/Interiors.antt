@@ -1,6 +1,6 @@
 -- The complement of the closure of the complement is the interior, and where a conjunction of the complement is wide, so are all
 -- atoms together.
-use Rattle.std.proofs.Common.{◌≡◌, Bool, true, not, ◌||◌, List, [], ◌∷◌, ◌++◌, inl, inr, refl, sym, ap, ap₂, ◌∙◌, subst}
+use Rattle.std.proofs.Common.{◌≡◌, Bool, true, not, ◌||◌, List, [], ◌∷◌, ◌++◌, inl, inr, refl, sym, ap, ◌∙◌, subst}
 use Rattle.std.specs.Prelude.{◌↔◌, IsTrue}
 use Rattle.ded_model.specs.declared.slot.Slot.{Slot}
 use Rattle.ded_model.specs.Lines.{Line, IsSubset, row_lines, tuples_lines}
@@ -20,28 +20,15 @@ use Rattle.ded_elimination.specs.LinearAtoms.{IsLinearAtom}
 use Rattle.ded_genrel.specs.Lists.{AreNormal, conjs_hold, conjs_mention, conjs_lines, SomeConj}
 use Rattle.ded_genrel.specs.Operations.{IsOperation}
 use Rattle.ded_genrel.proofs.Laws.{conj_lines-append}
+use Rattle.ded_genrel.proofs.OfAtoms.{lists_hold}
 use Rattle.ded_complement.specs.Pieces.{all_atoms}
-use Rattle.ded_atoms.proofs.Conjunctive.{tuple_holds-is, tuple_mentions-is, atoms_lines-is}
 use Rattle.ded_atoms.proofs.Narrowness.{narrow_atoms}
 use Rattle.ded_complement.proofs.NarrowLists.{all_of_each}
+use Rattle.ded_atoms.proofs.Shared.{lists_mention, lists_lines}
 use Rattle.ded_topology.specs.Closing.{IsClosed}
 use Rattle.ded_topology.proofs.Closed.{closed_slots, closed_lines}
 
 -- ---- lists of conjunctions are lists of tuples
-
-lists_hold : (cs : List (List Atom)) (p : Point) → conjs_hold (by_kind row_holds theme_holds) cs p ≡ tuples_hold cs p
-unfolding tuples_hold
-lists_hold [] p = refl
-lists_hold (c ∷ cs) p = ap₂ (λ a b. a || b) (tuple_holds-is c p) (lists_hold cs p)
-
-lists_mention : (cs : List (List Atom)) (s : Slot) → conjs_mention (by_kind row_mentions theme_mentions) cs s ≡ tuples_mention cs s
-unfolding tuples_mention
-lists_mention [] s = refl
-lists_mention (c ∷ cs) s = ap₂ (λ a b. a || b) (tuple_mentions-is c s) (lists_mention cs s)
-
-lists_lines : (cs : List (List Atom)) → conjs_lines (by_kind row_lines (λ a. [])) cs ≡ tuples_lines cs
-lists_lines [] = refl
-lists_lines (c ∷ cs) = ap₂ (λ xs ys. xs ++ ys) (atoms_lines-is c) (lists_lines cs)
 
 -- the complement of a list
 abbrev pub IsOutside : List (List Atom) → List (List Atom) → Type 0

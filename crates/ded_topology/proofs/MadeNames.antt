@@ -11,7 +11,7 @@ use Rattle.ded_model.specs.Near.{AreNear, IsNearPoint, IsClose, IsInside, IsClos
 use Rattle.ded_model.specs.Point.{slot, Point, IsPoint, number_at}
 use Rattle.ded_model.specs.Row.{Atom, tuples_hold}
 use Rattle.ded_model.specs.Value.{Argument}
-use Rattle.ded_atoms.proofs.Conjunctive.{normal-is}
+use Rattle.ded_elimination.proofs.Shared.{atoms_normal}
 use Rattle.ded_views.specs.Same.{AreByteArguments}
 use Rattle.ded_topology.specs.Names.{HoldsAsTuples, StandsForName}
 use Rattle.ded_topology.proofs.Arguments.{near_point, arguments_point, arguments_of, arguments_near, number_there, text_there}
@@ -22,7 +22,7 @@ use Rattle.ded_views.proofs.MadeNames.{near_bytes, near_length}
 
 sorted_over : (h : List Column) (ts : List (List Atom)) → AllByRecursion (IsTupleOver h) ts → AreSortedTuples ts
 sorted_over h [] o = tt
-sorted_over h (t ∷ ts) o = (sorted_atoms t (normal-is t o.0.normal), sorted_over h ts o.1)
+sorted_over h (t ∷ ts) o = (sorted_atoms t (atoms_normal t o.0.normal), sorted_over h ts o.1)
 
 turned : (z : ℤ) (d e : ℕ) → (z *ℤ pos d) *ℤ pos e ≡ z *ℤ pos (e * d)
 turned z d e = rw (parts z, diff-pos (e * d), diff-pos d, diff-pos e) (simp ring (diff_same _ _ _ _ (omega arith)))

@@ -10,15 +10,14 @@ use Rattle.ded_model.specs.declared.row.RowOp.TheVariants.{Zero, AtMost, Below}
 use Rattle.ded_model.specs.declared.tuple.ThemeAtom.{ThemeAtom}
 use Rattle.ded_model.specs.declared.tuple.ThemeAtom.TheVariants.{EqText, NeText, EqSlot, NeSlot}
 use Rattle.ded_model.specs.declared.tuple.BothAtom.TheVariants.{First, Second}
-use Rattle.ded_model.specs.Coefs.{AreCoefs}
 use Rattle.ded_model.specs.Constraint.{LinearConstraint}
 use Rattle.ded_model.specs.Lines.{row_lines, atoms_lines, tuples_lines}
 use Rattle.ded_model.specs.Near.{weak_op, weak_tuple, weak_tuples, IsTextTheme, AreSortedAtoms}
 use Rattle.ded_model.specs.Normal.{normal_row, IsNormalTheme}
 use Rattle.ded_model.specs.Point.{Point}
-use Rattle.ded_model.specs.Rational.{AreRationalCoefs}
 use Rattle.ded_model.specs.Row.{Atom, row_holds, atom_holds, tuple_holds, row_mentions, atom_mentions, tuple_mentions, tuples_mention}
 use Rattle.ded_model.proofs.Points.{and_left, and_right}
+use Rattle.ded_laws.proofs.AtomSlots.{AreCoefs-rational}
 use Rattle.ded_theory.specs.Both.{IsByKind}
 use Rattle.ded_elimination.specs.LinearAtoms.{IsLinearAtom}
 use Rattle.ded_topology.specs.Weakening.{weakened_op, weakened}
@@ -65,10 +64,6 @@ weakened_is (Second a ∷ t) p n h = ap (λ (xs : List Atom). Second a ∷ xs) (
 
 -- ---- sorts
 
-rational_coefs : (cs : List (Slot × ℤ)) → AreCoefs cs → AreRationalCoefs cs
-rational_coefs [] k = tt
-rational_coefs (c ∷ cs) k = (k.0, rational_coefs cs k.4)
-
 text_theme : (a : ThemeAtom) → IsNormalTheme a → IsTextTheme a
 text_theme (EqText s t) n = n.0
 text_theme (NeText s t) n = n.0
@@ -78,7 +73,7 @@ text_theme (NeSlot s t) n = (n.0, n.1)
 -- normal atoms are over slots of their sorts
 pub sorted_atoms : (t : List Atom) → AllByRecursion (IsByKind IsLinearAtom IsNormalTheme) t → AreSortedAtoms t
 sorted_atoms [] n = tt
-sorted_atoms (First r ∷ t) n = (rational_coefs r.coefs n.0.coefs, sorted_atoms t n.1)
+sorted_atoms (First r ∷ t) n = (AreCoefs-rational r.coefs n.0.coefs, sorted_atoms t n.1)
 sorted_atoms (Second a ∷ t) n = (text_theme a n.0, sorted_atoms t n.1)
 
 -- ---- slots and lines

@@ -37,7 +37,7 @@ is_greater Less = false
 is_greater Equal = false
 is_greater Greater = true
 
-less_equal : Less ≡ Equal → ⊥
+pub less_equal : Less ≡ Equal → ⊥
 less_equal e = true≢false (ap is_less e)
 
 equal_less : Equal ≡ Less → ⊥
@@ -46,7 +46,7 @@ equal_less e = true≢false (ap is_less (sym e))
 greater_less : Greater ≡ Less → ⊥
 greater_less e = true≢false (ap is_greater e)
 
-greater_equal : Greater ≡ Equal → ⊥
+pub greater_equal : Greater ≡ Equal → ⊥
 greater_equal e = true≢false (ap is_greater e)
 
 -- where one of them points back, nothing is asked
@@ -108,7 +108,7 @@ abbrev FirstFrom : ℕ → List (Slot × ℤ) → Type 0
 FirstFrom n [] = Unit {0}
 FirstFrom n (c ∷ cs) = n ≤ c.0.number
 
-int-same : (z : ℤ) → int_cmp z z ≡ Equal
+pub int-same : (z : ℤ) → int_cmp z z ≡ Equal
 int-same z = grind (arith, ints)
 
 cmp_same : (m n k : ℕ) → (k == m) ≡ true → (k == n) ≡ true → nat_cmp m n ≡ Equal

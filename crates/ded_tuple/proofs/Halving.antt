@@ -6,7 +6,7 @@ use Rattle.std.specs.Ordering.{ordering_reverse}
 use Rattle.ded_model.specs.Row.{Atom}
 use Rattle.ded_model.specs.Normal.{atom_order, IsNormalTuple}
 use Rattle.ded_tuple.specs.Places.{AreOrdered, atom_place, is_placed}
-use Rattle.ded_tuple.proofs.AtomOrders.{turned}
+use Rattle.ded_tuple.proofs.AtomOrders.{turned, atom_order-turned}
 use Rattle.ded_tuple.proofs.Chains.{atom-chains}
 
 -- a normal tuple is in order
@@ -23,9 +23,6 @@ first_before b (c ∷ cs) (suc j) d h l = (atom-chains b c (get_or cs j d)).less
 -- what is ahead of b is behind where b is behind
 turned_less : (a b : Atom) → atom_order b a ≡ Less → atom_order a b ≡ Greater
 turned_less a b e = turned b a ∙ ap ordering_reverse e
-
-turned_greater : (a b : Atom) → atom_order a b ≡ Greater → atom_order b a ≡ Less
-turned_greater a b e = turned a b ∙ ap ordering_reverse e
 
 turned_equal : (a b : Atom) → atom_order a b ≡ Equal → atom_order b a ≡ Equal
 turned_equal a b e = turned a b ∙ ap ordering_reverse e
@@ -57,7 +54,7 @@ greater_at a [] i d h l e = absurd (omega arith)
 greater_at a (b ∷ bs) zero d h l e = subst (λ n. 0 + 1 ≤ n) (sym (past-place a b bs e)) (omega arith)
 greater_at a (b ∷ bs) (suc i) d h l e =
     let c = get_or bs i d in
-    let before : atom_order a b ≡ Greater = turned_less a b ((atom-chains b c a).less (first_before b bs i d h (omega arith)) (turned_greater a c e)) in
+    let before : atom_order a b ≡ Greater = turned_less a b ((atom-chains b c a).less (first_before b bs i d h (omega arith)) (atom_order-turned a c e)) in
     let ih = greater_at a bs i d h.1 (omega arith) e in
     subst (λ n. suc i + 1 ≤ n) (sym (past-place a b bs before)) (omega (arith, ih))
 

@@ -4,3 +4,4 @@ mod Halving
 pub mod Ordered
 mod Places
 mod SameAtoms
+pub mod Shared

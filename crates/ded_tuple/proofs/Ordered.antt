@@ -5,6 +5,7 @@ use Rattle.std.specs.Prelude.{ℤ}
 use Rattle.std.specs.List.{AllByRecursion}
 use Rattle.std.specs.declared.cmp.Ordering.{Ordering}
 use Rattle.std.specs.declared.cmp.Ordering.TheVariants.{Less, Equal, Greater}
+use Rattle.ded_num.proofs.Tests.{and_swap_first}
 use Rattle.ded_model.specs.declared.slot.Slot.{Slot}
 use Rattle.ded_model.specs.declared.tuple.BothAtom.TheVariants.{First, Second}
 use Rattle.ded_model.specs.Constraint.{LinearConstraint}
@@ -14,7 +15,7 @@ use Rattle.ded_model.specs.Lines.{Line, In, IsSubset, row_lines, atoms_lines}
 use Rattle.ded_model.specs.Normal.{normal_row, normal_with, IsNormalRow, constant_row, is_true_with, is_true_row, atom_order, IsNormalAtom, IsNormalTuple, place_atom, ordered_atoms}
 use Rattle.ded_model.proofs.Rows.{or_left, or_right}
 use Rattle.ded_model.proofs.Members.{or_split, In-left, In-right, In-split}
-use Rattle.ded_row.proofs.Normals.{constant_row-holds}
+use Rattle.ded_model.proofs.Normals.{constant_row-holds}
 use Rattle.ded_tuple.specs.Places.{placed}
 use Rattle.ded_tuple.specs.TrueRows.{IsNormalOrTrue, is_true_atom, without_true}
 use Rattle.ded_tuple.proofs.Places.{place-normal}
@@ -40,12 +41,6 @@ twice : (x y : Bool) → (x && y) ≡ (x && (x && y))
 twice true y = refl
 twice false y = refl
 
-turned_round : (x y z : Bool) → (x && (y && z)) ≡ (y && (x && z))
-turned_round true true z = refl
-turned_round true false z = refl
-turned_round false true z = refl
-turned_round false false z = refl
-
 -- one more holds as well
 holds-place : (a : Atom) (xs : List Atom) (p : Point) → IsNormalOrTrue a → AllByRecursion IsNormalOrTrue xs → tuple_holds (place_atom a xs) p ≡ (atom_holds a p && tuple_holds xs p)
 unfolding tuple_holds
@@ -55,7 +50,7 @@ holds-place a (b ∷ bs) p h k = go (atom_order a b) refl (holds-place a bs p h 
     go : (o : Ordering) → atom_order a b ≡ o → tuple_holds (place_atom a bs) p ≡ (atom_holds a p && tuple_holds bs p) → tuple_holds (place_atom a (b ∷ bs)) p ≡ (atom_holds a p && tuple_holds (b ∷ bs) p)
     go Less f ih = rw f refl
     go Equal f ih = rw f (twice (atom_holds b p) (tuple_holds bs p) ∙ ap (λ c. atom_holds c p && (atom_holds b p && tuple_holds bs p)) (sym (same_atom a b h k.0 f)))
-    go Greater f ih = rw f (ap (λ x. atom_holds b p && x) ih ∙ turned_round (atom_holds b p) (atom_holds a p) (tuple_holds bs p))
+    go Greater f ih = rw f (ap (λ x. atom_holds b p && x) ih ∙ and_swap_first (atom_holds b p) (atom_holds a p) (tuple_holds bs p))
 
 holds-ordered : (xs : List Atom) (p : Point) → AllByRecursion IsNormalOrTrue xs → tuple_holds (ordered_atoms xs) p ≡ tuple_holds xs p
 unfolding tuple_holds
@@ -180,7 +175,7 @@ lines-normal xs l h = lines-without_true xs l (lines-ordered (without_true xs) l
 
 -- ---- that the tuple is normal
 
-ordered-normal : (xs : List Atom) → AllByRecursion IsNormalAtom xs → IsNormalTuple (ordered_atoms xs)
+pub ordered-normal : (xs : List Atom) → AllByRecursion IsNormalAtom xs → IsNormalTuple (ordered_atoms xs)
 ordered-normal [] h = tt
 ordered-normal (x ∷ xs) h = place-normal x (ordered_atoms xs) h.0 (ordered-normal xs h.1)
 

@@ -1,5 +1,5 @@
 -- Normal atoms that the order doesn't tell apart are the same.
-use Rattle.std.proofs.Common.{◌≡◌, ℕ, Bool, true, false, List, [], ◌∷◌, arith, refl, sym, ap, ap₂, ◌∙◌, true≢false}
+use Rattle.std.proofs.Common.{◌≡◌, ℕ, Bool, true, false, List, [], ◌∷◌, arith, refl, sym, ap, ap₂, ◌∙◌}
 use Rattle.std.specs.Prelude.{ℤ, pos}
 use Rattle.std.specs.declared.cmp.Ordering.{Ordering}
 use Rattle.std.specs.declared.cmp.Ordering.TheVariants.{Less, Equal, Greater}
@@ -21,6 +21,7 @@ use Rattle.ded_model.specs.Coefs.{AreCoefs}
 use Rattle.ded_model.specs.Normal.{coefs_order, op_place, row_order, first_slot, kind_place, quoted_text, second_number, theme_order, atom_order, IsNormalTheme}
 use Rattle.ded_model.proofs.CoefLemmas.{equal_by_number}
 use Rattle.ded_tuple.specs.TrueRows.{IsNormalOrTrue}
+use Rattle.ded_tuple.proofs.Chains.{less_equal, greater_equal}
 
 -- ---- orders
 
@@ -28,12 +29,6 @@ abbrev is_equal : Ordering → Bool
 is_equal Less = false
 is_equal Equal = true
 is_equal Greater = false
-
-less_equal : Less ≡ Equal → ⊥
-less_equal e = true≢false (sym (ap is_equal e))
-
-greater_equal : Greater ≡ Equal → ⊥
-greater_equal e = true≢false (sym (ap is_equal e))
 
 -- what is ordered by one thing and then by another is so by neither
 then_first : (o p : Ordering) → ordering_then o p ≡ Equal → o ≡ Equal

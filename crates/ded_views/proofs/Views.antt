@@ -44,7 +44,7 @@ view_stored c w n m h f e d xs =
 pub plain_there : (c : Catalogue) → IsWellFormed c → (n : List ℕ) (e : Entry) → entry_of c.entries n ≡ Some e → is_made n ≡ false
 plain_there c w n e h = (entry_read c w n e h).plain
 
-both_ways : (A B C : Type 0) → A ↔ B → B ↔ C → A ↔ C
+pub both_ways : (A B C : Type 0) → A ↔ B → B ↔ C → A ↔ C
 both_ways A B C f g = (λ a. g.0 (f.0 a), λ c. f.1 (g.1 c))
 
 pub relation_means : (c : Catalogue) → IsWellFormed c → (n m : List ℕ) (h : List Column) (i : ℕ) (ts : List (ℕ × List Atom)) → entry_of c.entries n ≡ Some (relation m h i ts)

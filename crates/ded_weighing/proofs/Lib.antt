@@ -1,7 +1,7 @@
 pub mod Meetings
 pub mod Shown
 mod Signs
-mod Slotted
+pub mod Slotted
 mod Sums
 pub mod Vanishing
 mod Walking

@@ -4,6 +4,7 @@ use Rattle.std.specs.Prelude.{ℤ, pos, ◌+ℤ◌, ◌*ℤ◌, ◌≤ℤ◌, in
 use Rattle.std.specs.List.{list_all}
 use Rattle.std.proofs.lemmas.Int.{ints}
 use lib.IntN.{+ℤ_idl, +ℤ_idr}
+use Rattle.ded_num.proofs.Tests.{both}
 use Rattle.ded_model.specs.declared.slot.Slot.{Slot}
 use Rattle.ded_model.specs.Constraint.{LinearConstraint}
 use Rattle.ded_model.specs.Point.{slot, number, IsPoint, AreValues, Value, same_slot, last_from, as_number, number_at}
@@ -105,9 +106,6 @@ is_positive d e = grind (arith, ints)
 
 pub is_point : (vs : List (Slot × ℤ)) (d : ℤ) → int_lt (pos 0) d ≡ true → IsPoint (point_of vs d)
 is_point vs d h = record { positive = is_positive d h; bytes = are_values vs }
-
-both : (a b : Bool) → a ≡ true → b ≡ true → (a && b) ≡ true
-both a b h k = rw (h, k) refl
 
 pub all_hold : (vs : List (Slot × ℤ)) (d : ℤ) (rs : List LinearConstraint) → list_all (λ r. meets_row vs d r) rs ≡ true → conj_holds row_holds rs (point_of vs d) ≡ true
 all_hold vs d [] h = refl

@@ -7,11 +7,10 @@ use Rattle.std.proofs.lemmas.Int.{ints}
 use Rattle.ded_num.proofs.Ring.{parts, ring_pos, diff_same}
 use Rattle.ded_model.specs.Constraint.{LinearConstraint}
 use Rattle.ded_model.specs.Point.{Point, IsPoint}
-use Rattle.ded_model.specs.Cell.{conj_holds}
+use Rattle.ded_model.specs.Cell.{conj_holds, HoldsNowhere}
 use Rattle.ded_model.specs.Row.{sum_at, row_holds}
 use Rattle.ded_model.proofs.Core.{Meets, meets_unscale}
 use Rattle.ded_model.proofs.Points.{and_left, and_right}
-use Rattle.ded_theory.specs.Verdicts.{HoldsNowhere}
 use Rattle.ded_weighing.specs.Weighing.{weighed_coefs, weighed_constant, signs_fit, is_strict, is_weak, constant_refutes, refutes}
 use Rattle.ded_weighing.proofs.Signs.{sum_op, strict_is_weak, refuted}
 use Rattle.ded_weighing.proofs.Sums.{weighed_at, weighed_at-is, weighed_meets, no_coefs}
@@ -51,7 +50,7 @@ never_holds ms rs p r i h =
     (meets_unscale op (pos p.den) c (omega (arith, ints, positive)) (subst (Meets op) (sym same) (weighed_meets ms rs p r.signs h)))
 
 -- a test that can't pass fails
-fails : (b : Bool) → (b ≡ true → ⊥) → b ≡ false
+pub fails : (b : Bool) → (b ≡ true → ⊥) → b ≡ false
 fails true h = absurd (h refl)
 fails false h = refl
 

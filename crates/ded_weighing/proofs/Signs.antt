@@ -3,16 +3,17 @@
 -- A sum in which a row by `<` has a positive number is below 0, one in which a row by `<=` has one is at most 0, and one of
 -- equalities alone is 0 (`sum_op`). A term is such a sum of one row (`term_meets`), and a sum of two such sums is one again
 -- (`join_is`).
-use Rattle.std.proofs.Common.{◌≡◌, Bool, true, false, ◌&&◌, ◌||◌, List, [], ◌∷◌, arith, refl, ap, sym, ◌∙◌, true≢false}
-use Rattle.std.specs.Prelude.{ℤ, pos, ◌*ℤ◌, ◌<ℤ◌, int_lt, int_le, not}
+use Rattle.std.proofs.Common.{◌≡◌, Bool, true, false, ◌&&◌, ◌||◌, List, [], ◌∷◌, arith, refl, sym, ◌∙◌, true≢false}
+use Rattle.std.specs.Prelude.{ℤ, pos, ◌*ℤ◌, int_lt, int_le, not}
 use Rattle.std.specs.Ordering.{int_eq}
 use Rattle.std.proofs.lemmas.Int.{ints}
 use Rattle.std.proofs.lemmas.Bool.Decides.{Decides-int_eq}
-use Rattle.std.proofs.Math.IntN.{zero-*ℤ, *ℤ-zero}
+use Rattle.ded_num.proofs.Signs.{is_positive, zero_times}
 use Rattle.ded_model.specs.declared.row.RowOp.{RowOp}
 use Rattle.ded_model.specs.declared.row.RowOp.TheVariants.{Zero, AtMost, Below}
 use Rattle.ded_model.specs.Constraint.{LinearConstraint}
-use Rattle.ded_model.proofs.Core.{Meets, join, meets_scale}
+use Rattle.ded_model.proofs.Core.{Meets, join, meets_scale, zero_scale}
+use Rattle.ded_model.proofs.Monotone.{or-grows}
 use Rattle.ded_weighing.specs.Weighing.{fits, is_strict_at, is_weak_at, is_strict, is_weak, constant_refutes}
 
 -- how a sum stands to 0 where some row by `<` has a positive number, and where some row by `<` or `<=` has one
@@ -31,18 +32,6 @@ join_is false false s' w' = refl
 
 -- ---- one term
 
--- a multiple of 0 is 0
-multiple_of_zero : (m x : ℤ) → x ≡ pos 0 → m *ℤ x ≡ pos 0
-multiple_of_zero m x h = ap (λ z. m *ℤ z) h ∙ *ℤ-zero m
-
--- 0 times a number is 0
-zero_times : (m x : ℤ) → m ≡ pos 0 → m *ℤ x ≡ pos 0
-zero_times m x h = ap (λ z. z *ℤ x) h ∙ zero-*ℤ x
-
--- a number that passes the test is positive
-is_positive : (m : ℤ) → int_lt (pos 0) m ≡ true → pos 0 <ℤ m
-is_positive m e = grind (arith, ints)
-
 -- a number that isn't negative and isn't positive is 0
 is_zero : (m : ℤ) → int_le (pos 0) m ≡ true → int_lt (pos 0) m ≡ false → m ≡ pos 0
 is_zero m e f = grind (arith, ints)
@@ -59,7 +48,7 @@ below_term m x false e f h = zero_times m x (is_zero m f e)
 
 -- a multiple of what meets an op, by a number that fits it
 pub term_meets : (op : RowOp) (m x : ℤ) → fits op m ≡ true → Meets op x → Meets (sum_op (is_strict_at op m) (is_weak_at op m)) (m *ℤ x)
-term_meets Zero m x f h = multiple_of_zero m x h
+term_meets Zero m x f h = zero_scale m x h
 term_meets AtMost m x f h = at_most_term m x (int_lt (pos 0) m) refl f h
 term_meets Below m x f h = below_term m x (int_lt (pos 0) m) refl f h
 
@@ -71,18 +60,12 @@ strict_is_weak_at Zero m e = e
 strict_is_weak_at AtMost m e = absurd (true≢false (sym e))
 strict_is_weak_at Below m e = e
 
--- where one disjunction implies another one part by part
-or_weaker : (a b a' b' : Bool) → (a ≡ true → a' ≡ true) → (b ≡ true → b' ≡ true) → (a || b) ≡ true → (a' || b') ≡ true
-or_weaker a b true b' f g e = refl
-or_weaker true b false b' f g e = absurd (true≢false (sym (f refl)))
-or_weaker false b false b' f g e = g e
-
 -- the same of a whole sum
 pub strict_is_weak : (ms : List ℤ) (rs : List LinearConstraint) → is_strict ms rs ≡ true → is_weak ms rs ≡ true
 strict_is_weak [] rs e = e
 strict_is_weak (m ∷ ms) [] e = e
 strict_is_weak (m ∷ ms) (r ∷ rs) e =
-    or_weaker (is_strict_at r.op m) (is_strict ms rs) (is_weak_at r.op m) (is_weak ms rs) (strict_is_weak_at r.op m) (strict_is_weak ms rs) e
+    or-grows (is_strict_at r.op m) (is_strict ms rs) (is_weak_at r.op m) (is_weak ms rs) (strict_is_weak_at r.op m) (strict_is_weak ms rs) e
 
 -- ---- what a constant shows
 

@@ -12,10 +12,11 @@ use Rattle.ded_model.proofs.Members.{or_split}
 use Rattle.ded_model.proofs.LineSlots.{has_slot}
 use Rattle.ded_weighing.specs.Columns.{HasSlots, HasAllSlots}
 use Rattle.ded_weighing.specs.Gathered.{with_slot, with_slots, with_all_slots, AreOf}
+use Rattle.ded_weighing.proofs.Shown.{fails}
 
 -- ---- one slot at the end
 
-stands_last : (ss : List Slot) (s t : Slot) → stands_in (ss ++ s ∷ []) t ≡ true → (stands_in ss t ≡ true) ⊎ (same_slot s t ≡ true)
+pub stands_last : (ss : List Slot) (s t : Slot) → stands_in (ss ++ s ∷ []) t ≡ true → (stands_in ss t ≡ true) ⊎ (same_slot s t ≡ true)
 stands_last [] s t h = ⊎_elim (λ (e : same_slot s t ≡ true). inr e) (λ e. absurd (true≢false (sym e))) (or_split (same_slot s t) false h)
 stands_last (u ∷ ss) s t h = ⊎_elim
     (λ (e : same_slot u t ≡ true). inl (or_left (same_slot u t) _ e))
@@ -31,19 +32,15 @@ last_stands (u ∷ ss) s t (inl h) = ⊎_elim
     (or_split (same_slot u t) _ h)
 last_stands (u ∷ ss) s t (inr h) = or_right (same_slot u t) _ (last_stands ss s t (inr h))
 
-not_true : (b : Bool) → (b ≡ true → ⊥) → b ≡ false
-not_true true h = absurd (h refl)
-not_true false h = refl
-
 -- a slot that isn't there leaves all distinct
 distinct_last : (ss : List Slot) (s : Slot) → AreDistinctSlots ss → stands_in ss s ≡ false → AreDistinctSlots (ss ++ s ∷ [])
 distinct_last [] s d n = (refl, tt)
 distinct_last (u ∷ ss) s d n = (
-  not_true (stands_in (ss ++ s ∷ []) u) (λ h. ⊎_elim
+  fails (stands_in (ss ++ s ∷ []) u) (λ h. ⊎_elim
       (λ (e : stands_in ss u ≡ true). true≢false (sym e ∙ d.0))
       (λ e. true≢false (sym (or_left (same_slot u s) (stands_in ss s) (subst (λ v. same_slot u v ≡ true) (sym (same_slot_is s u e)) (same_slot_refl u))) ∙ n))
       (stands_last ss s u h)),
-  distinct_last ss s d.1 (not_true (stands_in ss s) (λ e. true≢false (sym (or_right (same_slot u s) _ e) ∙ n))),
+  distinct_last ss s d.1 (fails (stands_in ss s) (λ e. true≢false (sym (or_right (same_slot u s) _ e) ∙ n))),
 )
 
 -- ---- one slot added

@@ -15,9 +15,9 @@ use Rattle.ded_model.specs.Point.{slot, Point, number_at}
 use Rattle.ded_model.specs.Cell.{conj_holds}
 use Rattle.ded_model.specs.Row.{sum_at, row_at, row_holds}
 use Rattle.ded_model.proofs.Core.{Meets, meets_add}
-use Rattle.ded_model.proofs.Eliminating.{meets-decides}
 use Rattle.ded_model.proofs.Points.{and_left, and_right}
-use Rattle.ded_row.proofs.Sums.{sum_at-put_all}
+use Rattle.ded_model.proofs.Given.{row_from}
+use Rattle.ded_model.proofs.Sums.{sum_at-put_all}
 use Rattle.ded_weighing.specs.Weighing.{weighed_coefs, weighed_constant, fits, signs_fit, is_strict_at, is_weak_at, is_strict, is_weak}
 use Rattle.ded_weighing.proofs.Signs.{sum_op, join_is, term_meets}
 
@@ -45,18 +45,13 @@ weighed_at-is (m ∷ ms) (r ∷ rs) p =
     ∙ more_law m (sum_at r.coefs p) (sum_at (weighed_coefs ms rs) p) r.constant (weighed_constant ms rs) (pos p.den)
     ∙ ap (λ z. m *ℤ row_at r p +ℤ z) (weighed_at-is ms rs p)
 
--- a row that holds stands to 0 as its op says
-row_meets : (r : LinearConstraint) (p : Point) → row_holds r p ≡ true → Meets r.op (row_at r p)
-unfolding row_holds
-row_meets r p h = (meets-decides r.op (row_at r p)).0 h
-
 -- where all rows hold, the sum stands to 0 as the signs of the numbers tell
 pub weighed_meets : (ms : List ℤ) (rs : List LinearConstraint) (p : Point) → signs_fit ms rs ≡ true → conj_holds row_holds rs p ≡ true
     → Meets (sum_op (is_strict ms rs) (is_weak ms rs)) (weighed_at ms rs p)
 weighed_meets [] rs p f h = refl
 weighed_meets (m ∷ ms) [] p f h = refl
 weighed_meets (m ∷ ms) (r ∷ rs) p f h =
-    let here = term_meets r.op m (row_at r p) (and_left (fits r.op m) (signs_fit ms rs) f) (row_meets r p (and_left (row_holds r p) (conj_holds row_holds rs p) h)) in
+    let here = term_meets r.op m (row_at r p) (and_left (fits r.op m) (signs_fit ms rs) f) (row_from r p (and_left (row_holds r p) (conj_holds row_holds rs p) h)) in
     let there = weighed_meets ms rs p (and_right (fits r.op m) (signs_fit ms rs) f) (and_right (row_holds r p) (conj_holds row_holds rs p) h) in
     subst (λ o. Meets o (m *ℤ row_at r p +ℤ weighed_at ms rs p)) (join_is (is_strict_at r.op m) (is_weak_at r.op m) (is_strict ms rs) (is_weak ms rs))
     (meets_add (sum_op (is_strict_at r.op m) (is_weak_at r.op m)) (sum_op (is_strict ms rs) (is_weak ms rs)) (m *ℤ row_at r p) (weighed_at ms rs p) here there)

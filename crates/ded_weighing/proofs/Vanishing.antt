@@ -1,15 +1,15 @@
 -- The sum of the rows has no coefficient exactly where the sum of each column is 0.
 --
 -- Its list of coefficients ascends, so each number in it is the coefficient of its slot, which is the sum of that column.
-use Rattle.std.proofs.Common.{◌≡◌, ℕ, ◌+◌, ◌<◌, nat_lt, Bool, true, false, ◌&&◌, cond, List, [], ◌∷◌, ◌⊎◌, inl, inr, arith, refl, sym, ap, ap₂, ◌∙◌, subst, true≢false, length, ◌==◌}
+use Rattle.std.proofs.Common.{◌≡◌, ℕ, ◌+◌, ◌<◌, nat_lt, Bool, true, false, ◌&&◌, cond, List, [], ◌∷◌, inl, inr, arith, refl, sym, ap, ap₂, ◌∙◌, subst, true≢false, length, ◌==◌}
 use Rattle.std.specs.Prelude.{ℤ, pos, ◌+ℤ◌, ◌*ℤ◌}
 use Rattle.std.specs.Borrow.{Bor}
 use Rattle.std.proofs.lemmas.List.{length-map}
 use Rattle.std.specs.List.{AllByRecursion, list_all}
 use Rattle.std.specs.Ordering.{int_eq}
-use Rattle.std.proofs.lemmas.Int.{ints}
 use Rattle.std.proofs.lemmas.Bool.Decides.{nat_tests, Decides-int_eq}
 use lib.IntN.{+ℤ_idl, +ℤ_idr}
+use Rattle.ded_num.proofs.Tests.{both, same_tests}
 use Rattle.ded_model.specs.declared.slot.Slot.{Slot}
 use Rattle.ded_model.specs.declared.slot.Sort.TheVariants.{Rat}
 use Rattle.ded_model.specs.Constraint.{LinearConstraint}
@@ -18,23 +18,16 @@ use Rattle.ded_model.specs.Coefs.{AllAbove, AreCoefs, coef_at, put, put_all}
 use Rattle.ded_model.proofs.Points.{same_slot_is, same_slot_refl, and_left, and_right}
 use Rattle.ded_model.proofs.Rows.{or_left, or_right}
 use Rattle.ded_model.proofs.Members.{or_split}
-use Rattle.ded_model.proofs.CoefLemmas.{is_zero, above_lesser, equal_by_number, coef_at-above, coef_at-here, coef_at-past}
+use Rattle.ded_model.proofs.CoefLemmas.{is_zero, above_lesser, coef_at-above, coef_at-here, coef_at-past, is_lesser}
 use Rattle.ded_model.proofs.LineCoefs.{coef_at-put_all}
 use Rattle.ded_model.proofs.LineSlots.{has_slot, put_all_slots}
-use Rattle.ded_row.proofs.Walks.{AllAbove-put}
+use Rattle.ded_model.proofs.SlotLists.{above_by_tests}
+use Rattle.ded_model.proofs.CoefLists.{AllAbove-put}
+use Rattle.ded_num.proofs.Signs.{plus_swap}
 use Rattle.ded_weighing.specs.Weighing.{weighed_coefs, weighed_constant, signs_fit, is_strict, is_weak, constant_refutes, refutes}
 use Rattle.ded_weighing.specs.Columns.{lent, sum_from, vanishes, all_vanish, HasSlots, HasAllSlots}
 
 -- ---- truth values
-
-both : (a b : Bool) → a ≡ true → b ≡ true → (a && b) ≡ true
-both true b h k = k
-both false b h k = absurd (true≢false (sym h))
-
-same_tests : (a b : Bool) → (a ≡ true → b ≡ true) → (b ≡ true → a ≡ true) → a ≡ b
-same_tests true b f g = sym (f refl)
-same_tests false true f g = g refl
-same_tests false false f g = refl
 
 -- what all slots pass, one of them passes
 one_passes : (test : Slot → Bool) (ss : List Slot) (s : Slot) → list_all test ss ≡ true → stands_in ss s ≡ true → test s ≡ true
@@ -56,22 +49,6 @@ abbrev pub Ascend : List (Slot × ℤ) → Type 0
 Ascend [] = Unit {0}
 Ascend (c ∷ cs) = (c.0.sort ≡ Rat) × AllAbove c.0.number cs × Ascend cs
 
-lesser : (m n : ℕ) → nat_lt m n ≡ true → m < n
-lesser m n e = grind (arith, nat_tests)
-
--- a slot that isn't the other one and isn't below it is above it
-above_by_tests : (c s : Slot) → c.sort ≡ Rat → s.sort ≡ Rat → same_slot c s ≡ false → nat_lt s.number c.number ≡ false → c.number < s.number
-above_by_tests c s e f g h = elim (below_or c.number s.number) [
-  | inl k ↦ k
-  | inr k ↦ absurd (true≢false (sym (ap (λ t. same_slot t s) (equal_by_number c s e f (same c.number s.number h k)) ∙ same_slot_refl s) ∙ g))
-]
-  where
-    below_or : (k m : ℕ) → (k < m) ⊎ (m < k + 1)
-    below_or k m = grind arith
-
-    same : (k m : ℕ) → nat_lt m k ≡ false → m < k + 1 → k ≡ m
-    same k m e h = grind (arith, nat_tests)
-
 ascend-put : (s : Slot) (z : ℤ) (cs : List (Slot × ℤ)) → s.sort ≡ Rat → Ascend cs → Ascend (put s z cs)
 ascend-put s z [] r h = (r, tt, tt)
 ascend-put s z (c ∷ cs) r h = go (same_slot c.0 s) refl (nat_lt s.number c.0.number) refl (ascend-put s z cs r h.2)
@@ -79,7 +56,7 @@ ascend-put s z (c ∷ cs) r h = go (same_slot c.0 s) refl (nat_lt s.number c.0.n
     go : (b : Bool) → same_slot c.0 s ≡ b → (d : Bool) → nat_lt s.number c.0.number ≡ d → Ascend (put s z cs)
         → Ascend (cond b ((c.0, z +ℤ c.1) ∷ cs) (cond d ((s, z) ∷ c ∷ cs) (c ∷ put s z cs)))
     go true e d f i = h
-    go false e true f i = let l : s.number < c.0.number = lesser s.number c.0.number f in (r, (l, above_lesser s.number c.0.number cs (omega (arith, l)) h.1), h)
+    go false e true f i = let l : s.number < c.0.number = is_lesser s.number c.0.number f in (r, (l, above_lesser s.number c.0.number cs (omega (arith, l)) h.1), h)
     go false e false f i = (h.0, AllAbove-put c.0.number s z cs (above_by_tests c.0 s h.0 r e f) h.1, i)
 
 ascend-put_all : (k : ℤ) (xs ys : List (Slot × ℤ)) → AreCoefs xs → Ascend ys → Ascend (put_all k xs ys)
@@ -118,21 +95,17 @@ zero_coefs (c ∷ cs) h z =
 
 -- ---- sums
 
--- numbers go past each other
-past : (x z w : ℤ) → (x +ℤ z) +ℤ w ≡ z +ℤ (x +ℤ w)
-past x z w = omega (arith, ints)
-
 -- the sum of a column is the coefficient of its slot
 sum_is : (z : ℤ) (ms : List ℤ) (rs : List LinearConstraint) (s : Slot) → sum_from (λ r. coef_at r.coefs s) z ms rs ≡ z +ℤ coef_at (weighed_coefs ms rs) s
 sum_is z [] rs s = sym (+ℤ_idr z)
 sum_is z (m ∷ ms) [] s = sym (+ℤ_idr z)
 sum_is z (m ∷ ms) (r ∷ rs) s =
-    sum_is (m *ℤ coef_at r.coefs s +ℤ z) ms rs s ∙ past (m *ℤ coef_at r.coefs s) z (coef_at (weighed_coefs ms rs) s) ∙ ap (λ w. z +ℤ w) (sym (coef_at-put_all m r.coefs (weighed_coefs ms rs) s))
+    sum_is (m *ℤ coef_at r.coefs s +ℤ z) ms rs s ∙ plus_swap (m *ℤ coef_at r.coefs s) z (coef_at (weighed_coefs ms rs) s) ∙ ap (λ w. z +ℤ w) (sym (coef_at-put_all m r.coefs (weighed_coefs ms rs) s))
 
 constants_from : (z : ℤ) (ms : List ℤ) (rs : List LinearConstraint) → sum_from (λ r. r.constant) z ms rs ≡ z +ℤ weighed_constant ms rs
 constants_from z [] rs = sym (+ℤ_idr z)
 constants_from z (m ∷ ms) [] = sym (+ℤ_idr z)
-constants_from z (m ∷ ms) (r ∷ rs) = constants_from (m *ℤ r.constant +ℤ z) ms rs ∙ past (m *ℤ r.constant) z (weighed_constant ms rs)
+constants_from z (m ∷ ms) (r ∷ rs) = constants_from (m *ℤ r.constant +ℤ z) ms rs ∙ plus_swap (m *ℤ r.constant) z (weighed_constant ms rs)
 
 pub constants_are : (ms : List ℤ) (rs : List LinearConstraint) → sum_from (λ r. r.constant) (pos 0) ms rs ≡ weighed_constant ms rs
 constants_are ms rs = constants_from (pos 0) ms rs ∙ +ℤ_idl (weighed_constant ms rs)

@@ -2,9 +2,8 @@
 ghost use Rattle.std.specs.Prelude.{◌≡◌, true, ℤ, List};
 ghost use Rattle.ded_model.specs.declared.slot.Slot.{Slot};
 ghost use Rattle.ded_model.specs.Constraint.{LinearConstraint};
-ghost use Rattle.ded_model.specs.Cell.{conj_holds, HoldsSomewhere};
+ghost use Rattle.ded_model.specs.Cell.{conj_holds, HoldsSomewhere, HoldsNowhere};
 ghost use Rattle.ded_model.specs.Row.{row_holds};
-ghost use Rattle.ded_theory.specs.Verdicts.{HoldsNowhere};
 ghost use Rattle.ded_weighing.specs.Weighing.{refutes};
 ghost use Rattle.ded_weighing.specs.Meeting.{meets};
 

@@ -5,8 +5,7 @@
 //! however they were found; whoever has the numbers already asks nothing but whether they refute the rows ([`are_refuted`]). At the
 //! border of rows by `<`, and along a direction, it is [`leans`] that checks.
 //!
-//! It stands on `ded_model` for rows and on `ded_theory` for what a verdict means, and knows of no search. The laws of what is shown
-//! are in [`laws`].
+//! It stands on `ded_model` for rows and their meaning, and knows of no search. The laws of what is shown are in [`laws`].
 #![tactic(auto)]
 
 pub mod laws;

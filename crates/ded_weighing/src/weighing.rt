@@ -3,10 +3,9 @@ ghost use Rattle.std.specs.Prelude.{◌≡◌, ◌&&◌, ℤ, pos, ◌+ℤ◌, �
 ghost use Rattle.std.specs.List.{AllByRecursion};
 ghost use Rattle.ded_model.specs.declared.memory.Refused.TheVariants.{Wide};
 ghost use Rattle.ded_model.specs.declared.slot.Slot.{Slot};
-ghost use Rattle.ded_model.specs.Cell.{conj_holds};
+ghost use Rattle.ded_model.specs.Cell.{conj_holds, HoldsNowhere};
 ghost use Rattle.ded_model.specs.Coefs.{coef_at, AreCoefs};
 ghost use Rattle.ded_model.specs.Row.{row_holds};
-ghost use Rattle.ded_theory.specs.Verdicts.{HoldsNowhere};
 ghost use Rattle.ded_weighing.specs.Weighing.{fits, signs_fit, is_strict_at, is_weak_at, is_strict, is_weak, constant_refutes, refutes, term_is_long, column_is_long, IsLongWeighing};
 ghost use Rattle.ded_weighing.specs.Columns.{lent, number_in, sum_from, all_vanish};
 

@@ -13,16 +13,17 @@ use Rattle.ded_model.specs.declared.goal.Place.TheVariants.{At, Value, Quoted}
 use Rattle.ded_model.specs.declared.row.RowOp.TheVariants.{Zero}
 use Rattle.ded_model.specs.Constraint.{LinearConstraint}
 use Rattle.ded_model.specs.Point.{same_slot, stands_in, AreDistinctSlots}
-use Rattle.ded_model.specs.Coefs.{AllAbove, put, put_all}
+use Rattle.ded_model.specs.Coefs.{put, put_all}
 use Rattle.ded_model.specs.Row.{Atom}
 use Rattle.ded_model.specs.Normal.{normal_row, normal_with, coefs_over, divisor_of}
 use Rattle.ded_model.specs.Sum.{SlotSum, denominator}
 use Rattle.ded_model.specs.Scanned.{kept, fresh, argument_row, of_slot, same_atom, scanned_after, scanned, first_free, scanned_slots, tied_atoms}
 use Rattle.ded_model.proofs.Points.{same_slot_is, same_slot_refl}
 use Rattle.ded_model.proofs.Members.{or_split}
-use Rattle.ded_goals.proofs.Ascending.{Ascend, AllRational, ascend-put, ascend-mixed}
+use Rattle.ded_resolve.proofs.Ascending.{Ascend, AllRational, ascend-put, ascend-mixed}
 use Rattle.ded_width.specs.Reach.{AreAscending, AreAscendingRows, AreAscendingPlaces}
 use Rattle.ded_model.proofs.CoefDivision.{AllAbove-coefs_over}
+use Rattle.ded_model.proofs.SlotLists.{stands_more}
 
 -- ---- slots that differ
 
@@ -34,18 +35,6 @@ record AreOther (done ss : List Slot) : Type 0 where
 -- each slot has a number below n
 abbrev AreBelow : ℕ → List Slot → Type 0
 AreBelow n done = (t : Slot) → stands_in done t ≡ true → t.number < n
-
-stands_more : (ss : List Slot) (u t : Slot) → stands_in (ss ++ u ∷ []) t ≡ (stands_in ss t || same_slot u t)
-stands_more [] u t = or_none (same_slot u t)
-  where
-    or_none : (b : Bool) → (b || false) ≡ b
-    or_none true = refl
-    or_none false = refl
-stands_more (s ∷ ss) u t = ap (λ b. same_slot s t || b) (stands_more ss u t) ∙ sym (assoc (same_slot s t) (stands_in ss t) (same_slot u t))
-  where
-    assoc : (a b c : Bool) → ((a || b) || c) ≡ (a || (b || c))
-    assoc true b c = refl
-    assoc false b c = refl
 
 -- those before stand there too
 stands_before : (ss : List Slot) (u t : Slot) → stands_in ss t ≡ true → stands_in (ss ++ u ∷ []) t ≡ true

@@ -1,5 +1,5 @@
 -- The rows and sums of the goal of a formula ascend, where no text variable stands in a sum.
-use Rattle.std.proofs.Common.{◌≡◌, ℕ, ◌+◌, ◌||◌, Bool, true, false, cond, List, [], ◌∷◌, map, refl, sym, ap, ◌∙◌}
+use Rattle.std.proofs.Common.{◌≡◌, ℕ, ◌+◌, ◌||◌, Bool, true, false, cond, List, [], ◌∷◌, map, refl, ap, ◌∙◌}
 use Rattle.std.specs.Prelude.{ℤ, pos}
 use lib.IntN.{neg_ℤ}
 use Rattle.std.specs.List.{list_any}
@@ -18,24 +18,19 @@ use Rattle.ded_model.specs.Logic.{atom, always, never, negation, every_of, some_
 use Rattle.ded_model.specs.Form.{Form, FormAtom, compare, member}
 use Rattle.ded_model.specs.Slotted.{SlotScope, slot_of, heading_scope, add_parts, slot_sum, difference_row, comparison_row, sums_goal, TextSide, text_side, texts_goal, is_text_operand, compare_goal, place_of, goal_below, goals_below, goal_of}
 use Rattle.ded_model.specs.Known.{KnownNames, has_missorted, sort_in, is_text_sum}
-use Rattle.ded_goals.specs.TextSums.{has_text_sum}
-use Rattle.ded_goals.specs.Scope.{sorts_of}
-use Rattle.ded_goals.proofs.Summing.{sort_in-slot, rational}
-use Rattle.ded_goals.proofs.Ascending.{Ascend, AllRational, ascend-put, ascend-mixed, ascend-nonzero}
-use Rattle.ded_goals.proofs.Accepted.{sums_of-accepted}
-use Rattle.ded_goals.proofs.Reading.{sorts_heading}
+use Rattle.ded_resolve.specs.TextSums.{has_text_sum}
+use Rattle.ded_resolve.specs.Scope.{sorts_of}
+use Rattle.ded_resolve.proofs.Ascending.{AllRational, ascend-mixed, ascend-nonzero}
+use Rattle.ded_resolve.proofs.Accepted.{sums_of-accepted}
+use Rattle.ded_resolve.proofs.Reading.{sorts_heading}
 use Rattle.ded_width.specs.Reach.{AreAscending, AreAscendingPlaces, IsAscendingGoalAtom, IsAscendingGoal}
 use Rattle.ded_model.proofs.Comparisons.{texts_have}
 use Rattle.ded_width.proofs.ArgumentSlots.{ascend, all_rational, normal_ascending}
 use Rattle.ded_model.proofs.Bools.{or_false_left, or_false_right}
+use Rattle.ded_model.proofs.SlotLists.{rational}
+use Rattle.ded_resolve.proofs.Shared.{parts_ascend}
 
 -- ---- sums
-
-parts_ascend : (scope : SlotScope) (cs : List (List ℕ × ℤ)) → list_any (λ c. same_sort (sort_in (sorts_of scope) c.0) Text) cs ≡ false → Ascend (add_parts scope cs)
-parts_ascend scope [] h = tt
-parts_ascend scope (c ∷ cs) h =
-    ascend-put (slot_of scope c.0) c.1 (add_parts scope cs) (sym (sort_in-slot scope c.0) ∙ rational (sort_in (sorts_of scope) c.0) (or_false_left _ _ h))
-    (parts_ascend scope cs (or_false_right (same_sort (sort_in (sorts_of scope) c.0) Text) _ h))
 
 -- a sum without text variables
 sum_ascends : (scope : SlotScope) (cs : List (List ℕ × ℤ)) → list_any (λ c. same_sort (sort_in (sorts_of scope) c.0) Text) cs ≡ false → AreAscending (nonzero (add_parts scope cs))

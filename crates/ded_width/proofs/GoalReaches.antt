@@ -2,8 +2,9 @@
 --
 -- An atom of a name has the name's lines, renamed to the slots of its arguments, and the lines of the rows that tie the new
 -- ones. Then the new slots are eliminated, each of which its rank counts.
-use Rattle.std.proofs.Common.{◌≡◌, ℕ, ◌+◌, Bool, true, false, ◌||◌, List, [], ◌∷◌, arith, refl, sym, subst}
+use Rattle.std.proofs.Common.{◌≡◌, ℕ, ◌+◌, Bool, false, ◌||◌, List, [], ◌∷◌, arith, refl, sym, subst}
 use Rattle.std.specs.Prelude.{max}
+use Rattle.ded_num.proofs.Tests.{or_false_none}
 use Rattle.ded_model.specs.declared.slot.Slot.{Slot}
 use Rattle.ded_model.specs.declared.slot.Sort.{Sort}
 use Rattle.ded_model.specs.declared.slot.Sort.TheVariants.{Rat, Text}
@@ -24,10 +25,6 @@ use Rattle.ded_model.proofs.Bools.{or_assoc}
 
 -- ---- past the new slots
 
-or_none : (a : Bool) → a ≡ (a || false)
-or_none true = refl
-or_none false = refl
-
 -- a slot counts where it is rational
 counted : (q : ℕ) (s : Slot) (ss : List Slot) → one_more s.sort q + rational_count ss ≡ q + rational_count (s ∷ ss)
 counted q s ss = go s.sort (rational_count ss)
@@ -41,7 +38,7 @@ same : (b q r : ℕ) (ls : List Line) (c d : Bool) → q ≡ r → c ≡ d → I
 same b q r ls c d e f h = subst (λ n. IsInReach b n ls d) e (subst (λ x. IsInReach b q ls x) f h)
 
 past_all : (ss : List Slot) (b q : ℕ) (ls : List Line) (c : Bool) → IsInReach b q ls c → IsInReach b (q + rational_count ss) (elim_past_all ss ls) (c || clash_past_all ss ls)
-past_all [] b q ls c h = same b q (q + 0) ls c (c || false) (omega arith) (or_none c) h
+past_all [] b q ls c h = same b q (q + 0) ls c (c || false) (omega arith) (or_false_none c) h
 past_all (s ∷ ss) b q ls c h =
     let ms = elim_past s.sort (slot s) ls in
     let d = clash_past s.sort (slot s) ls in
@@ -56,7 +53,7 @@ max_none i = omega arith
 scanned_in_reach : (M : Measures) → AreInReach M → (n : List ℕ) (gs : List Scanned) → AreDistinctSlots (scanned_slots gs) → AreAscendingRows (tied_atoms gs)
     → IsInReach (max (M n).b (tuple_length (tied_atoms gs))) (M n).rank (scanned_lines M n gs) (M n).clash
 scanned_in_reach M h n gs d a =
-    same _ _ _ _ _ _ (max_none (M n).rank) (sym (or_none (M n).clash))
+    same _ _ _ _ _ _ (max_none (M n).rank) (sym (or_false_none (M n).clash))
     (both _ _ _ _ _ _ _ _ (renamed_in_reach (scanned_slots gs) _ _ _ _ d (name_in_reach M h n)) (atoms_in_reach (tied_atoms gs) a))
 
 goal_atom_in_reach : (M : Measures) → AreInReach M → (a : GoalAtom) → IsAscendingGoalAtom a → IsInReach (goal_atom_b M a) (goal_atom_rank M a) (goal_atom_lines M a) (goal_atom_clash M a)

@@ -7,12 +7,12 @@ use Rattle.std.proofs.lemmas.Bool.{and_right, or_parts}
 use Rattle.std.proofs.lemmas.Bool.Decides.{nat_tests}
 use lib.IntN.{+ℤ_idl}
 use Rattle.ded_num.specs.Length.{IsWithin}
+use Rattle.ded_num.proofs.Tests.{not_zero}
 use Rattle.ded_model.specs.declared.slot.Slot.{Slot}
 use Rattle.ded_model.specs.declared.slot.Sort.{Sort}
 use Rattle.ded_model.specs.declared.slot.Sort.TheVariants.{Rat, Text}
 use Rattle.ded_model.specs.Point.{same_slot, same_sort, stands_in, AreDistinctSlots}
 use Rattle.ded_model.specs.Coefs.{coef_at, put}
-use Rattle.ded_model.specs.Row.{row_mentions}
 use Rattle.ded_model.specs.Lines.{Line, In, put_at, renamed_coefs, renamed_lines, AreWithin}
 use Rattle.ded_model.proofs.Points.{same_slot_is, same_slot_refl}
 use Rattle.ded_model.proofs.Rows.{or_left, or_right}
@@ -22,6 +22,7 @@ use Rattle.ded_model.proofs.Growth.{renamed-In}
 use Rattle.ded_width.specs.Reach.{AreRationalLines}
 use Rattle.ded_width.proofs.Reaches.{IsInReach}
 use Rattle.ded_model.proofs.LineLengths.{zero_within, line_with-within}
+use Rattle.ded_model.proofs.CoefLists.{mentioned}
 
 -- ---- where a slot stands
 
@@ -37,9 +38,6 @@ HasPlace ss t = ((n : ℕ) × ((i : ℕ) → is_at ss i t ≡ (i == n))) ⊎ ((i
 
 not_above : (n : ℕ) → (0 == suc n) ≡ false
 not_above n = grind (arith, nat_tests)
-
-above_none : (n : ℕ) → (suc n == 0) ≡ false
-above_none n = grind (arith, nat_tests)
 
 one_less : (i n : ℕ) → (suc i == suc n) ≡ (i == n)
 one_less i n = grind (arith, nat_tests)
@@ -62,7 +60,7 @@ place (s ∷ ss) t d = go (same_slot s t) refl (same_sort s.sort Rat) refl (plac
       where
         one : (i : ℕ) → is_at (s ∷ ss) i t ≡ (i == 0)
         one zero = ap₂ (λ a b. a && b) f e
-        one (suc i) = others e i ∙ sym (above_none i)
+        one (suc i) = others e i ∙ sym (not_zero i)
     go true e false f h = inr none
       where
         none : (i : ℕ) → is_at (s ∷ ss) i t ≡ false
@@ -128,17 +126,13 @@ all_rational : (cs : List (Slot × ℤ)) → ((t : Slot) → has_slot cs t ≡ t
 all_rational [] h = tt
 all_rational (c ∷ cs) h = (h c.0 (or_left _ _ (same_slot_refl c.0)), all_rational cs (λ t e. h t (or_right (same_slot c.0 t) _ e)))
 
-coefs_of : (l : Line) (t : Slot) → has_slot l.coefs t ≡ true → row_mentions l t ≡ true
-unfolding row_mentions
-coefs_of l t h = h
-
 renamed_within : (ss : List Slot) (ls : List Line) (k : ℕ) → AreDistinctSlots ss → AreRationalLines ls → AreWithin k ls → AreWithin k (renamed_lines ss ls)
 renamed_within ss ls k d r h l i =
     let m = renamed-In ss ls l i in
     line_with-within (renamed_coefs ss m.0.coefs) m.0.constant k (λ t. coef m.0 m.1 t (place ss t d)) (h m.0 m.1).constant l m.2
   where
     coef : (m : Line) → In m ls → (t : Slot) → HasPlace ss t → IsWithin k (coef_at (renamed_coefs ss m.coefs) t)
-    coef m j t (inl p) = subst (IsWithin k) (sym (coef_at-place ss m.coefs t p.0 p.1 (all_rational m.coefs (λ u e. r m j u (coefs_of m u e))))) ((h m j).coefs (rational_slot p.0))
+    coef m j t (inl p) = subst (IsWithin k) (sym (coef_at-place ss m.coefs t p.0 p.1 (all_rational m.coefs (λ u e. r m j u (mentioned m u e))))) ((h m j).coefs (rational_slot p.0))
     coef m j t (inr p) = subst (IsWithin k) (sym (coef_at-nowhere ss m.coefs t p)) (zero_within k)
 
 -- they are over rational slots

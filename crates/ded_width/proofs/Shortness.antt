@@ -7,6 +7,7 @@ use Rattle.std.specs.List.{AllByRecursion}
 use Rattle.std.proofs.lemmas.Int.{unsigned_abs-mul}
 use Rattle.ded_num.specs.Length.{IsWithin, length_of}
 use Rattle.ded_num.proofs.Lengths.{length_of-le, length_of_zero}
+use Rattle.ded_num.proofs.Signs.{same_size}
 use Rattle.ded_model.specs.declared.row.RowOp.{RowOp}
 use Rattle.ded_model.specs.declared.row.RowOp.TheVariants.{Zero}
 use Rattle.ded_model.specs.declared.slot.Slot.{Slot}
@@ -39,16 +40,6 @@ one_factor (suc (suc a)) x h e = absurd (omega (arith, h, e))
 -- what leaves a number that is not 0 as it is has the magnitude 1
 one_size : (d z : ℤ) → z ≢ pos 0 → d *ℤ z ≡ z → unsigned_abs d ≡ 1
 one_size d z n e = one_factor (unsigned_abs d) (unsigned_abs z) (some_abs z n) (sym (unsigned_abs-mul d z) ∙ ap unsigned_abs e)
-
--- and then a quotient has the magnitude of the number
-same_size : (d x z : ℤ) → unsigned_abs d ≡ 1 → d *ℤ x ≡ z → unsigned_abs x ≡ unsigned_abs z
-same_size d x z one e = once (unsigned_abs d) (unsigned_abs x) (unsigned_abs z) one (sym (unsigned_abs-mul d x) ∙ ap unsigned_abs e)
-  where
-    once : (a m n : ℕ) → a ≡ 1 → a * m ≡ n → m ≡ n
-    once a m n f g = plain m n (subst (λ k. k * m ≡ n) f g)
-      where
-        plain : (m n : ℕ) → 1 * m ≡ n → m ≡ n
-        plain m n g = omega (arith, g)
 
 -- the line of a normal row is divided by 1 or by -1
 line_divisor : (op : RowOp) (constant : ℤ) (c : Slot × ℤ) (cs : List (Slot × ℤ)) → c.1 ≢ pos 0

@@ -4,6 +4,7 @@ use Rattle.std.specs.List.{AllByRecursion, list_any}
 use Rattle.std.specs.Str.{bytes_eq}
 use Rattle.std.proofs.lemmas.List.{take_all}
 use Rattle.std.proofs.lemmas.Result.{IfOk-weaker, on_ok_weaker, err_from_is_err_and}
+use Rattle.ded_num.proofs.Tests.{all-at}
 use Rattle.ded_model.specs.declared.memory.Refused.TheVariants.{Wide}
 use Rattle.ded_model.specs.Entries.{known}
 use Rattle.ded_model.specs.Made.{base, is_made}
@@ -13,7 +14,6 @@ use Rattle.ded_model.specs.PlanForm.{plan_form}
 use Rattle.ded_model.specs.Row.{tuple_holds, tuples_hold, tuples_mention}
 use Rattle.ded_model.specs.Uses.{plan_uses}
 use Rattle.ded_catalog.specs.Snapshots.{snapshot_of}
-use Rattle.ded_complement.proofs.Cutting.{all-at}
 use Rattle.ded_algebra.specs.Given.{has_name}
 use Rattle.ded_plan.specs.Scans.{IsReadWithin}
 use Rattle.ded_query.specs.Asking.{IsAskedView, IsClosedPlan}

@@ -1,10 +1,11 @@
 use Rattle.std.proofs.Common.{◌≤◌, sym, ap, subst, ◌∙◌}
 use Rattle.std.specs.Prelude.{pos, negsuc, []}
+use Rattle.ded_num.proofs.Signs.{short_in_code}
 use Rattle.ded_model.specs.Sum.{SlotSum, denominator}
 use Rattle.ded_model.specs.Coefs.{put, put_all}
 use Rattle.ded_model.specs.Scanned.{above_coefs}
 use Rattle.ded_row.proofs.Pieces.{whole_minus}
-use Rattle.ded_algebra.proofs.ArgumentRows.{made_below, made_is, short_in_code}
+use Rattle.ded_algebra.proofs.ArgumentRows.{made_below, made_is}
 use Rattle.ded_algebra.proofs.arguments.argument_coefs.Goals as goal
 
 pub divide-requires-clause-whole : goal.divide-requires-clause-whole

@@ -1,6 +1,6 @@
 use Rattle.std.proofs.Common.{sym, subst}
 use Rattle.ded_model.specs.Point.{AllBytes}
-use Rattle.ded_algebra.proofs.ArgumentRows.{all_bytes}
+use Rattle.ded_model.proofs.Given.{all_bytes}
 use Rattle.ded_algebra.proofs.arguments.quoted.Goals as goal
 
 pub returns-clause-bytes : goal.returns-clause-bytes

@@ -1,6 +1,7 @@
 use Rattle.std.proofs.Common.{◌+◌, take, sym, ◌∙◌}
+use Rattle.ded_model.proofs.TupleLists.{none_hold}
 use Rattle.ded_genrel.proofs.Items.{done_to}
-use Rattle.ded_atoms.proofs.Slotless.{closed_at, none_more, none_hold, known_holds}
+use Rattle.ded_atoms.proofs.Slotless.{closed_at, none_more, known_holds}
 use Rattle.ded_atoms.proofs.closed.holds_everywhere.Goals as goal
 
 pub loop-tuple-init : goal.loop-tuple-init

@@ -10,10 +10,10 @@ use Rattle.ded_model.specs.Row.{Atom, row_holds, theme_holds, row_mentions, them
 use Rattle.ded_theory.specs.Both.{by_kind, IsByKind}
 use Rattle.ded_theory.specs.Conjunctions.{IsWide}
 use Rattle.ded_elimination.specs.LinearAtoms.{IsLinearAtom}
+use Rattle.ded_elimination.proofs.Shared.{atoms_normal}
 use Rattle.ded_box.specs.Extents.{IsBox}
 use Rattle.ded_order.specs.OrderRows.{IsOrderAtom}
 use Rattle.ded_atoms.specs.Orders.{AreOrderAtoms}
-use Rattle.ded_atoms.proofs.Conjunctive.{normal-is}
 use Rattle.ded_atoms.proofs.Extending.{tuple_box}
 use Rattle.ded_atoms.proofs.OrderTuples.{order_normal}
 use Rattle.ded_atoms.proofs.WideTuples.{wide_tuple}
@@ -35,7 +35,7 @@ returns-in-Some-clause-is c =
     IfOk-weaker c.conj_extent.result _ _ (λ r x. boxed c.args.heading.now c.deref-in-Some.result.now c.args.tuple.now c.deref-in-Some-2.result.now (c.deref-in-Some.ensures.value ∙ c.heading.view_is) same r x) c.conj_extent.ensures.is
 
 pub conj_extent-requires-2 : goal.conj_extent-requires-2
-conj_extent-requires-2 c = subst (AllByRecursion (IsByKind IsLinearAtom IsNormalTheme)) (sym (c.deref-3.ensures.value ∙ c.tuple.view_is)) (normal-is c.args.tuple.now c.requires.normal)
+conj_extent-requires-2 c = subst (AllByRecursion (IsByKind IsLinearAtom IsNormalTheme)) (sym (c.deref-3.ensures.value ∙ c.tuple.view_is)) (atoms_normal c.args.tuple.now c.requires.normal)
 
 pub returns-clause-is : goal.returns-clause-is
 returns-clause-is c =

@@ -1,7 +1,7 @@
+use Rattle.ded_num.proofs.Tests.{all-at}
 use Rattle.ded_model.specs.Normal.{IsNormalTheme}
 use Rattle.ded_theory.specs.Both.{IsByKind}
 use Rattle.ded_order.specs.OrderRows.{IsOrderAtom}
-use Rattle.ded_order.proofs.Atoms.{all-at}
 use Rattle.ded_atoms.proofs.OrderTuples.{order_normal}
 use Rattle.ded_atoms.proofs.ordering.copied.Goals as goal
 

@@ -1,11 +1,12 @@
 use Rattle.std.proofs.Common.{◌+◌, sym, subst, take, ◌∙◌, []}
 use Rattle.std.proofs.lemmas.List.{take_all}
 use Rattle.std.specs.List.{AllByRecursion}
+use Rattle.ded_num.proofs.Tests.{all-at}
 use Rattle.ded_model.specs.Normal.{IsNormalTuple}
+use Rattle.ded_packed.proofs.Putting.{atom_at_place}
 use Rattle.ded_genrel.proofs.Items.{done_to, all-push}
-use Rattle.ded_order.proofs.Atoms.{all-at}
 use Rattle.ded_atoms.specs.Reading.{IsConjunctionOf}
-use Rattle.ded_atoms.proofs.TuplesRead.{normal-atom, conjunction_none, conjunction_more}
+use Rattle.ded_atoms.proofs.TuplesRead.{conjunction_none, conjunction_more}
 use Rattle.ded_atoms.proofs.reading.conjunction.Goals as goal
 
 pub loop-atom-init : goal.loop-atom-init
@@ -16,7 +17,7 @@ loop-atom-init g c = (
 
 pub read-requires-clause-normal : goal.read-requires-clause-normal
 read-requires-clause-normal g c =
-    normal-atom c.deref-atom-items.result.now c.loop-atom.atom-index c.atom-item.result c.loop-atom-test.true c.atom-item.is (subst IsNormalTuple (sym c.deref-atom-items.ensures.value) c.tuple.invariant)
+    atom_at_place c.deref-atom-items.result.now c.loop-atom.atom-index c.atom-item.result c.loop-atom-test.true c.atom-item.is (subst IsNormalTuple (sym c.deref-atom-items.ensures.value) c.tuple.invariant)
 
 pub read-requires-clause-reads : goal.read-requires-clause-reads
 read-requires-clause-reads g c =

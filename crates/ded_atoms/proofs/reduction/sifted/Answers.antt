@@ -2,23 +2,22 @@ use Rattle.std.proofs.Common.{◌≡◌, [], sym, ◌∙◌, subst}
 use Rattle.std.specs.List.{AllByRecursion}
 use Rattle.ded_model.specs.Point.{Point, IsPoint}
 use Rattle.ded_model.specs.Row.{row_holds, theme_holds, row_mentions, theme_mentions}
-use Rattle.ded_model.specs.Cell.{conj_holds, IsReduced}
+use Rattle.ded_model.specs.Cell.{conj_holds, IsReduced, HoldsNowhere}
 use Rattle.ded_model.specs.Lines.{row_lines}
 use Rattle.ded_model.specs.Normal.{IsNormalTheme, IsNormalTuple}
 use Rattle.ded_theory.specs.Both.{by_kind, IsByKind}
 use Rattle.ded_theory.specs.Conjunctions.{IsWide}
-use Rattle.ded_theory.specs.Verdicts.{HoldsNowhere}
 use Rattle.ded_elimination.specs.LinearAtoms.{IsLinearAtom}
 use Rattle.ded_model.specs.Sublists.{IsSublist}
+use Rattle.ded_elimination.proofs.Shared.{atoms_normal}
 use Rattle.ded_reduce.specs.Reductions.{IfGone, IfKept}
-use Rattle.ded_atoms.proofs.Conjunctive.{normal-is}
 use Rattle.ded_atoms.proofs.TupleParts.{normal_part}
 use Rattle.ded_atoms.proofs.Sifted.{sifted_gone, sifted_kept}
 use Rattle.ded_atoms.proofs.reduction.sifted.Goals as goal
 
 pub reduce-requires : goal.reduce-requires
 reduce-requires c = record {
-  normal = subst (AllByRecursion (IsByKind IsLinearAtom IsNormalTheme)) (sym c.deref.ensures.value) (normal-is c.tuple.inside.atoms.items c.tuple.invariant);
+  normal = subst (AllByRecursion (IsByKind IsLinearAtom IsNormalTheme)) (sym c.deref.ensures.value) (atoms_normal c.tuple.inside.atoms.items c.tuple.invariant);
 }
 
 pub invariant_of-result : goal.invariant_of-result

@@ -1,11 +1,10 @@
 use Rattle.std.proofs.Common.{◌≡◌, Some, refl, sym, subst}
 use Rattle.ded_model.specs.Point.{Point, IsPoint}
 use Rattle.ded_model.specs.Row.{row_holds, theme_holds}
-use Rattle.ded_model.specs.Cell.{conj_holds, IsReduced}
+use Rattle.ded_model.specs.Cell.{conj_holds, IsReduced, HoldsNowhere}
 use Rattle.ded_model.specs.Normal.{IsNormalTuple}
 use Rattle.ded_model.specs.Sublists.{IsSublist}
 use Rattle.ded_theory.specs.Both.{by_kind}
-use Rattle.ded_theory.specs.Verdicts.{HoldsNowhere}
 use Rattle.ded_reduce.specs.Reductions.{IfGone, IfKept}
 use Rattle.ded_atoms.specs.Kept.{IsReducedPart}
 use Rattle.ded_atoms.proofs.OrderTuples.{order_normal, orders_kept}

@@ -1,9 +1,10 @@
 use Rattle.std.proofs.Common.{◌≡◌, ◌==◌, true, false, ap}
 use Rattle.std.specs.List.{list_any}
+use Rattle.ded_num.proofs.Tests.{if_ok_by, if_err_by}
 use Rattle.ded_relation.specs.Tuples.{AreUpTo}
 use Rattle.ded_catalog.specs.Users.{AreCounted}
 use Rattle.ded_catalog.proofs.Counting.{counted_altered}
-use Rattle.ded_relation.proofs.Results.{either, if_ok_by, if_err_by}
+use Rattle.ded_relation.proofs.Results.{either}
 use Rattle.ded_catalog.proofs.WithoutUsers.{changes_there, relation_there}
 use Rattle.ded_catalog.proofs.table.delete_from.Goals as goal
 

@@ -1,8 +1,9 @@
 use Rattle.std.proofs.Common.{false, ap}
+use Rattle.ded_num.proofs.Tests.{if_ok_by, if_err_by}
 use Rattle.ded_relation.specs.Tuples.{AreUpTo}
 use Rattle.ded_catalog.specs.Users.{AreCounted}
 use Rattle.ded_catalog.proofs.Counting.{counted_altered}
-use Rattle.ded_relation.proofs.Results.{either, if_ok_by, if_err_by}
+use Rattle.ded_relation.proofs.Results.{either}
 use Rattle.ded_catalog.proofs.WithoutUsers.{changes_there, relation_there}
 use Rattle.ded_catalog.proofs.table.insert_into.Goals as goal
 

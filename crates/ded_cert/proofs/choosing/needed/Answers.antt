@@ -1,8 +1,7 @@
 use Rattle.std.proofs.Common.{◌≡◌, ◌∙◌, true, length, replicate, sym, ap, subst}
 use Rattle.std.proofs.lemmas.List.{length-replicate}
-use Rattle.ded_model.specs.Cell.{conj_holds}
+use Rattle.ded_model.specs.Cell.{conj_holds, HoldsNowhere}
 use Rattle.ded_model.specs.Row.{row_holds}
-use Rattle.ded_theory.specs.Verdicts.{HoldsNowhere}
 use Rattle.ded_weighing.specs.Columns.{lent}
 use Rattle.ded_cert.specs.Choosing.{chosen}
 use Rattle.ded_cert.proofs.Chosen.{all_chosen, lent_length}

@@ -1,7 +1,6 @@
 use Rattle.std.proofs.Common.{◌≡◌, length}
-use Rattle.ded_model.specs.Cell.{conj_holds}
+use Rattle.ded_model.specs.Cell.{conj_holds, HoldsNowhere}
 use Rattle.ded_model.specs.Row.{row_holds}
-use Rattle.ded_theory.specs.Verdicts.{HoldsNowhere}
 use Rattle.ded_weighing.specs.Columns.{lent}
 use Rattle.ded_cert.specs.Choosing.{chosen}
 use Rattle.ded_cert.proofs.choosing.needed.Given as goal

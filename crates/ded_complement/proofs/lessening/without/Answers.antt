@@ -1,9 +1,10 @@
 use Rattle.std.proofs.Common.{[], ◌∷◌, ◌++◌, ◌∙◌}
 use Rattle.std.proofs.lemmas.Iterator.Adapters.{YieldsList-from_vec}
 use Rattle.std.proofs.lemmas.Iterator.Consumers.{YieldsList-turn}
+use Rattle.ded_num.proofs.Tests.{all-at}
 use Rattle.ded_complement.specs.Boxed.{conjs_in, IsBoxed}
 use Rattle.ded_complement.proofs.Boxes.{conjs_in-append}
-use Rattle.ded_complement.proofs.Cutting.{all-at, lessening_more}
+use Rattle.ded_complement.proofs.Cutting.{lessening_more}
 use Rattle.ded_complement.proofs.lessening.without.Goals as goal
 
 pub push_without-requires-clause-boxed_piece : goal.push_without-requires-clause-boxed_piece

@@ -1,4 +1,5 @@
 use Rattle.std.proofs.Common.{◌+◌, ◌<◌, ◌∙◌, List, Vec, Global, ℕ, length, sym, subst, take, get_or, true≢false}
+use Rattle.ded_num.proofs.Tests.{all-at}
 use Rattle.ded_model.specs.declared.slot.Slot.{Slot}
 use Rattle.ded_box.specs.Boxes.{Shared}
 use Rattle.ded_genrel.proofs.Apart.{apart_boxes}
@@ -6,7 +7,7 @@ use Rattle.ded_genrel.proofs.Items.{all-push}
 use Rattle.ded_complement.specs.declared.boxed.Boxed.{Boxed}
 use Rattle.ded_complement.specs.Boxed.{IsBoxed, AreBoxed}
 use Rattle.ded_complement.specs.Parts.{conjs_at, ArePlaces, IsSameOutside}
-use Rattle.ded_complement.proofs.Cutting.{all-at, taken_all}
+use Rattle.ded_complement.proofs.Cutting.{taken_all}
 use Rattle.ded_complement.proofs.Halved.{place_below, conjs_at-push, conjs_at-to, near_more, near_passed}
 use Rattle.ded_complement.proofs.parts.near_places.Goals as goal
 use Rattle.ded_complement.proofs.parts.near_places.Goals.{then-meets+in_ok-push, else-meets}

@@ -1,8 +1,9 @@
 use Rattle.std.proofs.Common.{◌≡◌, ◌+◌, [], ◌∷◌, ◌++◌, Vec, Global, take, refl, ap, ◌∙◌, subst}
 use Rattle.std.specs.List.{AllByRecursion}
+use Rattle.ded_num.proofs.Tests.{all-at}
 use Rattle.ded_genrel.proofs.Items.{done_to}
 use Rattle.ded_complement.proofs.PieceLaws.{all_left, all_right}
-use Rattle.ded_complement.proofs.Cutting.{all-at, taken_all, Cutting, cutting_none, cutting_added, cutting_implied, cut_more}
+use Rattle.ded_complement.proofs.Cutting.{taken_all, Cutting, cutting_none, cutting_added, cutting_implied, cut_more}
 use Rattle.ded_complement.proofs.pieces.push_outside.Goals as goal
 use Rattle.ded_complement.proofs.pieces.push_outside.Goals.{then-branch+in_ok-copy+in_ok-push, else-branch}
 

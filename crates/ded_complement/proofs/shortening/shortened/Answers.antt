@@ -2,7 +2,7 @@ use Rattle.std.proofs.Common.{[], ◌∷◌, ◌++◌, ◌∙◌, refl, sym, sub
 use Rattle.std.proofs.lemmas.Iterator.Adapters.{YieldsList-from_vec}
 use Rattle.std.proofs.lemmas.Iterator.Consumers.{YieldsList-turn, YieldsList-end}
 use Rattle.std.proofs.lemmas.List.{map-id}
-use Rattle.ded_complement.proofs.Cutting.{all-at}
+use Rattle.ded_num.proofs.Tests.{all-at}
 use Rattle.ded_complement.proofs.Implied.{Shortened, shortened_kept, shortened_dropped, shortened_alike}
 use Rattle.ded_complement.proofs.shortening.shortened.Goals as goal
 

@@ -1,7 +1,7 @@
 use Rattle.std.proofs.Common.{rules, ◌<◌, ◌/◌, length}
 use Rattle.std.proofs.lemmas.List.Elements.{All-from_recursion, recursion_from_All}
 use Rattle.std.proofs.lemmas.List.Sorted.{All-permutation}
-use Rattle.ded_complement.proofs.Cutting.{all-at}
+use Rattle.ded_num.proofs.Tests.{all-at}
 use Rattle.ded_complement.proofs.splitting.middle.Goals as goal
 
 pub returns : goal.returns

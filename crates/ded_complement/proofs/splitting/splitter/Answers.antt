@@ -1,8 +1,8 @@
 use Rattle.std.proofs.Common.{◌∙◌, sym, ap, subst}
+use Rattle.ded_num.proofs.Tests.{all-at}
 use Rattle.ded_complement.specs.declared.boxed.Boxed.{Boxed}
 use Rattle.ded_complement.specs.Boxed.{conjs_in}
 use Rattle.ded_complement.specs.Pieces.{all_atoms, IsAmong, AreAmong}
-use Rattle.ded_complement.proofs.Cutting.{all-at}
 use Rattle.ded_complement.proofs.Halved.{among_in}
 use Rattle.ded_complement.proofs.splitting.splitter.Goals as goal
 

@@ -1,5 +1,5 @@
 use Rattle.std.proofs.Common.{◌≡◌, ◌++◌, ◌∷◌, [], true, take, sym, ◌∙◌, subst}
-use Rattle.ded_complement.proofs.Cutting.{all-at}
+use Rattle.ded_num.proofs.Tests.{all-at}
 use Rattle.ded_genrel.proofs.Items.{done_to}
 use Rattle.ded_database.specs.Marks.{IsMark}
 use Rattle.ded_views.specs.Reaching.{reaches}

@@ -4,6 +4,7 @@ use Rattle.std.specs.List.{list_any}
 use Rattle.ded_model.specs.Lines.{Line}
 use Rattle.ded_model.specs.PlanForm.{plan_form}
 use Rattle.ded_genrel.proofs.Items.{all_weaker}
+use Rattle.ded_relation.proofs.Results.{if_ok}
 use Rattle.ded_algebra.specs.Given.{given_catalogue}
 use Rattle.ded_keep.specs.Adding.{with_alone}
 use Rattle.ded_keep.specs.Remaining.{IsRemaining}
@@ -14,7 +15,7 @@ use Rattle.ded_database.specs.Changes.{before, after}
 use Rattle.ded_database.specs.Held.{IsHeld}
 use Rattle.ded_database.specs.Lasting.{HasLinesBut, IsViewBut}
 use Rattle.ded_database.proofs.Beside.{IsGivenBeside, given_beside, names_known, heading_there, held_other, front_without, evaluable_alone, adds_beside}
-use Rattle.ded_database.proofs.Losing.{both_ok, others, tuple_over, removal, evaluable_after, read_after, view_left}
+use Rattle.ded_database.proofs.Losing.{others, tuple_over, removal, evaluable_after, read_after, view_left}
 use Rattle.ded_database.proofs.shortening.shortened_over.Goals as goal
 
 pub give_names-requires-clause-defined : goal.give_names-requires-clause-defined
@@ -88,7 +89,7 @@ returns-clause-is g c =
     let gone = removal b d n c.args.gone.now c.requires.delete m.name k.own k.columns k.formula (plan_form m.plan) k.entry k.planned (adds_beside m n _ (c.nothing_beside.ensures b m n k) c.requires.adds) c.in-Some.heading.now c.in-Some.ensures rs y in
     let read = read_after b d n c.args.gone.now c.requires.delete m.name k.own k.columns k.formula (plan_form m.plan) k.entry k.planned c.deref.result.now (λ x. ap (list_any (bytes_eq x)) c.deref.ensures.value ∙ sym (c.in_ok-names.ensures.all x))
     c.give_names.new.held c.take.new.self c.in_ok-give_names.ensures.gathered.of c.in_ok-give_names.ensures.all c.take.ensures.left in
-    both_ok c.remove_tuple.result (IsRemaining alone (given_catalogue (over_relations d None c.take.new.self)) (plan_form m.plan) c.args.list) _ (λ ts. (more : List Line) → HasLinesBut b d m.name more c.args.list → IsViewBut d m.name more ts)
+    if_ok c.remove_tuple.result (IsRemaining alone (given_catalogue (over_relations d None c.take.new.self)) (plan_form m.plan) c.args.list) _ (λ ts. (more : List Line) → HasLinesBut b d m.name more c.args.list → IsViewBut d m.name more ts)
     (λ ts r law.
     view_left b d n c.args.gone.now c.requires.delete m.name k.own k.columns k.formula (plan_form m.plan) k.entry k.planned c.deref.result.now (λ x. ap (list_any (bytes_eq x)) c.deref.ensures.value ∙ sym (c.in_ok-names.ensures.all x))
     c.give_names.new.held c.take.new.self c.in_ok-give_names.ensures.gathered.of c.in_ok-give_names.ensures.all c.take.ensures.left alone c.args.list ts c.requires.list r

@@ -1,7 +1,7 @@
 use Rattle.std.proofs.Common.{◌∷◌, [], ◌++◌, ◌∙◌, ap, sym, subst}
 use Rattle.std.proofs.lemmas.Result.{IfOk-weaker}
-use Rattle.ded_model.specs.Cell.{conj_holds}
-use Rattle.ded_theory.specs.Verdicts.{IsVerdict, HoldsNowhere}
+use Rattle.ded_model.specs.Cell.{conj_holds, HoldsNowhere}
+use Rattle.ded_theory.specs.Verdicts.{IsVerdict}
 use Rattle.ded_eval.specs.Inside.{IsInsidePart}
 use Rattle.ded_eval.proofs.Inside.{inside_kept, inside_dropped}
 use Rattle.ded_eval.proofs.across.push_inside.Goals as goal

@@ -8,21 +8,22 @@ use Rattle.ded_model.specs.Row.{row_holds, theme_holds, row_mentions, theme_ment
 use Rattle.ded_elimination.specs.LinearAtoms.{IsLinearAtom}
 use Rattle.ded_theory.specs.Both.{by_kind, IsByKind}
 use Rattle.ded_theory.specs.Verdicts.{IsVerdict}
-use Rattle.ded_atoms.proofs.Conjunctive.{normal-is, normal_or_true}
+use Rattle.ded_elimination.proofs.Shared.{atoms_normal}
+use Rattle.ded_atoms.proofs.Conjunctive.{normal_or_true}
 use Rattle.ded_eval.proofs.TuplesOfBoth.{met_nowhere, met}
 use Rattle.ded_eval.proofs.meeting.met.Goals as goal
 
 pub refute-requires : goal.refute-requires
 refute-requires c = record {
   normal = subst (AllByRecursion (IsByKind IsLinearAtom IsNormalTheme)) (sym (c.deref-3.ensures.value ∙ c.in_ok-atoms.ensures ∙ ap₂ (λ xs ys. xs ++ ys) c.deref.ensures.value c.deref-2.ensures.value))
-      (all-append (IsByKind IsLinearAtom IsNormalTheme) c.first.inside.atoms.items c.second.inside.atoms.items (normal-is c.first.inside.atoms.items c.first.invariant) (normal-is c.second.inside.atoms.items c.second.invariant));
+      (all-append (IsByKind IsLinearAtom IsNormalTheme) c.first.inside.atoms.items c.second.inside.atoms.items (atoms_normal c.first.inside.atoms.items c.first.invariant) (atoms_normal c.second.inside.atoms.items c.second.invariant));
 }
 
 pub normal_tuple-requires : goal.normal_tuple-requires
 normal_tuple-requires c =
     normal_or_true c.in_ok-atoms.atoms.items
     (subst (AllByRecursion (IsByKind IsLinearAtom IsNormalTheme)) (sym (c.in_ok-atoms.ensures ∙ ap₂ (λ xs ys. xs ++ ys) c.deref.ensures.value c.deref-2.ensures.value))
-    (all-append (IsByKind IsLinearAtom IsNormalTheme) c.first.inside.atoms.items c.second.inside.atoms.items (normal-is c.first.inside.atoms.items c.first.invariant) (normal-is c.second.inside.atoms.items c.second.invariant)))
+    (all-append (IsByKind IsLinearAtom IsNormalTheme) c.first.inside.atoms.items c.second.inside.atoms.items (atoms_normal c.first.inside.atoms.items c.first.invariant) (atoms_normal c.second.inside.atoms.items c.second.invariant)))
 
 pub returns-in-Empty : goal.returns-in-Empty
 returns-in-Empty c =

@@ -2,8 +2,8 @@ use Rattle.std.proofs.Common.{[], ◌∷◌, ◌++◌, ap, ◌∙◌, sym}
 use Rattle.std.proofs.lemmas.Iterator.Adapters.{YieldsList-from_vec}
 use Rattle.std.proofs.lemmas.Iterator.Consumers.{YieldsList-turn, YieldsList-end}
 use Rattle.std.proofs.lemmas.List.{map-id}
+use Rattle.ded_num.proofs.Tests.{all-at}
 use Rattle.ded_order.specs.OrderRows.{IsOrderAtom}
-use Rattle.ded_order.proofs.Atoms.{all-at}
 use Rattle.ded_order.proofs.lists.atoms_of.Goals as goal
 
 pub of-requires : goal.of-requires

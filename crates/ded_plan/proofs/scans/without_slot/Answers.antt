@@ -4,8 +4,9 @@ use Rattle.ded_model.specs.declared.slot.Slot.{Slot}
 use Rattle.ded_model.specs.Normal.{IsNormalTuple}
 use Rattle.ded_model.specs.Point.{Point}
 use Rattle.ded_model.specs.Row.{Atom, tuple_holds, atom_mentions, tuple_mentions}
+use Rattle.ded_ranges.proofs.Columns.{contrary}
 use Rattle.ded_plan.proofs.AddedScans.{next_of}
-use Rattle.ded_plan.proofs.AtomsWithin.{picked_none, picked_more, picked_same, picked_hold, atoms_without, false_from}
+use Rattle.ded_plan.proofs.AtomsWithin.{picked_none, picked_more, picked_same, picked_hold, atoms_without}
 use Rattle.ded_plan.proofs.scans.without_slot.Goals as goal
 use Rattle.ded_plan.proofs.scans.without_slot.Goals.{then-not-mentions+in_ok-copy+in_ok-push, else-not-mentions}
 
@@ -40,4 +41,4 @@ returns-clause-holds c =
 pub returns-clause-slot : goal.returns-clause-slot
 returns-clause-slot c =
     IfOk-weaker c.normal_tuple.result (λ t. (s : Slot) → tuple_mentions t s ≡ true → tuple_mentions c.loop-atom.atoms.items s ≡ true) _
-    (λ t m. false_from (tuple_mentions t c.args.slot) (tuple_mentions c.loop-atom.atoms.items c.args.slot) (m c.args.slot) (atoms_without c.loop-atom.atoms.items c.args.slot (c.loop-atom.invariant.own tt))) c.normal_tuple.ensures.slots
+    (λ t m. contrary (tuple_mentions t c.args.slot) (tuple_mentions c.loop-atom.atoms.items c.args.slot) (m c.args.slot) (atoms_without c.loop-atom.atoms.items c.args.slot (c.loop-atom.invariant.own tt))) c.normal_tuple.ensures.slots

@@ -8,7 +8,8 @@ use Rattle.ded_model.specs.Row.{row_holds, theme_holds}
 use Rattle.ded_theory.specs.Both.{by_kind, IsByKind}
 use Rattle.ded_theory.specs.Verdicts.{IsBound}
 use Rattle.ded_elimination.specs.LinearAtoms.{IsLinearAtom}
-use Rattle.ded_relation.proofs.Bounded.{atoms_normal, exact_range, sure_range}
+use Rattle.ded_elimination.proofs.Shared.{atoms_normal}
+use Rattle.ded_relation.proofs.Bounded.{exact_range, sure_range}
 use Rattle.ded_relation.proofs.ends.range_of.Goals as goal
 
 pub bounds-requires-clause-normal : goal.bounds-requires-clause-normal

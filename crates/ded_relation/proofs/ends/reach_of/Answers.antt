@@ -1,7 +1,7 @@
+use Rattle.ded_num.proofs.Tests.{if_ok_by}
 use Rattle.ded_model.specs.Row.{tuple_holds}
 use Rattle.ded_ranges.specs.Tuples.{IsReachOf}
 use Rattle.ded_ranges.specs.Windows.{column_value}
-use Rattle.ded_relation.proofs.Results.{if_ok_by}
 use Rattle.ded_relation.proofs.ends.reach_of.Goals as goal
 
 pub returns-clause-values : goal.returns-clause-values

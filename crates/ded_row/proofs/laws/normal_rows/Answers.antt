@@ -1,4 +1,4 @@
-use Rattle.ded_row.proofs.Normals.{normal_row-holds}
+use Rattle.ded_model.proofs.Normals.{normal_row-holds}
 use Rattle.ded_row.proofs.Forms.{begins, normal_row-normal, row_lines-normal, row_mentions-normal}
 use Rattle.ded_row.proofs.laws.normal_rows.Goals as goal
 

@@ -5,7 +5,8 @@ use Rattle.ded_model.specs.Constraint.{LinearConstraint}
 use Rattle.ded_model.specs.Coefs.{AreCoefs, with_coef}
 use Rattle.ded_model.specs.Row.{row_mentions}
 use Rattle.ded_model.specs.Renaming.{renamed_onto, KeepsSorts}
-use Rattle.ded_row.proofs.FirstSlots.{entry-in_code, split, drop-kept}
+use Rattle.ded_model.proofs.CoefLists.{drop-kept}
+use Rattle.ded_row.proofs.FirstSlots.{entry-in_code, split}
 use Rattle.ded_row.proofs.Targets.{target_rational, onto_step}
 use Rattle.ded_row.proofs.renaming.renamed_coefs.Goals as goal
 

@@ -1,5 +1,5 @@
 -- A session that goes on with the catalogue answers the command, and hands the catalogue back.
-use Rattle.std.proofs.Common.{rules, refl}
+use Rattle.std.proofs.Common.{rules}
 use Rattle.ded_model.specs.declared.command.Language.TheVariants.{One}
 use Rattle.ded_model.specs.Command.{command_form}
 use Rattle.ded_catalog.specs.State.{catalogue_of}

@@ -1,4 +1,5 @@
 use Rattle.std.proofs.Common.{◌≡◌, ◌≢◌, ◌≤◌, ℕ, List, sym, subst}
+use Rattle.ded_num.proofs.Tests.{if_ok_by, if_err_by}
 use Rattle.ded_model.specs.declared.command.Language.{Language}
 use Rattle.ded_model.specs.declared.command.Refusal.{Refusal}
 use Rattle.ded_model.specs.declared.command.Refusal.TheVariants.{Deep, Memory}
@@ -8,7 +9,6 @@ use Rattle.ded_terminals.specs.Items.{left, AreSymbols}
 use Rattle.ded_syntax.specs.DraftViews.{seen_draft}
 use Rattle.ded_syntax.specs.Meaning.{Means, MeansDeep}
 use Rattle.ded_syntax.specs.Spelling.{IsRead, IsLeastIn}
-use Rattle.ded_syntax.proofs.Drafted.{if_ok, if_err}
 use Rattle.ded_syntax.proofs.Refused.{not_drafted, is_deep, is_read}
 use Rattle.ded_syntax.proofs.command.command_by.Goals as goal
 
@@ -24,7 +24,7 @@ returns-in-Some-clause-refused c = λ other. c.in-Some.ensures.some
 pub returns-in-None-clause-read : goal.returns-in-None-clause-read
 returns-in-None-clause-read c =
     let short = c.in-None.ensures.none in
-    if_ok c.command_of.result
+    if_ok_by c.command_of.result
     (λ (x : Command). (depth : ℕ) × Means (seen_draft c.in-Ok.draft) (command_form x) depth × (depth ≤ 64))
     (λ (x : Command). (language : Language) (bytes : List ℕ) → AreSymbols language bytes (left c.args.items) → IsRead language bytes (command_form x))
     (λ x m language bytes are.
@@ -34,7 +34,7 @@ returns-in-None-clause-read c =
 pub returns-in-None-clause-refused : goal.returns-in-None-clause-refused
 returns-in-None-clause-refused c =
     let short = c.in-None.ensures.none in
-    if_err c.command_of.result
+    if_err_by c.command_of.result
     (λ (r : Refusal). r ≢ Memory → (r ≡ Deep) × MeansDeep (seen_draft c.in-Ok.draft))
     (λ (r : Refusal). r ≢ Memory → (language : Language) (bytes : List ℕ) → AreSymbols language bytes (left c.args.items) → IsLeastIn r language bytes)
     (λ r h other language bytes are.

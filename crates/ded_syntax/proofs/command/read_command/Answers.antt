@@ -1,12 +1,12 @@
 use Rattle.std.proofs.Common.{◌≢◌, ℕ, List}
 use Rattle.std.specs.Prelude.{map}
+use Rattle.ded_num.proofs.Tests.{if_ok_by, if_err_by}
 use Rattle.ded_lex.specs.Tokens.{AreLexemes, lexeme}
 use Rattle.ded_model.specs.declared.command.Refusal.{Refusal}
 use Rattle.ded_model.specs.declared.command.Refusal.TheVariants.{Memory}
 use Rattle.ded_model.specs.declared.command.Command.{Command}
 use Rattle.ded_model.specs.Command.{command_form}
 use Rattle.ded_syntax.specs.Spelling.{IsRead, IsLeastIn}
-use Rattle.ded_syntax.proofs.Drafted.{if_ok, if_err}
 use Rattle.ded_terminals.proofs.Seen.{no_lexemes, few_tokens, slice_says}
 use Rattle.ded_syntax.proofs.Refused.{no_token}
 use Rattle.ded_syntax.proofs.command.read_command.Goals as goal
@@ -19,7 +19,7 @@ read_tokens-requires c = few_tokens c.args.bytes.now _ c.list.result.now c.requi
 
 pub returns-in-Ok-clause-read : goal.returns-in-Ok-clause-read
 returns-in-Ok-clause-read c =
-    if_ok c.read_tokens.result
+    if_ok_by c.read_tokens.result
     (λ (x : Command). (piece : List ℕ) → AreLexemes piece (map (lexeme c.args.bytes.now) c.list.result.now) → IsRead c.args.language piece (command_form x))
     (λ (x : Command). IsRead c.args.language c.args.bytes.now (command_form x))
     (λ x h. h c.args.bytes.now (slice_says c.args.bytes.now _ c.list.result.now c.in-Ok.ensures.tokens c.list.ensures))
@@ -27,7 +27,7 @@ returns-in-Ok-clause-read c =
 
 pub returns-in-Ok-clause-refused : goal.returns-in-Ok-clause-refused
 returns-in-Ok-clause-refused c =
-    if_err c.read_tokens.result
+    if_err_by c.read_tokens.result
     (λ (r : Refusal). r ≢ Memory → (piece : List ℕ) → AreLexemes piece (map (lexeme c.args.bytes.now) c.list.result.now) → IsLeastIn r c.args.language piece)
     (λ (r : Refusal). r ≢ Memory → IsLeastIn r c.args.language c.args.bytes.now)
     (λ r h other. h other c.args.bytes.now (slice_says c.args.bytes.now _ c.list.result.now c.in-Ok.ensures.tokens c.list.ensures))

@@ -1,7 +1,6 @@
 use Rattle.std.proofs.Common.{MatchOption, subst, sym}
 use Rattle.ded_model.specs.Row.{theme_holds}
-use Rattle.ded_model.specs.Cell.{conj_holds}
-use Rattle.ded_theory.specs.Verdicts.{HoldsNowhere}
+use Rattle.ded_model.specs.Cell.{conj_holds, HoldsNowhere}
 use Rattle.ded_theme.specs.Classes.{rules_of, AreRulesOf, AreSplit}
 use Rattle.ded_theme.proofs.Ruling.{nowhere_with}
 use Rattle.ded_theme.proofs.Filling.{somewhere}

@@ -1,9 +1,9 @@
 use Rattle.std.proofs.Common.{true≢false, ap, sym, ◌∙◌}
 use Rattle.std.specs.Prelude.{IsTrue}
+use Rattle.ded_num.proofs.Tests.{bytes_eq-of}
 use Rattle.ded_theme.specs.Sources.{source, quoted}
 use Rattle.ded_theme.specs.Classes.{rules_of, AreUnited, IsBound}
 use Rattle.ded_theme.proofs.Lists.{if_ok_weaker}
-use Rattle.ded_theme.proofs.Comparing.{same_texts}
 use Rattle.ded_theme.proofs.Ruling.{class_here, united_by, united-swap, apart_by}
 use Rattle.ded_theme.proofs.classes.unite.Goals as goal
 
@@ -42,4 +42,4 @@ returns-in-Quoted-Quoted-clause-apart c =
     let in_right = class_here c.deref-2.result.now c.args.rules.now.items (source c.args.right) (source c.class_word-word.result) c.deref-2.ensures.value c.class_word-word.ensures in
     λ h. apart_by (rules_of c.args.rules.now.items) (source c.args.left) (source c.args.right) q.first.now q.second.now
     (in_left ∙ ap source q.is-0) (in_right ∙ ap source q.is-1)
-    (λ k. true≢false (sym (same_texts q.first.now q.second.now k) ∙ sym c.is_same.ensures ∙ h))
+    (λ k. true≢false (sym (bytes_eq-of q.first.now q.second.now k) ∙ sym c.is_same.ensures ∙ h))

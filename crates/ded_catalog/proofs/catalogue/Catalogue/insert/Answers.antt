@@ -1,5 +1,6 @@
 use Rattle.std.proofs.Common.{◌≡◌, ◌≤◌, true, None, ap, sym, ◌∙◌, subst}
 use Rattle.std.specs.Option.{unwrap_or}
+use Rattle.ded_num.proofs.Tests.{if_ok_by, if_err_by}
 use Rattle.ded_model.specs.declared.command.Refusal.TheVariants.{Memory}
 use Rattle.ded_model.specs.Known.{IsTupleOver}
 use Rattle.ded_sorts.specs.Causes.{insert_refusal, is_relation_with}
@@ -9,7 +10,7 @@ use Rattle.ded_relation.specs.Relations.{Relation}
 use Rattle.ded_catalog.specs.State.{catalogue_of}
 use Rattle.ded_catalog.proofs.Calls.{numbers_there, refusal_there, kept-pushed, kept-same, inserts, same_catalogue}
 use Rattle.ded_catalog.proofs.Lookups.{relation_changed}
-use Rattle.ded_relation.proofs.Results.{either, if_ok_by, if_err_by, on_err}
+use Rattle.ded_relation.proofs.Results.{either, on_err}
 use Rattle.ded_catalog.proofs.catalogue.Catalogue.insert.Goals as goal
 
 pub insert_into-requires : goal.insert_into-requires

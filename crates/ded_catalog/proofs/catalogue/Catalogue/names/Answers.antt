@@ -1,8 +1,8 @@
 use Rattle.std.proofs.Common.{map, ap, ◌∙◌}
+use Rattle.ded_num.proofs.Tests.{if_ok_by}
 use Rattle.ded_model.specs.Catalogue.{entry_name}
 use Rattle.ded_catalog.specs.State.{catalogue_of}
 use Rattle.ded_catalog.proofs.Lookups.{names-forms}
-use Rattle.ded_relation.proofs.Results.{if_ok_by}
 use Rattle.ded_catalog.proofs.catalogue.Catalogue.names.Goals as goal
 
 pub returns : goal.returns

@@ -1,5 +1,5 @@
 use Rattle.std.proofs.Common.{map, ap, ◌∙◌}
-use Rattle.ded_relation.proofs.Results.{if_ok_by}
+use Rattle.ded_num.proofs.Tests.{if_ok_by}
 use Rattle.ded_catalog.proofs.WithoutUsers.{names_plain}
 use Rattle.ded_catalog.proofs.table.Table.names.Goals as goal
 

@@ -1,7 +1,7 @@
 use Rattle.std.proofs.Common.{◌∷◌, [], ◌++◌, sym, subst}
 use Rattle.std.proofs.lemmas.Result.{IfOk-weaker}
-use Rattle.ded_model.specs.Cell.{conj_holds}
-use Rattle.ded_theory.specs.Verdicts.{IsVerdict, HoldsNowhere}
+use Rattle.ded_model.specs.Cell.{conj_holds, HoldsNowhere}
+use Rattle.ded_theory.specs.Verdicts.{IsVerdict}
 use Rattle.ded_genrel.specs.Operations.{IsInhabitedPart}
 use Rattle.ded_genrel.proofs.Inhabited.{inhabited_kept, inhabited_dropped, not_empty}
 use Rattle.ded_genrel.proofs.list.GenRel.push_inhabited.Goals as goal

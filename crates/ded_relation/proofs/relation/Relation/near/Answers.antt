@@ -1,4 +1,5 @@
 use Rattle.std.proofs.Common.{rules, ◌≡◌, List, ℕ, sym, ap, ◌∙◌, subst}
+use Rattle.ded_num.proofs.Tests.{if_ok_by}
 use Rattle.ded_model.specs.Row.{Atom}
 use Rattle.ded_ranges.specs.declared.window.Window.{Window}
 use Rattle.ded_ranges.specs.Windows.{IsMissed}
@@ -7,7 +8,6 @@ use Rattle.ded_relation.specs.Nearby.{numbered, AreNear, picked}
 use Rattle.ded_relation.specs.Relations.{Relation, Finds}
 use Rattle.ded_relation.proofs.Indexing.{index_misses}
 use Rattle.ded_relation.proofs.Picked.{picked_near}
-use Rattle.ded_relation.proofs.Results.{if_ok_by}
 use Rattle.ded_relation.proofs.relation.Relation.near.Goals as goal
 
 pub returns-then-is_empty-2-clause-found : goal.returns-then-is_empty-2-clause-found

@@ -5,7 +5,7 @@ use Rattle.ded_model.specs.declared.command.Language.TheVariants.{One}
 use Rattle.ded_model.specs.Command.{command_form}
 use Rattle.ded_catalog.specs.State.{catalogue_of}
 use Rattle.ded_relation.proofs.Results.{not_err}
-use Rattle.ded_frame.specs.Touching.{depends_on_names}
+use Rattle.ded_shared.specs.Touching.{depends_on_names}
 use Rattle.ded_session.specs.Answered.{reply_form}
 use Rattle.ded_session.specs.Replies.{is_refusal}
 use Rattle.ded_session.specs.Steps.{Step}

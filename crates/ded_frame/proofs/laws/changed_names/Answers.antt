@@ -1,5 +1,0 @@
-use Rattle.ded_frame.proofs.Changed.{changed_touched}
-use Rattle.ded_frame.proofs.laws.changed_names.Goals as goal
-
-pub returns : goal.returns
-returns c = λ d x reply n w e. changed_touched d n x reply w e

@@ -1,8 +1,0 @@
-use Rattle.ded_orderly.proofs.Answers.{orderly_tight, orderly_lines}
-use Rattle.ded_orderly.proofs.laws.orderly_formulas.Goals as goal
-
-pub returns-clause-tight : goal.returns-clause-tight
-returns-clause-tight c = orderly_tight
-
-pub returns-clause-lines : goal.returns-clause-lines
-returns-clause-lines c = orderly_lines

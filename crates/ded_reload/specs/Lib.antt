@@ -1,4 +1,0 @@
-pub mod Orderly
-pub mod Read
-pub mod Remade
-pub mod Runs

@@ -1,3 +1,0 @@
-pub mod Formulas
-pub mod Operands
-pub mod Words

@@ -1,0 +1,159 @@
+//! Laws of what a run leads to: dumps, and orderly questions. Each is the contract of a function that does nothing but call the
+//! laws that it rests on.
+//!
+//! Laws of certificates that are checked again as they were printed. Each is the contract of a function that does nothing but call
+//! the laws that it rests on.
+ghost use Rattle.std.specs.Prelude.{◌≡◌, ◌↔◌, ◌≤◌, ◌<◌, ℕ, List, length, ◌⊎◌, ◌∷◌, true, map};
+ghost use Rattle.std.specs.List.{AllByRecursion};
+ghost use Rattle.ded_lex.specs.Pieces.{Statement, Whole, IsWhole};
+ghost use Rattle.ded_model.specs.declared.command.Language.{Language};
+ghost use Rattle.ded_model.specs.declared.command.Refusal.TheVariants.{Wide, LongStatement, Memory};
+ghost use Rattle.ded_model.specs.declared.name.Column.{Column};
+ghost use Rattle.ded_model.specs.Catalogue.{Catalogue, stored};
+ghost use Rattle.ded_model.specs.Entries.{known};
+ghost use Rattle.ded_model.specs.Known.{IsWellFormed};
+ghost use Rattle.ded_model.specs.Measure.{stored_measures};
+ghost use Rattle.ded_model.specs.Row.{Atom};
+ghost use Rattle.ded_model.specs.Value.{Argument};
+ghost use Rattle.ded_dump.specs.Entries.{dump_lines};
+ghost use Rattle.ded_session.specs.Replies.{ReplyForm, tuples, refused, truth, apart};
+ghost use Rattle.ded_session.specs.Runs.{Steps, Run};
+ghost use Rattle.ded_session.specs.Steps.{Accepts, Step};
+ghost use Rattle.ded_runs.specs.Orderly.{IsOrderlyQuestion, IsOrderlyAnswer};
+ghost use Rattle.ded_runs.specs.Read.{WasCatalogueRead};
+ghost use Rattle.ded_runs.specs.Remade.{remade, script_of_lines};
+ghost use Rattle.ded_runs.specs.Runs.{WantsNone};
+ghost use Rattle.ded_model.specs.declared.certificate.Entry.{Entry};
+ghost use Rattle.ded_model.specs.Command.{disjoint, verify};
+ghost use Rattle.ded_print.specs.Certificates.{apart_text, entry_line};
+ghost use Rattle.ded_syntax.specs.Spelling.{IsRead};
+ghost use Rattle.ded_runs.specs.Few.{HaveFewInserts};
+ghost use Rattle.ded_runs.specs.Lines.{HasLines};
+ghost use Rattle.ded_runs.specs.Rechecks.{IsRecheck};
+
+/// Each entry of a catalogue to which a run leads was read.
+pub fn read_catalogues()
+    ensures step { (language : Language) (c d : Catalogue) (s : Statement) (reply : ReplyForm) → WasCatalogueRead c
+        → Step language c s reply d → WasCatalogueRead d }
+    ensures steps { (language : Language) (c d : Catalogue) (ss : List Statement) (replies : List ReplyForm) → WasCatalogueRead c
+        → Steps language c ss replies d → WasCatalogueRead d }
+    ensures run { (limit : ℕ) (script : List ℕ) (replies : List ReplyForm) (last : Catalogue) →
+        Run limit script replies last → WasCatalogueRead last }
+{
+    ded_reread::laws::read_words();
+}
+
+/// Of the remade catalogue the same is known, its names mean the same of all values, and they have the same greatest length and
+/// the same rank.
+pub fn remade_catalogues()
+    ensures known { (c : Catalogue) → known (remade c) ≡ known c }
+    ensures meaning { (c : Catalogue) → WasCatalogueRead c → IsWellFormed c → (n : List ℕ) (den : ℕ) (xs : List Argument) → 0 < den
+        → stored (remade c) n den xs ↔ stored c n den xs }
+    ensures b { (c : Catalogue) → WasCatalogueRead c → IsWellFormed c → (n : List ℕ) → (stored_measures (remade c) n).b ≡ (stored_measures c n).b }
+    ensures rank { (c : Catalogue) → WasCatalogueRead c → IsWellFormed c → (n : List ℕ) → (stored_measures (remade c) n).rank ≡ (stored_measures c n).rank }
+{
+    ded_reread::laws::read_formulas();
+    ded_reread::laws::alike_formulas();
+}
+
+/// The lines of a catalogue to which a run leads, each of at most 65,536 bytes, as a script of a session with the same limit, at
+/// most 1,000,000: where no reply is that memory is wanted, they leave the remade catalogue.
+pub fn dumps()
+    ensures { (limit : ℕ) (script : List ℕ) (replies others : List ReplyForm) (c d : Catalogue)
+        → limit ≤ 1000000 → Run limit script replies c → AllByRecursion (λ (l : List ℕ). length l ≤ 65536) (dump_lines c)
+        → Run limit (script_of_lines (dump_lines c)) others d → WantsNone others → d ≡ remade c }
+{
+    read_catalogues();
+    ded_session::laws::formed_catalogues();
+    ded_reread::laws::read_words();
+    ded_reread::laws::read_lines();
+    ded_reread::laws::read_formulas();
+    ded_reread::laws::read_tuples();
+}
+
+/// Over a catalogue to which a run leads no orderly question is refused as too wide. The answer to an orderly query has nothing
+/// superfluous, and its rows are order rows: each compares two columns, or has the coefficient and the constant of a row with one
+/// slot that the formula reaches, up to the sign of both.
+pub fn orderly_questions()
+    ensures narrow { (limit : ℕ) (script : List ℕ) (replies : List ReplyForm) (c : Catalogue) → Run limit script replies c
+        → (language : Language) (s : Statement) (d : Catalogue) → Step language c s (refused Wide) d
+        → Accepts language s c (λ command. IsOrderlyQuestion command c → ⊥) }
+    ensures answers { (limit : ℕ) (script : List ℕ) (replies : List ReplyForm) (c : Catalogue) → Run limit script replies c
+        → (language : Language) (s : Statement) (h : List Column) (ts : List (List Atom)) (d : Catalogue) → Step language c s (tuples h ts) d
+        → Accepts language s c (λ command. IsOrderlyAnswer command c ts) }
+{
+    read_catalogues();
+    ded_session::laws::formed_catalogues();
+    ded_width::laws::orderly_formulas();
+    ded_width::laws::short_reach();
+}
+
+/// Each relation of a catalogue to which a run leads has accepted at most 2^32 - 1 inserts, and so has each relation of one that a statement
+/// makes of a well formed catalogue whose relations have.
+pub fn few_inserts()
+    ensures step { (language : Language) (c d : Catalogue) (s : Statement) (reply : ReplyForm) → IsWellFormed c → HaveFewInserts c
+        → Step language c s reply d → HaveFewInserts d }
+    ensures run { (limit : ℕ) (script : List ℕ) (replies : List ReplyForm) (last : Catalogue) → Run limit script replies last
+        → HaveFewInserts last }
+{
+    ded_session::laws::formed_catalogues();
+}
+
+/// What is printed of certificates has a line for each, in order, and no other lines; and it tells the certificates.
+pub fn printed_lines()
+    ensures lines { (es : List Entry) → HasLines (apart_text es) (map entry_line es) }
+    ensures one { (text : List ℕ) (these those : List (List ℕ)) → HasLines text these → HasLines text those → these ≡ those }
+    ensures told { (es fs : List Entry) → apart_text es ≡ apart_text fs → es ≡ fs }
+{}
+
+/// Only `disjoint` is answered by certificates.
+pub fn asked_certificates()
+    ensures { (language : Language) (c d : Catalogue) (s : Statement) (es : List Entry) → Step language c s (apart es) d
+        → Accepts language s c (λ command. (n : List ℕ) × (m : List ℕ) × (command ≡ disjoint n m)) }
+{}
+
+/// The lines of a reply to `disjoint` over a catalogue to which a run leads, in braces behind `verify` and the two names, are a piece that
+/// `;` ends, and in each language they are read as `verify` with the certificates of the reply. So they are over each well formed catalogue
+/// whose relations have accepted as few inserts.
+pub fn read_again()
+    ensures run_whole { (limit : ℕ) (script : List ℕ) (replies : List ReplyForm) (c : Catalogue) → Run limit script replies c
+        → (language : Language) (n m : List ℕ) (es : List Entry) (piece : List ℕ) → IsRecheck language c n m es piece
+        → (after : List ℕ) → IsWhole piece (59 ∷ after) }
+    ensures run_read { (limit : ℕ) (script : List ℕ) (replies : List ReplyForm) (c : Catalogue) → Run limit script replies c
+        → (language other : Language) (n m : List ℕ) (es : List Entry) (piece : List ℕ) → IsRecheck language c n m es piece
+        → IsRead other piece (verify n m es) }
+    ensures whole { (language : Language) (c : Catalogue) (n m : List ℕ) (es : List Entry) (piece : List ℕ) → IsWellFormed c
+        → HaveFewInserts c
+        → IsRecheck language c n m es piece → (after : List ℕ) → IsWhole piece (59 ∷ after) }
+    ensures read { (language other : Language) (c : Catalogue) (n m : List ℕ) (es : List Entry) (piece : List ℕ) → IsWellFormed c
+        → HaveFewInserts c
+        → IsRecheck language c n m es piece → IsRead other piece (verify n m es) }
+{
+    ded_session::laws::formed_catalogues();
+}
+
+/// This statement, of at most 65,536 bytes, may be answered `yes` over the same catalogue, in each language, and may be answered nothing else
+/// but that memory is wanted. A longer one is refused as too long. The catalogue stays as it is.
+pub fn verified_again()
+    ensures run_yes { (limit : ℕ) (script : List ℕ) (replies : List ReplyForm) (c : Catalogue) → Run limit script replies c
+        → (language other : Language) (n m : List ℕ) (es : List Entry) (piece : List ℕ) → IsRecheck language c n m es piece
+        → length piece ≤ 65536 → Step other c (Whole piece) (truth true) c }
+    ensures run_only { (limit : ℕ) (script : List ℕ) (replies : List ReplyForm) (c : Catalogue) → Run limit script replies c
+        → (language other : Language) (n m : List ℕ) (es : List Entry) (piece : List ℕ) → IsRecheck language c n m es piece
+        → length piece ≤ 65536 → (reply : ReplyForm) (d : Catalogue) → Step other c (Whole piece) reply d
+        → ((reply ≡ truth true) ⊎ (reply ≡ refused Memory)) × (d ≡ c) }
+    ensures yes { (language other : Language) (c : Catalogue) (n m : List ℕ) (es : List Entry) (piece : List ℕ) → IsWellFormed c
+        → HaveFewInserts c
+        → IsRecheck language c n m es piece → length piece ≤ 65536 → Step other c (Whole piece) (truth true) c }
+    ensures only { (language other : Language) (c d : Catalogue) (n m : List ℕ) (es : List Entry) (piece : List ℕ) (reply : ReplyForm)
+        → IsWellFormed c → HaveFewInserts c
+        → IsRecheck language c n m es piece → length piece ≤ 65536 → Step other c (Whole piece) reply d
+        → ((reply ≡ truth true) ⊎ (reply ≡ refused Memory)) × (d ≡ c) }
+    ensures long { (other : Language) (c : Catalogue) (piece : List ℕ) → 65536 < length piece
+        → Step other c (Whole piece) (refused LongStatement) c }
+    ensures only_long { (other : Language) (c d : Catalogue) (piece : List ℕ) (reply : ReplyForm) → 65536 < length piece
+        → Step other c (Whole piece) reply d
+        → (reply ≡ refused LongStatement) × (d ≡ c) }
+{
+    ded_session::laws::formed_catalogues();
+}
