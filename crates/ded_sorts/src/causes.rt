@@ -33,7 +33,16 @@ pub(crate) fn has_many(command: &Command) -> bool
         Command::Query(heading, formula) => is_many(&heading.columns, formula),
         Command::Explain(heading, formula) => is_many(&heading.columns, formula),
         Command::Ask(formula) => is_many(&[], formula),
-        _ => false,
+        Command::Header
+        | Command::Insert(_, _)
+        | Command::Delete(_, _)
+        | Command::Drop(_)
+        | Command::Keep(_)
+        | Command::Show(_)
+        | Command::BoxOf(_)
+        | Command::Dump
+        | Command::Disjoint(_, _)
+        | Command::Verify(_, _, _) => false,
     }
 }
 
@@ -46,7 +55,17 @@ pub(crate) fn names_twice(command: &Command) -> bool
         Command::View(_, heading, _) => has_twice(&heading.columns),
         Command::Query(heading, _) => has_twice(&heading.columns),
         Command::Explain(heading, _) => has_twice(&heading.columns),
-        _ => false,
+        Command::Header
+        | Command::Insert(_, _)
+        | Command::Delete(_, _)
+        | Command::Drop(_)
+        | Command::Keep(_)
+        | Command::Ask(_)
+        | Command::Show(_)
+        | Command::BoxOf(_)
+        | Command::Dump
+        | Command::Disjoint(_, _)
+        | Command::Verify(_, _, _) => false,
     }
 }
 
@@ -92,7 +111,19 @@ pub(crate) fn takes_name(command: &Command, facts: Facts<'_>) -> bool
 {
     match command {
         Command::Relation(_, _) | Command::View(_, _, _) => is_defined(facts.first),
-        _ => false,
+        Command::Header
+        | Command::Insert(_, _)
+        | Command::Delete(_, _)
+        | Command::Drop(_)
+        | Command::Keep(_)
+        | Command::Ask(_)
+        | Command::Query(_, _)
+        | Command::Show(_)
+        | Command::BoxOf(_)
+        | Command::Explain(_, _)
+        | Command::Dump
+        | Command::Disjoint(_, _)
+        | Command::Verify(_, _, _) => false,
     }
 }
 
@@ -107,7 +138,14 @@ pub(crate) fn names_other_kind(command: &Command, facts: Facts<'_>) -> bool
         Command::Disjoint(_, _) | Command::Verify(_, _, _) => {
             is_view(facts.first) || is_view(facts.second)
         }
-        _ => false,
+        Command::Header
+        | Command::Relation(_, _)
+        | Command::Drop(_)
+        | Command::View(_, _, _)
+        | Command::Ask(_)
+        | Command::Query(_, _)
+        | Command::Explain(_, _)
+        | Command::Dump => false,
     }
 }
 
@@ -126,7 +164,19 @@ pub(crate) fn has_wrong_arity<N: Names>(
 {
     match command {
         Command::Disjoint(_, _) | Command::Verify(_, _, _) => Ok(do_lengths_differ(facts)),
-        _ => has_other_arity(command, facts, names),
+        Command::Header
+        | Command::Relation(_, _)
+        | Command::Insert(_, _)
+        | Command::Delete(_, _)
+        | Command::Drop(_)
+        | Command::View(_, _, _)
+        | Command::Keep(_)
+        | Command::Ask(_)
+        | Command::Query(_, _)
+        | Command::Show(_)
+        | Command::BoxOf(_)
+        | Command::Explain(_, _)
+        | Command::Dump => has_other_arity(command, facts, names),
     }
 }
 
@@ -174,7 +224,21 @@ pub(crate) fn has_wrong_sort<N: Names>(
 {
     match command {
         Command::Disjoint(_, _) | Command::Verify(_, _, _) => Ok(do_headings_differ(facts)),
-        _ => Ok(has_missorted(command, facts, names)? || has_inequality(command, facts)?),
+        Command::Header
+        | Command::Relation(_, _)
+        | Command::Insert(_, _)
+        | Command::Delete(_, _)
+        | Command::Drop(_)
+        | Command::View(_, _, _)
+        | Command::Keep(_)
+        | Command::Ask(_)
+        | Command::Query(_, _)
+        | Command::Show(_)
+        | Command::BoxOf(_)
+        | Command::Explain(_, _)
+        | Command::Dump => Ok(
+            has_missorted(command, facts, names)? || has_inequality(command, facts)?,
+        ),
     }
 }
 
@@ -195,7 +259,20 @@ pub(crate) fn drops_used<N: Names>(command: &Command, names: &N) -> bool
 {
     match command {
         Command::Drop(name) => names.used(name),
-        _ => false,
+        Command::Header
+        | Command::Relation(_, _)
+        | Command::Insert(_, _)
+        | Command::Delete(_, _)
+        | Command::View(_, _, _)
+        | Command::Keep(_)
+        | Command::Ask(_)
+        | Command::Query(_, _)
+        | Command::Show(_)
+        | Command::BoxOf(_)
+        | Command::Explain(_, _)
+        | Command::Dump
+        | Command::Disjoint(_, _)
+        | Command::Verify(_, _, _) => false,
     }
 }
 
@@ -205,7 +282,20 @@ pub(crate) fn deletes_none<N: Names>(command: &Command, names: &N) -> bool
 {
     match command {
         Command::Delete(name, number) => !names.has_tuple(name, *number),
-        _ => false,
+        Command::Header
+        | Command::Relation(_, _)
+        | Command::Insert(_, _)
+        | Command::Drop(_)
+        | Command::View(_, _, _)
+        | Command::Keep(_)
+        | Command::Ask(_)
+        | Command::Query(_, _)
+        | Command::Show(_)
+        | Command::BoxOf(_)
+        | Command::Explain(_, _)
+        | Command::Dump
+        | Command::Disjoint(_, _)
+        | Command::Verify(_, _, _) => false,
     }
 }
 
@@ -218,7 +308,20 @@ pub(crate) fn is_too_high<N: Names>(command: &Command, names: &N) -> Result<bool
 {
     match command {
         Command::View(_, _, formula) => Ok(greatest_level(formula, names)? >= limits::LEVELS),
-        _ => Ok(false),
+        Command::Header
+        | Command::Relation(_, _)
+        | Command::Insert(_, _)
+        | Command::Delete(_, _)
+        | Command::Drop(_)
+        | Command::Keep(_)
+        | Command::Ask(_)
+        | Command::Query(_, _)
+        | Command::Show(_)
+        | Command::BoxOf(_)
+        | Command::Explain(_, _)
+        | Command::Dump
+        | Command::Disjoint(_, _)
+        | Command::Verify(_, _, _) => Ok(false),
     }
 }
 
@@ -283,7 +386,20 @@ fn has_inequality(command: &Command, facts: Facts<'_>) -> Result<bool, NoMemory>
 {
     match command {
         Command::Insert(_, formulas) => some_in_insert(formulas, facts),
-        _ => Ok(false),
+        Command::Header
+        | Command::Relation(_, _)
+        | Command::Delete(_, _)
+        | Command::Drop(_)
+        | Command::View(_, _, _)
+        | Command::Keep(_)
+        | Command::Ask(_)
+        | Command::Query(_, _)
+        | Command::Show(_)
+        | Command::BoxOf(_)
+        | Command::Explain(_, _)
+        | Command::Dump
+        | Command::Disjoint(_, _)
+        | Command::Verify(_, _, _) => Ok(false),
     }
 }
 

@@ -77,7 +77,19 @@ fn second_known<'a, N: Names>(command: &Command, names: &'a N) -> Option<Known<'
 {
     match command {
         Command::Disjoint(_, name) | Command::Verify(_, name, _) => names.known(name),
-        _ => None,
+        Command::Header
+        | Command::Relation(_, _)
+        | Command::Insert(_, _)
+        | Command::Delete(_, _)
+        | Command::Drop(_)
+        | Command::View(_, _, _)
+        | Command::Keep(_)
+        | Command::Ask(_)
+        | Command::Query(_, _)
+        | Command::Show(_)
+        | Command::BoxOf(_)
+        | Command::Explain(_, _)
+        | Command::Dump => None,
     }
 }
 
@@ -117,6 +129,15 @@ pub(crate) fn some_in_command<T: AtomTest>(
             formula,
         ),
         Command::Ask(formula) => some_atom(test, &Scope::Heading(&[]), formula),
-        _ => Ok(false),
+        Command::Header
+        | Command::Relation(_, _)
+        | Command::Delete(_, _)
+        | Command::Drop(_)
+        | Command::Keep(_)
+        | Command::Show(_)
+        | Command::BoxOf(_)
+        | Command::Dump
+        | Command::Disjoint(_, _)
+        | Command::Verify(_, _, _) => Ok(false),
     }
 }

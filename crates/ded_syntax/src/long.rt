@@ -325,7 +325,16 @@ fn is_long_command(command: &Command) -> bool
         | Command::Ask(formula)
         | Command::Query(_, formula)
         | Command::Explain(_, formula) => has_long_atom(formula),
-        _ => false,
+        Command::Header
+        | Command::Relation(_, _)
+        | Command::Delete(_, _)
+        | Command::Drop(_)
+        | Command::Keep(_)
+        | Command::Show(_)
+        | Command::BoxOf(_)
+        | Command::Dump
+        | Command::Disjoint(_, _)
+        | Command::Verify(_, _, _) => false,
     }
 }
 
