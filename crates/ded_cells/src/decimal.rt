@@ -9,8 +9,9 @@ use ded_model::memory::NoMemory;
 use ded_num::{gcd, quotient};
 use itoa::Buffer;
 
-/// The least number that each denominator of a decimal with at most 9 digits behind the point divides.
-const MOST: u128 = 1_000_000_000;
+/// The least common denominator of the decimals with at most 9 digits behind the point: a value over a denominator that doesn't divide
+/// it has no such decimal.
+const DECIMALS_DENOMINATOR: u128 = 1_000_000_000;
 
 /// The most digits behind the point.
 const DIGITS: u32 = 9;
@@ -35,7 +36,7 @@ pub fn put_value(text: &mut Text, value: Frac) -> Result<(), NoMemory>
 fn has_decimal(den: u128) -> bool
     ensures { result ≡ has_decimal den }
 {
-    1 <= den && den <= MOST && MOST % den == 0
+    1 <= den && den <= DECIMALS_DENOMINATOR && DECIMALS_DENOMINATOR % den == 0
 }
 
 /// Puts a fraction as a decimal.

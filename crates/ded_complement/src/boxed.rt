@@ -14,8 +14,9 @@ use ded_model::slot::{Slot, Sort};
 use ded_theory::{Span, Theory};
 use std::alloc::Global;
 
-/// A list of fewer conjunctions isn't worth boxes, and no more of them are asked which slots they bound.
-const FEW: usize = 8;
+/// From how many conjunctions on a list gets boxes, as one of fewer isn't worth them. The first so many are asked which slots they
+/// bound, and no more.
+const BOXED_FROM: usize = 8;
 
 /// Slots of higher numbers get no intervals. The columns of a relation and the variables of a formula are numbered from 0 on.
 const SLOTS: u32 = 8;
@@ -39,7 +40,7 @@ pub(crate) fn bounded_slots<T: Theory>(
 {
     let mut slots = Vec::new(alloc);
     let conjs = list.list();
-    if conjs.len() < FEW {
+    if conjs.len() < BOXED_FROM {
         return Ok(slots);
     }
     for number in 0..SLOTS {
@@ -47,7 +48,7 @@ pub(crate) fn bounded_slots<T: Theory>(
             number,
             sort: Sort::Rat,
         };
-        if some_bounds::<T>(alloc, &conjs[..FEW], slot)? {
+        if some_bounds::<T>(alloc, &conjs[..BOXED_FROM], slot)? {
             slots.push(slot)?;
         }
     }

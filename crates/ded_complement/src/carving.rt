@@ -19,8 +19,9 @@ use ded_model::tuple::Negated;
 use ded_theory::{Theory, Verdict};
 use std::alloc::Global;
 
-/// So many conjunctions near a part are taken away one after another, without a look for halves.
-const FEW: usize = 6;
+/// Above how many conjunctions near a part it is cut in halves, so that each is carved by those near it alone: so many or fewer are
+/// taken away one after another, without a look for halves.
+const CUT_IN_HALVES_ABOVE: usize = 6;
 
 /// How often a part is cut in two, then a half of it, and so on, at most.
 pub(crate) const DEEPEST: usize = 64;
@@ -42,7 +43,7 @@ pub(crate) fn carve<T: Theory>(
     requires part { IsPart T.holds T.normal slots.now taken.now part }
     ensures { IfOk result (λ _. AreCarved T.holds T.mentions T.lines T.cell taken.now part.piece.conj.items out.old out.new) }
 {
-    if depth == 0 || part.near.len() <= FEW {
+    if depth == 0 || part.near.len() <= CUT_IN_HALVES_ABOVE {
         return carve_in_turn::<T>(out, part, taken, slots);
     }
     match halves::<T>(&part, taken, slots)? {

@@ -6,8 +6,8 @@ ghost use Rattle.ded_complement.specs.Pieces.{IsAlike};
 use ded_model::memory::NoMemory;
 use ded_theory::Theory;
 
-/// As many atoms as are worth a look which of them the last one implies.
-const LONG: usize = 8;
+/// From how many atoms on a conjunction is looked through for those that one more implies: fewer aren't worth the look.
+const SHORTENED_FROM: usize = 8;
 
 /// The conjunction with one more atom. Where it is long, it is without those that this one implies.
 ///
@@ -22,7 +22,7 @@ pub(crate) fn with_last<T: Theory>(
     ensures alike { IfOk result (λ v. IsAlike T.holds (rest.items ++ last ∷ []) v.items) }
     ensures normal { IfOk result (λ v. AllByRecursion T.normal v.items) }
 {
-    if rest.len() < LONG {
+    if rest.len() < SHORTENED_FROM {
         rest.push(last)?;
         return Ok(rest);
     }

@@ -14,8 +14,8 @@ use std::alloc::Global;
 use std::collections::HashMap;
 use std::hash::{DefaultHasher, Hash, Hasher};
 
-/// How many rows are looked through one by one.
-const FEW: usize = 32;
+/// How many rows, the first ones, are looked through one by one. Those behind them are found by a hash, which so few rows aren't worth.
+const LOOKED_THROUGH_UP_TO: usize = 32;
 
 /// Rows that are kept together, and at which place one behind the first few stands by the hash of its coefficients.
 #[derive(Drop)]
@@ -40,7 +40,7 @@ impl Kept {
         ensures { IfOk result (λ _. self.new.rows.items ≡ self.old.rows.items ++ row ∷ []) }
     {
         let place = self.rows.len();
-        if place >= FEW {
+        if place >= LOOKED_THROUGH_UP_TO {
             self.places.insert(hash_of(&row), place)?;
         }
         self.rows.push(row)?;
@@ -103,13 +103,13 @@ fn find_rival(kept: &Kept, row: &Row) -> Rival
     ensures { IsRival kept.now.rows.items row.now result }
 {
     let rows = kept.rows.as_slice();
-    for i in 0..rows.len().min(FEW) {
+    for i in 0..rows.len().min(LOOKED_THROUGH_UP_TO) {
         match rival_at(rows, i, row) {
             Rival::Nothing => {}
             rival => return rival,
         }
     }
-    if rows.len() <= FEW {
+    if rows.len() <= LOOKED_THROUGH_UP_TO {
         return Rival::Nothing;
     }
     match kept.places.get(&hash_of(row)) {

@@ -27,8 +27,9 @@ use ded_model::slot::{Slot, Slots, stands_in};
 use ded_theory::{Theory, Verdict};
 use std::alloc::{AllocError, Global};
 
-/// How many conjunctions of a part are tried.
-const FEW: usize = 4;
+/// How many conjunctions of a part are tried: where one of a few shows that the plan holds, no slot is eliminated, and where none does,
+/// they were tried for nothing.
+const TRIED_OF_A_PART: usize = 4;
 
 /// How many tuples near a window are tried where one relation is looked up.
 const NEAR: usize = 16;
@@ -243,7 +244,7 @@ fn few<T: OfTuples, R: Relations>(
     }
     match plan {
         Plan::Scan(name, slots) => Ok(
-            first_scanned(alloc, name, slots, relations, window, FEW)?.list,
+            first_scanned(alloc, name, slots, relations, window, TRIED_OF_A_PART)?.list,
         ),
         Plan::Rows(tuple) => Ok(rows(alloc, tuple)?),
         Plan::Join(parts) => few_joined(alloc, parts, relations, window, looks),
@@ -298,7 +299,7 @@ fn few_with<T: OfTuples, R: Relations>(
 {
     let mut joined = GenRel::new(alloc);
     for conj in list.list() {
-        if joined.list().len() >= FEW {
+        if joined.list().len() >= TRIED_OF_A_PART {
             return Ok(joined);
         }
         let inner = with_atoms::<T>(alloc, window, conj)?;
@@ -340,7 +341,7 @@ fn few_united<T: OfTuples, R: Relations>(
 {
     let mut list = GenRel::new(alloc);
     for part in parts {
-        if list.list().len() >= FEW {
+        if list.list().len() >= TRIED_OF_A_PART {
             return Ok(list);
         }
         list.append(few(alloc, part, relations, window, looks)?)?;

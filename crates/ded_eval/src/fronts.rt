@@ -10,11 +10,12 @@ use ded_model::memory::NoMemory;
 use ded_model::plan::Plan;
 use std::alloc::Global;
 
-/// Far fewer tuples are at most one of four.
-const MUCH: usize = 4;
+/// A join begins with the second part where that has at most one of so many tuples that the first one has: then the first one may be
+/// looked up for few.
+const SECOND_FIRST_AT_ONE_OF: usize = 4;
 
-/// Of how many tuples there may be far fewer.
-const MANY: usize = 64;
+/// From how many tuples of the first part on a join may begin with the second: with fewer the order matters little.
+const SECOND_FIRST_FROM: usize = 64;
 
 /// The place of the part that the join of the parts begins with. It is that of the second one that isn't rows, where it has far fewer
 /// tuples in the window than the first one, each of them being of one relation; and else the first place.
@@ -38,7 +39,7 @@ pub(crate) fn front_part<T: OfTuples, R: Relations>(
     let Some(few) = near_count::<T, R>(alloc, &parts[second], relations, window)? else {
         return Ok(0);
     };
-    if many >= MANY && few <= many / MUCH {
+    if many >= SECOND_FIRST_FROM && few <= many / SECOND_FIRST_AT_ONE_OF {
         Ok(second)
     } else {
         Ok(0)

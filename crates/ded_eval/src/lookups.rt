@@ -13,8 +13,9 @@ use ded_packed::Lent;
 use ded_ranges::Window;
 use std::alloc::Global;
 
-/// An index has to pass over three of four tuples.
-const FEW: usize = 4;
+/// A plan is looked up for each conjunction where at most one of so many tuples may hold where one of these does: where the index passes
+/// over fewer tuples, reading the plan whole is likely to be cheaper.
+const LOOKED_UP_AT_ONE_OF: usize = 4;
 
 /// Whether looking the plan up for each conjunction of the list is likely to be cheaper than reading it whole: it scans one relation
 /// that has an index, with rows and projections alone around it, and few of the tuples may hold where a conjunction of the list does.
@@ -111,7 +112,7 @@ fn is_selective<T: OfTuples, R: Relations>(
 ) -> Result<bool, NoMemory> {
     let near = near_of::<T, R>(alloc, conj, name, slots, relations)?;
     let all = count(relations.near(alloc, name, &Window::everything(alloc))?);
-    Ok(near <= all / FEW)
+    Ok(near <= all / LOOKED_UP_AT_ONE_OF)
 }
 
 /// How many tuples are lent.

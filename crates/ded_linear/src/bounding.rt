@@ -21,10 +21,10 @@ use std::alloc::{AllocError, Global};
 
 /// From how many rows on the ends of the slot are looked for before anything is eliminated, where a row mentions three slots or more:
 /// of fewer rows they are found sooner by eliminations.
-const MANY: usize = 8;
+const ENDS_SEARCHED_FROM: usize = 8;
 
-/// The same where no row mentions more than two slots.
-const MANY_PAIRS: usize = 16;
+/// The same where no row mentions more than two slots: of such rows an elimination makes none that mentions more.
+const ENDS_OF_PAIRS_SEARCHED_FROM: usize = 16;
 
 /// The exact bounds of the slot, `Nothing` where no point satisfies the rows, and no bounds at all where a number on the way
 /// got too long, which a mixing that decides never lets happen. Of many rows what shows the bounds is looked for first.
@@ -53,8 +53,8 @@ pub fn bounds<M: Mixing>(alloc: Global, rows: &[Row], slot: Slot) -> Result<Span
 
 /// Whether the rows are so many that the ends of a slot are found sooner without eliminations. It does not allocate.
 fn are_many(rows: &[Row]) -> bool {
-    rows.len() >= MANY_PAIRS
-        || (rows.len() >= MANY && rows.iter().any(|row| row.coefs.list().len() > 2))
+    rows.len() >= ENDS_OF_PAIRS_SEARCHED_FROM
+        || (rows.len() >= ENDS_SEARCHED_FROM && rows.iter().any(|row| row.coefs.list().len() > 2))
 }
 
 /// The bounds as [`bounds`] gives them, by eliminations alone: of other slots, that with the fewest pairs of rows first, until each row mentions at most one.

@@ -11,8 +11,9 @@ use ded_model::slot::Slot;
 use ded_num::gcd;
 use std::alloc::Global;
 
-/// From where on numbers are shortened: shorter ones seldom make long products.
-const LONG: i128 = 1 << 63;
+/// From where on weights are divided by what divides them all: smaller ones seldom make products that are too long, and a divisor takes
+/// time to find.
+const SHORTENED_FROM: i128 = 1 << 63;
 
 /// The coefficients of two slots. Products of two of these numbers always fit.
 #[derive(Clone, Copy)]
@@ -269,7 +270,7 @@ fn weights(first: Direction, second: Direction, third: Direction) -> Option<[i12
 /// Long numbers divided by what divides them all.
 fn shortened(numbers: [i128; 3]) -> [i128; 3] {
     let [first, second, third] = numbers;
-    if first < LONG && second < LONG && third < LONG {
+    if first < SHORTENED_FROM && second < SHORTENED_FROM && third < SHORTENED_FROM {
         return numbers;
     }
     if first < 0 || second < 0 || third < 0 {

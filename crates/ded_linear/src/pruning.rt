@@ -15,7 +15,7 @@ use ded_model::row::Row;
 use std::alloc::Global;
 
 /// From how many rows on those that the others imply are looked for: fewer take longer to look through than they cost later.
-const MANY: usize = 12;
+const PRUNED_FROM: usize = 12;
 
 /// The rows that an elimination has made of so many, without those that the others are found to imply, in the same order: they hold
 /// at the same points. Few rows stay as they are, and so do rows that have not become more.
@@ -27,7 +27,7 @@ pub fn pruned(alloc: Global, rows: Vec<Row>, before: usize) -> Result<Vec<Row>, 
     ensures same { IfOk result (λ kept. (p : Point) → IsPoint p → conj_holds row_holds kept.items p ≡ conj_holds row_holds rows.items p) }
     ensures part { IfOk result (λ kept. IsSublist kept.items rows.items) }
 {
-    if rows.len() < MANY || rows.len() <= before {
+    if rows.len() < PRUNED_FROM || rows.len() <= before {
         return Ok(rows);
     }
     let mut search = Search::new(alloc);
@@ -46,7 +46,7 @@ fn sifted(alloc: Global, rows: &[Row], search: &mut Search) -> Result<Vec<Row>, 
     ensures { IfOk result (λ kept. IsPruned kept.items rows.now) }
 {
     let mut kept = Kept::new(alloc, rows);
-    let mut many = 4 * MANY;
+    let mut many = 4 * PRUNED_FROM;
     for i in 0..rows.len() {
         keep_needed(alloc, &mut kept, rows, i, false, search)?;
         many = leave_out(alloc, &mut kept, many, search)?;

@@ -21,7 +21,7 @@ use std::alloc::Global;
 
 /// From how many rows on a point, or numbers that refute the rows, are looked for before anything is eliminated: fewer rows are told
 /// sooner by eliminations.
-const MANY: usize = 6;
+const VERDICT_SEARCHED_FROM: usize = 6;
 
 /// Whether some point satisfies all the rows. `Unknown` only where a number on the way got too long, which a mixing that
 /// decides never lets happen.
@@ -37,7 +37,7 @@ pub fn refute<M: Mixing>(alloc: Global, rows: &[Row]) -> Result<Verdict, NoMemor
     if are_single(rows) {
         return Ok(verdict_of(&interval(rows, Slot::default())));
     }
-    if rows.len() < MANY {
+    if rows.len() < VERDICT_SEARCHED_FROM {
         return eliminated::<M>(alloc, rows);
     }
     match told(alloc, rows)? {

@@ -9,8 +9,9 @@ use ded_model::row::Row;
 use ded_weighing::{Witness, row_at};
 use std::alloc::Global;
 
-/// How many places a search begins with at most.
-const MOST: usize = 16;
+/// How many places of a hint a search begins with at most, the last ones: those that mattered stand there, and among more rows a search
+/// takes longer.
+const BEGUN_WITH_AT_MOST: usize = 16;
 
 /// The places of a few of many rows, those that mattered last behind the others, for the next search to begin with.
 #[derive(Drop)]
@@ -31,11 +32,11 @@ impl Hint {
     /// # Errors
     /// Out of memory.
     pub(crate) fn places_below(&self, alloc: Global, end: usize) -> Result<Vec<usize>, NoMemory> {
-        let mut below = Vec::with_capacity(alloc, MOST)?;
+        let mut below = Vec::with_capacity(alloc, BEGUN_WITH_AT_MOST)?;
         for place in self
             .places
             .iter()
-            .skip(self.places.len().saturating_sub(MOST))
+            .skip(self.places.len().saturating_sub(BEGUN_WITH_AT_MOST))
         {
             if *place < end {
                 below.push(*place)?;

@@ -4,8 +4,8 @@ use Rattle.ded_linear.specs.Prunings.{IsPruned}
 use Rattle.ded_linear.proofs.Prunes.{pruned_none, pruned_then, part_normal}
 use Rattle.ded_linear.proofs.pruning.pruned.Goals as goal
 
-pub returns-then-len-lt-MANY-clause-part : goal.returns-then-len-lt-MANY-clause-part
-returns-then-len-lt-MANY-clause-part c = let none = pruned_none c.args.rows.items in none.part
+pub returns-then-len-lt-PRUNED_FROM-clause-part : goal.returns-then-len-lt-PRUNED_FROM-clause-part
+returns-then-len-lt-PRUNED_FROM-clause-part c = let none = pruned_none c.args.rows.items in none.part
 
 -- the first pass, from the rows that it is given to those that it leaves
 passed : (rows given left : List LinearConstraint) (items : List LinearConstraint) → given ≡ rows → items ≡ left → IsPruned left given → IsPruned items rows
