@@ -18,7 +18,7 @@ use Rattle.ded_model.specs.Row.{Atom}
 use Rattle.ded_model.specs.Width.{tuple_length}
 use Rattle.ded_model.proofs.LineLengths.{not_long}
 use Rattle.ded_theory.specs.Both.{firsts}
-use Rattle.ded_weighing.specs.Weighing.{term_is_long, column_is_long, IsLongWeighing}
+use Rattle.ded_weighing.specs.Weighing.{term_is_long, column_is_long, IsLongSum}
 use Rattle.ded_cert.specs.Certified.{magnitudes, HasSmallSum}
 use Rattle.ded_cert.specs.Checks.{IsTooLong}
 use Rattle.ded_cert.proofs.Lengths.{NumbersWithin, rows_within, joined_length}
@@ -78,11 +78,11 @@ coefs_below : (s : Slot) (rs : List LinearConstraint) → NumbersWithin 63 rs �
 coefs_below s [] h = tt
 coefs_below s (r ∷ rs) h = (h.0.0 s, coefs_below s rs h.1)
 
-sums_short : (ms : List ℤ) (rs : List LinearConstraint) → NumbersWithin 63 rs → magnitudes ms < 2 ^ 63 → IsLongWeighing ms rs → ⊥
+sums_short : (ms : List ℤ) (rs : List LinearConstraint) → NumbersWithin 63 rs → magnitudes ms < 2 ^ 63 → IsLongSum ms rs → ⊥
 sums_short ms rs h g (inl e) = true≢false (sym e ∙ column_short (λ r. r.constant) (2 ^ 63) (pos 0) ms rs (constants_below rs h) (below_all (magnitudes ms) (2 ^ 63) (2 ^ 127) g square))
 sums_short ms rs h g (inr w) = true≢false (sym w.1 ∙ column_short (λ r. coef_at r.coefs w.0) (2 ^ 63) (pos 0) ms rs (coefs_below w.0 rs h) (below_all (magnitudes ms) (2 ^ 63) (2 ^ 127) g square))
 
 -- so a check of such a certificate is never refused
 pub short_checks : (t u : List Atom) (proof : Proof) → IsNormalTuple t → IsNormalTuple u → tuple_length t ≤ 63 → tuple_length u ≤ 63 → HasSmallSum proof → IsTooLong t u proof → ⊥
 short_checks t u Text n m h g s l = l
-short_checks t u (Multipliers ms) n m h g s l = sums_short ms (firsts (t ++ u)) (rows_within 63 (t ++ u) (rows_with_coefs t u n m) (joined_length 63 t u h g)) s l
+short_checks t u (Multipliers ms) n m h g s l = sums_short ms (firsts (t ++ u)) (rows_within 63 (t ++ u) (rows_with_coefs t u n m) (joined_length 63 t u h g)) s l.sum

@@ -12,7 +12,7 @@ abbrev pub Checks : List Atom → List Atom → Proof → Type 0
 Checks t u Text = HoldsNowhere (conj_holds theme_holds (seconds (t ++ u)))
 Checks t u (Multipliers ms) = refutes ms (firsts (t ++ u)) ≡ true
 
--- a number on the way to that row is too long
+-- there are as many numbers as rows, of the right signs, and a number on the way to that row is too long
 abbrev pub IsTooLong : List Atom → List Atom → Proof → Type 0
 IsTooLong t u Text = ⊥
 IsTooLong t u (Multipliers ms) = IsLongWeighing ms (firsts (t ++ u))

@@ -1,7 +1,7 @@
 -- The sum of the rows has no coefficient exactly where the sum of each column is 0.
 --
 -- Its list of coefficients ascends, so each number in it is the coefficient of its slot, which is the sum of that column.
-use Rattle.std.proofs.Common.{◌≡◌, ℕ, ◌+◌, ◌<◌, nat_lt, Bool, true, false, ◌&&◌, cond, List, [], ◌∷◌, inl, inr, arith, refl, sym, ap, ap₂, ◌∙◌, subst, true≢false, length, ◌==◌}
+use Rattle.std.proofs.Common.{◌≡◌, ℕ, ◌<◌, nat_lt, Bool, true, false, ◌&&◌, cond, List, [], ◌∷◌, inl, inr, arith, refl, sym, ap, ap₂, ◌∙◌, subst, true≢false, length, ◌==◌}
 use Rattle.std.specs.Prelude.{ℤ, pos, ◌+ℤ◌, ◌*ℤ◌}
 use Rattle.std.specs.Borrow.{Bor}
 use Rattle.std.proofs.lemmas.List.{length-map}

@@ -80,5 +80,11 @@ column_is_long number sum (m ∷ ms) (r ∷ rs) = term_is_long m (number r) sum 
 column_is_long number sum _ _ = false
 
 -- that is so of the constants, or of the coefficients of a slot
-abbrev pub IsLongWeighing : List ℤ → List LinearConstraint → Type 0
-IsLongWeighing ms rs = (column_is_long (λ r. r.constant) (pos 0) ms rs ≡ true) ⊎ ((s : Slot) × (column_is_long (λ r. coef_at r.coefs s) (pos 0) ms rs ≡ true))
+abbrev pub IsLongSum : List ℤ → List LinearConstraint → Type 0
+IsLongSum ms rs = (column_is_long (λ r. r.constant) (pos 0) ms rs ≡ true) ⊎ ((s : Slot) × (column_is_long (λ r. coef_at r.coefs s) (pos 0) ms rs ≡ true))
+
+-- as many numbers as rows, of the right signs, and a number on the way to their sum that is too long
+pub record IsLongWeighing (ms : List ℤ) (rs : List LinearConstraint) : Type 0 where
+  pub count : length ms ≡ length rs
+  pub signs : signs_fit ms rs ≡ true
+  pub sum : IsLongSum ms rs

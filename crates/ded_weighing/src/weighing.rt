@@ -6,7 +6,7 @@ ghost use Rattle.ded_model.specs.declared.slot.Slot.{Slot};
 ghost use Rattle.ded_model.specs.Cell.{conj_holds, HoldsNowhere};
 ghost use Rattle.ded_model.specs.Coefs.{coef_at, AreCoefs};
 ghost use Rattle.ded_model.specs.Row.{row_holds};
-ghost use Rattle.ded_weighing.specs.Weighing.{fits, signs_fit, is_strict_at, is_weak_at, is_strict, is_weak, constant_refutes, refutes, term_is_long, column_is_long, IsLongWeighing};
+ghost use Rattle.ded_weighing.specs.Weighing.{fits, signs_fit, is_strict_at, is_weak_at, is_strict, is_weak, constant_refutes, refutes, term_is_long, column_is_long, IsLongSum, IsLongWeighing};
 ghost use Rattle.ded_weighing.specs.Columns.{lent, number_in, sum_from, all_vanish};
 
 use crate::slots::slots_of;
@@ -29,7 +29,8 @@ enum Column {
 /// coefficient and holds nowhere.
 ///
 /// # Errors
-/// `Wide` only where a product, or a sum on the way, has more than 127 binary digits, otherwise out of memory.
+/// `Wide` only where there are as many numbers as rows, of the right signs, and a product, or a sum on the way, has more than 127
+/// binary digits; otherwise out of memory.
 pub fn refutes(alloc: Global, multipliers: &[i128], rows: &[&Row]) -> Result<bool, Refused>
     requires { AllByRecursion (λ r. AreCoefs r.coefs) (lent rows.now) }
     ensures is { IfOk result (λ b. b ≡ refutes multipliers.now (lent rows.now)) }
@@ -64,7 +65,7 @@ pub fn are_refuted(alloc: Global, multipliers: &[i128], rows: &[&Row]) -> Result
 /// None where a number on the way is too long.
 fn sum_refutes(multipliers: &[i128], rows: &[&Row], slots: &[Slot]) -> Option<bool>
     requires { length multipliers.now ≡ length rows.now }
-    ensures { MatchOption result (IsLongWeighing multipliers.now (lent rows.now))
+    ensures { MatchOption result (IsLongSum multipliers.now (lent rows.now))
         (λ b. b ≡ (all_vanish multipliers.now (lent rows.now) slots.now && constant_refutes (is_strict multipliers.now (lent rows.now)) (is_weak multipliers.now (lent rows.now)) (sum_from (λ r. r.constant) (pos 0) multipliers.now (lent rows.now)))) }
 {
     if !all_vanish(multipliers, rows, slots)? {
