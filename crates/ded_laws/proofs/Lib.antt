@@ -6,6 +6,7 @@ pub mod Decided
 mod Examples
 pub mod LineFree
 pub mod Saying
+pub mod TupleLengths
 pub mod ValueForms
 pub mod Weakened
 mod WorkedNear

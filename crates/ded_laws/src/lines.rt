@@ -1,16 +1,19 @@
 //! Lines, eliminations and clashes grow with what they are made of, and short lines do not clash.
-ghost use Rattle.std.specs.Prelude.{◌≡◌, ℕ, ◌+◌, ◌*◌, true, false, List};
+ghost use Rattle.std.specs.Prelude.{◌≡◌, ◌≤◌, ℕ, ◌+◌, ◌*◌, true, false, List};
+ghost use Rattle.std.specs.List.{AllByRecursion};
 ghost use Rattle.ded_model.specs.declared.slot.Slot.{Slot};
 ghost use Rattle.ded_model.specs.declared.slot.Sort.TheVariants.{Rat};
 ghost use Rattle.ded_model.specs.declared.name.Column.{Column};
 ghost use Rattle.ded_model.specs.Point.{slot};
-ghost use Rattle.ded_model.specs.Row.{row_mentions};
+ghost use Rattle.ded_model.specs.Row.{Atom, row_mentions};
+ghost use Rattle.ded_model.specs.Normal.{IsNormalTuple};
+ghost use Rattle.ded_model.specs.Width.{tuples_length};
 ghost use Rattle.ded_model.specs.Logic.{IsSorted};
 ghost use Rattle.ded_model.specs.Form.{Form};
 ghost use Rattle.ded_model.specs.Goal.{GoalForm, goal_mentions};
 ghost use Rattle.ded_model.specs.PlanForm.{PlanForm, plan_mentions};
 ghost use Rattle.ded_model.specs.Catalogue.{Catalogue};
-ghost use Rattle.ded_model.specs.Lines.{Line, In, IsSubset, combination, lines_clash, elim_at, clash_at, IsLineWithin, AreWithin};
+ghost use Rattle.ded_model.specs.Lines.{Line, In, IsSubset, combination, lines_clash, elim_at, clash_at, tuples_lines, IsLineWithin, AreWithin};
 ghost use Rattle.ded_model.specs.Measure.{Measures, goal_lines, goal_clashes, plan_lines, plan_clashes, measures, IsTight};
 ghost use Rattle.ded_model.specs.Grown.{HaveMoreLines};
 ghost use Rattle.ded_model.specs.Rational.{IsRationalGoal, IsRationalPlan};
@@ -72,4 +75,11 @@ pub fn short_lines()
 pub fn lengths()
     ensures two { (s : Slot) (l m : Line) (b : ℕ) → IsLineWithin b l → IsLineWithin b m → AreWithin (2 * b + 1) (combination s l m) }
     ensures set { (s : Slot) (ls : List Line) (b : ℕ) → AreWithin b ls → AreWithin (2 * b + 1) (elim_at s ls) }
+{}
+
+/// The lines of normal tuples have as many digits as the rows of the tuples: where no number of the rows has more than b digits,
+/// no number of the lines has, and the other way round.
+pub fn tuple_lengths()
+    ensures lines { (ts : List (List Atom)) (b : ℕ) → AllByRecursion IsNormalTuple ts → tuples_length ts ≤ b → AreWithin b (tuples_lines ts) }
+    ensures rows { (ts : List (List Atom)) (b : ℕ) → AllByRecursion IsNormalTuple ts → AreWithin b (tuples_lines ts) → tuples_length ts ≤ b }
 {}
