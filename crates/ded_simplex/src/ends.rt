@@ -23,6 +23,13 @@ use ded_model::slot::{Slot, Sort};
 use ded_weighing::{Witness, are_refuted, leans, meets, number_of};
 use std::alloc::Global;
 
+/// Where an end is looked for: a slot, and the side to which its values are followed.
+#[derive(Clone, Copy)]
+struct Aim {
+    slot: Slot,
+    side: Side,
+}
+
 /// The exact bound of the slot on the side, of rows that hold at a point inside; none where what is found doesn't show it.
 ///
 /// # Errors
@@ -39,13 +46,14 @@ pub(crate) fn checked_end(
     requires inside { meets inside.now.values.items inside.now.denominator rows.now ≡ true }
     ensures { IfOk result (λ o. MatchOption o Unit (λ b. IsExactBound (conj_holds row_holds rows.now) slot (end_of side) b)) }
 {
+    let aim = Aim { slot, side };
     match reach {
-        Reach::To(point, multipliers) => attained(alloc, rows, point, slot, side, multipliers),
+        Reach::To(point, multipliers) => attained(alloc, rows, point, aim, multipliers),
         Reach::Near(corner, multipliers) => {
-            approached(alloc, rows, inside, corner, slot, side, multipliers)
+            approached(alloc, rows, inside, corner, aim, multipliers)
         }
         Reach::Endless(direction) => {
-            if is_endless(alloc, rows, inside, direction, slot, side)? {
+            if is_endless(alloc, rows, inside, direction, aim)? {
                 Ok(Some(Bound::Infinite))
             } else {
                 Ok(None)
@@ -63,20 +71,19 @@ fn attained(
     alloc: Global,
     rows: &[Row],
     point: &Witness,
-    slot: Slot,
-    side: Side,
+    aim: Aim,
     multipliers: &[i128],
 ) -> Result<Option<Bound>, NoMemory>
     requires coefs { AllByRecursion (λ r. AreCoefs r.coefs) rows.now }
-    ensures { IfOk result (λ o. MatchOption o Unit (λ b. IsExactBound (conj_holds row_holds rows.now) slot (end_of side) b)) }
+    ensures { IfOk result (λ o. MatchOption o Unit (λ b. IsExactBound (conj_holds row_holds rows.now) aim.slot (end_of aim.side) b)) }
 {
     if !meets(&lent(alloc, rows)?, point) {
         return Ok(None);
     }
-    let Some(value) = fraction(number_of(&point.values, slot), point.denominator) else {
+    let Some(value) = fraction(number_of(&point.values, aim.slot), point.denominator) else {
         return Ok(None);
     };
-    if are_none(alloc, rows, slot, side, value, RowOp::Below, multipliers)? {
+    if are_none(alloc, rows, aim, value, RowOp::Below, multipliers)? {
         Ok(Some(Bound::Included(value)))
     } else {
         Ok(None)
@@ -92,21 +99,20 @@ fn approached(
     rows: &[Row],
     inside: &Witness,
     corner: &Witness,
-    slot: Slot,
-    side: Side,
+    aim: Aim,
     multipliers: &[i128],
 ) -> Result<Option<Bound>, NoMemory>
     requires coefs { AllByRecursion (λ r. AreCoefs r.coefs) rows.now }
     requires inside { meets inside.now.values.items inside.now.denominator rows.now ≡ true }
-    ensures { IfOk result (λ o. MatchOption o Unit (λ b. IsExactBound (conj_holds row_holds rows.now) slot (end_of side) b)) }
+    ensures { IfOk result (λ o. MatchOption o Unit (λ b. IsExactBound (conj_holds row_holds rows.now) aim.slot (end_of aim.side) b)) }
 {
     if !leans(&lent(alloc, rows)?, corner) {
         return Ok(None);
     }
-    let Some(value) = fraction(number_of(&corner.values, slot), corner.denominator) else {
+    let Some(value) = fraction(number_of(&corner.values, aim.slot), corner.denominator) else {
         return Ok(None);
     };
-    if are_none(alloc, rows, slot, side, value, RowOp::AtMost, multipliers)? {
+    if are_none(alloc, rows, aim, value, RowOp::AtMost, multipliers)? {
         Ok(Some(Bound::Excluded(value)))
     } else {
         Ok(None)
@@ -122,13 +128,12 @@ fn is_endless(
     rows: &[Row],
     inside: &Witness,
     direction: &Witness,
-    slot: Slot,
-    side: Side,
+    aim: Aim,
 ) -> Result<bool, NoMemory>
     requires inside { meets inside.now.values.items inside.now.denominator rows.now ≡ true }
-    ensures { IfOk result (λ b. b ≡ true → IsExactBound (conj_holds row_holds rows.now) slot (end_of side) Infinite) }
+    ensures { IfOk result (λ b. b ≡ true → IsExactBound (conj_holds row_holds rows.now) aim.slot (end_of aim.side) Infinite) }
 {
-    if direction.denominator != 0 || !goes(side, number_of(&direction.values, slot)) {
+    if direction.denominator != 0 || !goes(aim.side, number_of(&direction.values, aim.slot)) {
         return Ok(false);
     }
     Ok(leans(&lent(alloc, rows)?, direction))
@@ -152,19 +157,18 @@ fn goes(side: Side, number: i128) -> bool
 fn are_none(
     alloc: Global,
     rows: &[Row],
-    slot: Slot,
-    side: Side,
+    aim: Aim,
     value: Frac,
     op: RowOp,
     multipliers: &[i128],
 ) -> Result<bool, NoMemory>
     requires coefs { AllByRecursion (λ r. AreCoefs r.coefs) rows.now }
-    ensures { IfOk result (λ b. b ≡ true → HoldsNowhere (conj_holds row_holds (beyond_row (end_of side) slot value op ∷ rows.now))) }
+    ensures { IfOk result (λ b. b ≡ true → HoldsNowhere (conj_holds row_holds (beyond_row (end_of aim.side) aim.slot value op ∷ rows.now))) }
 {
-    match slot.sort {
+    match aim.slot.sort {
         Sort::Text => Ok(false),
         Sort::Rat => {
-            let beyond = beyond_row(alloc, slot, side, value, op)?;
+            let beyond = beyond_row(alloc, aim, value, op)?;
             let all = with_first(alloc, &beyond, rows)?;
             are_refuted(alloc, multipliers, &all)
         }
@@ -175,23 +179,17 @@ fn are_none(
 ///
 /// # Errors
 /// Out of memory.
-fn beyond_row(
-    alloc: Global,
-    slot: Slot,
-    side: Side,
-    value: Frac,
-    op: RowOp,
-) -> Result<Row, NoMemory>
-    requires rational { slot.sort ≡ Rat }
-    ensures value { IfOk result (λ r. r ≡ beyond_row (end_of side) slot value op) }
+fn beyond_row(alloc: Global, aim: Aim, value: Frac, op: RowOp) -> Result<Row, NoMemory>
+    requires rational { aim.slot.sort ≡ Rat }
+    ensures value { IfOk result (λ r. r ≡ beyond_row (end_of aim.side) aim.slot value op) }
     ensures coefs { IfOk result (λ r. AreCoefs r.coefs) }
 {
-    let (a, constant) = match side {
+    let (a, constant) = match aim.side {
         Side::Lower => (value.den, -value.num),
         Side::Upper => (-value.den, value.num),
     };
     let mut coefs = Coefs::new(alloc);
-    coefs.push(slot, a)?;
+    coefs.push(aim.slot, a)?;
     Ok(Row {
         coefs,
         constant,

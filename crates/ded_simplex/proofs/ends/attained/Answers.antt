@@ -9,5 +9,5 @@ use Rattle.ded_simplex.proofs.ends.attained.Goals as goal
 pub returns-then-branch : goal.returns-then-branch
 returns-then-branch c =
     let met : meets c.args.point.now.values.items c.args.point.now.denominator c.args.rows.now ≡ true = search rules in
-    let value : IsValue (number_from (pos 0) c.args.point.now.values.items c.args.slot) c.args.point.now.denominator c.in-Some.value = search rules in
-    included c.args.rows.now c.args.point.now.values.items c.args.point.now.denominator c.args.slot (end_of c.args.side) c.in-Some.value met value (c.in_ok-are_none.ensures c.if-branch.true)
+    let value : IsValue (number_from (pos 0) c.args.point.now.values.items c.args.aim.slot) c.args.point.now.denominator c.in-Some.value = search rules in
+    included c.args.rows.now c.args.point.now.values.items c.args.point.now.denominator c.args.aim.slot (end_of c.args.aim.side) c.in-Some.value met value (c.in_ok-are_none.ensures c.if-branch.true)

@@ -8,6 +8,6 @@ use Rattle.ded_simplex.proofs.ends.is_endless.Goals as goal
 
 pub returns : goal.returns
 returns c = λ e.
-    let gone : goes (end_of c.args.side) (number_from (pos 0) c.args.direction.now.values.items c.args.slot) ≡ true = search rules in
+    let gone : goes (end_of c.args.aim.side) (number_from (pos 0) c.args.direction.now.values.items c.args.aim.slot) ≡ true = search rules in
     let leant : leans c.args.direction.now.values.items (pos 0) c.args.rows.now ≡ true = search rules in
-    unbounded c.args.rows.now c.args.inside.now.values.items c.args.inside.now.denominator c.args.direction.now.values.items c.args.slot (end_of c.args.side) c.requires.inside leant gone
+    unbounded c.args.rows.now c.args.inside.now.values.items c.args.inside.now.denominator c.args.direction.now.values.items c.args.aim.slot (end_of c.args.aim.side) c.requires.inside leant gone
