@@ -34,7 +34,9 @@ abbrev pub IsFar : Box → Entry → Type 0
 IsFar w e = intervals_meet (first_of e.bounds) (first_of w) ≡ false
 
 pub far_found : (w : Box) (es : List Entry) → AllByRecursion (IsFar w) es → ids_in w es ≡ []
-far_found = far_found
+far_found w [] h = refl
+far_found w (e ∷ es) h =
+    ap (λ b. cond b (e.id ∷ ids_in w es) (ids_in w es)) (false_from_ne_true (boxes_meet e.bounds w) (λ m. true≢false (sym (boxes_first e.bounds w m) ∙ h.0))) ∙ far_found w es h.1
 
 -- ---- ends
 

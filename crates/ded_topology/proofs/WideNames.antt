@@ -18,6 +18,7 @@ use Rattle.ded_model.specs.Normal.{IsNormalAtom}
 use Rattle.ded_model.specs.Row.{Atom, atom_mentions, tuple_mentions, tuples_mention}
 use Rattle.ded_model.specs.Width.{IsNarrowWith, IsNarrowList, rational_columns}
 use Rattle.ded_model.proofs.Rows.{or_right}
+use Rattle.ded_laws.proofs.TupleLengths.{normal_atoms}
 use Rattle.ded_width.proofs.NameReaches.{stored_in_reach}
 use Rattle.ded_width.proofs.Reaches.{reach, some_power, from_within}
 use Rattle.ded_genrel.specs.Lists.{AreNormal, SomeConj}
@@ -25,7 +26,7 @@ use Rattle.ded_complement.specs.Pieces.{all_atoms}
 use Rattle.ded_complement.proofs.NarrowLists.{all_of_each}
 use Rattle.ded_atoms.proofs.TuplesRead.{atoms_lines-append}
 use Rattle.ded_topology.proofs.Normals.{over_slots}
-use Rattle.ded_width.proofs.AnswerReaches.{atoms_narrow, narrow_after, normal_atoms, tuples_narrow}
+use Rattle.ded_width.proofs.AnswerReaches.{atoms_narrow, narrow_after, tuples_narrow}
 
 -- ---- each tuple
 

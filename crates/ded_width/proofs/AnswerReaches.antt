@@ -10,23 +10,18 @@ use Rattle.ded_model.specs.Form.{Form}
 use Rattle.ded_model.specs.Known.{IsAccepted, IsWellFormed, IsTupleOver, heading_slots}
 use Rattle.ded_model.specs.Lines.{Line, IsSubset, AreWithin, atoms_lines, tuples_lines}
 use Rattle.ded_model.specs.Measure.{goal_b, goal_rank, goal_lines, measures}
-use Rattle.ded_model.specs.Normal.{IsNormalAtom, IsNormalTuple}
+use Rattle.ded_model.specs.Normal.{IsNormalAtom}
 use Rattle.ded_model.specs.Point.{stands_in}
 use Rattle.ded_model.specs.Row.{Atom, tuple_mentions}
 use Rattle.ded_model.specs.Slotted.{goal_of}
 use Rattle.ded_model.specs.Width.{IsNarrowWith, IsNarrowList, tuple_length, rational_slots, rational_columns}
 use Rattle.ded_model.proofs.Members.{In-left, In-right}
+use Rattle.ded_laws.proofs.TupleLengths.{normal_atoms, atoms_short}
 use Rattle.ded_width.proofs.FormulaReaches.{formula_within}
 use Rattle.ded_width.proofs.Reaches.{reach, some_power, from_within, narrow_with_less}
-use Rattle.ded_width.proofs.Shortness.{atoms_short}
 use Rattle.ded_width.proofs.SlotCounts.{slots_few}
 
 -- ---- answers
-
--- the atoms of a normal tuple are normal
-pub normal_atoms : (t : List Atom) → IsNormalTuple t → AllByRecursion IsNormalAtom t
-normal_atoms [] n = tt
-normal_atoms (a ∷ t) n = (n.0, normal_atoms t n.2)
 
 -- what is narrow with q + m is, with the lengths that q leaves, narrow with m
 pub narrow_after : (k b q m : ℕ) → k + 1 ≡ (b + 1) * 2 ^ q → IsNarrowWith b (q + m) → IsNarrowWith k m

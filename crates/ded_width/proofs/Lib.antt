@@ -20,7 +20,6 @@ pub mod Shapes
 pub mod ShortArguments
 pub mod ShortGoals
 pub mod ShortNames
-pub mod Shortness
 pub mod SlotCounts
 pub mod Ties
 mod WorkedOrders
