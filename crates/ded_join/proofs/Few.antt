@@ -1,5 +1,5 @@
 -- A list is few where it isn't long, and where it is no longer than pieces of conjunctions.
-use Rattle.std.proofs.Common.{◌≡◌, ◌⊎◌, ℕ, suc, ◌+◌, ◌*◌, ◌-◌, ◌^◌, ◌<◌, ◌≤◌, ℤ, length, min, leb, Bool, false, List, [], ◌∷◌, ◌++◌, Vec, Global, arith, refl, sym, ap, ◌∙◌, subst, inl, inr, true≢false}
+use Rattle.std.proofs.Common.{◌≡◌, ◌⊎◌, ℕ, suc, ◌+◌, ◌*◌, ◌-◌, ◌^◌, ◌<◌, ◌≤◌, ℤ, length, min, max, leb, Bool, true, false, List, [], ◌∷◌, ◌++◌, Vec, Global, arith, refl, sym, ap, ◌∙◌, subst, inl, inr, true≢false}
 use Rattle.std.proofs.Math.Nat.{mul-le-mul_left}
 use Rattle.std.proofs.lemmas.List.{length-append}
 use Rattle.std.proofs.lemmas.Bool.Decides.{leb_tells}
@@ -78,6 +78,16 @@ module _ {A : Type 0} (cell : A → Point → ℤ) where
 pub not_small : (n : ℕ) (b : Bool) → b ≡ leb n 32 → b ≡ false → n ≤ 32 → ⊥
 not_small n b e f h = elim (leb_tells n 32) [ inl k ↦ true≢false (sym k.0 ∙ sym e ∙ f) | inr k ↦ omega (arith, h, k.1) ]
 
+-- a list is small: its atoms are at most 32
+pub small : (n : ℕ) (b : Bool) → b ≡ leb n 32 → b ≡ true → n ≤ 32
+small n b e f = elim (leb_tells n 32) [ inl k ↦ k.1 | inr k ↦ absurd (true≢false (sym f ∙ e ∙ k.0)) ]
+
 -- the lengths of lists and of what stands in them
 pub no_longer : {A : Type 0} (xs ys : List (Vec A Global)) (cs ds : List (List A)) → conjs_of xs ≡ cs → conjs_of ys ≡ ds → length ys ≤ length xs → length ds ≤ length cs
 no_longer xs ys cs ds e f h = omega (arith, h, sym (conjs_count xs) ∙ ap length e, sym (conjs_count ys) ∙ ap length f)
+
+pub fewer : {A : Type 0} (xs ys : List (Vec A Global)) (cs ds : List (List A)) → conjs_of xs ≡ cs → conjs_of ys ≡ ds → length xs < length ys → length cs < length ds
+fewer xs ys cs ds e f h = omega (arith, h, sym (conjs_count xs) ∙ ap length e, sym (conjs_count ys) ∙ ap length f)
+
+pub longest : {A : Type 0} (xs ys : List (Vec A Global)) (cs ds : List (List A)) (most : ℕ) → conjs_of xs ≡ cs → conjs_of ys ≡ ds → most ≡ max (length xs) (length ys) → most ≡ max (length cs) (length ds)
+longest xs ys cs ds most e f h = h ∙ ap (λ n. max n (length ys)) (sym (conjs_count xs) ∙ ap length e) ∙ ap (λ n. max (length cs) n) (sym (conjs_count ys) ∙ ap length f)

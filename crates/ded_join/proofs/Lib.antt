@@ -5,4 +5,5 @@ pub mod Alike
 pub mod Few
 pub mod Nearness
 pub mod WithoutOutside
+pub mod Shorter
 pub mod Taken

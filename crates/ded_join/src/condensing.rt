@@ -1,7 +1,7 @@
 //! Lists without conjunctions that lie within others of theirs.
 ghost use Rattle.std.specs.Prelude.{◌≡◌, true, [], ◌∷◌, ◌++◌, IfOk};
 ghost use Rattle.std.specs.List.{AllByRecursion};
-ghost use Rattle.ded_join.specs.Merged.{IsWithinList, AreAlike, AreLeft};
+ghost use Rattle.ded_join.specs.Merged.{IsWithinList, IsCondensed, AreLeft};
 
 use crate::merging::{lies_within, merged};
 use ded_genrel::GenRel;
@@ -9,13 +9,13 @@ use ded_model::memory::NoMemory;
 use ded_theory::Theory;
 use std::alloc::Global;
 
-/// A list that holds at the same points: of each conjunction without atoms that another one of it plainly implies, and without
-/// conjunctions that plainly lie within another one.
+/// A list that holds at the same points, and is no longer: of each conjunction without atoms that another one of it plainly implies,
+/// and without conjunctions that plainly lie within another one.
 ///
 /// # Errors
 /// Out of memory.
 pub(crate) fn condensed<T: Theory>(alloc: Global, list: GenRel<T>) -> Result<GenRel<T>, NoMemory>
-    ensures { IfOk result (λ r. AreAlike T.holds T.mentions T.lines list r) }
+    ensures { IfOk result (λ r. IsCondensed T.holds T.mentions T.lines list r) }
 {
     let mut out = GenRel::new(alloc);
     for conj in list.conjs {
@@ -35,7 +35,7 @@ fn with_conj<T: Theory>(
     conj: Vec<T::Atom>,
 ) -> Result<GenRel<T>, NoMemory>
     requires { AllByRecursion T.normal conj.items }
-    ensures { IfOk result (λ r. AreAlike T.holds T.mentions T.lines (list ++ conj.items ∷ []) r) }
+    ensures { IfOk result (λ r. IsCondensed T.holds T.mentions T.lines (list ++ conj.items ∷ []) r) }
 {
     if lies_in_one(&conj, &list) {
         return Ok(list);

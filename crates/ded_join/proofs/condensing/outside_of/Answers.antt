@@ -5,7 +5,7 @@ use Rattle.std.proofs.lemmas.List.{map-id}
 use Rattle.ded_genrel.specs.Lists.{conjs_of}
 use Rattle.ded_genrel.proofs.Items.{normal-at, conjs_of-append}
 use Rattle.ded_join.specs.Merged.{IsWithin, AreLeft}
-use Rattle.ded_join.proofs.Alike.{left_kept, left_dropped}
+use Rattle.ded_join.proofs.Alike.{left_none, left_kept, left_dropped}
 use Rattle.ded_join.proofs.condensing.outside_of.Goals as goal
 
 pub push-requires : goal.push-requires
@@ -13,6 +13,9 @@ push-requires g c =
     let gives = c.into_iter-other-iterator.ensures.into_iter_gives in
     let turn = YieldsList-turn (YieldsList-from_vec c.list.inside.conjs.items gives.0 (gives.1 ∙ c.list.inside.conjs.ok.0)) c.loop-other.yielded c.loop-other.other-iterator c.loop-other.yielded_by c.next.result c.next.new.self c.in-Some.other c.in-Some.is c.next.ensures.steps in
     record { normal = normal-at g.T.Theory.normal c.list.inside.conjs.items _ c.in-Some.other turn.0 turn.1 c.list.invariant }
+
+pub loop-other-init : goal.loop-other-init
+loop-other-init g c = subst (AreLeft g.T.Theory.holds g.T.Theory.mentions g.T.Theory.lines c.args.conj.now []) (sym c.new-left.ensures) (left_none g.T.Theory.holds g.T.Theory.mentions g.T.Theory.lines c.args.conj.now)
 
 pub loop-other-preserved : goal.loop-other-preserved
 loop-other-preserved g c =
