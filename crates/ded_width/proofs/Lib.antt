@@ -7,6 +7,7 @@ pub mod Fits
 pub mod FormulaReaches
 pub mod GoalReaches
 pub mod LineReaches
+pub mod Longest
 pub mod NameReaches
 pub mod Names
 pub mod PlanReaches
@@ -19,6 +20,7 @@ pub mod Rows
 pub mod Shapes
 pub mod ShortArguments
 pub mod ShortGoals
+pub mod ShortLines
 pub mod ShortNames
 pub mod SlotCounts
 pub mod Ties

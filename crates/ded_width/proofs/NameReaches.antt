@@ -25,7 +25,7 @@ use Rattle.std.proofs.lemmas.Bool.{or_from}
 abbrev IsNameInReach : Measure → Type 0
 IsNameInReach m = IsInReach m.b m.rank m.lines m.clash
 
-tuples_in_reach : (h : List Column) (inserts m : ℕ) (ts : List (ℕ × List Atom)) → AreStored h inserts m ts → IsInReach (tuples_length (tuples_of ts)) 0 (tuples_lines (tuples_of ts)) false
+pub tuples_in_reach : (h : List Column) (inserts m : ℕ) (ts : List (ℕ × List Atom)) → AreStored h inserts m ts → IsInReach (tuples_length (tuples_of ts)) 0 (tuples_lines (tuples_of ts)) false
 tuples_in_reach h inserts m [] s = nothing 0 0
 tuples_in_reach h inserts m (t ∷ ts) s = both _ _ _ _ _ _ _ _ (atoms_in_reach t.1 (tuple_ascending t.1 s.2.normal)) (tuples_in_reach h inserts t.0 ts s.4)
 
@@ -40,7 +40,7 @@ near_in_reach m h =
     record { lines = more.lines; rational = more.rational; tight = λ n. or_from m.clash (is_wide_with m.b (m.rank + m.columns)) (more.tight n) (not_wide _ n) }
 
 -- so are all names
-read_in_reach : (M : Measures) → AreInReach M → AreInReach (read_measure M)
+pub read_in_reach : (M : Measures) → AreInReach M → AreInReach (read_measure M)
 read_in_reach M i = record {
   rational = λ n. (each n (reading n)).rational;
   within = λ n. within _ _ _ _ (each n (reading n));
@@ -57,7 +57,7 @@ entry_in_reach limit K M (relation n h m ts) i w = tuples_in_reach h m 0 ts w.0
 entry_in_reach limit K M (view n h f) i w = goal_in_reach (read_measure M) (read_in_reach M i) (goal_of h f) (accepted_ascending K h f w.0.sorted)
 
 -- one name more
-with_in_reach : (limit : ℕ) (K : KnownNames) (M : Measures) (e : Entry) → AreInReach M → IsEntryOver limit K e → AreInReach (with_measure M e)
+pub with_in_reach : (limit : ℕ) (K : KnownNames) (M : Measures) (e : Entry) → AreInReach M → IsEntryOver limit K e → AreInReach (with_measure M e)
 with_in_reach limit K M e i w = record {
   rational = λ n. (each n).rational;
   within = λ n. within _ _ _ _ (each n);
@@ -75,13 +75,14 @@ entries_in_reach : (limit : ℕ) (K : KnownNames) (M : Measures) (es : List Entr
 entries_in_reach limit K M [] i w = i
 entries_in_reach limit K M (e ∷ es) i w = entries_in_reach limit (with_known K e) (with_measure M e) es (with_in_reach limit K M e i w.1) w.2
 
+-- no names
+pub nothing_in_reach : AreInReach (λ n. record { b = 0; rank = 0; lines = []; clash = false; columns = 0 })
+nothing_in_reach = record { rational = λ n l i. absurd i; within = λ n k e l i. absurd i; tight = λ n h. refl }
+
 -- the law, of entries
 pub stored_in_reach : (c : Catalogue) → IsWellFormed c → AreInReach (stored_measures c)
 unfolding stored_measures
-stored_in_reach c w = entries_in_reach c.limit (λ n. None) _ c.entries none w
-  where
-    none : AreInReach (λ n. record { b = 0; rank = 0; lines = []; clash = false; columns = 0 })
-    none = record { rational = λ n l i. absurd i; within = λ n k e l i. absurd i; tight = λ n h. refl }
+stored_in_reach c w = entries_in_reach c.limit (λ n. None) _ c.entries nothing_in_reach w
 
 -- and of all names
 pub names_in_reach : (c : Catalogue) → IsWellFormed c → AreInReach (measures c)

@@ -126,7 +126,7 @@ all_rational : (cs : List (Slot × ℤ)) → ((t : Slot) → has_slot cs t ≡ t
 all_rational [] h = tt
 all_rational (c ∷ cs) h = (h c.0 (or_left _ _ (same_slot_refl c.0)), all_rational cs (λ t e. h t (or_right (same_slot c.0 t) _ e)))
 
-renamed_within : (ss : List Slot) (ls : List Line) (k : ℕ) → AreDistinctSlots ss → AreRationalLines ls → AreWithin k ls → AreWithin k (renamed_lines ss ls)
+pub renamed_within : (ss : List Slot) (ls : List Line) (k : ℕ) → AreDistinctSlots ss → AreRationalLines ls → AreWithin k ls → AreWithin k (renamed_lines ss ls)
 renamed_within ss ls k d r h l i =
     let m = renamed-In ss ls l i in
     line_with-within (renamed_coefs ss m.0.coefs) m.0.constant k (λ t. coef m.0 m.1 t (place ss t d)) (h m.0 m.1).constant l m.2

@@ -29,10 +29,10 @@ tuples_short h inserts m [] s = refl
 tuples_short h inserts m (t ∷ ts) s = both (atoms_reach t.1).short (tuples_reach (tuples_of ts)).short (atoms_short t.1 s.3) (tuples_short h inserts t.0 ts s.4)
 
 -- names that reach short rows alone
-abbrev AreShortNames : Orders → Type 0
+abbrev pub AreShortNames : Orders → Type 0
 AreShortNames O = (n : List ℕ) → (O n).short ≡ true
 
-read_short : (O : Orders) → AreShortNames O → AreShortNames (read_order O)
+pub read_short : (O : Orders) → AreShortNames O → AreShortNames (read_order O)
 read_short O h n = by (reading n)
   where
     by : (r : Reading) → (order_as O n r).short ≡ true
@@ -44,15 +44,19 @@ entry_short : (limit : ℕ) (K : KnownNames) (O : Orders) (e : Entry) → AreSho
 entry_short limit K O (relation n h m ts) s w k = tuples_short h m 0 ts w.0
 entry_short limit K O (view n h f) s w k = goal_short K (read_order O) (read_short O s) h f w.0 k.0 k.1
 
+-- one entry more
+pub with_short : (limit : ℕ) (K : KnownNames) (O : Orders) (e : Entry) → AreShortNames O → IsEntryOver limit K e → HasShortRows e → AreShortNames (with_order O e)
+with_short limit K O e s w k n = by (bytes_eq n (entry_name e))
+  where
+    by : (b : Bool) → (cond b (entry_order O e) (O n)).short ≡ true
+    by true = entry_short limit K O e s w k
+    by false = s n
+
 entries_short : (limit : ℕ) (K : KnownNames) (O : Orders) (es : List Entry) → AreShortNames O → AreEntriesOver limit K es → AllByRecursion HasShortRows es → AreShortNames (orders_from O es)
 entries_short limit K O [] s w k = s
-entries_short limit K O (e ∷ es) s w k = entries_short limit (with_known K e) (with_order O e) es (λ n. by n (bytes_eq n (entry_name e))) w.2 k.1
-  where
-    by : (n : List ℕ) (b : Bool) → (cond b (entry_order O e) (O n)).short ≡ true
-    by n true = entry_short limit K O e s w.1 k.0
-    by n false = s n
+entries_short limit K O (e ∷ es) s w k = entries_short limit (with_known K e) (with_order O e) es (with_short limit K O e s w.1 k.0) w.2 k.1
 
-stored_short : (c : Catalogue) → IsWellFormed c → AllByRecursion HasShortRows c.entries → AreShortNames (stored_orders c)
+pub stored_short : (c : Catalogue) → IsWellFormed c → AllByRecursion HasShortRows c.entries → AreShortNames (stored_orders c)
 unfolding stored_orders
 stored_short c w k = entries_short c.limit (λ n. None) (λ n. undefined) c.entries (λ n. refl) w k
 

@@ -1,7 +1,7 @@
 //! What is narrow is tight.
 //!
 //! What is orderly is tight.
-ghost use Rattle.std.specs.Prelude.{◌≡◌, ◌+◌, ◌≤◌, false, List, ◌≢◌, []};
+ghost use Rattle.std.specs.Prelude.{◌≡◌, ◌+◌, ◌≤◌, max, false, List, ◌≢◌, []};
 ghost use Rattle.std.specs.List.{AllByRecursion};
 ghost use Rattle.ded_model.specs.declared.name.Column.{Column};
 ghost use Rattle.ded_model.specs.Form.{Form};
@@ -11,7 +11,7 @@ ghost use Rattle.ded_model.specs.Row.{Atom};
 ghost use Rattle.ded_model.specs.Catalogue.{Catalogue};
 ghost use Rattle.ded_model.specs.Entries.{known};
 ghost use Rattle.ded_model.specs.Known.{KnownNames, IsAccepted, IsTupleOver, IsWellFormed, has_missorted};
-ghost use Rattle.ded_model.specs.Lines.{IsSubset, tuples_lines, Line, In};
+ghost use Rattle.ded_model.specs.Lines.{AreWithin, IsSubset, tuples_lines, Line, In};
 ghost use Rattle.ded_model.specs.Slotted.{goal_of};
 ghost use Rattle.ded_model.specs.Measure.{Measures, goal_b, goal_rank, goal_lines, goal_clashes, plan_b, plan_rank, plan_lines, plan_clashes, measures, IsNarrow, IsTight};
 ghost use Rattle.ded_model.specs.Width.{IsNarrowWith, IsNarrowList, rational_columns};
@@ -100,4 +100,18 @@ pub fn orderly_rows()
 pub fn short_reach()
     ensures { (c : Catalogue) → IsWellFormed c → AllByRecursion HasShortRows c.entries → (h : List Column) (f : Form) → IsAccepted (known c) h f
         → IsPlain f → some_atom is_long_atom f ≡ false → IsShortReach c h f }
+{}
+
+/// The lines of a formula that is accepted over a well formed catalogue have numbers of at most 127 digits, or of as many as its greatest
+/// length, where that is more: an elimination combines two lines only where they don't clash. Where no comparison and no argument has a
+/// long row, in the formula and in those of the views, the greatest length is at most 63, so that no line has a number of more than 127
+/// digits.
+pub fn short_lines()
+    ensures longest { (c : Catalogue) → IsWellFormed c → (h : List Column) (f : Form) → IsAccepted (known c) h f
+        → AreWithin (max 127 (goal_b (measures c) (goal_of h f))) (goal_lines (measures c) (goal_of h f)) }
+    ensures lengths { (c : Catalogue) → IsWellFormed c → AllByRecursion HasShortRows c.entries → (h : List Column) (f : Form)
+        → IsAccepted (known c) h f → IsPlain f → some_atom is_long_atom f ≡ false → goal_b (measures c) (goal_of h f) ≤ 63 }
+    ensures short { (c : Catalogue) → IsWellFormed c → AllByRecursion HasShortRows c.entries → (h : List Column) (f : Form)
+        → IsAccepted (known c) h f → IsPlain f → some_atom is_long_atom f ≡ false
+        → AreWithin 127 (goal_lines (measures c) (goal_of h f)) }
 {}
