@@ -24,6 +24,7 @@ use Rattle.ded_model.specs.Width.{tuple_length}
 use Rattle.ded_sorts.specs.Causes.{insert_refusal, is_relation_with}
 use Rattle.ded_sorts.specs.Changes.{ChangesEntry, DropsEntry, Inserts, Deletes}
 use Rattle.ded_model.specs.Entries.{entry_of, stored_in, inserts_in, tuples_in, known, columns_in, entry_uses}
+use Rattle.ded_relation.specs.Hashing.{keyed}
 use Rattle.ded_relation.specs.declared.relation.Relation.{Relation}
 use Rattle.ded_catalog.specs.declared.stored.View.{View}
 use Rattle.ded_catalog.specs.declared.stored.Stored.{Stored}
@@ -122,7 +123,7 @@ few-right limit n (stored.View v) K over right = at_most v.heading _ over.0.few
 
 module _ (limit : ℕ) (es : List (List ℕ × Stored)) (n : List ℕ) (kept : IsKept limit es) where
   abbrev t : Table
-  t = record { limit = limit; names = es }
+  t = record { limit = limit; names = es; hashing = keyed (0, 0) }
 
   -- what is known of the name
   pub is_known : known (catalogue_of t) n ≡ known_with (lookup (bytes_eq n) es) None
@@ -192,7 +193,7 @@ module _ (limit : ℕ) (es : List (List ℕ × Stored)) (n : List ℕ) (kept : I
 
     module _ (fs : List (List ℕ × Stored)) (new : Relation) (is : fs ≡ set_value (bytes_eq n) es (stored.Relation new)) where
       abbrev u : Table
-      u = record { limit = limit; names = fs }
+      u = record { limit = limit; names = fs; hashing = keyed (0, 0) }
 
       s : Split es n (stored.Relation old)
       s = split n (stored.Relation old) es found
@@ -283,10 +284,10 @@ module _ (limit : ℕ) (es : List (List ℕ × Stored)) (n : List ℕ) (kept : I
         subst (IsKept limit) (sym (is ∙ s.removed))
         (kept-drop limit n st s.before s.after (subst (IsKept limit) s.was kept) (ap (λ l. list_any (entry_uses n) (entry_forms l)) (sym s.was) ∙ unused))
 
-    pub drops-taken : DropsEntry (catalogue_of t) (catalogue_of (record { limit = limit; names = fs })) n
+    pub drops-taken : DropsEntry (catalogue_of t) (catalogue_of (record { limit = limit; names = fs; hashing = keyed (0, 0) })) n
     drops-taken =
         let s = split n st es found in
-        drops t (record { limit = limit; names = fs }) n st s.before s.after refl s.was (is ∙ s.removed)
+        drops t (record { limit = limit; names = fs; hashing = keyed (0, 0) }) n st s.before s.after refl s.was (is ∙ s.removed)
 
 module _ (limit : ℕ) (es : List (List ℕ × Stored)) (kept : IsKept limit es) where
   -- the level of a name

@@ -11,6 +11,7 @@ use Rattle.ded_model.specs.LongRows.{is_long_atom}
 use Rattle.ded_model.specs.Plain.{IsPlain}
 use Rattle.ded_model.specs.Slotted.{goal_of}
 use Rattle.ded_model.specs.Entries.{entry_of, stored_in, relation_in, view_in, known, entry_uses}
+use Rattle.ded_relation.specs.Hashing.{keyed}
 use Rattle.ded_relation.specs.declared.relation.Relation.{Relation}
 use Rattle.ded_catalog.specs.declared.stored.Stored.{Stored}
 use Rattle.ded_catalog.specs.declared.stored.View.{View}
@@ -55,7 +56,7 @@ none_stored n (Some (stored.View v)) h = refl
 
 module _ (limit : ℕ) (es : List (List ℕ × Stored)) (n : List ℕ) (kept : IsKept limit es) where
   abbrev t : Table
-  t = record { limit = limit; names = es }
+  t = record { limit = limit; names = es; hashing = keyed (0, 0) }
 
   -- the heading
   pub heading_there : heading_at (lookup (bytes_eq n) es) ≡ option_map (λ k. k.columns) (known (catalogue_of t) n)

@@ -8,15 +8,17 @@ use Rattle.std.specs.Str.{bytes_eq}
 use Rattle.ded_model.specs.Form.{FormAtom, compare, member, form, speaks_of}
 use Rattle.ded_model.specs.Made.{base}
 use Rattle.ded_model.specs.Known.{Known}
+use Rattle.ded_relation.specs.declared.hashing.NameHashing.{NameHashing}
 use Rattle.ded_relation.specs.declared.relation.Relation as declared
 use Rattle.ded_catalog.specs.declared.stored.View as declared_view
 use Rattle.ded_catalog.specs.declared.stored.Stored.{Stored}
 use Rattle.ded_catalog.specs.declared.stored.Stored.TheVariants.{Relation, View}
 
--- how many tuples a relation may have, and what stands under each name, in order of definition
+-- how many tuples a relation may have, what stands under each name, in order of definition, and how names are hashed
 pub record Table : Type 0 where
   pub limit : ℕ
   pub names : List (List ℕ × Stored)
+  pub hashing : NameHashing
 
 -- the entry of a name
 abbrev pub entry_form : List ℕ → Stored → Entry

@@ -6,6 +6,7 @@ use Rattle.std.specs.Option.{option_map}
 use Rattle.std.specs.Str.{bytes_eq}
 use Rattle.ded_model.specs.Form.{form}
 use Rattle.ded_catalog.specs.declared.entries.Entry.{Entry}
+use Rattle.ded_relation.specs.declared.hashing.NameHashing.{NameHashing}
 use Rattle.ded_relation.specs.declared.relation.Relation as declared
 use Rattle.ded_catalog.specs.declared.stored.Stored.{Stored}
 use Rattle.ded_catalog.specs.declared.stored.Stored.TheVariants.{Relation, View}
@@ -14,13 +15,15 @@ use Rattle.ded_catalog.specs.Copies.{IsCopy}
 use Rattle.ded_catalog.specs.Mentions.{AreMentions}
 use Rattle.ded_catalog.specs.State.{stored_uses}
 
--- what stands under each name with its number, in order of definition
+-- what stands under each name with its number, in order of definition, and how names are hashed
 pub record Counted : Type 0 where
   pub entries : List (List ℕ × Entry)
+  pub hashing : NameHashing
 
--- what stands under each name, in order of definition
+-- what stands under each name, in order of definition, and how names are hashed
 pub record Defined : Type 0 where
   pub entries : List (List ℕ × Stored)
+  pub hashing : NameHashing
 
 -- the same without the numbers
 abbrev pub without_users : List (List ℕ × Entry) → List (List ℕ × Stored)

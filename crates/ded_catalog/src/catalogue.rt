@@ -36,7 +36,7 @@ impl Model for Catalogue {
 
     ghost use Rattle.ded_catalog.specs.Conditions.{IsKept};
 
-    ghost view = { λ c. record { limit = c.limit; names = c.names.entries } };
+    ghost view = { λ c. record { limit = c.limit; names = c.names.entries; hashing = c.names.hashing } };
 
     ghost invariant = { λ c. IsKept c.limit c.names.entries };
 }
@@ -58,6 +58,7 @@ impl Catalogue {
     ghost use Rattle.ded_model.specs.Entries.{known, tuples_in, columns_in, entry_uses};
     ghost use Rattle.std.specs.Map.{lookup};
     ghost use Rattle.std.specs.Str.{bytes_eq};
+    ghost use Rattle.ded_relation.specs.Hashing.{keyed};
     ghost use Rattle.ded_relation.specs.Relations.{Relation};
     ghost use Rattle.ded_catalog.specs.State.{catalogue_of, relation_at};
 
@@ -80,7 +81,8 @@ impl Catalogue {
     pub fn hashed_with(alloc: Global, limit: u32, keys: (u64, u64)) -> Catalogue
         requires low { 1 ≤ limit }
         requires high { limit ≤ 1000000 }
-        ensures { catalogue_of result ≡ record { limit = limit; entries = [] } }
+        ensures empty { catalogue_of result ≡ record { limit = limit; entries = [] } }
+        ensures hashed { result.hashing ≡ keyed keys }
     {
         Catalogue {
             limit,
@@ -97,6 +99,7 @@ impl Catalogue {
         requires few { length heading ≤ 16 }
         ensures ok { OnOk result (AddsEntry (catalogue_of self.old) (catalogue_of self.new) (relation name heading 0 [])) }
         ensures err { OnErr result (catalogue_of self.new ≡ catalogue_of self.old) }
+        ensures hashed { self.new.hashing ≡ self.old.hashing }
     {
         self.define_at(name, heading, 0)
     }
@@ -111,6 +114,7 @@ impl Catalogue {
         requires few { length heading ≤ 16 }
         ensures ok { OnOk result (AddsEntry (catalogue_of self.old) (catalogue_of self.new) (relation name heading inserts [])) }
         ensures err { OnErr result (catalogue_of self.new ≡ catalogue_of self.old) }
+        ensures hashed { self.new.hashing ≡ self.old.hashing }
     {
         let alloc = self.names.alloc();
         let relation = Relation::new(alloc, heading, inserts, self.names.hashing());
@@ -134,6 +138,7 @@ impl Catalogue {
         ensures room { IfOk result (λ k. insert_refusal (catalogue_of self.old) name.now ≡ None) }
         ensures cause { IfErr result (λ r. r ≡ unwrap_or (insert_refusal (catalogue_of self.old) name.now) Memory) }
         ensures err { OnErr result (catalogue_of self.new ≡ catalogue_of self.old) }
+        ensures hashed { self.new.hashing ≡ self.old.hashing }
     {
         insert_into(&mut self.names, name, self.limit, t)
     }
@@ -147,6 +152,7 @@ impl Catalogue {
         requires { list_any (λ t. t.0 == number) (tuples_in (catalogue_of self.old) name.now) ≡ true }
         ensures ok { OnOk result (Deletes (catalogue_of self.old) (catalogue_of self.new) name.now number) }
         ensures err { OnErr result (catalogue_of self.new ≡ catalogue_of self.old) }
+        ensures hashed { self.new.hashing ≡ self.old.hashing }
     {
         delete_from(&mut self.names, name, number)
     }
@@ -172,6 +178,7 @@ impl Catalogue {
         requires goal { goal_form g ≡ goal_of heading (form f) }
         ensures ok { OnOk result (AddsEntry (catalogue_of self.old) (catalogue_of self.new) (view name heading (form f))) }
         ensures err { OnErr result (catalogue_of self.new ≡ catalogue_of self.old) }
+        ensures hashed { self.new.hashing ≡ self.old.hashing }
     {
         match spoken(&self.names, &f) {
             Ok((below, mentions)) => {
@@ -196,7 +203,8 @@ impl Catalogue {
     pub fn drop_name(&mut self, name: &Name)
         requires defined { is_some (known (catalogue_of self.old) name.now) ≡ true }
         requires unused { list_any (entry_uses name.now) (catalogue_of self.old).entries ≡ false }
-        ensures { DropsEntry (catalogue_of self.old) (catalogue_of self.new) name.now }
+        ensures dropped { DropsEntry (catalogue_of self.old) (catalogue_of self.new) name.now }
+        ensures hashed { self.new.hashing ≡ self.old.hashing }
     {
         take_out(&mut self.names, name)
     }

@@ -48,7 +48,7 @@ impl Model for Entries {
 
     ghost coded = { Prim.hlevel (entry.the_row.coded, codes) };
 
-    ghost view = { λ t. record { entries = option_map_or (λ c. c.entries) t.linked [] } };
+    ghost view = { λ t. record { entries = option_map_or (λ c. c.entries) t.linked []; hashing = t.hashing } };
 
     ghost invariant = { λ t. IfSome t.linked (λ c. c.cap ≡ 2 ^ 64 - 1) };
 }
@@ -56,7 +56,8 @@ impl Model for Entries {
 impl Entries {
     /// No entries.
     pub(crate) fn new(alloc: Global, hashing: NameHashing) -> Entries
-        ensures { result.entries ≡ [] }
+        ensures empty { result.entries ≡ [] }
+        ensures hashed { result.hashing ≡ hashing }
     {
         Entries {
             alloc,
@@ -95,6 +96,7 @@ impl Entries {
         ensures ok { OnOk result (self.new.entries ≡ self.old.entries ++ (name, entry) ∷ []) }
         ensures err { OnErr result (self.new.entries ≡ self.old.entries) }
         ensures back { IfErr result (λ e. e ≡ entry) }
+        ensures hashed { self.new.hashing ≡ self.old.hashing }
     {
         if let Some(linked) = &mut self.linked {
             return push_into(linked, name, entry);
@@ -109,6 +111,7 @@ impl Entries {
         ensures value { result ≡ lookup (bytes_eq name.now) self.old.entries }
         ensures entries { self.new.entries ≡ remove_entry (bytes_eq name.now) self.old.entries }
         ensures gone { lookup (bytes_eq name.now) self.new.entries ≡ None }
+        ensures hashed { self.new.hashing ≡ self.old.hashing }
     {
         match &mut self.linked {
             Some(linked) => remove_from(linked, name),
@@ -119,7 +122,8 @@ impl Entries {
     /// Counts one view more that speaks of the name, where that is defined.
     pub(crate) fn raise(&mut self, name: &Name)
         requires { IfSome (users_at name.now self.old.entries) (λ k. k < 2 ^ 64 - 1) }
-        ensures { Raises (λ n. bytes_eq n name.now) self.old.entries self.new.entries }
+        ensures raised { Raises (λ n. bytes_eq n name.now) self.old.entries self.new.entries }
+        ensures hashed { self.new.hashing ≡ self.old.hashing }
     {
         if let Some(linked) = &mut self.linked {
             raise_in(linked, name);
@@ -129,7 +133,8 @@ impl Entries {
     /// Counts one view less that speaks of the name, where that is defined.
     pub(crate) fn lower(&mut self, name: &Name)
         requires { IfSome (users_at name.now self.old.entries) (λ k. 0 < k) }
-        ensures { Raises (λ n. bytes_eq n name.now) self.new.entries self.old.entries }
+        ensures lowered { Raises (λ n. bytes_eq n name.now) self.new.entries self.old.entries }
+        ensures hashed { self.new.hashing ≡ self.old.hashing }
     {
         if let Some(linked) = &mut self.linked {
             lower_in(linked, name);
@@ -145,6 +150,7 @@ impl Entries {
         requires { Alters self.old.entries self.old.entries name.now (λ old new. AreUpTo old.inserts old.tuples.entries) }
         ensures ok { IfOk result (λ k. Alters self.old.entries self.new.entries name.now (λ old new. Pushes old new tuple k × (refusal_of limit old ≡ None))) }
         ensures err { IfErr result (λ r. Alters self.old.entries self.new.entries name.now (λ old new. IsSame old new × (r ≡ unwrap_or (refusal_of limit old) Memory))) }
+        ensures hashed { self.new.hashing ≡ self.old.hashing }
     {
         match &mut self.linked {
             Some(linked) => insert_in(linked, name, limit, tuple),
@@ -160,6 +166,7 @@ impl Entries {
         requires { Alters self.old.entries self.old.entries name.now (λ old new. AreUpTo old.inserts old.tuples.entries × (list_any (λ t. t.0 == number) old.tuples.entries ≡ true)) }
         ensures ok { IfOk result (λ _. Alters self.old.entries self.new.entries name.now (λ old new. Removes old new number)) }
         ensures err { IfErr result (λ _. Alters self.old.entries self.new.entries name.now (λ old new. IsSame old new)) }
+        ensures hashed { self.new.hashing ≡ self.old.hashing }
     {
         match &mut self.linked {
             Some(linked) => delete_in(linked, name, number),
@@ -185,7 +192,8 @@ impl Entries {
     /// # Errors
     /// Out of memory.
     pub(crate) fn copy(&self) -> Result<Entries, NoMemory>
-        ensures { IfOk result (λ es. AreCopied self.now.entries es.entries) }
+        ensures copied { IfOk result (λ es. AreCopied self.now.entries es.entries) }
+        ensures hashed { IfOk result (λ es. es.hashing ≡ self.now.hashing) }
     {
         let mut copies = Entries::new(self.alloc, self.hashing);
         if let Some(linked) = &self.linked {
@@ -340,7 +348,8 @@ fn names_of(alloc: Global, linked: &Linked) -> Result<Vec<&Name>, NoMemory>
 /// Out of memory.
 fn copy_into(copies: &mut Entries, linked: &Linked) -> Result<(), NoMemory>
     requires { copies.old.entries ≡ [] }
-    ensures { OnOk result (AreCopied linked.now.entries copies.new.entries) }
+    ensures copied { OnOk result (AreCopied linked.now.entries copies.new.entries) }
+    ensures hashed { copies.new.hashing ≡ copies.old.hashing }
 {
     let _ = linked.len(); // each name stands once
     for (name, entry) in linked {
@@ -360,7 +369,8 @@ fn copy_into(copies: &mut Entries, linked: &Linked) -> Result<(), NoMemory>
 /// Out of memory; nothing is changed then.
 fn push_copy(copies: &mut Entries, name: Name, entry: Entry) -> Result<(), NoMemory>
     requires { lookup (bytes_eq name) copies.old.entries ≡ None }
-    ensures { OnOk result (copies.new.entries ≡ copies.old.entries ++ (name, entry) ∷ []) }
+    ensures pushed { OnOk result (copies.new.entries ≡ copies.old.entries ++ (name, entry) ∷ []) }
+    ensures hashed { copies.new.hashing ≡ copies.old.hashing }
 {
     match copies.push(name, entry) {
         Ok(()) => Ok(()),

@@ -1,19 +1,24 @@
 //! Snapshots.
-ghost use Rattle.std.specs.Prelude.{◌≡◌, ◌==◌, ◌+◌, ◌≤◌, true, None, is_some, IfOk};
+ghost use Rattle.std.specs.Prelude.{◌≡◌, ◌==◌, ◌+◌, ◌≤◌, ◌<◌, true, None, is_some, IfOk};
 ghost use Rattle.std.specs.List.{list_any};
 ghost use Rattle.std.specs.Option.{option_map};
+ghost use Rattle.ded_model.specs.Entries.{entry_of, relation_in};
+ghost use Rattle.ded_relation.specs.Nearby.{numbered, AreFound};
+ghost use Rattle.ded_catalog.specs.State.{catalogue_of};
 
 use crate::catalogue::Catalogue;
 use crate::change::{Change, left_of, with_inserted};
 use ded_model::goal::Goal;
 use ded_model::memory::NoMemory;
 use ded_model::name::{Heading, Name};
+use ded_model::steps::Steps;
 use ded_model::tuple::Tuple;
-use ded_packed::Lent;
+use ded_packed::{Lent, Packed};
 use ded_ranges::Window;
 use ded_relation::finding::all;
 use std::alloc::Global;
-use std::marker::Model;
+use std::marker::{Brand, Model};
+use std::sync::ledger::{Blank, Ledger};
 
 /// A catalogue as it is, or as it will be when a tuple is inserted into a relation or deleted from one. It borrows the
 /// catalogue, and copies nothing. Contracts see the catalogue that it stands for.
@@ -43,7 +48,7 @@ impl<'a> Model for Snapshot<'a> {
 
 impl<'a> Snapshot<'a> {
     ghost use Rattle.ded_model.specs.Catalogue.{tuples_of};
-    ghost use Rattle.ded_model.specs.Entries.{known, entry_of, relation_in, view_in, tuples_in, columns_in, inserts_in};
+    ghost use Rattle.ded_model.specs.Entries.{known, view_in, tuples_in, columns_in, inserts_in};
     ghost use Rattle.ded_model.specs.Goal.{goal_form};
     ghost use Rattle.ded_model.specs.Known.{IsTupleOver, IsWellFormed};
     ghost use Rattle.ded_model.specs.Slotted.{goal_of};
@@ -52,7 +57,6 @@ impl<'a> Snapshot<'a> {
     ghost use Rattle.ded_sorts.specs.Changes.{Inserts, Deletes};
     ghost use Rattle.ded_ranges.specs.Windows.{AreLent};
     ghost use Rattle.ded_packed.specs.Lent.{lent};
-    ghost use Rattle.ded_catalog.specs.State.{catalogue_of};
     ghost use Rattle.ded_catalog.specs.Snapshots.{snapshot_of};
 
     /// The catalogue as it is.
@@ -140,7 +144,7 @@ impl<'a> Snapshot<'a> {
         ensures { IfOk result (λ found. AreLent window.now (option_map (λ v. lent v.items) found) (option_map tuples_of (relation_in (entry_of (snapshot_of self.now).entries name.now)))) }
     {
         let catalogue = self.catalogue;
-        let Some(found) = catalogue.near(alloc, name, window)? else {
+        let Some(found) = near_in::<Brand>(catalogue, alloc, name, window, Blank::new(1))? else {
             return Ok(None);
         };
         let left = left_of(alloc, &found, self.change.deleted(name))?;
@@ -165,4 +169,25 @@ impl<'a> Snapshot<'a> {
         let inserted = self.change.inserted(name);
         Ok(Some(with_inserted(left, inserted)?))
     }
+}
+
+/// The tuples of a relation that may hold in the window, with their numbers, in ascending order of these, with the steps counted on a new
+/// ledger. None exactly where the name is no relation.
+///
+/// # Errors
+/// Out of memory.
+fn near_in<'a, L: Ledger>(
+    catalogue: &'a Catalogue,
+    alloc: Global,
+    name: &Name,
+    window: &Window,
+    blank: Blank,
+) -> Result<Option<Vec<(u32, &'a Packed)>>, NoMemory>
+    requires name { blank.name ≡ L.name }
+    requires parts { blank.parts ≡ L.parts }
+    requires some { 0 < L.parts }
+    ensures { IfOk result (λ found. AreFound window.now (option_map (λ v. numbered v.items) found) (relation_in (entry_of (catalogue_of catalogue.now).entries name.now))) }
+{
+    let mut steps = Steps::<L>::new(blank);
+    catalogue.look_up(alloc, name, window, &mut steps)
 }

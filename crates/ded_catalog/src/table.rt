@@ -9,6 +9,7 @@ ghost use Rattle.ded_model.specs.Form.{form, forms};
 ghost use Rattle.ded_model.specs.Logic.{greatest, greatest_of};
 ghost use Rattle.ded_sorts.specs.Checks.{known_form};
 ghost use Rattle.ded_relation.specs.declared.relation.Relation.{Relation};
+ghost use Rattle.ded_relation.specs.Hashing.{keyed};
 ghost use Rattle.ded_catalog.specs.Changed.{ChangesRelation};
 ghost use Rattle.ded_catalog.specs.Copies.{AreCopies};
 ghost use Rattle.ded_catalog.specs.Mentions.{AreMentions};
@@ -31,7 +32,7 @@ use std::alloc::{AllocError, Global};
 use std::marker::Model;
 
 /// What stands under each name, in order of definition, with the number of the views that speak of the name. Contracts see
-/// all but the numbers.
+/// all but the numbers, and how names are hashed.
 #[derive(Drop)]
 pub(crate) struct Table {
     entries: Entries,
@@ -47,7 +48,7 @@ impl Model for Table {
 
     ghost coded = { Prim.hlevel (stored.the_row.coded, codes) };
 
-    ghost view = { λ t. record { entries = without_users t.entries.entries } };
+    ghost view = { λ t. record { entries = without_users t.entries.entries; hashing = t.entries.hashing } };
 
     ghost invariant = { λ t. AreCounted (λ n. false) t.entries.entries };
 }
@@ -55,7 +56,8 @@ impl Model for Table {
 impl Table {
     /// A table without names, which are hashed with the keys.
     pub(crate) fn new(alloc: Global, keys: (u64, u64)) -> Table
-        ensures { result.entries ≡ [] }
+        ensures empty { result.entries ≡ [] }
+        ensures hashed { result.hashing ≡ keyed keys }
     {
         Table {
             entries: Entries::new(alloc, NameHashing::new(keys)),
@@ -68,7 +70,9 @@ impl Table {
     }
 
     /// How names are hashed.
-    pub(crate) fn hashing(&self) -> NameHashing {
+    pub(crate) fn hashing(&self) -> NameHashing
+        ensures { result ≡ self.now.hashing }
+    {
         self.entries.hashing
     }
 
@@ -97,7 +101,8 @@ impl Table {
     /// # Errors
     /// Out of memory.
     pub(crate) fn copy(&self) -> Result<Table, NoMemory>
-        ensures { IfOk result (λ t. AreCopies self.now.entries t.entries) }
+        ensures copies { IfOk result (λ t. AreCopies self.now.entries t.entries) }
+        ensures hashed { IfOk result (λ t. t.hashing ≡ self.now.hashing) }
     {
         Ok(Table {
             entries: self.entries.copy()?,
@@ -116,6 +121,7 @@ pub(crate) fn add(table: &mut Table, name: Name, stored: Stored) -> Result<(), N
     requires mentions { HasMentions stored }
     ensures ok { OnOk result (table.new.entries ≡ table.old.entries ++ (name, stored) ∷ []) }
     ensures err { OnErr result (table.new.entries ≡ table.old.entries) }
+    ensures hashed { table.new.hashing ≡ table.old.hashing }
 {
     count(&mut table.entries, &stored);
     match table.entries.push(name, Entry { stored, users: 0 }) {
@@ -183,6 +189,7 @@ pub(crate) fn insert_into(
     requires { ChangesRelation table.old.entries table.old.entries name.now (λ old new. AreUpTo old.inserts old.tuples.entries) }
     ensures ok { IfOk result (λ k. ChangesRelation table.old.entries table.new.entries name.now (λ old new. Pushes old new tuple k × (refusal_of limit old ≡ None))) }
     ensures err { IfErr result (λ r. ChangesRelation table.old.entries table.new.entries name.now (λ old new. IsSame old new × (r ≡ unwrap_or (refusal_of limit old) Memory))) }
+    ensures hashed { table.new.hashing ≡ table.old.hashing }
 {
     table.entries.insert(name, limit, tuple)
 }
@@ -195,6 +202,7 @@ pub(crate) fn delete_from(table: &mut Table, name: &Name, number: u64) -> Result
     requires { ChangesRelation table.old.entries table.old.entries name.now (λ old new. AreUpTo old.inserts old.tuples.entries × (list_any (λ t. t.0 == number) old.tuples.entries ≡ true)) }
     ensures ok { IfOk result (λ _. ChangesRelation table.old.entries table.new.entries name.now (λ old new. Removes old new number)) }
     ensures err { IfErr result (λ _. ChangesRelation table.old.entries table.new.entries name.now (λ old new. IsSame old new)) }
+    ensures hashed { table.new.hashing ≡ table.old.hashing }
 {
     table.entries.delete(name, number)
 }
@@ -202,7 +210,8 @@ pub(crate) fn delete_from(table: &mut Table, name: &Name, number: u64) -> Result
 /// Takes out what stands under the name. The others keep their order.
 pub(crate) fn take_out(table: &mut Table, name: &Name)
     requires { IfSome (lookup (bytes_eq name.now) table.old.entries) HasMentions }
-    ensures { table.new.entries ≡ remove_entry (bytes_eq name.now) table.old.entries }
+    ensures entries { table.new.entries ≡ remove_entry (bytes_eq name.now) table.old.entries }
+    ensures hashed { table.new.hashing ≡ table.old.hashing }
 {
     if let Some(entry) = table.entries.remove(name) {
         discount(&mut table.entries, entry.stored);

@@ -16,6 +16,7 @@ pub(crate) fn count(entries: &mut Entries, stored: &Stored)
     requires mentions { HasMentions stored.now }
     ensures counted { AreCounted (λ n. stored_uses n stored.now) entries.new.entries }
     ensures same { without_users entries.new.entries ≡ without_users entries.old.entries }
+    ensures hashed { entries.new.hashing ≡ entries.old.hashing }
 {
     let _ = entries.len(); // each number has room for one more
     if let Stored::View(view) = stored {
@@ -29,6 +30,7 @@ pub(crate) fn discount(entries: &mut Entries, stored: Stored)
     requires mentions { HasMentions stored }
     ensures counted { AreCounted (λ n. false) entries.new.entries }
     ensures same { without_users entries.new.entries ≡ without_users entries.old.entries }
+    ensures hashed { entries.new.hashing ≡ entries.old.hashing }
 {
     if let Stored::View(view) = &stored {
         lower_all(entries, &view.mentions);
@@ -40,7 +42,8 @@ pub(crate) fn discount(entries: &mut Entries, stored: Stored)
 fn raise_all(entries: &mut Entries, names: &Vec<Name>)
     requires once { AreOnce names.now.items }
     requires room { HaveRoom entries.old.entries }
-    ensures { Raises (λ n. list_any (bytes_eq n) names.now.items) entries.old.entries entries.new.entries }
+    ensures raised { Raises (λ n. list_any (bytes_eq n) names.now.items) entries.old.entries entries.new.entries }
+    ensures hashed { entries.new.hashing ≡ entries.old.hashing }
 {
     for name in names {
         entries.raise(name);
@@ -51,7 +54,8 @@ fn raise_all(entries: &mut Entries, names: &Vec<Name>)
 fn lower_all(entries: &mut Entries, names: &Vec<Name>)
     requires once { AreOnce names.now.items }
     requires used { AreUsed names.now.items entries.old.entries }
-    ensures { Raises (λ n. list_any (bytes_eq n) names.now.items) entries.new.entries entries.old.entries }
+    ensures lowered { Raises (λ n. list_any (bytes_eq n) names.now.items) entries.new.entries entries.old.entries }
+    ensures hashed { entries.new.hashing ≡ entries.old.hashing }
 {
     for name in names {
         entries.lower(name);

@@ -66,6 +66,7 @@ impl Database {
     ghost use Rattle.ded_sorts.specs.Causes.{insert_refusal, is_relation_with, is_view_with};
     ghost use Rattle.ded_sorts.specs.Changes.{AddsEntry, Inserts, Deletes, DropsEntry};
     ghost use Rattle.ded_model.specs.Entries.{known, tuples_in, columns_in, entry_uses};
+    ghost use Rattle.ded_relation.specs.Hashing.{keyed};
     ghost use Rattle.ded_query.specs.Questions.{IsQuestion, IsAnswer};
     ghost use Rattle.ded_database.specs.Held.{held_under, IsListOf};
     ghost use Rattle.ded_database.specs.Upkeep.{KeepsUp, LeavesOthers, OnlyAdds};
@@ -81,6 +82,7 @@ impl Database {
         ensures marks { result.marks ≡ [] }
         ensures held { result.held ≡ [] }
         ensures added { result.added ≡ 0 }
+        ensures hashed { result.table.hashing ≡ keyed keys }
     {
         Database::over(alloc, Catalogue::hashed_with(alloc, limit, keys))
     }
@@ -91,6 +93,7 @@ impl Database {
         ensures marks { result.marks ≡ [] }
         ensures held { result.held ≡ [] }
         ensures added { result.added ≡ 0 }
+        ensures hashed { result.table.hashing ≡ catalogue.hashing }
     {
         Database {
             catalogue,

@@ -71,6 +71,7 @@ pub(crate) fn push_passing<L: Ledger>(
 ) -> Result<(), NoMemory>
     ensures found { IfOk result (λ _. found.new.items ≡ found.old.items ++ ids_in probe.now entries.now) }
     ensures steps { steps.new ≤ steps.old + length entries.now }
+    ensures forward { steps.old ≤ steps.new }
 {
     for i in 0..entries.len() {
         steps.tick();

@@ -128,6 +128,7 @@ impl Hulls {
         ensures complete { IfOk result (λ ids. IsComplete limits.now self.now.entries ids.items) }
         ensures count { IfOk result (λ ids. length ids.items ≤ length (ids_in limits.now self.now.entries)) }
         ensures steps { AreAlong limits.now → AreSegments self.now.entries → steps.new ≤ steps.old + most_steps limits.now self.now }
+        ensures forward { steps.old ≤ steps.new }
     {
         let probe = Probe::new(alloc, limits)?;
         let mut found = Vec::new(alloc);
@@ -162,6 +163,7 @@ fn find_in<L: Ledger>(
 ) -> Result<(), NoMemory>
     ensures found { IfOk result (λ _. found.new.items ≡ found.old.items ++ ids_in probe.now (all_of trees.now)) }
     ensures steps { IsCostOfAll probe.now trees.now steps.old steps.new }
+    ensures forward { steps.old ≤ steps.new }
 {
     for i in 0..trees.len() {
         trees[i].find(probe, found, steps)?;

@@ -92,6 +92,7 @@ impl Tree {
     ) -> Result<(), NoMemory>
         ensures found { IfOk result (λ _. found.new.items ≡ found.old.items ++ ids_in probe.now self.now) }
         ensures steps { IsCost probe.now self.now steps.old steps.new }
+        ensures forward { steps.old ≤ steps.new }
     {
         visit_all(&self.nodes, &self.entries, probe, found, steps)
     }
@@ -216,6 +217,7 @@ pub(crate) fn visit_all<L: Ledger>(
     requires { IsTree nodes.now entries.now }
     ensures found { IfOk result (λ _. found.new.items ≡ found.old.items ++ ids_in probe.now entries.now) }
     ensures steps { AreNarrow nodes.now → steps.new ≤ steps.old + 9 * looked_at probe.now 0 nodes.now }
+    ensures forward { steps.old ≤ steps.new }
 {
     let mut next = nodes;
     let mut rest = entries;
@@ -242,6 +244,7 @@ fn visit<'a, L: Ledger>(
     requires { IsTree (node.now ∷ behind.now) entries.now }
     ensures next { IfOk result (λ next. IsStep probe.now node.now behind.now entries.now next.0.now next.1.now found.old.items found.new.items) }
     ensures steps { steps.new ≤ steps.old + 8 }
+    ensures forward { steps.old ≤ steps.new }
 {
     if !probe.may_pass(&node.hull) {
         return Ok((&behind[node.below..], &entries[node.count..]));

@@ -1,4 +1,5 @@
 pub mod Ends
+pub mod Hashing
 pub mod Lookups
 pub mod Nearby
 pub mod Relations

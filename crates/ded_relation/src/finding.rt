@@ -25,6 +25,7 @@ pub(crate) fn sifted<'a, L: Ledger>(
 ) -> Result<Vec<(u32, &'a Packed)>, NoMemory>
     ensures found { IfOk result (λ found. AreNear sieve.now (numbered found.items) tuples.now.entries) }
     ensures steps { steps.new ≤ steps.old + length tuples.now.entries }
+    ensures read { IfOk result (λ found. steps.old + length found.items ≤ steps.new) }
 {
     let mut found = Vec::new(alloc);
     for (number, tuple) in tuples {
@@ -45,6 +46,7 @@ pub(crate) fn listed<'a, L: Ledger>(
 ) -> Result<Vec<(u32, &'a Packed)>, NoMemory>
     ensures list { IfOk result (λ list. numbered list.items ≡ tuples.now.entries) }
     ensures steps { steps.new ≤ steps.old + length tuples.now.entries }
+    ensures read { IfOk result (λ list. steps.old + length list.items ≤ steps.new) }
 {
     let mut list = Vec::with_capacity(alloc, tuples.len())?;
     for (number, tuple) in tuples {
@@ -94,6 +96,7 @@ pub(crate) fn picked<'a, L: Ledger>(
 ) -> Result<Vec<(u32, &'a Packed)>, NoMemory>
     ensures found { IfOk result (λ found. numbered found.items ≡ picked numbers.now tuples.now.entries) }
     ensures steps { steps.new ≤ steps.old + length numbers.now }
+    ensures read { IfOk result (λ found. steps.old + length found.items ≤ steps.new) }
 {
     let mut found = Vec::with_capacity(alloc, numbers.len())?;
     for number in numbers {
@@ -112,7 +115,8 @@ fn push_there<'a>(
     tuple: Option<&'a Packed>,
     found: &mut Vec<(u32, &'a Packed)>,
 ) -> Result<(), NoMemory>
-    ensures { IfOk result (λ _. numbered found.new.items ≡ numbered found.old.items ++ with_number number (option_map (λ t. t.now) tuple.entry)) }
+    ensures there { IfOk result (λ _. numbered found.new.items ≡ numbered found.old.items ++ with_number number (option_map (λ t. t.now) tuple.entry)) }
+    ensures count { IfOk result (λ _. length found.new.items ≤ length found.old.items + 1) }
 {
     match tuple {
         Some(tuple) => Ok(found.push((number, tuple))?),
@@ -133,6 +137,7 @@ pub(crate) fn looked_up<'a, L: Ledger>(
 ) -> Result<Vec<(u32, &'a Packed)>, NoMemory>
     ensures found { IfOk result (λ found. AreNear sieve.now (numbered found.items) (picked numbers.now tuples.now.entries)) }
     ensures steps { steps.new ≤ steps.old + length numbers.now }
+    ensures read { IfOk result (λ found. steps.old + length found.items ≤ steps.new) }
 {
     let mut found = Vec::new(alloc);
     for number in numbers {
@@ -153,7 +158,8 @@ fn push_if_there<'a>(
     tuple: Option<&'a Packed>,
     found: &mut Vec<(u32, &'a Packed)>,
 ) -> Result<(), NoMemory>
-    ensures { IfOk result (λ _. AddsNear sieve.now (with_number number (option_map (λ t. t.now) tuple.entry)) (numbered found.old.items) (numbered found.new.items)) }
+    ensures near { IfOk result (λ _. AddsNear sieve.now (with_number number (option_map (λ t. t.now) tuple.entry)) (numbered found.old.items) (numbered found.new.items)) }
+    ensures count { IfOk result (λ _. length found.new.items ≤ length found.old.items + 1) }
 {
     match tuple {
         Some(tuple) => push_if_near(alloc, sieve, number, tuple, found),
@@ -172,7 +178,8 @@ fn push_if_near<'a>(
     tuple: &'a Packed,
     found: &mut Vec<(u32, &'a Packed)>,
 ) -> Result<(), NoMemory>
-    ensures { IfOk result (λ _. AddsNear sieve.now ((number, tuple.now) ∷ []) (numbered found.old.items) (numbered found.new.items)) }
+    ensures near { IfOk result (λ _. AddsNear sieve.now ((number, tuple.now) ∷ []) (numbered found.old.items) (numbered found.new.items)) }
+    ensures count { IfOk result (λ _. length found.new.items ≤ length found.old.items + 1) }
 {
     if sieve.may_hold(&tuple.unpack(alloc)?) {
         found.push((number, tuple))?;

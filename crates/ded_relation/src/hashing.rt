@@ -1,7 +1,6 @@
 //! How names are hashed.
-ghost use Rattle.std.specs.Prelude.{◌≡◌, ◌++◌, fold};
-ghost use Rattle.std.specs.Hash as fed;
-ghost use Rattle.std.specs.Hash.DefaultHasher as sip;
+ghost use Rattle.std.specs.Prelude.{◌≡◌};
+ghost use Rattle.ded_relation.specs.Hashing.{keyed};
 
 use std::hash::{BuildHasher, DefaultHasher, Hasher};
 
@@ -14,8 +13,9 @@ pub struct NameHashing {
 
 impl NameHashing {
     /// Hashing behind the keys.
+    #[tactic(auto, unfolding(crate::specs::Hashing::keyed))]
     pub fn new(keys: (u64, u64)) -> NameHashing
-        ensures { result.state ≡ fold sip.write sip.initial (fed.u64 keys.0 ++ fed.u64 keys.1) }
+        ensures { result ≡ keyed keys }
     {
         let mut state = DefaultHasher::new();
         state.write_u64(keys.0);

@@ -127,6 +127,7 @@ impl Index {
         ensures some { IsAlong window.now → IfOk result (λ found. is_some found ≡ true) }
         ensures count { IsAlong window.now → IfOk result (λ found. IfSome found (λ ids. length ids.items ≤ length (ids_in window.now.limits.items self.now.hulls.entries))) }
         ensures steps { IsAlong window.now → AreSegments self.now.hulls.entries → steps.new ≤ steps.old + most_steps window.now.limits.items self.now.hulls }
+        ensures forward { steps.old ≤ steps.new }
     {
         let most = if window.limits.is_empty() {
             MOST_BY_TEXT + count / 4

@@ -1,5 +1,5 @@
 //! Relations: their tuples, found by number.
-ghost use Rattle.std.specs.Prelude.{◌≡◌, ◌==◌, ◌+◌, ◌<◌, ◌≤◌, ◌^◌, ◌++◌, ◌∷◌, [], true, Some, None, IfOk, IfErr, OnOk, OnErr};
+ghost use Rattle.std.specs.Prelude.{◌≡◌, ◌==◌, ◌+◌, ◌<◌, ◌≤◌, ◌^◌, ◌++◌, ◌∷◌, [], length, true, Some, None, IfOk, IfErr, OnOk, OnErr};
 ghost use Rattle.std.specs.BTreeMap.{is_at};
 ghost use Rattle.std.specs.List.{list_any};
 ghost use Rattle.std.specs.Map.{lookup};
@@ -179,6 +179,7 @@ impl Relation {
     ) -> Result<Vec<(u32, &'a Packed)>, NoMemory>
         ensures found { IfOk result (λ found. AreNear window.now (numbered found.items) self.now.tuples.entries) }
         ensures steps { IsLookup window.now self.now → steps.new ≤ steps.old + most_reads window.now self.now }
+        ensures read { IfOk result (λ found. steps.old + length found.items ≤ steps.new) }
     {
         if window.limits.is_empty() && window.texts.is_empty() {
             return listed(alloc, &self.tuples, steps);

@@ -3,6 +3,7 @@ use Rattle.std.specs.Prelude.{◌≡◌, ℕ, []}
 use Rattle.ded_model.specs.declared.command.Language.{Language}
 use Rattle.ded_model.specs.declared.command.Language.TheVariants.{Opening, One}
 use Rattle.ded_model.specs.Catalogue.{Catalogue}
+use Rattle.ded_relation.specs.declared.hashing.NameHashing.{NameHashing}
 use Rattle.ded_database.specs.State.{State, catalogue_at}
 use Rattle.ded_session.specs.declared.session.Session.{Session}
 use Rattle.ded_session.specs.Runs.{empty_catalogue}
@@ -14,6 +15,10 @@ state_in s = s.database
 -- the present catalogue
 unfoldable pub catalogue_in : Session → Catalogue
 catalogue_in s = catalogue_at s.database
+
+-- how names are hashed
+unfoldable pub hashing_in : Session → NameHashing
+hashing_in s = s.database.table.hashing
 
 -- the language in which the next statement is read
 unfoldable pub language_in : Session → Language

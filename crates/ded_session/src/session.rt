@@ -30,6 +30,7 @@ impl Session {
     ghost use Rattle.ded_model.specs.Command.{command_form};
     ghost use Rattle.ded_model.specs.LongRows.{has_long_row};
     ghost use Rattle.ded_model.specs.Plain.{IsPlainCommand};
+    ghost use Rattle.ded_relation.specs.Hashing.{keyed};
     ghost use Rattle.ded_catalog.specs.State.{catalogue_of};
     ghost use Rattle.ded_database.specs.State.{is_kept, IsSound};
     ghost use Rattle.ded_database.specs.Held.{held_under, IsListOf};
@@ -40,7 +41,7 @@ impl Session {
     ghost use Rattle.ded_session.specs.PlainNames.{NamesPlainly};
     ghost use Rattle.ded_session.specs.Replies.{refused};
     ghost use Rattle.ded_session.specs.Runs.{next_language, GoesOn};
-    ghost use Rattle.ded_session.specs.State.{catalogue_in, language_in, state_in, IsFreshSession, IsResumed};
+    ghost use Rattle.ded_session.specs.State.{catalogue_in, hashing_in, language_in, state_in, IsFreshSession, IsResumed};
     ghost use Rattle.ded_session.specs.Steps.{Step};
 
     /// A session with an empty catalogue whose relations have at most `limit` tuples, 1 to 1,000,000, and no kept view.
@@ -59,11 +60,12 @@ impl Session {
 
     /// A session with an empty catalogue whose relations have at most `limit` tuples, 1 to 1,000,000, and no kept view.
     /// Names are hashed with these keys: where they are drawn at random, nobody can choose names that are slow to find.
-    #[tactic(auto, unfolding(crate::specs::State::catalogue_in, crate::specs::State::language_in, crate::specs::State::state_in))]
+    #[tactic(auto, unfolding(crate::specs::State::catalogue_in, crate::specs::State::language_in, crate::specs::State::state_in, crate::specs::State::hashing_in))]
     pub fn hashed_with(alloc: Global, limit: u32, keys: (u64, u64)) -> Session
         requires low { 1 ≤ limit }
         requires high { limit ≤ 1000000 }
-        ensures { IsFreshSession limit result }
+        ensures fresh { IsFreshSession limit result }
+        ensures hashed { hashing_in result ≡ keyed keys }
     {
         Session {
             database: Database::new(alloc, limit, keys),

@@ -48,6 +48,7 @@ impl Model for Shared {
 impl Shared {
     ghost use Rattle.std.specs.Prelude.{◌≡◌, ◌≤◌, ℕ, List, IfOk, length};
     ghost use Rattle.ded_lex.specs.Tokens.{AreTokens};
+    ghost use Rattle.ded_relation.specs.Hashing.{keyed};
     ghost use Rattle.ded_catalog.specs.State.{catalogue_of};
     ghost use Rattle.ded_lex.specs.Pieces.{IsShortPiece};
     ghost use Rattle.ded_shared.specs.Answered.{shared_form};
@@ -78,7 +79,8 @@ impl Shared {
     pub fn hashed_with(alloc: Global, limit: u32, keys: (u64, u64)) -> Result<Shared, NoMemory>
         requires low { 1 ≤ limit }
         requires high { limit ≤ 1000000 }
-        ensures { IfOk result (λ s. state_of s ≡ first_state limit) }
+        ensures first { IfOk result (λ s. state_of s ≡ first_state limit) }
+        ensures hashed { IfOk result (λ s. s.table.hashing ≡ keyed keys) }
     {
         Ok(Shared {
             catalogue: Catalogue::hashed_with(alloc, limit, keys),

@@ -1,5 +1,5 @@
 //! What a catalogue is asked. Only look-ups in windows and copies allocate.
-ghost use Rattle.std.specs.Prelude.{◌≡◌, ◌≤◌, ◌<◌, ◌+◌, true, false, Some, IfOk, IfSome, is_none, map};
+ghost use Rattle.std.specs.Prelude.{◌≡◌, ◌≤◌, ◌<◌, ◌+◌, true, false, Some, IfOk, IfSome, is_none, length, map};
 ghost use Rattle.std.specs.Map.{lookup};
 ghost use Rattle.std.specs.Option.{option_map};
 ghost use Rattle.std.specs.Str.{bytes_eq};
@@ -17,8 +17,7 @@ use ded_packed::Packed;
 use ded_ranges::Window;
 use std::alloc::Global;
 use std::collections::BTreeMap;
-use std::marker::Brand;
-use std::sync::ledger::{Blank, Ledger};
+use std::sync::ledger::Ledger;
 
 impl Catalogue {
     ghost use Rattle.ded_model.specs.Catalogue.{entry_name};
@@ -81,47 +80,12 @@ impl Catalogue {
     ) -> Result<Option<Vec<(u32, &'a Packed)>>, NoMemory>
         ensures found { IfOk result (λ found. AreFound window.now (option_map (λ v. numbered v.items) found) (relation_in (entry_of (catalogue_of self.now).entries name.now))) }
         ensures steps { (r : Relation) → relation_at (lookup (bytes_eq name.now) self.now.names) ≡ Some r → IsLookup window.now r → steps.new ≤ steps.old + most_reads window.now r }
+        ensures read { IfOk result (λ found. IfSome found (λ ts. steps.old + length ts.items ≤ steps.new)) }
     {
         match relation_of(&self.names, name) {
             Some(relation) => Ok(Some(relation.near(alloc, window, steps)?)),
             None => Ok(None),
         }
-    }
-
-    /// The tuples of a relation that may hold in the window, with their numbers, in ascending order of these, without counting steps. All
-    /// that hold somewhere in it are among them. None exactly where the name is no relation.
-    ///
-    /// # Errors
-    /// Out of memory.
-    pub fn near<'a>(
-        &'a self,
-        alloc: Global,
-        name: &Name,
-        window: &Window,
-    ) -> Result<Option<Vec<(u32, &'a Packed)>>, NoMemory>
-        ensures { IfOk result (λ found. AreFound window.now (option_map (λ v. numbered v.items) found) (relation_in (entry_of (catalogue_of self.now).entries name.now))) }
-    {
-        self.near_over::<Brand>(alloc, name, window, Blank::new(1))
-    }
-
-    /// The tuples of a relation that may hold in the window, with their numbers, with the steps counted on a new ledger.
-    ///
-    /// # Errors
-    /// Out of memory.
-    fn near_over<'a, L: Ledger>(
-        &'a self,
-        alloc: Global,
-        name: &Name,
-        window: &Window,
-        blank: Blank,
-    ) -> Result<Option<Vec<(u32, &'a Packed)>>, NoMemory>
-        requires name { blank.name ≡ L.name }
-        requires parts { blank.parts ≡ L.parts }
-        requires some { 0 < L.parts }
-        ensures { IfOk result (λ found. AreFound window.now (option_map (λ v. numbered v.items) found) (relation_in (entry_of (catalogue_of self.now).entries name.now))) }
-    {
-        let mut steps = Steps::<L>::new(blank);
-        self.look_up(alloc, name, window, &mut steps)
     }
 
     /// Each tuple of a relation has an entry in its index, with its number and a reach that contains its points, and where the relation
@@ -206,7 +170,8 @@ impl Catalogue {
     /// # Errors
     /// Out of memory.
     pub fn copy(&self) -> Result<Catalogue, NoMemory>
-        ensures { IfOk result (λ c. catalogue_of c ≡ catalogue_of self.now) }
+        ensures copied { IfOk result (λ c. catalogue_of c ≡ catalogue_of self.now) }
+        ensures hashed { IfOk result (λ c. c.hashing ≡ self.now.hashing) }
     {
         Ok(Catalogue {
             limit: self.limit,

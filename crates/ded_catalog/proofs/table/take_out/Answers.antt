@@ -19,10 +19,10 @@ pub invariant_of-table-in_default : goal.invariant_of-table-in_default
 invariant_of-table-in_default c =
     subst (AreCounted (λ n. false)) (sym (c.remove.ensures.entries ∙ untaken (bytes_eq c.args.name.now) c.table.inside.entries.entries (sym c.in_default.ensures.value))) c.table.invariant
 
-pub returns-in-Some : goal.returns-in-Some
-returns-in-Some c =
+pub returns-in-Some-clause-entries : goal.returns-in-Some-clause-entries
+returns-in-Some-clause-entries c =
     c.discount.ensures.same ∙ plain_taken (bytes_eq c.args.name.now) c.table.inside.entries.entries c.remove.new.self.entries c.args.table.now.entries (ap (λ t. t.entries) c.table.view_is) c.remove.ensures.entries
 
-pub returns-in_default : goal.returns-in_default
-returns-in_default c =
+pub returns-in_default-clause-entries : goal.returns-in_default-clause-entries
+returns-in_default-clause-entries c =
     plain_taken (bytes_eq c.args.name.now) c.table.inside.entries.entries c.remove.new.self.entries c.args.table.now.entries (ap (λ t. t.entries) c.table.view_is) c.remove.ensures.entries

@@ -8,6 +8,7 @@ loop-i-preserved g c =
     let inside : c.loop-i.i < length c.args.trees.now = search rules in (
       found_tree c.args.probe.now c.args.trees.now c.loop-i.i c.index-trees-i.result c.args.found.now.items c.loop-i.found.items c.find.new.found.items inside c.index-trees-i.is c.loop-i.invariant.0 c.in_ok-find.ensures.found,
       cost_more c.args.probe.now c.args.trees.now c.loop-i.i c.index-trees-i.result c.args.steps.now c.loop-i.steps c.find.new.steps inside c.index-trees-i.is c.in_ok-find.ensures.steps c.loop-i.invariant.1,
+      omega (arith, c.loop-i.invariant.2, c.find.ensures.forward),
     )
 
 pub returns-in_err-find-clause-steps : goal.returns-in_err-find-clause-steps

@@ -20,7 +20,7 @@ invariant_of-self c =
 pub returns-clause-ok : goal.returns-clause-ok
 returns-clause-ok c =
     on_answer c.delete_from.result _ _
-    (λ k h. subst (λ t. Deletes (catalogue_of t) (catalogue_of (record { limit = c.self.inside.limit; names = c.delete_from.new.table.entries })) c.args.name.now c.args.number) c.self.view_is
+    (λ k h. subst (λ t. Deletes (catalogue_of t) (catalogue_of (record { limit = c.self.inside.limit; names = c.delete_from.new.table.entries; hashing = c.delete_from.new.table.hashing })) c.args.name.now c.args.number) c.self.view_is
     (deletes c.self.inside.limit c.self.inside.names.entries c.args.name.now c.self.invariant h.old h.was _ h.new h.is c.args.number h.so))
     c.delete_from.ensures.ok
 

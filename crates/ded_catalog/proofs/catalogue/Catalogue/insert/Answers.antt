@@ -27,7 +27,7 @@ invariant_of-self c =
 pub returns-clause-ok : goal.returns-clause-ok
 returns-clause-ok c =
     if_ok_by c.insert_into.result _ _
-    (λ k h. subst (λ t. Inserts (catalogue_of t) (catalogue_of (record { limit = c.self.inside.limit; names = c.insert_into.new.table.entries })) c.args.name.now c.args.t k) c.self.view_is
+    (λ k h. subst (λ t. Inserts (catalogue_of t) (catalogue_of (record { limit = c.self.inside.limit; names = c.insert_into.new.table.entries; hashing = c.insert_into.new.table.hashing })) c.args.name.now c.args.t k) c.self.view_is
     (inserts c.self.inside.limit c.self.inside.names.entries c.args.name.now c.self.invariant h.old h.was _ h.new h.is c.args.t k h.so.0))
     c.insert_into.ensures.ok
 

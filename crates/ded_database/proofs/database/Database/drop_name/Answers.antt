@@ -17,7 +17,7 @@ invariant_of-self c =
     let n = c.args.name.now in
     subst (λ ms. IsUpheld d ms c.drop_kept.new.held) (sym c.drop_kept.ensures.marks)
     (subst (IsUpheld d (without_mark n c.self.inside.marks.items)) (sym c.drop_kept.ensures.held)
-    (upheld_dropped b d c.formed.ensures c.formed-2.ensures n c.self.inside.marks.items c.self.inside.held c.drop_name.ensures
+    (upheld_dropped b d c.formed.ensures c.formed-2.ensures n c.self.inside.marks.items c.self.inside.held c.drop_name.ensures.dropped
     (subst (λ (s : State). list_any (entry_uses n) (catalogue_at s).entries ≡ false) (sym c.self.view_is) c.requires.unused) c.self.invariant))
 
 pub returns-clause-lists : goal.returns-clause-lists
