@@ -1,5 +1,6 @@
 //! A change of what a relation holds.
 
+use crate::mark::Mark;
 use ded_catalog::{Catalogue, Snapshot};
 use ded_model::name::Name;
 use ded_model::tuple::Tuple;
@@ -19,4 +20,11 @@ pub struct Change<'a, 'b> {
     pub snapshot: &'a Snapshot<'b>,
     pub name: &'b Name,
     pub step: Step<'b>,
+}
+
+/// A kept view, by its mark, and the change that its list has to follow.
+#[derive(Clone, Copy)]
+pub(crate) struct Renewal<'a, 'b> {
+    pub(crate) change: &'a Change<'a, 'b>,
+    pub(crate) mark: &'a Mark,
 }

@@ -17,7 +17,7 @@ use crate::laws;
 use crate::mark::Mark;
 use ded_algebra::{Evaluate, Given, Relations};
 use ded_atoms::reduced;
-use ded_keep::{add_tuple, put_behind};
+use ded_keep::{OneTuple, add_tuple, put_behind};
 use ded_model::memory::{NoMemory, Refused};
 use ded_model::name::Name;
 use ded_model::plan::Plan;
@@ -92,15 +92,12 @@ fn extended_over<E: Evaluate>(
         hidden: Some(change.name),
     };
     others.formed();
-    let added = add_tuple::<E, _>(
-        alloc,
-        &mark.plan,
-        change.name,
+    let one = OneTuple {
+        name: change.name,
         heading,
-        none,
         tuple,
-        &others,
-    )?;
+    };
+    let added = add_tuple::<E, _>(alloc, &mark.plan, &one, none, &others)?;
     let more = reduced(alloc, added)?;
     let mut list = list.list;
     put_behind::<E>(alloc, &mut list, more)?;

@@ -11,7 +11,7 @@ ghost use Rattle.ded_database.specs.Held.{IsHeld};
 ghost use Rattle.ded_database.specs.Lasting.{HasLinesBut, IsViewBut};
 ghost use Rattle.ded_database.specs.Lost.{LosesOnly, HaveNoneLost};
 
-use crate::change::Change;
+use crate::change::{Change, Renewal};
 use crate::laws;
 use crate::lines::have_any;
 use crate::lost::lost_lines;
@@ -19,7 +19,7 @@ use crate::mark::Mark;
 use crate::renewing::anew;
 use crate::unshared::unshared;
 use ded_algebra::{Evaluate, Given, Relations};
-use ded_keep::remove_tuple;
+use ded_keep::{OneTuple, remove_tuple};
 use ded_model::memory::{NoMemory, Refused};
 use ded_model::row::Row;
 use ded_model::tuple::{BothAtom, Tuple, Tuples};
@@ -55,7 +55,10 @@ pub(crate) fn list_without<E: Evaluate>(
         return anew::<E>(alloc, change, mark, held);
     };
     match shortened::<E>(alloc, change, gone, mark, list, held) {
-        Ok(tuples) => settled::<E>(alloc, change, gone, mark, &lost, tuples, held),
+        Ok(tuples) => {
+            let renewal = Renewal { change, mark };
+            settled::<E>(alloc, &renewal, gone, &lost, tuples, held)
+        }
         Err(Refused::Wide) => anew::<E>(alloc, change, mark, held),
         Err(Refused::Memory) => Err(Refused::Memory),
     }
@@ -90,24 +93,24 @@ fn losable(
 /// `Wide` only where the view clashes over the catalogue as it will be, otherwise out of memory. The list is lost then.
 fn settled<E: Evaluate>(
     alloc: Global,
-    change: &Change<'_, '_>,
+    renewal: &Renewal<'_, '_>,
     gone: &Tuple,
-    mark: &Mark,
     lost: &[Row],
     tuples: Tuples,
     held: &mut Given,
 ) -> Result<Tuples, Refused>
-    requires change { IsChange (before change.now) (after change.now) change.now.name.now (inserted_tuple change.now) }
-    requires delete { IsDelete (before change.now) (after change.now) change.now.name.now gone.now }
-    requires mark { IsMark (before change.now) mark.now }
-    requires adds { mark_adds mark.now change.now.name.now ≡ true }
-    requires but { IsViewBut (after change.now) mark.now.name lost.now tuples }
-    requires loses { (more : List Line) → LosesOnly (before change.now) (after change.now) mark.now.name more → IsViewBut (after change.now) mark.now.name more tuples }
-    requires held { AllByRecursion (IsHeld (after change.now)) held.old }
-    ensures is { IfOk result (IsViewOf (after change.now) mark.now.name) }
+    requires change { IsChange (before renewal.now.change.now) (after renewal.now.change.now) renewal.now.change.now.name.now (inserted_tuple renewal.now.change.now) }
+    requires delete { IsDelete (before renewal.now.change.now) (after renewal.now.change.now) renewal.now.change.now.name.now gone.now }
+    requires mark { IsMark (before renewal.now.change.now) renewal.now.mark.now }
+    requires adds { mark_adds renewal.now.mark.now renewal.now.change.now.name.now ≡ true }
+    requires but { IsViewBut (after renewal.now.change.now) renewal.now.mark.now.name lost.now tuples }
+    requires loses { (more : List Line) → LosesOnly (before renewal.now.change.now) (after renewal.now.change.now) renewal.now.mark.now.name more → IsViewBut (after renewal.now.change.now) renewal.now.mark.now.name more tuples }
+    requires held { AllByRecursion (IsHeld (after renewal.now.change.now)) held.old }
+    ensures is { IfOk result (IsViewOf (after renewal.now.change.now) renewal.now.mark.now.name) }
     ensures held { held.new ≡ held.old }
-    ensures wide { IsErrOf result Wide → (measures (after change.now) mark.now.name).clash ≡ true }
+    ensures wide { IsErrOf result Wide → (measures (after renewal.now.change.now) renewal.now.mark.now.name).clash ≡ true }
 {
+    let (change, mark) = (renewal.change, renewal.mark);
     if !have_any(&tuples.list, lost)? || have_none_lost(alloc, change, gone, mark, &tuples.list)? {
         return Ok(tuples);
     }
@@ -228,14 +231,10 @@ fn shortened_over<E: Evaluate>(
         hidden: None,
     };
     others.formed();
-    remove_tuple::<E, _, _>(
-        alloc,
-        &mark.plan,
-        change.name,
+    let gone = OneTuple {
+        name: change.name,
         heading,
-        list,
-        gone,
-        &others,
-        &after,
-    )
+        tuple: gone,
+    };
+    remove_tuple::<E, _, _>(alloc, &mark.plan, &gone, list, &others, &after)
 }

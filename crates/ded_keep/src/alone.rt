@@ -18,6 +18,14 @@ use ded_packed::{Lent, lend};
 use ded_ranges::Window;
 use std::alloc::Global;
 
+/// A tuple that a relation gets or loses, with the relation's name and heading.
+#[derive(Clone, Copy)]
+pub struct OneTuple<'a> {
+    pub name: &'a Name,
+    pub heading: &'a Heading,
+    pub tuple: &'a Tuple,
+}
+
 /// The tuples alone under the name, which the other relations don't give, and these as they are.
 #[derive(Drop)]
 pub(crate) struct Alone<'a, R: Relations> {
@@ -63,28 +71,26 @@ impl<'a, R: Relations> Relations for Alone<'a, R> {
     }
 }
 
-/// What the plan gives with the tuple alone as the tuples of the name `changed`, which the other relations don't give.
+/// What the plan gives with the tuple alone as the tuples of its relation, which the other relations don't give.
 ///
 /// # Errors
 /// `Wide` only where the plan clashes so, otherwise out of memory.
 pub(crate) fn tuples_alone<E: Evaluate, R: Relations>(
     alloc: Global,
     plan: &Plan,
-    changed: &Name,
-    heading: &Heading,
-    tuple: &Tuple,
+    one: &OneTuple<'_>,
     others: &R,
 ) -> Result<Tuples, Refused>
-    requires apart { entry_of (R.catalogue others.now).entries changed.now ≡ None }
-    requires evaluable { IsEvaluable IsAnyAtom (with_alone (R.catalogue others.now) changed.now heading.now tuple.now) (plan_form plan.now) }
-    ensures is { IfOk result (λ ts. IsEvaluation (with_alone (R.catalogue others.now) changed.now heading.now tuple.now) (plan_form plan.now) (tuples_hold ts) (tuples_mention ts) (tuples_lines ts)) }
-    ensures wide { IsErrOf result Wide → plan_clashes (stored_measures (with_alone (R.catalogue others.now) changed.now heading.now tuple.now)) (plan_form plan.now) ≡ true }
+    requires apart { entry_of (R.catalogue others.now).entries one.now.name.now ≡ None }
+    requires evaluable { IsEvaluable IsAnyAtom (with_alone (R.catalogue others.now) one.now.name.now one.now.heading.now one.now.tuple.now) (plan_form plan.now) }
+    ensures is { IfOk result (λ ts. IsEvaluation (with_alone (R.catalogue others.now) one.now.name.now one.now.heading.now one.now.tuple.now) (plan_form plan.now) (tuples_hold ts) (tuples_mention ts) (tuples_lines ts)) }
+    ensures wide { IsErrOf result Wide → plan_clashes (stored_measures (with_alone (R.catalogue others.now) one.now.name.now one.now.heading.now one.now.tuple.now)) (plan_form plan.now) ≡ true }
 {
     let mut tuples = Vec::with_capacity(alloc, 1)?;
-    tuples.push(tuple.copy()?)?;
+    tuples.push(one.tuple.copy()?)?;
     let relations = Alone {
-        name: changed,
-        heading,
+        name: one.name,
+        heading: one.heading,
         tuples: &tuples,
         others,
     };

@@ -12,13 +12,12 @@ ghost use Rattle.ded_algebra.specs.Evaluation.{IsAnyAtom, IsEvaluable, IsEvaluat
 ghost use Rattle.ded_keep.specs.Additive.{is_additive};
 ghost use Rattle.ded_keep.specs.Adding.{with_alone, IsExtended, IsAddition};
 
-use crate::alone::tuples_alone;
+use crate::alone::{OneTuple, tuples_alone};
 use crate::behind::put_behind;
 use ded_algebra::{Evaluate, Relations};
 use ded_model::memory::Refused;
-use ded_model::name::{Heading, Name};
 use ded_model::plan::Plan;
-use ded_model::tuple::{Tuple, Tuples};
+use ded_model::tuple::Tuples;
 use std::alloc::Global;
 
 /// Tuples that hold exactly where the plan does over the given relations. They mention only slots that the plan mentions freely, and
@@ -39,35 +38,33 @@ pub fn refresh<E: Evaluate, R: Relations>(
     E::evaluate(alloc, plan, relations)
 }
 
-/// Tuples that hold where `kept` does or where the plan does with `added` alone as the tuples of `changed`: `kept`, and more behind it,
-/// without tuples that are found to be covered already ([`put_behind`]). So where `kept` held exactly where the plan did, and `added` is inserted into `changed`, they hold exactly where the plan does then,
-/// if each other name that the plan scans means what is given of it before and after. The closure and the interior of `changed` are such
-/// names.
-/// The plan is additive in `changed`, whose heading is `heading`. The other relations don't give `changed`, and give each other name
-/// that the plan scans, with tuples over columns of the sorts of the scan's slots.
+/// Tuples that hold where `kept` does or where the plan does with `added` alone as the tuples of its relation: `kept`, and more behind it,
+/// without tuples that are found to be covered already ([`put_behind`]). So where `kept` held exactly where the plan did, and `added` is
+/// inserted into its relation, they hold exactly where the plan does then, if each other name that the plan scans means what is given of
+/// it before and after. The closure and the interior of the relation are such names.
+/// The plan is additive in the relation's name. The other relations don't give that name, and give each other one that the plan scans,
+/// with tuples over columns of the sorts of the scan's slots.
 ///
 /// # Errors
-/// `Wide` only where the plan clashes with `added` alone as the tuples of `changed`, otherwise out of memory. `kept` is lost then.
+/// `Wide` only where the plan clashes with `added` alone as the tuples of its relation, otherwise out of memory. `kept` is lost then.
 pub fn add_tuple<E: Evaluate, R: Relations>(
     alloc: Global,
     plan: &Plan,
-    changed: &Name,
-    heading: &Heading,
+    added: &OneTuple<'_>,
     kept: Tuples,
-    added: &Tuple,
     others: &R,
 ) -> Result<Tuples, Refused>
-    requires additive { is_additive changed.now (plan_form plan.now) ≡ true }
-    requires apart { entry_of (R.catalogue others.now).entries changed.now ≡ None }
-    requires evaluable { IsEvaluable IsAnyAtom (with_alone (R.catalogue others.now) changed.now heading.now added.now) (plan_form plan.now) }
-    ensures is { IfOk result (IsExtended (with_alone (R.catalogue others.now) changed.now heading.now added.now) (plan_form plan.now) kept) }
-    ensures adds { IfOk result (λ ts. (b d : Catalogue) → IsAddition (R.catalogue others.now) b d changed.now heading.now added.now (plan_form plan.now)
+    requires additive { is_additive added.now.name.now (plan_form plan.now) ≡ true }
+    requires apart { entry_of (R.catalogue others.now).entries added.now.name.now ≡ None }
+    requires evaluable { IsEvaluable IsAnyAtom (with_alone (R.catalogue others.now) added.now.name.now added.now.heading.now added.now.tuple.now) (plan_form plan.now) }
+    ensures is { IfOk result (IsExtended (with_alone (R.catalogue others.now) added.now.name.now added.now.heading.now added.now.tuple.now) (plan_form plan.now) kept) }
+    ensures adds { IfOk result (λ ts. (b d : Catalogue) → IsAddition (R.catalogue others.now) b d added.now.name.now added.now.heading.now added.now.tuple.now (plan_form plan.now)
         → ((p : Point) → IsPoint p → IsTrue (tuples_hold kept p) ↔ PlanHolds b (plan_form plan.now) p)
         → (p : Point) → IsPoint p → IsTrue (tuples_hold ts p) ↔ PlanHolds d (plan_form plan.now) p) }
-    ensures wide { IsErrOf result Wide → plan_clashes (stored_measures (with_alone (R.catalogue others.now) changed.now heading.now added.now)) (plan_form plan.now) ≡ true }
+    ensures wide { IsErrOf result Wide → plan_clashes (stored_measures (with_alone (R.catalogue others.now) added.now.name.now added.now.heading.now added.now.tuple.now)) (plan_form plan.now) ≡ true }
 {
     others.formed();
-    let more = tuples_alone::<E, R>(alloc, plan, changed, heading, added, others)?;
+    let more = tuples_alone::<E, R>(alloc, plan, added, others)?;
     let mut list = kept.list;
     put_behind::<E>(alloc, &mut list, more)?;
     Ok(Tuples { list })

@@ -22,6 +22,7 @@ mod removing;
 mod unlike;
 
 pub use additive::is_additive;
+pub use alone::OneTuple;
 pub use behind::put_behind;
 pub use keeping::{add_tuple, refresh};
 pub use removing::remove_tuple;

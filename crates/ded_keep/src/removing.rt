@@ -12,51 +12,48 @@ ghost use Rattle.ded_keep.specs.Additive.{is_additive};
 ghost use Rattle.ded_keep.specs.Adding.{with_alone, IsAddition};
 ghost use Rattle.ded_keep.specs.Remaining.{IsApart, AreApart, IsParted, AreOfBoth, AddsPiece, IsWithin, AddsWithin, AreLeft, IsRemaining};
 
-use crate::alone::tuples_alone;
+use crate::alone::{OneTuple, tuples_alone};
 use crate::behind::put_behind;
 use crate::unlike::fix_other_texts;
 use ded_algebra::{Evaluate, Relations};
 use ded_model::laws::sameness::equal_tuples;
 use ded_model::memory::{NoMemory, Refused};
-use ded_model::name::{Heading, Name};
 use ded_model::plan::Plan;
 use ded_model::tuple::{Tuple, Tuples};
 use std::alloc::Global;
 
-/// Tuples that are left of `kept` where `changed` loses the tuple `gone`: those at whose points the plan with `gone` alone as the
-/// tuples of `changed` doesn't hold, as they are, and of each other one what the plan gives within it over what is given after.
+/// Tuples that are left of `kept` where a relation loses the tuple `gone`: those at whose points the plan with `gone` alone as the
+/// tuples of that relation doesn't hold, as they are, and of each other one what the plan gives within it over what is given after.
 /// So where `kept` held exactly where the plan did, they hold exactly where the plan does after, if each other name that the plan
-/// scans means what is given of it before and after. The closure and the interior of `changed` are such names.
-/// The plan is additive in `changed`, whose heading is `heading`. The other relations don't give `changed`, and give each other name
-/// that the plan scans, with tuples over columns of the sorts of the scan's slots; and so do those after, which give `changed` too.
+/// scans means what is given of it before and after. The closure and the interior of the relation are such names.
+/// The plan is additive in the relation's name. The other relations don't give that name, and give each other one that the plan scans,
+/// with tuples over columns of the sorts of the scan's slots; and so do those after, which give that name too.
 ///
 /// # Errors
-/// `Wide` only where the plan clashes with `gone` alone as the tuples of `changed`, or over what is given after; otherwise out of
+/// `Wide` only where the plan clashes with `gone` alone as the tuples of its relation, or over what is given after; otherwise out of
 /// memory. `kept` is lost then.
 pub fn remove_tuple<E: Evaluate, R: Relations, A: Relations>(
     alloc: Global,
     plan: &Plan,
-    changed: &Name,
-    heading: &Heading,
+    gone: &OneTuple<'_>,
     kept: Tuples,
-    gone: &Tuple,
     others: &R,
     after: &A,
 ) -> Result<Tuples, Refused>
-    requires additive { is_additive changed.now (plan_form plan.now) ≡ true }
-    requires apart { entry_of (R.catalogue others.now).entries changed.now ≡ None }
-    requires evaluable { IsEvaluable IsAnyAtom (with_alone (R.catalogue others.now) changed.now heading.now gone.now) (plan_form plan.now) }
+    requires additive { is_additive gone.now.name.now (plan_form plan.now) ≡ true }
+    requires apart { entry_of (R.catalogue others.now).entries gone.now.name.now ≡ None }
+    requires evaluable { IsEvaluable IsAnyAtom (with_alone (R.catalogue others.now) gone.now.name.now gone.now.heading.now gone.now.tuple.now) (plan_form plan.now) }
     requires after { IsEvaluable IsAnyAtom (A.catalogue after.now) (plan_form plan.now) }
-    ensures is { IfOk result (IsRemaining (with_alone (R.catalogue others.now) changed.now heading.now gone.now) (A.catalogue after.now) (plan_form plan.now) kept) }
-    ensures removes { IfOk result (λ ts. (b d : Catalogue) → IsAddition (R.catalogue others.now) d b changed.now heading.now gone.now (plan_form plan.now)
+    ensures is { IfOk result (IsRemaining (with_alone (R.catalogue others.now) gone.now.name.now gone.now.heading.now gone.now.tuple.now) (A.catalogue after.now) (plan_form plan.now) kept) }
+    ensures removes { IfOk result (λ ts. (b d : Catalogue) → IsAddition (R.catalogue others.now) d b gone.now.name.now gone.now.heading.now gone.now.tuple.now (plan_form plan.now)
         → ((p : Point) → IsPoint p → GivenHolds (A.catalogue after.now) (plan_form plan.now) p ↔ PlanHolds d (plan_form plan.now) p)
         → ((p : Point) → IsPoint p → IsTrue (tuples_hold kept p) ↔ PlanHolds b (plan_form plan.now) p)
         → (p : Point) → IsPoint p → IsTrue (tuples_hold ts p) ↔ PlanHolds d (plan_form plan.now) p) }
-    ensures wide { IsErrOf result Wide → (plan_clashes (stored_measures (with_alone (R.catalogue others.now) changed.now heading.now gone.now)) (plan_form plan.now) ≡ true)
+    ensures wide { IsErrOf result Wide → (plan_clashes (stored_measures (with_alone (R.catalogue others.now) gone.now.name.now gone.now.heading.now gone.now.tuple.now)) (plan_form plan.now) ≡ true)
         ⊎ (plan_clashes (stored_measures (A.catalogue after.now)) (plan_form plan.now) ≡ true) }
 {
     others.formed();
-    let lost = tuples_alone::<E, R>(alloc, plan, changed, heading, gone, others)?;
+    let lost = tuples_alone::<E, R>(alloc, plan, gone, others)?;
     let parted = part_kept::<E>(alloc, kept, &lost.list)?;
     left_of::<E, A>(alloc, plan, parted, &lost.list, after)
 }

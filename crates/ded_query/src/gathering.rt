@@ -35,6 +35,13 @@ use ded_plan::{ScanWithin, plan, scanned_names, scans_within};
 use ded_resolve::laws;
 use std::alloc::Global;
 
+/// The names of a catalogue up to a level.
+#[derive(Clone, Copy)]
+struct Strata<'a, 'b> {
+    snapshot: &'a Snapshot<'b>,
+    level: u32,
+}
+
 /// Tuples that hold exactly where the goal of an accepted formula does over the catalogue, whose names have at most the level.
 /// They mention only slots that the goal mentions freely. The views that it reaches are given first, each name once. What was given
 /// stays at the front.
@@ -159,7 +166,8 @@ fn evaluated_near<E: Evaluate>(
     };
     let scans = scans_within(alloc, plan, &everywhere)?;
     let mut left = NEAR_VIEWS;
-    let near = gathered::<E>(alloc, snapshot, &scans, level, given, &mut left)?;
+    let strata = Strata { snapshot, level };
+    let near = gathered::<E>(alloc, &strata, &scans, given, &mut left)?;
     let count = given.count();
     add_all(given, near)?;
     let relations = Over {
@@ -180,29 +188,28 @@ fn evaluated_near<E: Evaluate>(
 #[cycle(evaluated)]
 fn evaluated_within<E: Evaluate>(
     alloc: Global,
-    snapshot: &Snapshot<'_>,
+    strata: &Strata<'_, '_>,
     plan: &Plan,
     within: &Tuple,
-    level: u32,
     given: &mut Given,
     left: &mut u32,
 ) -> Result<Tuples, Refused>
-    requires posed { IsPosedPlan (snapshot_of snapshot.now) (plan_form plan.now) level }
-    requires given { AllByRecursion (IsGivenOf (snapshot_of snapshot.now)) given.old }
-    ensures is { (g : GoalForm) → IsPosed (snapshot_of snapshot.now) g level → IsPlanned g (plan_form plan.now)
-        → IfOk result (λ ts. IsEvaluatedWithin (snapshot_of snapshot.now) g (tuple_holds within.now) ts) }
-    ensures gathered { OnOk result (IsGathered (snapshot_of snapshot.now) given.old given.new) }
+    requires posed { IsPosedPlan (snapshot_of strata.now.snapshot.now) (plan_form plan.now) strata.now.level }
+    requires given { AllByRecursion (IsGivenOf (snapshot_of strata.now.snapshot.now)) given.old }
+    ensures is { (g : GoalForm) → IsPosed (snapshot_of strata.now.snapshot.now) g strata.now.level → IsPlanned g (plan_form plan.now)
+        → IfOk result (λ ts. IsEvaluatedWithin (snapshot_of strata.now.snapshot.now) g (tuple_holds within.now) ts) }
+    ensures gathered { OnOk result (IsGathered (snapshot_of strata.now.snapshot.now) given.old given.new) }
     ensures front { IsFront given.old given.new }
-    ensures wide { IsErrOf result Wide → (g : GoalForm) → IsPosed (snapshot_of snapshot.now) g level → IsPlanned g (plan_form plan.now)
-        → goal_clashes (measures (snapshot_of snapshot.now)) g ≡ true }
+    ensures wide { IsErrOf result Wide → (g : GoalForm) → IsPosed (snapshot_of strata.now.snapshot.now) g strata.now.level → IsPlanned g (plan_form plan.now)
+        → goal_clashes (measures (snapshot_of strata.now.snapshot.now)) g ≡ true }
 {
-    snapshot.formed();
+    strata.snapshot.formed();
     let scans = scans_within(alloc, plan, within)?;
-    let near = gathered::<E>(alloc, snapshot, &scans, level, given, left)?;
+    let near = gathered::<E>(alloc, strata, &scans, given, left)?;
     let count = given.count();
     add_all(given, near)?;
     let relations = Over {
-        snapshot,
+        snapshot: strata.snapshot,
         given: &*given,
         hidden: None,
     };
@@ -219,27 +226,24 @@ fn evaluated_within<E: Evaluate>(
 #[cycle(evaluated)]
 fn gathered<E: Evaluate>(
     alloc: Global,
-    snapshot: &Snapshot<'_>,
+    strata: &Strata<'_, '_>,
     scans: &[ScanWithin],
-    level: u32,
     given: &mut Given,
     left: &mut u32,
 ) -> Result<Vec<GivenRelation>, Refused>
-    requires scans { AllByRecursion (IsReadable (snapshot_of snapshot.now) level) scans.now }
-    requires given { AllByRecursion (IsGivenOf (snapshot_of snapshot.now)) given.old }
-    ensures gathered { OnOk result (IsGathered (snapshot_of snapshot.now) given.old given.new) }
-    ensures near { IfOk result (λ v. AllByRecursion (IsGivenNear (snapshot_of snapshot.now) scans.now) v.items) }
-    ensures all { IfOk result (λ v. AllByRecursion (λ s. (has_name s.name (over_relations (snapshot_of snapshot.now) None given.new) || has_name s.name v.items) ≡ true) scans.now) }
+    requires scans { AllByRecursion (IsReadable (snapshot_of strata.now.snapshot.now) strata.now.level) scans.now }
+    requires given { AllByRecursion (IsGivenOf (snapshot_of strata.now.snapshot.now)) given.old }
+    ensures gathered { OnOk result (IsGathered (snapshot_of strata.now.snapshot.now) given.old given.new) }
+    ensures near { IfOk result (λ v. AllByRecursion (IsGivenNear (snapshot_of strata.now.snapshot.now) scans.now) v.items) }
+    ensures all { IfOk result (λ v. AllByRecursion (λ s. (has_name s.name (over_relations (snapshot_of strata.now.snapshot.now) None given.new) || has_name s.name v.items) ≡ true) scans.now) }
     ensures front { IsFront given.old given.new }
-    ensures wide { IsErrOf result Wide → list_any (λ s. (measures (snapshot_of snapshot.now) s.name).clash) scans.now ≡ true }
+    ensures wide { IsErrOf result Wide → list_any (λ s. (measures (snapshot_of strata.now.snapshot.now) s.name).clash) scans.now ≡ true }
 {
     let mut near = Vec::new(alloc);
     for scan in scans {
-        match near_goal(snapshot, scan, scans, given, left) {
-            Some(goal) => near.push(view_near::<E>(
-                alloc, snapshot, scan, goal, level, given, left,
-            )?)?,
-            None => give::<E>(alloc, snapshot, &scan.name, level, given)?,
+        match near_goal(strata.snapshot, scan, scans, given, left) {
+            Some(goal) => near.push(view_near::<E>(alloc, strata, scan, goal, given, left)?)?,
+            None => give::<E>(alloc, strata.snapshot, &scan.name, strata.level, given)?,
         }
     }
     Ok(near)
@@ -252,27 +256,30 @@ fn gathered<E: Evaluate>(
 #[cycle(evaluated)]
 fn view_near<E: Evaluate>(
     alloc: Global,
-    snapshot: &Snapshot<'_>,
+    strata: &Strata<'_, '_>,
     scan: &ScanWithin,
     goal: &Goal,
-    level: u32,
     given: &mut Given,
     left: &mut u32,
 ) -> Result<GivenRelation, Refused>
-    requires view { IsViewGoal (snapshot_of snapshot.now) scan.now.name (goal_form goal.now) }
-    requires readable { IsReadable (snapshot_of snapshot.now) level scan.now }
-    requires given { AllByRecursion (IsGivenOf (snapshot_of snapshot.now)) given.old }
-    ensures is { IfOk result (IsNearView (snapshot_of snapshot.now) scan.now) }
-    ensures gathered { OnOk result (IsGathered (snapshot_of snapshot.now) given.old given.new) }
+    requires view { IsViewGoal (snapshot_of strata.now.snapshot.now) scan.now.name (goal_form goal.now) }
+    requires readable { IsReadable (snapshot_of strata.now.snapshot.now) strata.now.level scan.now }
+    requires given { AllByRecursion (IsGivenOf (snapshot_of strata.now.snapshot.now)) given.old }
+    ensures is { IfOk result (IsNearView (snapshot_of strata.now.snapshot.now) scan.now) }
+    ensures gathered { OnOk result (IsGathered (snapshot_of strata.now.snapshot.now) given.old given.new) }
     ensures front { IsFront given.old given.new }
-    ensures wide { IsErrOf result Wide → (measures (snapshot_of snapshot.now) scan.now.name).clash ≡ true }
+    ensures wide { IsErrOf result Wide → (measures (snapshot_of strata.now.snapshot.now) scan.now.name).clash ≡ true }
 {
-    snapshot.formed();
+    strata.snapshot.formed();
     laws::normal_goals();
     let plan = plan(alloc, goal)?;
     let within = at_columns(alloc, &scan.within, &scan.slots)?;
-    let tuples = evaluated_within::<E>(alloc, snapshot, &plan, &within, level - 1, given, left)?;
-    Ok(view_relation(snapshot, &scan.name, reduced(alloc, tuples)?)?)
+    let below = Strata {
+        snapshot: strata.snapshot,
+        level: strata.level - 1,
+    };
+    let tuples = evaluated_within::<E>(alloc, &below, &plan, &within, given, left)?;
+    Ok(view_relation(strata.snapshot, &scan.name, reduced(alloc, tuples)?)?)
 }
 
 /// Gives those of the names that are views. All are made of defined ones that have at most the level.

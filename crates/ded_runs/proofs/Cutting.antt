@@ -1,57 +1,35 @@
--- The statements of a dump's script.
+-- The statements of a dump's scripts.
 use Rattle.std.proofs.Common.{◌≡◌, ℕ, List, [], ◌∷◌, ◌++◌, map, inl, refl, sym, ap}
 use Rattle.std.specs.List.{AllByRecursion}
-use Rattle.ded_lex.specs.Gaps.{Space, IsBlank}
-use Rattle.ded_lex.specs.Pieces.{IsWhole, HasNoWhole, IsCut, Statement, Whole, AreStatements}
+use Rattle.ded_lex.specs.Pieces.{IsWhole, IsCut, Statement, Whole, AreStatements}
 use Rattle.ded_lex.proofs.Cuts.{one_list}
-use Rattle.ded_model.specs.Catalogue.{Catalogue}
-use Rattle.ded_dump.specs.Entries.{dump_lines}
 use Rattle.ded_reread.specs.Lines.{header_text, IsLine}
-use Rattle.ded_runs.specs.Remade.{script_of_lines}
-use Rattle.ded_runs.proofs.Items.{Item, items, tail_of, script_is}
+use Rattle.ded_runs.proofs.Items.{Item, piece, tail_of}
+use Rattle.ded_runs.proofs.LinesBehind.{IsFront}
 
-abbrev pub piece : Item → List ℕ
-piece i = 10 ∷ i.text
-
-abbrev pub statement : Item → Statement
-statement i = Whole (piece i)
+abbrev pub statement : List ℕ → Item → Statement
+statement front i = Whole (piece front i)
 
 abbrev pub AreLines : List Item → Type 0
 AreLines = AllByRecursion (λ (i : Item). IsLine i.text i.command)
 
-nothing_more : (p after : List ℕ) → [] ≡ p ++ 59 ∷ after → ⊥
-nothing_more [] after e = cc
-nothing_more (x ∷ p) after e = cc
+module _ (front : List ℕ) (f : IsFront front) where
+  tail_cut : (is : List Item) → AreLines is → IsCut (tail_of front is) (map (piece front) is) front
+  tail_cut [] h = (f.none, refl)
+  tail_cut (i ∷ is) h = (tail_of front is, record { is = refl; whole = (f.lines i.text i.command h.0).whole (tail_of front is) }, tail_cut is h.1)
 
-last_blank : HasNoWhole (10 ∷ [])
-last_blank front after b = by front b.is
-  where
-    by : (p : List ℕ) → 10 ∷ [] ≡ p ++ 59 ∷ after → ⊥
-    by [] e = cc
-    by (x ∷ p) e = nothing_more p after (ap rest_of e)
-      where
-        rest_of : List ℕ → List ℕ
-        rest_of [] = []
-        rest_of (y ∷ ys) = ys
+  statements_are : (is : List Item) → map Whole (map (piece front) is) ≡ map (statement front) is
+  statements_are [] = refl
+  statements_are (i ∷ is) = ap (λ ss. statement front i ∷ ss) (statements_are is)
 
-tail_cut : (is : List Item) → AreLines is → IsCut (tail_of is) (map piece is) (10 ∷ [])
-tail_cut [] h = (last_blank, refl)
-tail_cut (i ∷ is) h = (tail_of is, record { is = refl; whole = h.0.whole (tail_of is) }, tail_cut is h.1)
+  module _ (whole_header : (after : List ℕ) → IsWhole header_text (59 ∷ after)) (script : List ℕ) (is : List Item) (e : script ≡ header_text ++ 59 ∷ tail_of front is) (h : AreLines is) where
+    pub dump_cut : AreStatements script (Whole header_text ∷ map (statement front) is)
+    dump_cut = record {
+      pieces = header_text ∷ map (piece front) is;
+      rest = front;
+      cut = (tail_of front is, record { is = e; whole = whole_header (tail_of front is) }, tail_cut is h);
+      are = inl (f.blank, ap (λ rest. Whole header_text ∷ rest) (sym (statements_are is)));
+    }
 
-line_feed : IsBlank (10 ∷ [])
-line_feed = record { gaps = Space 10 ∷ []; is = refl; each = (refl, tt) }
-
-statements_are : (is : List Item) → map Whole (map piece is) ≡ map statement is
-statements_are [] = refl
-statements_are (i ∷ is) = ap (λ ss. statement i ∷ ss) (statements_are is)
-
-module _ (whole_header : (after : List ℕ) → IsWhole header_text (59 ∷ after)) where
-  pub dump_statements : (c : Catalogue) (ss : List Statement) → AreLines (items c.entries) → AreStatements (script_of_lines (dump_lines c)) ss → ss ≡ Whole header_text ∷ map statement (items c.entries)
-  dump_statements c ss h cut =
-      let is = items c.entries in
-      one_list (script_of_lines (dump_lines c)) ss (Whole header_text ∷ map statement is) cut (record {
-        pieces = header_text ∷ map piece is;
-        rest = 10 ∷ [];
-        cut = (tail_of is, record { is = script_is c; whole = whole_header (tail_of is) }, tail_cut is h);
-        are = inl (line_feed, ap (λ rest. Whole header_text ∷ rest) (sym (statements_are is)));
-      })
+    pub dump_statements : (ss : List Statement) → AreStatements script ss → ss ≡ Whole header_text ∷ map (statement front) is
+    dump_statements ss cut = one_list script ss (Whole header_text ∷ map (statement front) is) cut dump_cut

@@ -1,6 +1,5 @@
--- A dump makes the remade catalogue.
-use Rattle.std.proofs.Common.{◌≡◌, inl, inr, ℕ, ◌≤◌, arith, List, [], ◌∷◌, length, map, subst}
-use Rattle.std.specs.List.{AllByRecursion}
+-- A dump makes the remade catalogue, and there is a run of it.
+use Rattle.std.proofs.Common.{◌≡◌, inl, inr, ℕ, ◌≤◌, arith, List, [], ◌∷◌, ◌++◌, length, map, refl, sym, subst}
 use Rattle.ded_lex.specs.Pieces.{IsWhole, Statement, Whole}
 use Rattle.ded_model.specs.declared.command.Language.{Language}
 use Rattle.ded_model.specs.declared.command.Language.TheVariants.{Opening, Two}
@@ -9,18 +8,20 @@ use Rattle.ded_model.specs.Command.{CommandForm, header}
 use Rattle.ded_model.specs.Known.{IsWellFormed, known_of}
 use Rattle.ded_syntax.specs.Spelling.{IsHeader}
 use Rattle.ded_syntax.proofs.One.{one_command}
-use Rattle.ded_dump.specs.Entries.{dump_lines}
 use Rattle.ded_reread.specs.Lines.{header_text}
 use Rattle.ded_session.specs.Replies.{ReplyForm, done, number, truth, tuples, stored, boxes, steps, script, apart, meeting, refused}
 use Rattle.ded_session.specs.Runs.{GoesOn, Steps, Run, empty_catalogue}
 use Rattle.ded_session.specs.Steps.{Does, Accepted, IsHeaderIn, Step}
+use Rattle.ded_session.proofs.HeaderSteps.{header_step}
 use Rattle.ded_runs.specs.Read.{WasCatalogueRead}
-use Rattle.ded_runs.specs.Remade.{remade, script_of_lines}
+use Rattle.ded_runs.specs.Remade.{remade}
 use Rattle.ded_runs.specs.Runs.{WantsNone}
-use Rattle.ded_runs.proofs.Cutting.{statement, dump_statements}
-use Rattle.ded_runs.proofs.Items.{items, short_lines}
+use Rattle.ded_runs.proofs.Cutting.{AreLines, statement, dump_cut, dump_statements}
+use Rattle.ded_runs.proofs.Items.{items, tail_of, AreShort}
+use Rattle.ded_runs.proofs.Limits.{run_limit}
+use Rattle.ded_runs.proofs.LinesBehind.{IsFront}
 use Rattle.ded_runs.proofs.Readying.{Laws, ready_entries, ready_lines}
-use Rattle.ded_runs.proofs.Running.{AreReady, run_entries}
+use Rattle.ded_runs.proofs.Running.{AreReady, run_entries, can_run}
 
 -- ---- the header
 
@@ -50,24 +51,56 @@ header_short = omega arith
 
 -- ---- all of it
 
-module _ (laws : Laws) (is_header : IsHeader header_text) (whole_header : (after : List ℕ) → IsWhole header_text (59 ∷ after)) where
-  module _ (c d : Catalogue) (small : c.limit ≤ 1000000) (w : IsWellFormed c) (r : WasCatalogueRead c) (short : AllByRecursion (λ (l : List ℕ). length l ≤ 65536) (dump_lines c)) where
-    -- nothing is known at first
-    all_ready : AreReady c.limit (known_of []) c.entries
-    unfolding known_of
-    all_ready = ready_entries laws c.limit _ c.entries w r
+module _ (laws : Laws) (is_header : IsHeader header_text) (whole_header : (after : List ℕ) → IsWhole header_text (59 ∷ after)) (c : Catalogue) (small : c.limit ≤ 1000000) (w : IsWellFormed c) (r : WasCatalogueRead c) where
+  -- nothing is known at first
+  all_ready : AreReady c.limit (known_of []) c.entries
+  unfolding known_of
+  all_ready = ready_entries laws c.limit _ c.entries w r
 
-    from_statements : (others : List ReplyForm) → Steps Opening (empty_catalogue c.limit) (Whole header_text ∷ map statement (items c.entries)) others d → WantsNone others → d ≡ remade c
-    from_statements [] p wants = absurd p
-    from_statements (reply ∷ others) p wants =
+  module _ (front : List ℕ) (is_front : IsFront front) (text : List ℕ) (is : text ≡ header_text ++ 59 ∷ tail_of front (items c.entries)) (short : AreShort front (items c.entries)) where
+    lines : AreLines (items c.entries)
+    lines = ready_lines c.limit (known_of []) c.entries all_ready
+
+    from_statements : (d : Catalogue) (others : List ReplyForm) → Steps Opening (empty_catalogue c.limit) (Whole header_text ∷ map (statement front) (items c.entries)) others d → WantsNone others → d ≡ remade c
+    from_statements d [] p wants = absurd p
+    from_statements d (reply ∷ others) p wants =
         let same = header_leaves (empty_catalogue c.limit) p.0 header_text is_header reply p.2 in
         let two = then_two (Whole header_text) p.1 (header_short, is_header) p.3 in
-        let rest = subst (λ (l : Language). Steps l p.0 (map statement (items c.entries)) others d) two p.4 in
-        let from = subst (λ (e : Catalogue). Steps Two e (map statement (items c.entries)) others d) same rest in
-        run_entries c.limit small laws.level [] c.entries all_ready (short_lines c short) others d from wants.1
+        let ss = map (statement front) (items c.entries) in
+        let rest = subst (λ (l : Language). Steps l p.0 ss others d) two p.4 in
+        let from = subst (λ (e : Catalogue). Steps Two e ss others d) same rest in
+        run_entries c.limit front is_front small laws.level [] c.entries all_ready short others d from wants.1
 
-    pub dumped : (others : List ReplyForm) → Run c.limit (script_of_lines (dump_lines c)) others d → WantsNone others → d ≡ remade c
-    dumped others run wants =
-        let lines = ready_lines c.limit (known_of []) c.entries all_ready in
-        let are = dump_statements whole_header c run.statements lines run.cut in
-        from_statements others (subst (λ ss. Steps Opening (empty_catalogue c.limit) ss others d) are run.steps) wants
+    leaves : (d : Catalogue) (others : List ReplyForm) → Run c.limit text others d → WantsNone others → d ≡ remade c
+    leaves d others run wants =
+        let are = dump_statements front is_front whole_header text (items c.entries) is lines run.statements run.cut in
+        from_statements d others (subst (λ ss. Steps Opening (empty_catalogue c.limit) ss others d) are run.steps) wants
+
+    some_run : (others : List ReplyForm) × Run c.limit text others (remade c) × WantsNone others
+    some_run =
+        let can = can_run c.limit front is_front small laws.level [] c.entries all_ready short in
+        let empty = empty_catalogue c.limit in
+        let header_in : IsHeaderIn Opening (Whole header_text) = (header_short, is_header) in (
+          done ∷ can.replies,
+          record {
+            statements = Whole header_text ∷ map (statement front) (items c.entries);
+            cut = dump_cut front is_front whole_header text (items c.entries) is lines;
+            steps = (empty, Two, header_step Opening header_text empty header_in, inl (header_in, refl), can.steps);
+          },
+          (tt, can.wants),
+        )
+
+-- over a catalogue to which a run leads, with the limit of that run
+module _ (laws : Laws) (is_header : IsHeader header_text) (whole_header : (after : List ℕ) → IsWhole header_text (59 ∷ after)) (limit : ℕ) (script : List ℕ) (replies : List ReplyForm) (c : Catalogue) (small : limit ≤ 1000000)
+    (run : Run limit script replies c) (w : IsWellFormed c) (r : WasCatalogueRead c) (front : List ℕ) (is_front : IsFront front) (text : List ℕ) (is : text ≡ header_text ++ 59 ∷ tail_of front (items c.entries)) (short : AreShort front (items c.entries)) where
+  same : c.limit ≡ limit
+  same = run_limit limit script replies c run
+
+  few : c.limit ≤ 1000000
+  few = subst (λ (l : ℕ). l ≤ 1000000) (sym same) small
+
+  pub dumped : (d : Catalogue) (others : List ReplyForm) → Run limit text others d → WantsNone others → d ≡ remade c
+  dumped d others again wants = leaves laws is_header whole_header c few w r front is_front text is short d others (subst (λ (l : ℕ). Run l text others d) (sym same) again) wants
+
+  pub some_dump : (others : List ReplyForm) × Run limit text others (remade c) × WantsNone others
+  some_dump = subst (λ (l : ℕ). (others : List ReplyForm) × Run l text others (remade c) × WantsNone others) same (some_run laws is_header whole_header c few w r front is_front text is short)

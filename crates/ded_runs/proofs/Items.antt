@@ -1,5 +1,5 @@
 -- The lines of a catalogue, each with the command that is read of it.
-use Rattle.std.proofs.Common.{◌≡◌, ◌≤◌, ℕ, List, [], ◌∷◌, ◌++◌, map, length, length-append, append_assoc, arith, refl, sym, ap, ◌∙◌, subst}
+use Rattle.std.proofs.Common.{◌≡◌, ◌≤◌, ℕ, ◌+◌, List, [], ◌∷◌, ◌++◌, map, length, length-append, append_assoc, arith, refl, sym, ap, ◌∙◌, subst}
 use Rattle.std.specs.Prelude.{codes}
 use Rattle.std.specs.List.{AllByRecursion}
 use Rattle.ded_model.specs.declared.name.Column.{Column}
@@ -14,7 +14,7 @@ use Rattle.ded_dump.specs.Formulas.{formula_text}
 use Rattle.ded_dump.specs.Headings.{heading_text}
 use Rattle.ded_reread.specs.Formulas.{restored, restored_tuple}
 use Rattle.ded_reread.specs.Lines.{header_text, relation_text, insert_text, view_text}
-use Rattle.ded_runs.specs.Remade.{script_of_lines}
+use Rattle.ded_runs.specs.Remade.{script_of_lines, joined_lines}
 
 -- a line without its semicolon, and the command
 pub record Item : Type 0 where
@@ -70,29 +70,41 @@ entries_are [] = refl
 entries_are (e ∷ es) =
     ap (λ ls. ls ++ entries_lines es) (entry_is e) ∙ ap (λ ls. map line (entry_items e) ++ ls) (entries_are es) ∙ sym (lines_behind (entry_items e) (items es))
 
--- ---- the script
+-- ---- the scripts
 
--- what stands behind the header's semicolon
-abbrev pub tail_of : List Item → List ℕ
-tail_of [] = 10 ∷ []
-tail_of (i ∷ is) = (10 ∷ i.text) ++ 59 ∷ tail_of is
+-- the piece that a line is behind the bytes that stand before each
+abbrev pub piece : List ℕ → Item → List ℕ
+piece front i = front ++ i.text
 
-tail_is : (is : List Item) → 10 ∷ script_of_lines (map line is) ≡ tail_of is
-tail_is [] = refl
-tail_is (i ∷ is) =
-    ap (λ l. 10 ∷ l) (append_assoc i.text (59 ∷ []) (10 ∷ script_of_lines (map line is)) ∙ ap (λ l. i.text ++ 59 ∷ l) (tail_is is))
+-- what stands behind the header's semicolon, where these bytes stand before each line and at the end
+abbrev pub tail_of : List ℕ → List Item → List ℕ
+tail_of front [] = front
+tail_of front (i ∷ is) = piece front i ++ 59 ∷ tail_of front is
 
-pub script_is : (c : Catalogue) → script_of_lines (dump_lines c) ≡ header_text ++ 59 ∷ tail_of (items c.entries)
-script_is c = ap (λ ls. header_line ++ 10 ∷ script_of_lines ls) (entries_are c.entries) ∙ ap (λ l. header_text ++ 59 ∷ l) (tail_is (items c.entries))
+fed_tail : (is : List Item) → 10 ∷ script_of_lines (map line is) ≡ tail_of (10 ∷ []) is
+fed_tail [] = refl
+fed_tail (i ∷ is) =
+    ap (λ l. 10 ∷ l) (append_assoc i.text (59 ∷ []) (10 ∷ script_of_lines (map line is)) ∙ ap (λ l. i.text ++ 59 ∷ l) (fed_tail is))
+
+joined_tail : (is : List Item) → joined_lines (map line is) ≡ tail_of [] is
+joined_tail [] = refl
+joined_tail (i ∷ is) = append_assoc i.text (59 ∷ []) (joined_lines (map line is)) ∙ ap (λ l. i.text ++ 59 ∷ l) (joined_tail is)
+
+pub fed_script : (c : Catalogue) → script_of_lines (dump_lines c) ≡ header_text ++ 59 ∷ tail_of (10 ∷ []) (items c.entries)
+fed_script c = ap (λ ls. header_line ++ 10 ∷ script_of_lines ls) (entries_are c.entries) ∙ ap (λ l. header_text ++ 59 ∷ l) (fed_tail (items c.entries))
+
+pub joined_script : (c : Catalogue) → joined_lines (dump_lines c) ≡ header_text ++ 59 ∷ tail_of [] (items c.entries)
+joined_script c = ap (λ ls. header_line ++ joined_lines ls) (entries_are c.entries) ∙ ap (λ l. header_text ++ 59 ∷ l) (joined_tail (items c.entries))
 
 -- ---- their lengths
 
-abbrev pub AreShort : List Item → Type 0
-AreShort = AllByRecursion (λ (i : Item). length (10 ∷ i.text) ≤ 65536)
+abbrev pub AreShort : List ℕ → List Item → Type 0
+AreShort front = AllByRecursion (λ (i : Item). length (piece front i) ≤ 65536)
 
-short_items : (is : List Item) → AllByRecursion (λ (l : List ℕ). length l ≤ 65536) (map line is) → AreShort is
-short_items [] h = tt
-short_items (i ∷ is) h = (omega (arith, h.0, length-append i.text (59 ∷ [])), short_items is h.1)
+module _ (front : List ℕ) (most : ℕ) (room : length front + most ≤ 65537) where
+  short_items : (is : List Item) → AllByRecursion (λ (l : List ℕ). length l ≤ most) (map line is) → AreShort front is
+  short_items [] h = tt
+  short_items (i ∷ is) h = (omega (arith, h.0, room, length-append i.text (59 ∷ []), length-append front i.text), short_items is h.1)
 
-pub short_lines : (c : Catalogue) → AllByRecursion (λ (l : List ℕ). length l ≤ 65536) (dump_lines c) → AreShort (items c.entries)
-short_lines c h = short_items (items c.entries) (subst (AllByRecursion (λ (l : List ℕ). length l ≤ 65536)) (entries_are c.entries) h.1)
+  pub short_lines : (c : Catalogue) → AllByRecursion (λ (l : List ℕ). length l ≤ most) (dump_lines c) → AreShort front (items c.entries)
+  short_lines c h = short_items (items c.entries) (subst (AllByRecursion (λ (l : List ℕ). length l ≤ most)) (entries_are c.entries) h.1)

@@ -11,6 +11,7 @@ pub mod Items
 pub mod Knowing
 pub mod Languages
 pub mod Limits
+pub mod LinesBehind
 pub mod Lists
 pub mod Meanings
 pub mod Measuring
@@ -26,4 +27,5 @@ pub mod Stepping
 pub mod Steps
 pub mod Telling
 pub mod Trees
+pub mod Truths
 pub mod Views

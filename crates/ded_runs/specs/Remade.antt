@@ -24,3 +24,8 @@ remade c = record { limit = c.limit; entries = map remade_entry c.entries }
 abbrev pub script_of_lines : List (List ℕ) → List ℕ
 script_of_lines [] = []
 script_of_lines (l ∷ ls) = l ++ 10 ∷ script_of_lines ls
+
+-- the lines one behind another, without a line feed between them
+abbrev pub joined_lines : List (List ℕ) → List ℕ
+joined_lines [] = []
+joined_lines (l ∷ ls) = l ++ joined_lines ls

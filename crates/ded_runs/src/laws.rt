@@ -3,14 +3,15 @@
 //!
 //! Laws of certificates that are checked again as they were printed. Each is the contract of a function that does nothing but call
 //! the laws that it rests on.
-ghost use Rattle.std.specs.Prelude.{◌≡◌, ◌↔◌, ◌≤◌, ◌<◌, ℕ, List, length, ◌⊎◌, ◌∷◌, true, map};
+ghost use Rattle.std.specs.Prelude.{◌≡◌, ◌↔◌, ◌≤◌, ◌<◌, ℕ, Bool, IsTrue, List, length, ◌⊎◌, ◌∷◌, true, map};
 ghost use Rattle.std.specs.List.{AllByRecursion};
 ghost use Rattle.ded_lex.specs.Pieces.{Statement, Whole, IsWhole};
 ghost use Rattle.ded_model.specs.declared.command.Language.{Language};
 ghost use Rattle.ded_model.specs.declared.command.Refusal.TheVariants.{Wide, LongStatement, Memory};
 ghost use Rattle.ded_model.specs.declared.name.Column.{Column};
-ghost use Rattle.ded_model.specs.Catalogue.{Catalogue, stored};
+ghost use Rattle.ded_model.specs.Catalogue.{Catalogue, IsTruth, stored};
 ghost use Rattle.ded_model.specs.Entries.{known};
+ghost use Rattle.ded_model.specs.Form.{Form};
 ghost use Rattle.ded_model.specs.Known.{IsWellFormed};
 ghost use Rattle.ded_model.specs.Measure.{stored_measures};
 ghost use Rattle.ded_model.specs.Row.{Atom};
@@ -21,12 +22,12 @@ ghost use Rattle.ded_session.specs.Runs.{Steps, Run};
 ghost use Rattle.ded_session.specs.Steps.{Accepts, Step};
 ghost use Rattle.ded_runs.specs.Orderly.{IsOrderlyQuestion, IsOrderlyAnswer};
 ghost use Rattle.ded_runs.specs.Read.{WasCatalogueRead};
-ghost use Rattle.ded_runs.specs.Remade.{remade, script_of_lines};
+ghost use Rattle.ded_runs.specs.Remade.{remade, script_of_lines, joined_lines};
 ghost use Rattle.ded_runs.specs.Runs.{WantsNone};
 ghost use Rattle.ded_model.specs.declared.certificate.Entry.{Entry};
-ghost use Rattle.ded_model.specs.Command.{disjoint, verify};
+ghost use Rattle.ded_model.specs.Command.{ask, disjoint, verify};
 ghost use Rattle.ded_print.specs.Certificates.{apart_text, entry_line};
-ghost use Rattle.ded_syntax.specs.Spelling.{IsRead};
+ghost use Rattle.ded_syntax.specs.Spelling.{IsRead, Spells};
 ghost use Rattle.ded_runs.specs.Few.{HaveFewInserts};
 ghost use Rattle.ded_runs.specs.Lines.{HasLines};
 ghost use Rattle.ded_runs.specs.Rechecks.{IsRecheck};
@@ -157,3 +158,35 @@ pub fn verified_again()
 {
     ded_session::laws::formed_catalogues();
 }
+
+/// The lines of a catalogue to which a run leads, one behind another without a line feed between them and each of at most 65,536 bytes before its
+/// `;`, leave the remade catalogue, too, where no reply is that memory is wanted. There is a run of them in which none is. There is one, too, of
+/// the script with a line feed behind each line: it counts to the next statement, so a line has at most 65,535 bytes before its `;` there.
+pub fn dump_runs()
+    ensures joined { (limit : ℕ) (script : List ℕ) (replies others : List ReplyForm) (c d : Catalogue)
+        → limit ≤ 1000000 → Run limit script replies c → AllByRecursion (λ (l : List ℕ). length l ≤ 65537) (dump_lines c)
+        → Run limit (joined_lines (dump_lines c)) others d → WantsNone others → d ≡ remade c }
+    ensures some { (limit : ℕ) (script : List ℕ) (replies : List ReplyForm) (c : Catalogue)
+        → limit ≤ 1000000 → Run limit script replies c → AllByRecursion (λ (l : List ℕ). length l ≤ 65536) (dump_lines c)
+        → (others : List ReplyForm) × Run limit (script_of_lines (dump_lines c)) others (remade c) × WantsNone others }
+    ensures some_joined { (limit : ℕ) (script : List ℕ) (replies : List ReplyForm) (c : Catalogue)
+        → limit ≤ 1000000 → Run limit script replies c → AllByRecursion (λ (l : List ℕ). length l ≤ 65537) (dump_lines c)
+        → (others : List ReplyForm) × Run limit (joined_lines (dump_lines c)) others (remade c) × WantsNone others }
+{
+    read_catalogues();
+    ded_session::laws::formed_catalogues();
+    ded_reread::laws::read_words();
+    ded_reread::laws::read_lines();
+    ded_reread::laws::read_formulas();
+    ded_reread::laws::read_tuples();
+}
+
+/// A statement that is answered `yes` or `no` leaves the catalogue, and unless it spells `verify` it spells `ask` of a formula that is true over
+/// the catalogue exactly where the answer is `yes`. Each formula that it spells behind `ask` is such a one.
+pub fn truths()
+    ensures asks { (language : Language) (c d : Catalogue) (piece : List ℕ) (b : Bool) → Step language c (Whole piece) (truth b) d
+        → ((n m : List ℕ) (es : List Entry) (depth : ℕ) → Spells language piece (verify n m es) depth → ⊥)
+        → (f : Form) × (depth : ℕ) × Spells language piece (ask f) depth × (IsTrue b ↔ IsTruth c f) × (d ≡ c) }
+    ensures asked { (language : Language) (c d : Catalogue) (piece : List ℕ) (b : Bool) (f : Form) (depth : ℕ)
+        → Step language c (Whole piece) (truth b) d → Spells language piece (ask f) depth → (IsTrue b ↔ IsTruth c f) × (d ≡ c) }
+{}

@@ -247,66 +247,66 @@ gathering::evaluated_near-returns-clause-wide g t c = λ i g p k.
 
 pub gathering::evaluated_within-gathered-requires : goal.gathering::evaluated_within-gathered-requires
 gathering::evaluated_within-gathered-requires g t c κs within =
-    let cat = snapshot_of c.args.snapshot.now in
+    let cat = snapshot_of c.args.strata.now.snapshot.now in
     let plan = plan_form c.args.plan.now in
     let q = c.requires.posed in
     let ss = c.deref.result.now in
     let r : IsReadWithin plan c.args.within.now ss = subst (IsReadWithin plan c.args.within.now) (sym c.deref.ensures.value) c.in_ok-scans.ensures in
-    (search rules, (search rules, (posed_readable cat q.goal plan c.args.level q.posed q.planned c.args.within.now ss r, c.requires.given)))
+    (search rules, (search rules, (posed_readable cat q.goal plan c.args.strata.now.level q.posed q.planned c.args.within.now ss r, c.requires.given)))
 
 pub gathering::evaluated_within-returns-in_err-near-clause-wide : goal.gathering::evaluated_within-returns-in_err-near-clause-wide
 gathering::evaluated_within-returns-in_err-near-clause-wide g t c = λ i g p k.
-    let cat = snapshot_of c.args.snapshot.now in
+    let cat = snapshot_of c.args.strata.now.snapshot.now in
     let plan = plan_form c.args.plan.now in
     let q = c.requires.posed in
     let ss = c.deref.result.now in
     let r : IsReadWithin plan c.args.within.now ss = subst (IsReadWithin plan c.args.within.now) (sym c.deref.ensures.value) c.in_ok-scans.ensures in
     let e = err_from_is_err_and c.from_residual-in_err-near.result c.from_residual-in_err-near.ensures.1 in
     let is : c.in_err-near.field-0.0 ≡ Wide = cc (e.1, e.2, i) in
-    scans_clash cat g plan c.args.level p k c.args.within.now ss r (c.in_err-near.ensures.wide (ap Err is))
+    scans_clash cat g plan c.args.strata.now.level p k c.args.within.now ss r (c.in_err-near.ensures.wide (ap Err is))
 
 pub gathering::evaluated_within-returns-in_err-add_all-clause-front : goal.gathering::evaluated_within-returns-in_err-add_all-clause-front
 gathering::evaluated_within-returns-in_err-add_all-clause-front g t c = front_more c.args.given.now _ c.add_all.new.given c.in_ok-near.ensures.front c.in_err-add_all.ensures.front
 
 pub gathering::evaluated_within-evaluate_within-tuples-requires : goal.gathering::evaluated_within-evaluate_within-tuples-requires
 gathering::evaluated_within-evaluate_within-tuples-requires g t c =
-    let cat = snapshot_of c.args.snapshot.now in
+    let cat = snapshot_of c.args.strata.now.snapshot.now in
     let plan = plan_form c.args.plan.now in
     let q = c.requires.posed in
     let ss = c.deref.result.now in
     let r : IsReadWithin plan c.args.within.now ss = subst (IsReadWithin plan c.args.within.now) (sym c.deref.ensures.value) c.in_ok-scans.ensures in
-    near_evaluable cat q.goal plan c.args.level q.posed q.planned c.args.within.now ss r _ c.in_ok-near.near.items c.add_all.new.given c.in_ok-add_all.ensures.all c.formed.ensures c.in_ok-near.ensures.gathered.of c.in_ok-near.ensures.near c.in_ok-near.ensures.all
+    near_evaluable cat q.goal plan c.args.strata.now.level q.posed q.planned c.args.within.now ss r _ c.in_ok-near.near.items c.add_all.new.given c.in_ok-add_all.ensures.all c.formed.ensures c.in_ok-near.ensures.gathered.of c.in_ok-near.ensures.near c.in_ok-near.ensures.all
 
 pub gathering::evaluated_within-returns-clause-is : goal.gathering::evaluated_within-returns-clause-is
 gathering::evaluated_within-returns-clause-is g t c = λ g p k.
-    let cat = snapshot_of c.args.snapshot.now in
+    let cat = snapshot_of c.args.strata.now.snapshot.now in
     let plan = plan_form c.args.plan.now in
     let q = c.requires.posed in
     let ss = c.deref.result.now in
     let r : IsReadWithin plan c.args.within.now ss = subst (IsReadWithin plan c.args.within.now) (sym c.deref.ensures.value) c.in_ok-scans.ensures in
-    IfOk-weaker c.evaluate_within-tuples.result _ _ (λ us e. evaluated_inside cat g plan (over_relations cat None c.add_all.new.given) (right_shapes cat q.goal plan c.args.level q.posed q.planned c.args.within.now ss r _ c.in_ok-near.near.items c.add_all.new.given c.in_ok-add_all.ensures.all c.formed.ensures c.in_ok-near.ensures.gathered.of c.in_ok-near.ensures.near c.in_ok-near.ensures.all) k c.args.within.now (tuple_holds c.args.within.now) ss us r (near_agrees cat q.goal plan c.args.level q.posed q.planned c.args.within.now ss r _ c.in_ok-near.near.items c.add_all.new.given c.in_ok-add_all.ensures.all c.formed.ensures c.in_ok-near.ensures.gathered.of c.in_ok-near.ensures.near c.in_ok-near.ensures.all) (λ x w. w) e) c.evaluate_within-tuples.ensures.is
+    IfOk-weaker c.evaluate_within-tuples.result _ _ (λ us e. evaluated_inside cat g plan (over_relations cat None c.add_all.new.given) (right_shapes cat q.goal plan c.args.strata.now.level q.posed q.planned c.args.within.now ss r _ c.in_ok-near.near.items c.add_all.new.given c.in_ok-add_all.ensures.all c.formed.ensures c.in_ok-near.ensures.gathered.of c.in_ok-near.ensures.near c.in_ok-near.ensures.all) k c.args.within.now (tuple_holds c.args.within.now) ss us r (near_agrees cat q.goal plan c.args.strata.now.level q.posed q.planned c.args.within.now ss r _ c.in_ok-near.near.items c.add_all.new.given c.in_ok-add_all.ensures.all c.formed.ensures c.in_ok-near.ensures.gathered.of c.in_ok-near.ensures.near c.in_ok-near.ensures.all) (λ x w. w) e) c.evaluate_within-tuples.ensures.is
 
 pub gathering::evaluated_within-returns-clause-gathered : goal.gathering::evaluated_within-returns-clause-gathered
 gathering::evaluated_within-returns-clause-gathered g t c =
-    IfOk-weaker c.evaluate_within-tuples.result _ _ (λ us e. subst (IsGathered (snapshot_of c.args.snapshot.now) c.args.given.now) (sym (c.keep_first.ensures ∙ ap (λ k. take k c.add_all.new.given) c.count-count.ensures ∙ front_kept _ c.add_all.new.given c.in_ok-add_all.ensures.front)) c.in_ok-near.ensures.gathered) c.evaluate_within-tuples.ensures.is
+    IfOk-weaker c.evaluate_within-tuples.result _ _ (λ us e. subst (IsGathered (snapshot_of c.args.strata.now.snapshot.now) c.args.given.now) (sym (c.keep_first.ensures ∙ ap (λ k. take k c.add_all.new.given) c.count-count.ensures ∙ front_kept _ c.add_all.new.given c.in_ok-add_all.ensures.front)) c.in_ok-near.ensures.gathered) c.evaluate_within-tuples.ensures.is
 
 pub gathering::evaluated_within-returns-clause-front : goal.gathering::evaluated_within-returns-clause-front
 gathering::evaluated_within-returns-clause-front g t c = subst (IsFront c.args.given.now) (sym (c.keep_first.ensures ∙ ap (λ k. take k c.add_all.new.given) c.count-count.ensures ∙ front_kept _ c.add_all.new.given c.in_ok-add_all.ensures.front)) c.in_ok-near.ensures.front
 
 pub gathering::evaluated_within-returns-clause-wide : goal.gathering::evaluated_within-returns-clause-wide
 gathering::evaluated_within-returns-clause-wide g t c = λ i g p k.
-    let cat = snapshot_of c.args.snapshot.now in
+    let cat = snapshot_of c.args.strata.now.snapshot.now in
     let plan = plan_form c.args.plan.now in
     let q = c.requires.posed in
     let ss = c.deref.result.now in
     let r : IsReadWithin plan c.args.within.now ss = subst (IsReadWithin plan c.args.within.now) (sym c.deref.ensures.value) c.in_ok-scans.ensures in
-    clash_of_goal cat g plan (over_relations cat None c.add_all.new.given) (right_shapes cat q.goal plan c.args.level q.posed q.planned c.args.within.now ss r _ c.in_ok-near.near.items c.add_all.new.given c.in_ok-add_all.ensures.all c.formed.ensures c.in_ok-near.ensures.gathered.of c.in_ok-near.ensures.near c.in_ok-near.ensures.all) k (c.evaluate_within-tuples.ensures.wide i)
+    clash_of_goal cat g plan (over_relations cat None c.add_all.new.given) (right_shapes cat q.goal plan c.args.strata.now.level q.posed q.planned c.args.within.now ss r _ c.in_ok-near.near.items c.add_all.new.given c.in_ok-add_all.ensures.all c.formed.ensures c.in_ok-near.ensures.gathered.of c.in_ok-near.ensures.near c.in_ok-near.ensures.all) k (c.evaluate_within-tuples.ensures.wide i)
 
 -- ---- gathered
 
 pub gathering::gathered-loop-scan-preserved : goal.gathering::gathered-loop-scan-preserved
 gathering::gathered-loop-scan-preserved g t c =
-    let cat = snapshot_of c.args.snapshot.now in
+    let cat = snapshot_of c.args.strata.now.snapshot.now in
     let ss = c.args.scans.now in
     let old = c.args.given.now in
     let next = c.loop-scan.scan-index + 1 in
@@ -325,54 +325,54 @@ gathering::gathered-loop-scan-preserved g t c =
 
 pub gathering::view_near-plan-requires : goal.gathering::view_near-plan-requires
 gathering::view_near-plan-requires g t c =
-    let cat = snapshot_of c.args.snapshot.now in
+    let cat = snapshot_of c.args.strata.now.snapshot.now in
     let n = c.args.scan.now.name in
     let g = goal_form c.args.goal.now in
-    let low = view_low cat n g c.args.level c.formed.ensures c.requires.view c.requires.readable.level in
-    let p = view_posed cat n g c.args.level c.formed.ensures c.requires.view low in
-    record { normal = posed_normal cat g (c.args.level - 1) p c.normal_goals.ensures.accepted }
+    let low = view_low cat n g c.args.strata.now.level c.formed.ensures c.requires.view c.requires.readable.level in
+    let p = view_posed cat n g c.args.strata.now.level c.formed.ensures c.requires.view low in
+    record { normal = posed_normal cat g (c.args.strata.now.level - 1) p c.normal_goals.ensures.accepted }
 
-pub gathering::view_near-overflow_sub-level : goal.gathering::view_near-overflow_sub-level
-gathering::view_near-overflow_sub-level g t c =
-    let cat = snapshot_of c.args.snapshot.now in
+pub gathering::view_near-overflow_sub-below : goal.gathering::view_near-overflow_sub-below
+gathering::view_near-overflow_sub-below g t c =
+    let cat = snapshot_of c.args.strata.now.snapshot.now in
     let n = c.args.scan.now.name in
     let g = goal_form c.args.goal.now in
-    let low = view_low cat n g c.args.level c.formed.ensures c.requires.view c.requires.readable.level in
-    view_level cat n g c.args.level c.formed.ensures c.requires.view low
+    let low = view_low cat n g c.args.strata.now.level c.formed.ensures c.requires.view c.requires.readable.level in
+    view_level cat n g c.args.strata.now.level c.formed.ensures c.requires.view low
 
 pub gathering::view_near-evaluated_within-requires : goal.gathering::view_near-evaluated_within-requires
 gathering::view_near-evaluated_within-requires g t c κs within =
-    let cat = snapshot_of c.args.snapshot.now in
+    let cat = snapshot_of c.args.strata.now.snapshot.now in
     let n = c.args.scan.now.name in
     let f = goal_form c.args.goal.now in
-    let low = view_low cat n f c.args.level c.formed.ensures c.requires.view c.requires.readable.level in
-    let above : 1 ≤ c.args.level = view_level cat n f c.args.level c.formed.ensures c.requires.view low in
-    (search rules, (search rules, (record { goal = f; posed = view_posed cat n f c.args.level c.formed.ensures c.requires.view low; planned = c.in_ok-plan.ensures }, c.requires.given)))
+    let low = view_low cat n f c.args.strata.now.level c.formed.ensures c.requires.view c.requires.readable.level in
+    let above : 1 ≤ c.args.strata.now.level = view_level cat n f c.args.strata.now.level c.formed.ensures c.requires.view low in
+    (search rules, (search rules, (record { goal = f; posed = view_posed cat n f c.args.strata.now.level c.formed.ensures c.requires.view low; planned = c.in_ok-plan.ensures }, c.requires.given)))
 
 pub gathering::view_near-returns-in_err-tuples-clause-wide : goal.gathering::view_near-returns-in_err-tuples-clause-wide
 gathering::view_near-returns-in_err-tuples-clause-wide g t c = λ i.
-    let cat = snapshot_of c.args.snapshot.now in
+    let cat = snapshot_of c.args.strata.now.snapshot.now in
     let n = c.args.scan.now.name in
     let g = goal_form c.args.goal.now in
-    let low = view_low cat n g c.args.level c.formed.ensures c.requires.view c.requires.readable.level in
+    let low = view_low cat n g c.args.strata.now.level c.formed.ensures c.requires.view c.requires.readable.level in
     let e = err_from_is_err_and c.from_residual-in_err-tuples.result c.from_residual-in_err-tuples.ensures.1 in
     let is : c.in_err-tuples.field-0.0 ≡ Wide = cc (e.1, e.2, i) in
-    view_clash cat n g c.formed.ensures c.requires.view (c.in_err-tuples.ensures.wide (ap Err is) g (view_posed cat n g c.args.level c.formed.ensures c.requires.view low) c.in_ok-plan.ensures)
+    view_clash cat n g c.formed.ensures c.requires.view (c.in_err-tuples.ensures.wide (ap Err is) g (view_posed cat n g c.args.strata.now.level c.formed.ensures c.requires.view low) c.in_ok-plan.ensures)
 
 pub gathering::view_near-view_relation-requires : goal.gathering::view_near-view_relation-requires
-gathering::view_near-view_relation-requires g t c = view_known (snapshot_of c.args.snapshot.now) c.args.scan.now.name (goal_form c.args.goal.now) c.formed.ensures c.requires.view
+gathering::view_near-view_relation-requires g t c = view_known (snapshot_of c.args.strata.now.snapshot.now) c.args.scan.now.name (goal_form c.args.goal.now) c.formed.ensures c.requires.view
 
 pub gathering::view_near-returns-clause-is : goal.gathering::view_near-returns-clause-is
 gathering::view_near-returns-clause-is g t c =
-    let cat = snapshot_of c.args.snapshot.now in
+    let cat = snapshot_of c.args.strata.now.snapshot.now in
     let n = c.args.scan.now.name in
     let g = goal_form c.args.goal.now in
-    let low = view_low cat n g c.args.level c.formed.ensures c.requires.view c.requires.readable.level in
+    let low = view_low cat n g c.args.strata.now.level c.formed.ensures c.requires.view c.requires.readable.level in
     let at = c.in_ok-within.ensures in
     let near = c.in_ok-view_relation.ensures in
-    let all = c.in_ok-tuples.ensures.is g (view_posed cat n g c.args.level c.formed.ensures c.requires.view low) c.in_ok-plan.ensures in
+    let all = c.in_ok-tuples.ensures.is g (view_posed cat n g c.args.strata.now.level c.formed.ensures c.requires.view low) c.in_ok-plan.ensures in
     let part = inside_part cat g (tuple_holds c.in_ok-within.within) c.in_ok-tuples.tuples c.in_ok-reduced.field-0 all c.in_ok-reduced.ensures.holds c.in_ok-reduced.ensures.slots c.in_ok-reduced.ensures.lines in
-    near_as cat c.args.level c.args.scan.now g c.in_ok-within.within c.in_ok-reduced.field-0 c.formed.ensures c.requires.view c.requires.readable at part c.in_ok-reduced.ensures.normal
+    near_as cat c.args.strata.now.level c.args.scan.now g c.in_ok-within.within c.in_ok-reduced.field-0 c.formed.ensures c.requires.view c.requires.readable at part c.in_ok-reduced.ensures.normal
     c.in_ok-view_relation.field-0 near
 
 -- ---- give

@@ -22,13 +22,13 @@ abbrev pub decreases-gathering::give_all : goal.decreases-gathering::give_all
 decreases-gathering::give_all g l = 9 * l.level + 4
 
 abbrev pub decreases-gathering::view_near : goal.decreases-gathering::view_near
-decreases-gathering::view_near g l = 9 * l.level
+decreases-gathering::view_near g l = 9 * l.strata.now.level
 
 abbrev pub decreases-gathering::gathered : goal.decreases-gathering::gathered
-decreases-gathering::gathered g l = 9 * l.level + 4
+decreases-gathering::gathered g l = 9 * l.strata.now.level + 4
 
 abbrev pub decreases-gathering::evaluated_within : goal.decreases-gathering::evaluated_within
-decreases-gathering::evaluated_within g l = 9 * l.level + 5
+decreases-gathering::evaluated_within g l = 9 * l.strata.now.level + 5
 
 abbrev pub decreases-gathering::evaluated_near : goal.decreases-gathering::evaluated_near
 decreases-gathering::evaluated_near g l = 9 * l.level + 5
@@ -49,4 +49,4 @@ abbrev pub invariant-gathering::give_all-loop-name : goal.invariant-gathering::g
 invariant-gathering::give_all-loop-name g l = IsGathered (snapshot_of l.snapshot) l.fn.given l.given × AllByRecursion (λ n. has_name n (over_relations (snapshot_of l.snapshot) None l.given) ≡ true) (take l.name-index l.names) × IsFront l.fn.given l.given
 
 abbrev pub invariant-gathering::gathered-loop-scan : goal.invariant-gathering::gathered-loop-scan
-invariant-gathering::gathered-loop-scan g l = IsGatheredTo (snapshot_of l.snapshot) l.scans l.fn.given l.scan-index l.given l.near.items
+invariant-gathering::gathered-loop-scan g l = IsGatheredTo (snapshot_of l.strata.snapshot.now) l.scans l.fn.given l.scan-index l.given l.near.items
