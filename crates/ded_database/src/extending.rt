@@ -12,9 +12,8 @@ ghost use Rattle.ded_database.specs.Changes.{before, after, IsInsert};
 ghost use Rattle.ded_database.specs.Held.{IsHeld};
 ghost use Rattle.ded_database.specs.Upkeep.{IsLonger};
 
-use crate::change::Change;
+use crate::change::Renewal;
 use crate::laws;
-use crate::mark::Mark;
 use ded_algebra::{Evaluate, Given, Relations};
 use ded_atoms::reduced;
 use ded_keep::{OneTuple, add_tuple, put_behind};
@@ -33,24 +32,23 @@ use std::alloc::Global;
 /// `Wide` only where the view clashes over the catalogue as it will be, otherwise out of memory. The list is lost then.
 pub(crate) fn extended<E: Evaluate>(
     alloc: Global,
-    change: &Change<'_, '_>,
+    renewal: &Renewal<'_, '_>,
     tuple: &Tuple,
-    mark: &Mark,
     list: Tuples,
     held: &mut Given,
 ) -> Result<Tuples, Refused>
-    requires insert { IsInsert (before change.now) (after change.now) change.now.name.now tuple.now }
-    requires mark { IsMark (before change.now) mark.now }
-    requires adds { mark_adds mark.now change.now.name.now ≡ true }
-    requires list { IsViewOf (before change.now) mark.now.name list }
-    requires held { AllByRecursion (IsHeld (after change.now)) held.old }
-    ensures is { IfOk result (IsViewOf (after change.now) mark.now.name) }
+    requires insert { IsInsert (before renewal.now.change.now) (after renewal.now.change.now) renewal.now.change.now.name.now tuple.now }
+    requires mark { IsMark (before renewal.now.change.now) renewal.now.mark.now }
+    requires adds { mark_adds renewal.now.mark.now renewal.now.change.now.name.now ≡ true }
+    requires list { IsViewOf (before renewal.now.change.now) renewal.now.mark.now.name list }
+    requires held { AllByRecursion (IsHeld (after renewal.now.change.now)) held.old }
+    ensures is { IfOk result (IsViewOf (after renewal.now.change.now) renewal.now.mark.now.name) }
     ensures longer { IfOk result (IsLonger list) }
     ensures held { held.new ≡ held.old }
-    ensures wide { IsErrOf result Wide → (measures (after change.now) mark.now.name).clash ≡ true }
+    ensures wide { IsErrOf result Wide → (measures (after renewal.now.change.now) renewal.now.mark.now.name).clash ≡ true }
 {
     let count = held.count();
-    let extended = extended_over::<E>(alloc, change, tuple, mark, list, held);
+    let extended = extended_over::<E>(alloc, renewal, tuple, list, held);
     held.keep_first(count);
     extended
 }
@@ -59,24 +57,24 @@ pub(crate) fn extended<E: Evaluate>(
 /// scans are given behind what is held, and stay there. Other relations are read where they stand.
 fn extended_over<E: Evaluate>(
     alloc: Global,
-    change: &Change<'_, '_>,
+    renewal: &Renewal<'_, '_>,
     tuple: &Tuple,
-    mark: &Mark,
     list: Tuples,
     held: &mut Given,
 ) -> Result<Tuples, Refused>
-    requires insert { IsInsert (before change.now) (after change.now) change.now.name.now tuple.now }
-    requires mark { IsMark (before change.now) mark.now }
-    requires adds { mark_adds mark.now change.now.name.now ≡ true }
-    requires list { IsViewOf (before change.now) mark.now.name list }
-    requires held { AllByRecursion (IsHeld (after change.now)) held.old }
-    ensures is { IfOk result (IsViewOf (after change.now) mark.now.name) }
+    requires insert { IsInsert (before renewal.now.change.now) (after renewal.now.change.now) renewal.now.change.now.name.now tuple.now }
+    requires mark { IsMark (before renewal.now.change.now) renewal.now.mark.now }
+    requires adds { mark_adds renewal.now.mark.now renewal.now.change.now.name.now ≡ true }
+    requires list { IsViewOf (before renewal.now.change.now) renewal.now.mark.now.name list }
+    requires held { AllByRecursion (IsHeld (after renewal.now.change.now)) held.old }
+    ensures is { IfOk result (IsViewOf (after renewal.now.change.now) renewal.now.mark.now.name) }
     ensures longer { IfOk result (IsLonger list) }
     ensures front { IsFront held.old held.new }
-    ensures wide { IsErrOf result Wide → (measures (after change.now) mark.now.name).clash ≡ true }
+    ensures wide { IsErrOf result Wide → (measures (after renewal.now.change.now) renewal.now.mark.now.name).clash ≡ true }
 {
     laws::nothing_beside();
-    let names = other_names(alloc, &mark.plan, change.name)?;
+    let change = renewal.change;
+    let names = other_names(alloc, &renewal.mark.plan, change.name)?;
     give_names::<E>(alloc, change.snapshot, &names, held)?;
     // The others don't reach the relation, so nothing of it is given. This says so.
     let _ = held.take(change.name);
@@ -97,7 +95,7 @@ fn extended_over<E: Evaluate>(
         heading,
         tuple,
     };
-    let added = add_tuple::<E, _>(alloc, &mark.plan, &one, none, &others)?;
+    let added = add_tuple::<E, _>(alloc, &renewal.mark.plan, &one, none, &others)?;
     let more = reduced(alloc, added)?;
     let mut list = list.list;
     put_behind::<E>(alloc, &mut list, more)?;

@@ -7,10 +7,9 @@ ghost use Rattle.ded_database.specs.Lost.{AreReadAmong, AreOverColumns, AddsRead
 ghost use Rattle.ded_database.specs.Marks.{mark_adds, IsMark};
 
 use crate::arguments::{add_arguments, binds, own_slots};
-use crate::change::Change;
+use crate::change::Renewal;
 use crate::laws;
 use crate::lines::add_lines;
-use crate::mark::Mark;
 use ded_algebra::column_pairs;
 use ded_model::goal::Places;
 use ded_model::memory::NoMemory;
@@ -27,19 +26,19 @@ use std::alloc::Global;
 /// Out of memory.
 pub(crate) fn lost_lines(
     alloc: Global,
-    change: &Change<'_, '_>,
+    renewal: &Renewal<'_, '_>,
     gone: &Tuple,
     atoms: &[Atom],
-    mark: &Mark,
 ) -> Result<Option<Vec<Row>>, NoMemory>
-    requires delete { IsDelete (before change.now) (after change.now) change.now.name.now gone.now }
-    requires atoms { AreLost (before change.now) (after change.now) change.now.name.now gone.now atoms.now }
-    requires mark { IsMark (before change.now) mark.now }
-    requires adds { mark_adds mark.now change.now.name.now ≡ true }
-    ensures { IfOk result (λ o. IfSome o (λ v. LosesOnly (before change.now) (after change.now) mark.now.name v.items)) }
+    requires delete { IsDelete (before renewal.now.change.now) (after renewal.now.change.now) renewal.now.change.now.name.now gone.now }
+    requires atoms { AreLost (before renewal.now.change.now) (after renewal.now.change.now) renewal.now.change.now.name.now gone.now atoms.now }
+    requires mark { IsMark (before renewal.now.change.now) renewal.now.mark.now }
+    requires adds { mark_adds renewal.now.mark.now renewal.now.change.now.name.now ≡ true }
+    ensures { IfOk result (λ o. IfSome o (λ v. LosesOnly (before renewal.now.change.now) (after renewal.now.change.now) renewal.now.mark.now.name v.items)) }
 {
     laws::nothing_beside();
-    let Some(goal) = change.snapshot.goal(&mark.name) else {
+    let change = renewal.change;
+    let Some(goal) = change.snapshot.goal(&renewal.mark.name) else {
         return Ok(None);
     };
     let Some(heading) = change.snapshot.heading(change.name) else {

@@ -12,7 +12,7 @@ ghost use Rattle.ded_database.specs.Held.{IsHeld, held_under, is_marked, AreMark
 ghost use Rattle.ded_database.specs.Renewed.{IsRenewed, AreRenewed};
 ghost use Rattle.ded_database.specs.Upkeep.{IsLonger};
 
-use crate::change::{Change, Step};
+use crate::change::{Change, Renewal, Step};
 use crate::extending::extended;
 use crate::laws;
 use crate::mark::Mark;
@@ -79,7 +79,8 @@ fn renew<E: Evaluate>(
 {
     laws::conjunctive_views();
     let list = stale.take(&mark.name);
-    match new_list::<E>(alloc, change, mark, list, held, added) {
+    let renewal = Renewal { change, mark };
+    match new_list::<E>(alloc, &renewal, list, held, added) {
         Ok(tuples) => held.add(held_view(change.snapshot, &mark.name, tuples)?),
         Err(Refused::Wide) => Ok(()),
         Err(Refused::Memory) => Err(AllocError),
@@ -93,27 +94,26 @@ fn renew<E: Evaluate>(
 /// `Wide` only where the view clashes over the catalogue as it will be, otherwise out of memory.
 fn new_list<E: Evaluate>(
     alloc: Global,
-    change: &Change<'_, '_>,
-    mark: &Mark,
+    renewal: &Renewal<'_, '_>,
     list: Option<GivenRelation>,
     held: &mut Given,
     added: &mut u64,
 ) -> Result<Tuples, Refused>
-    requires change { IsChange (before change.now) (after change.now) change.now.name.now (inserted_tuple change.now) }
-    requires told { IsToldDelete (before change.now) (after change.now) change.now.name.now (deleted_tuple change.now) }
-    requires mark { IsMark (before change.now) mark.now }
-    requires list { IfSome list (λ r. IsViewOf (before change.now) mark.now.name r.tuples) }
-    requires held { AllByRecursion (IsHeld (after change.now)) held.old }
-    ensures is { IfOk result (IsViewOf (after change.now) mark.now.name) }
-    ensures longer { is_some (inserted_tuple change.now) ≡ true → mark_adds mark.now change.now.name.now ≡ true → IfOk result (λ ts. IfSome list (λ r. IsLonger r.tuples ts)) }
+    requires change { IsChange (before renewal.now.change.now) (after renewal.now.change.now) renewal.now.change.now.name.now (inserted_tuple renewal.now.change.now) }
+    requires told { IsToldDelete (before renewal.now.change.now) (after renewal.now.change.now) renewal.now.change.now.name.now (deleted_tuple renewal.now.change.now) }
+    requires mark { IsMark (before renewal.now.change.now) renewal.now.mark.now }
+    requires list { IfSome list (λ r. IsViewOf (before renewal.now.change.now) renewal.now.mark.now.name r.tuples) }
+    requires held { AllByRecursion (IsHeld (after renewal.now.change.now)) held.old }
+    ensures is { IfOk result (IsViewOf (after renewal.now.change.now) renewal.now.mark.now.name) }
+    ensures longer { is_some (inserted_tuple renewal.now.change.now) ≡ true → mark_adds renewal.now.mark.now renewal.now.change.now.name.now ≡ true → IfOk result (λ ts. IfSome list (λ r. IsLonger r.tuples ts)) }
     ensures held { held.new ≡ held.old }
-    ensures wide { IsErrOf result Wide → (measures (after change.now) mark.now.name).clash ≡ true }
+    ensures wide { IsErrOf result Wide → (measures (after renewal.now.change.now) renewal.now.mark.now.name).clash ≡ true }
 {
     match list {
-        Some(list) if mark.adds(change.name) => {
-            followed::<E>(alloc, change, mark, list.tuples, held, added)
+        Some(list) if renewal.mark.adds(renewal.change.name) => {
+            followed::<E>(alloc, renewal, list.tuples, held, added)
         }
-        _ => anew::<E>(alloc, change, mark, held),
+        _ => anew::<E>(alloc, renewal, held),
     }
 }
 
@@ -124,35 +124,34 @@ fn new_list<E: Evaluate>(
 /// `Wide` only where the view clashes over the catalogue as it will be, otherwise out of memory. The list is lost then.
 fn followed<E: Evaluate>(
     alloc: Global,
-    change: &Change<'_, '_>,
-    mark: &Mark,
+    renewal: &Renewal<'_, '_>,
     list: Tuples,
     held: &mut Given,
     added: &mut u64,
 ) -> Result<Tuples, Refused>
-    requires change { IsChange (before change.now) (after change.now) change.now.name.now (inserted_tuple change.now) }
-    requires told { IsToldDelete (before change.now) (after change.now) change.now.name.now (deleted_tuple change.now) }
-    requires mark { IsMark (before change.now) mark.now }
-    requires adds { mark_adds mark.now change.now.name.now ≡ true }
-    requires list { IsViewOf (before change.now) mark.now.name list }
-    requires held { AllByRecursion (IsHeld (after change.now)) held.old }
-    ensures is { IfOk result (IsViewOf (after change.now) mark.now.name) }
-    ensures longer { is_some (inserted_tuple change.now) ≡ true → IfOk result (IsLonger list) }
+    requires change { IsChange (before renewal.now.change.now) (after renewal.now.change.now) renewal.now.change.now.name.now (inserted_tuple renewal.now.change.now) }
+    requires told { IsToldDelete (before renewal.now.change.now) (after renewal.now.change.now) renewal.now.change.now.name.now (deleted_tuple renewal.now.change.now) }
+    requires mark { IsMark (before renewal.now.change.now) renewal.now.mark.now }
+    requires adds { mark_adds renewal.now.mark.now renewal.now.change.now.name.now ≡ true }
+    requires list { IsViewOf (before renewal.now.change.now) renewal.now.mark.now.name list }
+    requires held { AllByRecursion (IsHeld (after renewal.now.change.now)) held.old }
+    ensures is { IfOk result (IsViewOf (after renewal.now.change.now) renewal.now.mark.now.name) }
+    ensures longer { is_some (inserted_tuple renewal.now.change.now) ≡ true → IfOk result (IsLonger list) }
     ensures held { held.new ≡ held.old }
-    ensures wide { IsErrOf result Wide → (measures (after change.now) mark.now.name).clash ≡ true }
+    ensures wide { IsErrOf result Wide → (measures (after renewal.now.change.now) renewal.now.mark.now.name).clash ≡ true }
 {
-    match change.step {
+    match renewal.change.step {
         Step::Inserted(tuple) => {
-            let tuples = extended::<E>(alloc, change, tuple, mark, list, held)?;
+            let tuples = extended::<E>(alloc, renewal, tuple, list, held)?;
             *added = added.saturating_add(1);
             Ok(tuples)
         }
         Step::Deleted(told) => match told {
             Some(gone) => {
                 let gone = gone.unpack(alloc)?;
-                list_without::<E>(alloc, change, &gone, mark, list, held)
+                list_without::<E>(alloc, renewal, &gone, list, held)
             }
-            None => anew::<E>(alloc, change, mark, held),
+            None => anew::<E>(alloc, renewal, held),
         },
     }
 }
@@ -163,16 +162,21 @@ fn followed<E: Evaluate>(
 /// `Wide` only where the view clashes over the catalogue as it will be, otherwise out of memory.
 pub(crate) fn anew<E: Evaluate>(
     alloc: Global,
-    change: &Change<'_, '_>,
-    mark: &Mark,
+    renewal: &Renewal<'_, '_>,
     held: &mut Given,
 ) -> Result<Tuples, Refused>
-    requires change { IsChange (before change.now) (after change.now) change.now.name.now (inserted_tuple change.now) }
-    requires mark { IsMark (before change.now) mark.now }
-    requires held { AllByRecursion (IsHeld (after change.now)) held.old }
-    ensures is { IfOk result (IsViewOf (after change.now) mark.now.name) }
+    requires change { IsChange (before renewal.now.change.now) (after renewal.now.change.now) renewal.now.change.now.name.now (inserted_tuple renewal.now.change.now) }
+    requires mark { IsMark (before renewal.now.change.now) renewal.now.mark.now }
+    requires held { AllByRecursion (IsHeld (after renewal.now.change.now)) held.old }
+    ensures is { IfOk result (IsViewOf (after renewal.now.change.now) renewal.now.mark.now.name) }
     ensures held { held.new ≡ held.old }
-    ensures wide { IsErrOf result Wide → (measures (after change.now) mark.now.name).clash ≡ true }
+    ensures wide { IsErrOf result Wide → (measures (after renewal.now.change.now) renewal.now.mark.now.name).clash ≡ true }
 {
-    planned_view::<E>(alloc, change.snapshot, &mark.name, &mark.plan, held)
+    planned_view::<E>(
+        alloc,
+        renewal.change.snapshot,
+        &renewal.mark.name,
+        &renewal.mark.plan,
+        held,
+    )
 }

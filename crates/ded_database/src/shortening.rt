@@ -11,11 +11,10 @@ ghost use Rattle.ded_database.specs.Held.{IsHeld};
 ghost use Rattle.ded_database.specs.Lasting.{HasLinesBut, IsViewBut};
 ghost use Rattle.ded_database.specs.Lost.{LosesOnly, HaveNoneLost};
 
-use crate::change::{Change, Renewal};
+use crate::change::Renewal;
 use crate::laws;
 use crate::lines::have_any;
 use crate::lost::lost_lines;
-use crate::mark::Mark;
 use crate::renewing::anew;
 use crate::unshared::unshared;
 use ded_algebra::{Evaluate, Given, Relations};
@@ -35,31 +34,27 @@ use std::alloc::Global;
 /// `Wide` only where the view clashes over the catalogue as it will be, otherwise out of memory. The list is lost then.
 pub(crate) fn list_without<E: Evaluate>(
     alloc: Global,
-    change: &Change<'_, '_>,
+    renewal: &Renewal<'_, '_>,
     gone: &Tuple,
-    mark: &Mark,
     list: Tuples,
     held: &mut Given,
 ) -> Result<Tuples, Refused>
-    requires change { IsChange (before change.now) (after change.now) change.now.name.now (inserted_tuple change.now) }
-    requires delete { IsDelete (before change.now) (after change.now) change.now.name.now gone.now }
-    requires mark { IsMark (before change.now) mark.now }
-    requires adds { mark_adds mark.now change.now.name.now ≡ true }
-    requires list { IsViewOf (before change.now) mark.now.name list }
-    requires held { AllByRecursion (IsHeld (after change.now)) held.old }
-    ensures is { IfOk result (IsViewOf (after change.now) mark.now.name) }
+    requires change { IsChange (before renewal.now.change.now) (after renewal.now.change.now) renewal.now.change.now.name.now (inserted_tuple renewal.now.change.now) }
+    requires delete { IsDelete (before renewal.now.change.now) (after renewal.now.change.now) renewal.now.change.now.name.now gone.now }
+    requires mark { IsMark (before renewal.now.change.now) renewal.now.mark.now }
+    requires adds { mark_adds renewal.now.mark.now renewal.now.change.now.name.now ≡ true }
+    requires list { IsViewOf (before renewal.now.change.now) renewal.now.mark.now.name list }
+    requires held { AllByRecursion (IsHeld (after renewal.now.change.now)) held.old }
+    ensures is { IfOk result (IsViewOf (after renewal.now.change.now) renewal.now.mark.now.name) }
     ensures held { held.new ≡ held.old }
-    ensures wide { IsErrOf result Wide → (measures (after change.now) mark.now.name).clash ≡ true }
+    ensures wide { IsErrOf result Wide → (measures (after renewal.now.change.now) renewal.now.mark.now.name).clash ≡ true }
 {
-    let Some(lost) = losable(alloc, change, gone, mark, &list.list)? else {
-        return anew::<E>(alloc, change, mark, held);
+    let Some(lost) = losable(alloc, renewal, gone, &list.list)? else {
+        return anew::<E>(alloc, renewal, held);
     };
-    match shortened::<E>(alloc, change, gone, mark, list, held) {
-        Ok(tuples) => {
-            let renewal = Renewal { change, mark };
-            settled::<E>(alloc, &renewal, gone, &lost, tuples, held)
-        }
-        Err(Refused::Wide) => anew::<E>(alloc, change, mark, held),
+    match shortened::<E>(alloc, renewal, gone, list, held) {
+        Ok(tuples) => settled::<E>(alloc, renewal, gone, &lost, tuples, held),
+        Err(Refused::Wide) => anew::<E>(alloc, renewal, held),
         Err(Refused::Memory) => Err(Refused::Memory),
     }
 }
@@ -70,21 +65,20 @@ pub(crate) fn list_without<E: Evaluate>(
 /// Out of memory.
 fn losable(
     alloc: Global,
-    change: &Change<'_, '_>,
+    renewal: &Renewal<'_, '_>,
     gone: &Tuple,
-    mark: &Mark,
     list: &[Tuple],
 ) -> Result<Option<Vec<Row>>, NoMemory>
-    requires delete { IsDelete (before change.now) (after change.now) change.now.name.now gone.now }
-    requires mark { IsMark (before change.now) mark.now }
-    requires adds { mark_adds mark.now change.now.name.now ≡ true }
-    requires list { IsViewOf (before change.now) mark.now.name list.now }
-    ensures { IfOk result (λ o. IfSome o (λ v. HasLinesBut (before change.now) (after change.now) mark.now.name v.items list.now)) }
+    requires delete { IsDelete (before renewal.now.change.now) (after renewal.now.change.now) renewal.now.change.now.name.now gone.now }
+    requires mark { IsMark (before renewal.now.change.now) renewal.now.mark.now }
+    requires adds { mark_adds renewal.now.mark.now renewal.now.change.now.name.now ≡ true }
+    requires list { IsViewOf (before renewal.now.change.now) renewal.now.mark.now.name list.now }
+    ensures { IfOk result (λ o. IfSome o (λ v. HasLinesBut (before renewal.now.change.now) (after renewal.now.change.now) renewal.now.mark.now.name v.items list.now)) }
 {
     if !has_rows(list) {
         return Ok(Some(Vec::new(alloc)));
     }
-    lost_lines(alloc, change, gone, &gone.atoms, mark)
+    lost_lines(alloc, renewal, gone, &gone.atoms)
 }
 
 /// The shortened list, where none of its rows has a line that the view loses, or else the list made anew. What is held stays as it is.
@@ -110,11 +104,10 @@ fn settled<E: Evaluate>(
     ensures held { held.new ≡ held.old }
     ensures wide { IsErrOf result Wide → (measures (after renewal.now.change.now) renewal.now.mark.now.name).clash ≡ true }
 {
-    let (change, mark) = (renewal.change, renewal.mark);
-    if !have_any(&tuples.list, lost)? || have_none_lost(alloc, change, gone, mark, &tuples.list)? {
+    if !have_any(&tuples.list, lost)? || have_none_lost(alloc, renewal, gone, &tuples.list)? {
         return Ok(tuples);
     }
-    anew::<E>(alloc, change, mark, held)
+    anew::<E>(alloc, renewal, held)
 }
 
 /// Whether the tuples are found to have none of the lines that the view loses: lines of the deleted tuple that others of the relation
@@ -124,18 +117,17 @@ fn settled<E: Evaluate>(
 /// Out of memory.
 fn have_none_lost(
     alloc: Global,
-    change: &Change<'_, '_>,
+    renewal: &Renewal<'_, '_>,
     gone: &Tuple,
-    mark: &Mark,
     tuples: &[Tuple],
 ) -> Result<bool, NoMemory>
-    requires delete { IsDelete (before change.now) (after change.now) change.now.name.now gone.now }
-    requires mark { IsMark (before change.now) mark.now }
-    requires adds { mark_adds mark.now change.now.name.now ≡ true }
-    ensures { IfOk result (λ b. b ≡ true → HaveNoneLost (before change.now) (after change.now) mark.now.name tuples.now) }
+    requires delete { IsDelete (before renewal.now.change.now) (after renewal.now.change.now) renewal.now.change.now.name.now gone.now }
+    requires mark { IsMark (before renewal.now.change.now) renewal.now.mark.now }
+    requires adds { mark_adds renewal.now.mark.now renewal.now.change.now.name.now ≡ true }
+    ensures { IfOk result (λ b. b ≡ true → HaveNoneLost (before renewal.now.change.now) (after renewal.now.change.now) renewal.now.mark.now.name tuples.now) }
 {
-    let atoms = unshared(alloc, change, gone)?;
-    match lost_lines(alloc, change, gone, &atoms, mark)? {
+    let atoms = unshared(alloc, renewal.change, gone)?;
+    match lost_lines(alloc, renewal, gone, &atoms)? {
         Some(lost) => Ok(!have_any(tuples, &lost)?),
         None => Ok(false),
     }
@@ -174,22 +166,21 @@ fn has_row(tuple: &Tuple) -> bool
 /// `Wide` where a plan is too wide, otherwise out of memory. The list is lost then.
 fn shortened<E: Evaluate>(
     alloc: Global,
-    change: &Change<'_, '_>,
+    renewal: &Renewal<'_, '_>,
     gone: &Tuple,
-    mark: &Mark,
     list: Tuples,
     held: &mut Given,
 ) -> Result<Tuples, Refused>
-    requires delete { IsDelete (before change.now) (after change.now) change.now.name.now gone.now }
-    requires mark { IsMark (before change.now) mark.now }
-    requires adds { mark_adds mark.now change.now.name.now ≡ true }
-    requires list { IsViewOf (before change.now) mark.now.name list }
-    requires held { AllByRecursion (IsHeld (after change.now)) held.old }
-    ensures is { IfOk result (λ ts. (more : List Line) → HasLinesBut (before change.now) (after change.now) mark.now.name more list → IsViewBut (after change.now) mark.now.name more ts) }
+    requires delete { IsDelete (before renewal.now.change.now) (after renewal.now.change.now) renewal.now.change.now.name.now gone.now }
+    requires mark { IsMark (before renewal.now.change.now) renewal.now.mark.now }
+    requires adds { mark_adds renewal.now.mark.now renewal.now.change.now.name.now ≡ true }
+    requires list { IsViewOf (before renewal.now.change.now) renewal.now.mark.now.name list }
+    requires held { AllByRecursion (IsHeld (after renewal.now.change.now)) held.old }
+    ensures is { IfOk result (λ ts. (more : List Line) → HasLinesBut (before renewal.now.change.now) (after renewal.now.change.now) renewal.now.mark.now.name more list → IsViewBut (after renewal.now.change.now) renewal.now.mark.now.name more ts) }
     ensures held { held.new ≡ held.old }
 {
     let count = held.count();
-    let shortened = shortened_over::<E>(alloc, change, gone, mark, list, held);
+    let shortened = shortened_over::<E>(alloc, renewal, gone, list, held);
     held.keep_first(count);
     shortened
 }
@@ -198,22 +189,22 @@ fn shortened<E: Evaluate>(
 /// given behind what is held, and stay there. Relations are read where they stand.
 fn shortened_over<E: Evaluate>(
     alloc: Global,
-    change: &Change<'_, '_>,
+    renewal: &Renewal<'_, '_>,
     gone: &Tuple,
-    mark: &Mark,
     list: Tuples,
     held: &mut Given,
 ) -> Result<Tuples, Refused>
-    requires delete { IsDelete (before change.now) (after change.now) change.now.name.now gone.now }
-    requires mark { IsMark (before change.now) mark.now }
-    requires adds { mark_adds mark.now change.now.name.now ≡ true }
-    requires list { IsViewOf (before change.now) mark.now.name list }
-    requires held { AllByRecursion (IsHeld (after change.now)) held.old }
-    ensures is { IfOk result (λ ts. (more : List Line) → HasLinesBut (before change.now) (after change.now) mark.now.name more list → IsViewBut (after change.now) mark.now.name more ts) }
+    requires delete { IsDelete (before renewal.now.change.now) (after renewal.now.change.now) renewal.now.change.now.name.now gone.now }
+    requires mark { IsMark (before renewal.now.change.now) renewal.now.mark.now }
+    requires adds { mark_adds renewal.now.mark.now renewal.now.change.now.name.now ≡ true }
+    requires list { IsViewOf (before renewal.now.change.now) renewal.now.mark.now.name list }
+    requires held { AllByRecursion (IsHeld (after renewal.now.change.now)) held.old }
+    ensures is { IfOk result (λ ts. (more : List Line) → HasLinesBut (before renewal.now.change.now) (after renewal.now.change.now) renewal.now.mark.now.name more list → IsViewBut (after renewal.now.change.now) renewal.now.mark.now.name more ts) }
     ensures front { IsFront held.old held.new }
 {
     laws::nothing_beside();
-    let names = scanned_names(alloc, &mark.plan)?;
+    let change = renewal.change;
+    let names = scanned_names(alloc, &renewal.mark.plan)?;
     give_names::<E>(alloc, change.snapshot, &names, held)?;
     // The others don't reach the relation, so nothing of it is given. This says so.
     let _ = held.take(change.name);
@@ -236,5 +227,5 @@ fn shortened_over<E: Evaluate>(
         heading,
         tuple: gone,
     };
-    remove_tuple::<E, _, _>(alloc, &mark.plan, &gone, list, &others, &after)
+    remove_tuple::<E, _, _>(alloc, &renewal.mark.plan, &gone, list, &others, &after)
 }

@@ -13,14 +13,14 @@ use Rattle.ded_database.proofs.lost.lost_lines.Goals as goal
 
 pub read_lines-requires : goal.read_lines-requires
 read_lines-requires c =
-    over_heading (before c.args.change.now) (after c.args.change.now) c.args.change.now.name.now c.args.gone.now c.requires.delete c.in-Some-heading.heading.now c.in-Some-heading.ensures c.args.atoms.now c.requires.atoms
+    over_heading (before c.args.renewal.now.change.now) (after c.args.renewal.now.change.now) c.args.renewal.now.change.now.name.now c.args.gone.now c.requires.delete c.in-Some-heading.heading.now c.in-Some-heading.ensures c.args.atoms.now c.requires.atoms
 
 pub returns : goal.returns
 returns c =
-    let b = before c.args.change.now in
-    let d = after c.args.change.now in
-    let n = c.args.change.now.name.now in
-    let m = c.args.mark.now in
+    let b = before c.args.renewal.now.change.now in
+    let d = after c.args.renewal.now.change.now in
+    let n = c.args.renewal.now.change.now.name.now in
+    let m = c.args.renewal.now.mark.now in
     let k = c.requires.mark in
     let g = goal_form c.in-Some.goal.now in
     let ls = atoms_lines c.args.atoms.now in

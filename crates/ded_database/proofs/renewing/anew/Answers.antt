@@ -8,8 +8,8 @@ use Rattle.ded_database.proofs.renewing.anew.Goals as goal
 
 pub planned_view-requires-clause-plan : goal.planned_view-requires-clause-plan
 planned_view-requires-clause-plan g c =
-    let x = has_others (before c.args.change.now) (after c.args.change.now) c.args.change.now.name.now (inserted_tuple c.args.change.now) c.requires.change in
-    mark_plan (before c.args.change.now) (after c.args.change.now) c.args.change.now.name.now x c.args.mark.now c.requires.mark
+    let x = has_others (before c.args.renewal.now.change.now) (after c.args.renewal.now.change.now) c.args.renewal.now.change.now.name.now (inserted_tuple c.args.renewal.now.change.now) c.requires.change in
+    mark_plan (before c.args.renewal.now.change.now) (after c.args.renewal.now.change.now) c.args.renewal.now.change.now.name.now x c.args.renewal.now.mark.now c.requires.mark
 
 pub planned_view-requires-clause-held : goal.planned_view-requires-clause-held
-planned_view-requires-clause-held g c = all_weaker (IsHeld (after c.args.change.now)) (IsGivenOf (after c.args.change.now)) c.args.held.now (λ r k. k.given) c.requires.held
+planned_view-requires-clause-held g c = all_weaker (IsHeld (after c.args.renewal.now.change.now)) (IsGivenOf (after c.args.renewal.now.change.now)) c.args.held.now (λ r k. k.given) c.requires.held

@@ -8,13 +8,13 @@ use Rattle.ded_database.proofs.shortening.list_without.Goals as goal
 
 pub settled-requires-clause-but : goal.settled-requires-clause-but
 settled-requires-clause-but g c =
-    let b = before c.args.change.now in
-    let d = after c.args.change.now in
-    let v = c.args.mark.now.name in
+    let b = before c.args.renewal.now.change.now in
+    let d = after c.args.renewal.now.change.now in
+    let v = c.args.renewal.now.mark.now.name in
     c.in-Ok.ensures.is c.deref-in-Ok.result.now
     (subst (λ ls. HasLinesBut b d v ls c.args.list) (sym c.deref-in-Ok.ensures.value)
     (subst (HasLinesBut b d v c.in-Some.lost.items) (c.deref.ensures.value ∙ c.list.view_is)
     (subst (λ o. IfSome o (λ (w : Vec LinearConstraint Global). HasLinesBut b d v w.items c.deref.result.now)) c.in-Some.is c.in_ok-lost.ensures)))
 
 pub settled-requires-clause-loses : goal.settled-requires-clause-loses
-settled-requires-clause-loses g c = λ more k. c.in-Ok.ensures.is more (lines_but (before c.args.change.now) (after c.args.change.now) c.args.mark.now.name more c.args.list c.requires.list k)
+settled-requires-clause-loses g c = λ more k. c.in-Ok.ensures.is more (lines_but (before c.args.renewal.now.change.now) (after c.args.renewal.now.change.now) c.args.renewal.now.mark.now.name more c.args.list c.requires.list k)

@@ -20,29 +20,29 @@ use Rattle.ded_database.proofs.shortening.shortened_over.Goals as goal
 
 pub give_names-requires-clause-defined : goal.give_names-requires-clause-defined
 give_names-requires-clause-defined g c =
-    let b = before c.args.change.now in
-    let d = after c.args.change.now in
-    let n = c.args.change.now.name.now in
-    let m = c.args.mark.now in
+    let b = before c.args.renewal.now.change.now in
+    let d = after c.args.renewal.now.change.now in
+    let n = c.args.renewal.now.change.now.name.now in
+    let m = c.args.renewal.now.mark.now in
     let k = c.requires.mark in
     let o = others b d n c.args.gone.now c.requires.delete in
     names_known b d n o m.name k.own k.columns k.formula (plan_form m.plan) k.entry k.planned c.deref.result.now (λ x i. c.in_ok-names.ensures.all x ∙ sym (ap (list_any (bytes_eq x)) c.deref.ensures.value) ∙ i)
 
 pub give_names-requires-clause-held : goal.give_names-requires-clause-held
-give_names-requires-clause-held g c = all_weaker (IsHeld (after c.args.change.now)) (IsGivenOf (after c.args.change.now)) c.args.held.now (λ r k. k.given) c.requires.held
+give_names-requires-clause-held g c = all_weaker (IsHeld (after c.args.renewal.now.change.now)) (IsGivenOf (after c.args.renewal.now.change.now)) c.args.held.now (λ r k. k.given) c.requires.held
 
 pub unreachable-requires : goal.unreachable-requires
 unreachable-requires g c =
-    let b = before c.args.change.now in
-    let d = after c.args.change.now in
-    let n = c.args.change.now.name.now in
+    let b = before c.args.renewal.now.change.now in
+    let d = after c.args.renewal.now.change.now in
+    let n = c.args.renewal.now.change.now.name.now in
     heading_there b d n (others b d n c.args.gone.now c.requires.delete) c.in_default.ensures
 
 pub remove_tuple-requires-clause-apart : goal.remove_tuple-requires-clause-apart
 remove_tuple-requires-clause-apart g c =
-    let d = after c.args.change.now in
-    let n = c.args.change.now.name.now in
-    let m = c.args.mark.now in
+    let d = after c.args.renewal.now.change.now in
+    let n = c.args.renewal.now.change.now.name.now in
+    let m = c.args.renewal.now.mark.now in
     let rs = over_relations d (Some n) c.take.new.self in
     let y : IsGivenBeside d n (plan_form m.plan) rs =
     given_beside d n (plan_form m.plan) c.deref.result.now c.give_names.new.held c.take.new.self c.requires.delete.formed_after
@@ -51,10 +51,10 @@ remove_tuple-requires-clause-apart g c =
 
 pub remove_tuple-requires-clause-evaluable : goal.remove_tuple-requires-clause-evaluable
 remove_tuple-requires-clause-evaluable g c =
-    let b = before c.args.change.now in
-    let d = after c.args.change.now in
-    let n = c.args.change.now.name.now in
-    let m = c.args.mark.now in
+    let b = before c.args.renewal.now.change.now in
+    let d = after c.args.renewal.now.change.now in
+    let n = c.args.renewal.now.change.now.name.now in
+    let m = c.args.renewal.now.mark.now in
     let k = c.requires.mark in
     let o = others b d n c.args.gone.now c.requires.delete in
     let rs = over_relations d (Some n) c.take.new.self in
@@ -65,20 +65,20 @@ remove_tuple-requires-clause-evaluable g c =
 
 pub remove_tuple-requires-clause-after : goal.remove_tuple-requires-clause-after
 remove_tuple-requires-clause-after g c =
-    let b = before c.args.change.now in
-    let d = after c.args.change.now in
-    let n = c.args.change.now.name.now in
-    let m = c.args.mark.now in
+    let b = before c.args.renewal.now.change.now in
+    let d = after c.args.renewal.now.change.now in
+    let n = c.args.renewal.now.change.now.name.now in
+    let m = c.args.renewal.now.mark.now in
     let k = c.requires.mark in
     evaluable_after b d n c.args.gone.now c.requires.delete m.name k.own k.columns k.formula (plan_form m.plan) k.entry k.planned c.deref.result.now (λ x. ap (list_any (bytes_eq x)) c.deref.ensures.value ∙ sym (c.in_ok-names.ensures.all x))
     c.give_names.new.held c.take.new.self c.in_ok-give_names.ensures.gathered.of c.in_ok-give_names.ensures.all c.take.ensures.left
 
 pub returns-clause-is : goal.returns-clause-is
 returns-clause-is g c =
-    let b = before c.args.change.now in
-    let d = after c.args.change.now in
-    let n = c.args.change.now.name.now in
-    let m = c.args.mark.now in
+    let b = before c.args.renewal.now.change.now in
+    let d = after c.args.renewal.now.change.now in
+    let n = c.args.renewal.now.change.now.name.now in
+    let m = c.args.renewal.now.mark.now in
     let k = c.requires.mark in
     let o = others b d n c.args.gone.now c.requires.delete in
     let rs = over_relations d (Some n) c.take.new.self in
@@ -97,8 +97,8 @@ returns-clause-is g c =
 
 pub returns-clause-front : goal.returns-clause-front
 returns-clause-front g c =
-    let b = before c.args.change.now in
-    let d = after c.args.change.now in
-    let n = c.args.change.now.name.now in
+    let b = before c.args.renewal.now.change.now in
+    let d = after c.args.renewal.now.change.now in
+    let n = c.args.renewal.now.change.now.name.now in
     let o = others b d n c.args.gone.now c.requires.delete in
     subst (IsFront c.args.held.now) (sym c.take.ensures.left) (front_without n c.args.held.now c.give_names.new.held (held_other b d n o c.args.held.now c.requires.held) c.give_names.ensures.front)
