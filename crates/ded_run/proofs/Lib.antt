@@ -3,5 +3,4 @@ pub mod Hearing
 pub mod MadeCuts
 pub mod Making
 pub mod Parsing
-mod ReadBack
 pub mod Steps

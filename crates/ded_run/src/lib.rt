@@ -12,7 +12,6 @@
 //! and the sink.
 #![tactic(auto)]
 
-pub mod laws;
 mod made;
 mod one_session;
 mod program;

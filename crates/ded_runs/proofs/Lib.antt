@@ -19,9 +19,11 @@ pub mod Named
 pub mod Numbers
 pub mod Ordering
 pub mod Reading
+pub mod ReadBack
 pub mod Readying
 pub mod Remaking
 pub mod Running
+pub mod ShortAnswers
 pub mod Statements
 pub mod Stepping
 pub mod Steps

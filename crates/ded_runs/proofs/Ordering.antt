@@ -29,7 +29,7 @@ use Rattle.ded_runs.specs.Read.{WasEntryRead, WasCatalogueRead}
 
 -- ---- entries
 
-short_views : (es : List Entry) → AllByRecursion WasEntryRead es → AllByRecursion HasShortRows es
+pub short_views : (es : List Entry) → AllByRecursion WasEntryRead es → AllByRecursion HasShortRows es
 short_views [] r = tt
 short_views (entry.relation n h m ts ∷ es) r = (tt, short_views es r.1)
 short_views (entry.view n h f ∷ es) r =

@@ -1,5 +1,5 @@
-//! Laws of what a run leads to: dumps, and orderly questions. Each is the contract of a function that does nothing but call the
-//! laws that it rests on.
+//! Laws of what a run leads to: dumps, orderly questions, and answers that are read back. Each is the contract of a function that does
+//! nothing but call the laws that it rests on.
 //!
 //! Laws of certificates that are checked again as they were printed. Each is the contract of a function that does nothing but call
 //! the laws that it rests on.
@@ -15,11 +15,16 @@ ghost use Rattle.ded_model.specs.Form.{Form};
 ghost use Rattle.ded_model.specs.Known.{IsWellFormed};
 ghost use Rattle.ded_model.specs.Measure.{stored_measures};
 ghost use Rattle.ded_model.specs.Row.{Atom};
+ghost use Rattle.ded_model.specs.ShortRows.{HasShortRows};
 ghost use Rattle.ded_model.specs.Value.{Argument};
+ghost use Rattle.ded_model.specs.Width.{tuple_length};
 ghost use Rattle.ded_dump.specs.Entries.{dump_lines};
-ghost use Rattle.ded_session.specs.Replies.{ReplyForm, tuples, refused, truth, apart};
+ghost use Rattle.ded_readback.specs.Plain.{IsPlainHeading};
+ghost use Rattle.ded_readback.specs.Spelling.{SpellsAnswer};
+ghost use Rattle.ded_session.specs.Replies.{ReplyForm, tuples, stored as shown, refused, truth, apart};
 ghost use Rattle.ded_session.specs.Runs.{Steps, Run};
 ghost use Rattle.ded_session.specs.Steps.{Accepts, Step};
+ghost use Rattle.ded_session.specs.Texts.{text_of};
 ghost use Rattle.ded_runs.specs.Orderly.{IsOrderlyQuestion, IsOrderlyAnswer};
 ghost use Rattle.ded_runs.specs.Read.{WasCatalogueRead};
 ghost use Rattle.ded_runs.specs.Remade.{remade, script_of_lines, joined_lines};
@@ -87,6 +92,49 @@ pub fn orderly_questions()
     ded_session::laws::formed_catalogues();
     ded_width::laws::orderly_formulas();
     ded_width::laws::short_reach();
+}
+
+/// Over a catalogue to which a run leads no number in an answer has more than 127 binary digits, and none in a stored tuple that is shown
+/// more than 63. So it is over each well formed catalogue of whose views no comparison and no argument has a long row. The heading of an
+/// answer is one over which answers are read back.
+pub fn short_answers()
+    ensures plain { (language : Language) (c d : Catalogue) (s : Statement) (h : List Column) (ts : List (List Atom))
+        → Step language c s (tuples h ts) d → IsPlainHeading h }
+    ensures run { (limit : ℕ) (script : List ℕ) (replies : List ReplyForm) (c : Catalogue) → Run limit script replies c
+        → (language : Language) (s : Statement) (h : List Column) (ts : List (List Atom)) (d : Catalogue) → Step language c s (tuples h ts) d
+        → AllByRecursion (λ t. tuple_length t ≤ 127) ts }
+    ensures run_stored { (limit : ℕ) (script : List ℕ) (replies : List ReplyForm) (c : Catalogue) → Run limit script replies c
+        → (language : Language) (s : Statement) (h : List Column) (ts : List (ℕ × List Atom)) (d : Catalogue) → Step language c s (shown h ts) d
+        → AllByRecursion (λ t. tuple_length t.1 ≤ 63) ts }
+    ensures step { (language : Language) (c d : Catalogue) (s : Statement) (h : List Column) (ts : List (List Atom)) → IsWellFormed c
+        → AllByRecursion HasShortRows c.entries → Step language c s (tuples h ts) d → AllByRecursion (λ t. tuple_length t ≤ 127) ts }
+    ensures stored { (language : Language) (c d : Catalogue) (s : Statement) (h : List Column) (ts : List (ℕ × List Atom)) → IsWellFormed c
+        → Step language c s (shown h ts) d → AllByRecursion (λ t. tuple_length t.1 ≤ 63) ts }
+{
+    read_catalogues();
+    ded_session::laws::formed_catalogues();
+    ded_width::laws::short_lines();
+    ded_laws::lines::tuple_lengths();
+}
+
+/// What is written of an answer over a catalogue to which a run leads, read back, is the answer: the text of the tuples that a statement gets
+/// spells these tuples over their heading, and no others. So it is over each catalogue where the numbers in them have at most 127 binary
+/// digits.
+pub fn answers_read_back()
+    ensures run_spelled { (limit : ℕ) (script : List ℕ) (replies : List ReplyForm) (c : Catalogue) → Run limit script replies c
+        → (language : Language) (s : Statement) (h : List Column) (ts : List (List Atom)) (d : Catalogue) → Step language c s (tuples h ts) d
+        → SpellsAnswer (text_of (tuples h ts)) h ts }
+    ensures run_only { (limit : ℕ) (script : List ℕ) (replies : List ReplyForm) (c : Catalogue) → Run limit script replies c
+        → (language : Language) (s : Statement) (h : List Column) (ts us : List (List Atom)) (d : Catalogue) → Step language c s (tuples h ts) d
+        → SpellsAnswer (text_of (tuples h ts)) h us → us ≡ ts }
+    ensures spelled { (language : Language) (c d : Catalogue) (s : Statement) (h : List Column) (ts : List (List Atom)) →
+        Step language c s (tuples h ts) d → AllByRecursion (λ t. tuple_length t ≤ 127) ts →
+        SpellsAnswer (text_of (tuples h ts)) h ts }
+    ensures only { (language : Language) (c d : Catalogue) (s : Statement) (h : List Column) (ts us : List (List Atom)) →
+        Step language c s (tuples h ts) d → AllByRecursion (λ t. tuple_length t ≤ 127) ts →
+        SpellsAnswer (text_of (tuples h ts)) h us → us ≡ ts }
+{
+    short_answers();
 }
 
 /// Each relation of a catalogue to which a run leads has accepted at most 2^32 - 1 inserts, and so has each relation of one that a statement

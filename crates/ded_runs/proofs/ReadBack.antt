@@ -29,9 +29,9 @@ use Rattle.ded_session.specs.Texts.{text_of}
 use Rattle.ded_session.proofs.PlainSpelling.{spelled_names}
 
 -- a heading over which answers are read in one way, and tuples over it
-record IsAnswered (h : List Column) (ts : List (List Atom)) : Type 0 where
-  plain : IsPlainHeading h
-  over : AllByRecursion (IsTupleOver h) ts
+pub record IsAnswered (h : List Column) (ts : List (List Atom)) : Type 0 where
+  pub plain : IsPlainHeading h
+  pub over : AllByRecursion (IsTupleOver h) ts
 
 few_columns : (n m : ℕ) → (nat_lt 16 n || nat_lt 64 m) ≡ false → n ≤ 2 ^ 32
 few_columns n m e = at_most (or_parts (nat_lt 16 n) (nat_lt 64 m) e).0
@@ -59,7 +59,7 @@ module _ (l : Language) (c d : Catalogue) (piece : List ℕ) where
       by (query h f) e so = query_answered h k f ts a e
       by _ e so = absurd so
 
-answer_of : (l : Language) (c d : Catalogue) (s : Statement) (k : List Column) (ts : List (List Atom)) → Step l c s (tuples k ts) d → IsAnswered k ts
+pub answer_of : (l : Language) (c d : Catalogue) (s : Statement) (k : List Column) (ts : List (List Atom)) → Step l c s (tuples k ts) d → IsAnswered k ts
 answer_of l c d (Whole piece) k ts a = answered l c d piece k ts a
 answer_of l c d (pieces.Unfinished rest) k ts a = absurd a
 
