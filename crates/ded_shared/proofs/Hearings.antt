@@ -1,5 +1,5 @@
 -- What the loop says of shared sessions that answer, in the words of their replies.
-use Rattle.std.proofs.Common.{◌≡◌, ℕ, ◌≤◌, length, List, [], ◌∷◌, take, refl, sym, ap, ◌∙◌, subst, Bool, ◌||◌}
+use Rattle.std.proofs.Common.{◌≡◌, ℕ, ◌≤◌, length, List, [], ◌∷◌, ◌++◌, take, refl, sym, ap, ◌∙◌, subst, Bool, ◌||◌}
 use Rattle.std.specs.Prelude.{Option, map}
 use Rattle.std.specs.Io.KnownBytes.{Appends}
 use Rattle.ded_io.specs.Devices.{Sent}
@@ -11,20 +11,29 @@ use Rattle.ded_dialogue.specs.Outcome as outcome
 use Rattle.ded_dialogue.proofs.Hearing.{all_heard, heard_texts}
 use Rattle.ded_dialogue.proofs.Reading.{whole_input}
 use Rattle.ded_lex.specs.Pieces.{Statement, Whole, AreStatements}
+use Rattle.ded_model.specs.Catalogue.{Catalogue}
+use Rattle.ded_session.specs.Replies.{done}
 use Rattle.ded_session.specs.Runs.{empty_catalogue}
-use Rattle.ded_shared.specs.Events.{serial}
-use Rattle.ded_shared.specs.Forms.{SharedForm, refuses, some_refuses}
+use Rattle.ded_shared.specs.Events.{serial, inside}
+use Rattle.ded_shared.specs.Forms.{SharedForm, plain, refuses, some_refuses}
 use Rattle.ded_shared.specs.Hearing.{MayReply, MayAnswer, said_of}
 use Rattle.ded_shared.specs.Outcome.{SharedRun, Answered, WholesAnswered, Unread, Overlong, Broken}
-use Rattle.ded_shared.specs.Rules.{SharedSteps}
+use Rattle.ded_shared.specs.Rules.{SharedStep, SharedSteps}
 use Rattle.ded_shared.specs.Serial.{AreSteps}
 use Rattle.ded_shared.specs.State.{State, first_state}
-use Rattle.ded_shared.specs.Tags.{Tagged, AreTagged}
+use Rattle.ded_shared.specs.Tags.{Tagged, begins, AreTagged}
+use Rattle.ded_shared.proofs.Places.{parted, behind_first}
 
 -- the statements that count are steps of one session
 abbrev pub IsSerial : Type 0
 IsSerial = (limit : ℕ) (statements : List Statement) (xs : List Tagged) (replies : List SharedForm) (t : State) → AreTagged statements xs
     → SharedSteps (first_state limit) xs replies t → AreSteps (empty_catalogue limit) (serial xs replies) t.shared
+
+-- the statements of each transaction are steps of one session
+abbrev pub AreTransactions : Type 0
+AreTransactions = (limit : ℕ) (statements more : List Statement) (before later : List Tagged) (got answers : List SharedForm) (k : ℕ) (s u t : State)
+    → AreTagged statements before → SharedSteps (first_state limit) before got s → SharedStep s (begins k) (plain done) u
+    → AreTagged more later → SharedSteps u later answers t → (end : Catalogue) × AreSteps s.shared (inside k later answers) end
 
 -- the statements are tagged ones, with these replies
 record Told (s : State) (ss : List Statement) (replies : List SharedForm) (t : State) : Type 0 where
@@ -49,14 +58,29 @@ refused_of replies said refused are is = sym (refusals_heard replies) ∙ ap hea
 
 -- ---- outcomes of an input that begins without entries and transactions
 
-module _ (is_serial : IsSerial) (limit : ℕ) (m : State) (begins : m ≡ first_state limit) (h0 h1 : Option (List ℕ)) where
+module _ (is_serial : IsSerial) (are_transactions : AreTransactions) (limit : ℕ) (m : State) (is_first : m ≡ first_state limit) (h0 h1 : Option (List ℕ)) where
   from_first : (t : State) (ss : List Statement) (said : List Said) → runs.Steps MayAnswer m ss said t → AllHeard MayReply said_of (first_state limit) ss said t
-  from_first t ss said steps = all_heard MayReply said_of (first_state limit) t ss said (subst (λ (k : State). runs.Steps MayAnswer k ss said t) begins steps)
+  from_first t ss said steps = all_heard MayReply said_of (first_state limit) t ss said (subst (λ (k : State). runs.Steps MayAnswer k ss said t) is_first steps)
+
+  transactions_in : (ss : List Statement) (xs : List Tagged) → AreTagged ss xs → (before later rest : List Tagged) (got answers : List SharedForm) (k : ℕ) (s u t : State)
+      → xs ≡ before ++ (begins k ∷ (later ++ rest)) → SharedSteps (first_state limit) before got s → SharedStep s (begins k) (plain done) u → SharedSteps u later answers t
+      → (end : Catalogue) × AreSteps s.shared (inside k later answers) end
+  transactions_in ss xs are before later rest got answers k s u t cut p q r =
+      let a = parted ss before (begins k ∷ (later ++ rest)) (subst (AreTagged ss) cut are) in
+      let b = behind_first a.back (begins k) (later ++ rest) a.backs in
+      let c = parted b.0 later rest b.1 in
+      are_transactions limit a.front c.front before later got answers k s u t a.fronts p q c.fronts r
 
   run_of : (t : State) (ss : List Statement) (said : List Said) (h : AllHeard MayReply said_of (first_state limit) ss said t) → SharedRun limit ss h.replies t
   run_of t ss said h =
       let x : Told (first_state limit) ss h.replies t = told (first_state limit) t ss h.replies h.steps in
-      record { tagged = x.tagged; are = x.are; steps = x.steps; serial = is_serial limit ss x.tagged h.replies t x.are x.steps }
+      record {
+        tagged = x.tagged;
+        are = x.are;
+        steps = x.steps;
+        serial = is_serial limit ss x.tagged h.replies t x.are x.steps;
+        transactions = transactions_in ss x.tagged x.are;
+      }
 
   wholes_answered : (bytes : List ℕ) → outcome.WholesAnswered MayAnswer m bytes h0 h1 → WholesAnswered limit bytes h0 h1
   wholes_answered bytes w =

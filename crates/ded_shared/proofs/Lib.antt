@@ -5,6 +5,7 @@ pub mod Changed
 pub mod Changing
 pub mod ClosedNames
 pub mod CommandNames
+pub mod Culprits
 pub mod Current
 pub mod Doing
 pub mod Ending
@@ -20,6 +21,7 @@ pub mod Noting
 pub mod Numerals
 pub mod OneCatalogue
 pub mod OneSession
+pub mod OneTag
 pub mod OneTransaction
 pub mod Orders
 pub mod Outside

@@ -1,5 +1,5 @@
 -- The transactions of sessions, and which statements are of sessions.
-use Rattle.std.proofs.Common.{◌≡◌, ◌≢◌, ◌-◌, ℕ, ◌≤◌, ◌==◌, false, List, [], ◌∷◌, Option, None, option_map, length, get_or, slice_set, sym, ◌∙◌, subst, arith, get_or-set_same, get_or-set_other, length-set}
+use Rattle.std.proofs.Common.{◌≡◌, ◌≢◌, ◌-◌, ℕ, ◌≤◌, ◌==◌, false, List, [], ◌∷◌, ◌++◌, Option, None, option_map, length, get_or, slice_set, sym, ◌∙◌, subst, arith, get_or-set_same, get_or-set_other, length-set}
 use Rattle.std.specs.List.{AllByRecursion}
 use Rattle.std.proofs.lemmas.Bool.{eqb-false}
 use Rattle.std.proofs.Math.ListN.{get_or-map}
@@ -23,7 +23,7 @@ IsOfSession (aborts k) = IsSession k
 IsOfSession (commands k bytes) = IsSession k × SpellsCommand bytes
 IsOfSession (other s) = Unit {0}
 
-of_session : (s : Statement) (x : Tagged) → IsTagged s x → IsOfSession x
+pub of_session : (s : Statement) (x : Tagged) → IsTagged s x → IsOfSession x
 of_session (Whole bytes) (begins k) p = record { low = p.1.tag.is_number.low; high = p.1.tag.is_number.high }
 of_session (Whole bytes) (commits k) p = record { low = p.1.tag.is_number.low; high = p.1.tag.is_number.high }
 of_session (Whole bytes) (aborts k) p = record { low = p.1.tag.is_number.low; high = p.1.tag.is_number.high }
@@ -36,6 +36,27 @@ of_sessions [] [] p = tt
 of_sessions [] (x ∷ xs) p = absurd p
 of_sessions (s ∷ ss) [] p = absurd p
 of_sessions (s ∷ ss) (x ∷ xs) p = (of_session s x p.0, of_sessions ss xs p.1)
+
+-- ---- lists of statements
+
+-- the statements that are the first of these, and those that are the others
+pub record Parted (xs ys : List Tagged) : Type 0 where
+  pub front : List Statement
+  pub back : List Statement
+  pub fronts : AreTagged front xs
+  pub backs : AreTagged back ys
+
+pub parted : (ss : List Statement) (xs ys : List Tagged) → AreTagged ss (xs ++ ys) → Parted xs ys
+parted ss [] ys p = record { front = []; back = ss; fronts = tt; backs = p }
+parted [] (x ∷ xs) ys p = absurd p
+parted (s ∷ ss) (x ∷ xs) ys p =
+    let r = parted ss xs ys p.1 in
+    record { front = s ∷ r.front; back = r.back; fronts = (p.0, r.fronts); backs = r.backs }
+
+-- those behind the first
+pub behind_first : (ss : List Statement) (x : Tagged) (xs : List Tagged) → AreTagged ss (x ∷ xs) → (more : List Statement) × AreTagged more xs
+behind_first [] x xs p = absurd p
+behind_first (s ∷ ss) x xs p = (ss, p.1)
 
 -- ---- places
 

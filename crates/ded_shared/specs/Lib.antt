@@ -1,6 +1,7 @@
 pub mod Agreeing
 pub mod Answered
 pub mod Conflicts
+pub mod Culprits
 pub mod Deciding
 pub mod Events
 pub mod Forms

@@ -1,18 +1,22 @@
 //! Shared sessions as one session. Each law is the contract of a function that does nothing, or calls those that it rests on.
 //!
 //! Laws of what statements depend on and what they change. Each is the contract of a function that does nothing.
-ghost use Rattle.std.specs.Prelude.{◌≡◌, ◌++◌, ℕ, List, ◌&&◌, Bool, true, false, not};
+ghost use Rattle.std.specs.Prelude.{◌≡◌, ◌≢◌, ◌++◌, ℕ, List, ◌&&◌, Bool, true, false, not, Some};
+ghost use Rattle.std.specs.declared.cmp.Ordering.TheVariants.{Less};
+ghost use Rattle.std.specs.Ordering.{nat_cmp};
+ghost use Rattle.std.specs.Cmp.Lexicographic.{slice_cmp};
 ghost use Rattle.ded_lex.specs.Pieces.{Statement, Whole};
 ghost use Rattle.ded_model.specs.Catalogue.{Catalogue};
 ghost use Rattle.ded_session.specs.Replies.{done, ReplyForm, is_refusal};
 ghost use Rattle.ded_session.specs.Runs.{empty_catalogue};
+ghost use Rattle.ded_shared.specs.Culprits.{HasCulprit};
 ghost use Rattle.ded_shared.specs.Events.{serial, inside};
-ghost use Rattle.ded_shared.specs.Forms.{SharedForm, plain};
+ghost use Rattle.ded_shared.specs.Forms.{SharedForm, plain, conflict};
 ghost use Rattle.ded_shared.specs.PlainNames.{HavePlainNames};
 ghost use Rattle.ded_shared.specs.Rules.{SharedStep, SharedSteps};
 ghost use Rattle.ded_shared.specs.Serial.{AreSteps};
-ghost use Rattle.ded_shared.specs.State.{State, first_state};
-ghost use Rattle.ded_shared.specs.Tags.{Tagged, begins, AreTagged, IsTagged};
+ghost use Rattle.ded_shared.specs.State.{Transaction, State, is_among, transaction_of, first_state};
+ghost use Rattle.ded_shared.specs.Tags.{Tagged, begins, commits, AreTagged, IsTagged};
 ghost use Rattle.ded_shared.specs.Texts.{shared_text};
 ghost use Rattle.ded_model.specs.declared.command.Language.{Language};
 ghost use Rattle.ded_model.specs.declared.command.Language.TheVariants.{One};
@@ -26,6 +30,12 @@ ghost use Rattle.ded_session.specs.Steps.{Step};
 /// Each statement is some tagged one: the rules say of all what they are answered.
 pub fn tagged_statements()
     ensures { (s : Statement) → (x : Tagged) × IsTagged s x }
+{}
+
+/// A statement is one tagged statement alone, and statements one after another are one list of tagged ones.
+pub fn one_tag()
+    ensures one { (s : Statement) (x y : Tagged) → IsTagged s x → IsTagged s y → x ≡ y }
+    ensures all { (statements : List Statement) (xs ys : List Tagged) → AreTagged statements xs → AreTagged statements ys → xs ≡ ys }
 {}
 
 /// The statements outside of transactions and those of committed ones, in the order of their ends and with the replies that
@@ -46,6 +56,21 @@ pub fn transactions()
 {
     ded_session::laws::formed_catalogues();
 }
+
+/// Where a commit conflicts at a name, the session had begun its transaction, and a statement behind that begin changed the name: another
+/// session's commit, or an accepted command outside of transactions. No lesser name that the transaction touched was changed so; and
+/// where a commit is done, none was.
+pub fn conflicts()
+    ensures culprit { (limit : ℕ) (statements : List Statement) (xs : List Tagged) (replies : List SharedForm) (statement : Statement) (k : ℕ) (s t : State) (n : List ℕ)
+        → AreTagged statements xs → SharedSteps (first_state limit) xs replies s → IsTagged statement (commits k) → SharedStep s (commits k) (conflict n) t
+        → HasCulprit (first_state limit) k n xs replies s }
+    ensures least { (limit : ℕ) (statements : List Statement) (xs : List Tagged) (replies : List SharedForm) (statement : Statement) (k : ℕ) (s t : State) (n m : List ℕ) (x : Transaction)
+        → AreTagged statements xs → SharedSteps (first_state limit) xs replies s → IsTagged statement (commits k) → SharedStep s (commits k) (conflict n) t
+        → transaction_of s k ≡ Some x → is_among x.touched m ≡ true → HasCulprit (first_state limit) k m xs replies s → slice_cmp nat_cmp m n ≢ Less }
+    ensures free { (limit : ℕ) (statements : List Statement) (xs : List Tagged) (replies : List SharedForm) (statement : Statement) (k : ℕ) (s t : State) (n : List ℕ) (x : Transaction)
+        → AreTagged statements xs → SharedSteps (first_state limit) xs replies s → IsTagged statement (commits k) → SharedStep s (commits k) (plain done) t
+        → transaction_of s k ≡ Some x → is_among x.touched n ≡ true → HasCulprit (first_state limit) k n xs replies s → ⊥ }
+{}
 
 /// In each state to which tagged statements lead, the names in all catalogues are words of the grammar.
 pub fn plain_names()

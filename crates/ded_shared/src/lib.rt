@@ -8,8 +8,9 @@
 //! what a statement is answered and what it makes of that. [`Shared::step`] is one step of these rules, and [`run_shared`] a
 //! run over an input. `specs/Touching` says which names a command touches over a catalogue and which it changes where it is accepted, and
 //! `specs/Agreeing` when two catalogues agree on names. [`laws`] say that a statement may get the same reply over each catalogue that agrees
-//! on the names that it touches and leaves all other names as they are, and that the statements outside of transactions and those of
-//! committed ones, in the order of their ends (`specs/Events`), are steps of one session with the same replies.
+//! on the names that it touches and leaves all other names as they are, that the statements outside of transactions and those of
+//! committed ones, in the order of their ends (`specs/Events`), are steps of one session with the same replies, and which statement
+//! made a commit conflict (`specs/Culprits`).
 //!
 //! It stands on `ded_session` for what statements do, for their replies and the texts of these, on `ded_views` for what names reach, on
 //! `ded_syntax` and `ded_lex` for tags, and on `ded_dialogue` for the loop.

@@ -45,5 +45,6 @@ pub fn run_shared<S: Source, K: Sink>(
         return Status::NoMemory;
     };
     laws::serial();
+    laws::transactions();
     serve(alloc, shared, limits::INPUT_BYTES, source, sink)
 }
