@@ -7,11 +7,12 @@ ghost use Rattle.std.specs.Prelude.{◌≡◌, ◌++◌, ◌∷◌, [], true, If
 ghost use Rattle.std.specs.List.{AllByRecursion};
 ghost use Rattle.ded_model.specs.Cell.{conj_holds};
 ghost use Rattle.ded_model.specs.Point.{Point};
-ghost use Rattle.ded_genrel.specs.Rounds.{AreRational};
 ghost use Rattle.ded_join.specs.Picks.{IsIndexOver};
 ghost use Rattle.ded_eval.specs.Inside.{IsInsidePart, IsMeetInside};
+ghost use Rattle.ded_eval.specs.Joining.{IsJoinStep};
 
 use crate::beside::alone;
+use crate::step::JoinStep;
 use ded_atoms::{AtomRef, OfTuples};
 use ded_genrel::{GenRel, both_conjs};
 use ded_index::BoxIndex;
@@ -76,18 +77,16 @@ pub(crate) fn join_inside<T: OfTuples>(
     alloc: Global,
     list: &GenRel<T>,
     next: &GenRel<T>,
-    slots: &[Slot],
-    across: &[T::Atom],
+    step: &JoinStep<'_, T>,
     met: &mut u64,
 ) -> Result<GenRel<T>, NoMemory>
-    requires rational { AreRational slots.now }
-    requires across { AllByRecursion T.normal across.now }
-    ensures { IfOk result (λ r. IsMeetInside T.holds T.mentions T.lines (conj_holds T.holds across.now) list.now next.now r) }
+    requires { IsJoinStep T.normal T.holds step.now.within.now step.now.slots.now step.now.across.now }
+    ensures { IfOk result (λ r. IsMeetInside T.holds T.mentions T.lines (conj_holds T.holds step.now.across.now) list.now next.now r) }
 {
-    if across.is_empty() || is_small(next) {
-        join_shorter(alloc, list, next, slots, met)
+    if step.across.is_empty() || is_small(next) {
+        join_shorter(alloc, list, next, step.slots, met)
     } else {
-        pairs_inside(alloc, list, next, slots, across, met)
+        pairs_inside(alloc, list, next, step, met)
     }
 }
 
@@ -96,16 +95,14 @@ fn pairs_inside<T: OfTuples>(
     alloc: Global,
     list: &GenRel<T>,
     next: &GenRel<T>,
-    slots: &[Slot],
-    across: &[T::Atom],
+    step: &JoinStep<'_, T>,
     met: &mut u64,
 ) -> Result<GenRel<T>, NoMemory>
-    requires rational { AreRational slots.now }
-    requires across { AllByRecursion T.normal across.now }
-    ensures { IfOk result (λ r. IsMeetInside T.holds T.mentions T.lines (conj_holds T.holds across.now) list.now next.now r) }
+    requires { IsJoinStep T.normal T.holds step.now.within.now step.now.slots.now step.now.across.now }
+    ensures { IfOk result (λ r. IsMeetInside T.holds T.mentions T.lines (conj_holds T.holds step.now.across.now) list.now next.now r) }
 {
-    let index = index_over(alloc, next, slots)?;
-    let pairs = pairs_by(alloc, list, next, slots, across, &index, met);
+    let index = index_over(alloc, next, step.slots)?;
+    let pairs = pairs_by(alloc, list, next, step, &index, met);
     drop(index);
     pairs
 }
@@ -115,21 +112,19 @@ fn pairs_by<T: OfTuples>(
     alloc: Global,
     list: &GenRel<T>,
     next: &GenRel<T>,
-    slots: &[Slot],
-    across: &[T::Atom],
+    step: &JoinStep<'_, T>,
     index: &Option<BoxIndex>,
     met: &mut u64,
 ) -> Result<GenRel<T>, NoMemory>
-    requires rational { AreRational slots.now }
-    requires across { AllByRecursion T.normal across.now }
-    requires index { IsIndexOver T.holds T.mentions T.lines slots.now next.now index.now }
-    ensures { IfOk result (λ r. IsMeetInside T.holds T.mentions T.lines (conj_holds T.holds across.now) list.now next.now r) }
+    requires step { IsJoinStep T.normal T.holds step.now.within.now step.now.slots.now step.now.across.now }
+    requires index { IsIndexOver T.holds T.mentions T.lines step.now.slots.now next.now index.now }
+    ensures { IfOk result (λ r. IsMeetInside T.holds T.mentions T.lines (conj_holds T.holds step.now.across.now) list.now next.now r) }
 {
     let mut out = GenRel::new(alloc);
     for conj in list.list() {
         let one = alone(alloc, conj)?;
-        let pairs = join_over(alloc, &one, next, slots, index, met)?;
-        out.append(kept_inside(alloc, pairs, across)?)?;
+        let pairs = join_over(alloc, &one, next, step.slots, index, met)?;
+        out.append(kept_inside(alloc, pairs, step.across)?)?;
     }
     Ok(out)
 }

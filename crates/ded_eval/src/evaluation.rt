@@ -8,11 +8,9 @@ ghost use Rattle.ded_model.specs.Lines.{any_clashes};
 ghost use Rattle.ded_model.specs.Measure.{stored_measures, plan_atom_lines, plan_atom_clash, plan_clashes};
 ghost use Rattle.ded_model.specs.PlanForm.{rows, plan_form, plan_forms};
 ghost use Rattle.ded_genrel.specs.Lists.{conjs_hold, conjs_mention, conjs_lines};
-ghost use Rattle.ded_genrel.specs.Rounds.{AreRational};
 ghost use Rattle.ded_model.specs.Cell.{conj_holds};
-ghost use Rattle.ded_model.specs.Point.{Point};
 ghost use Rattle.ded_algebra.specs.Evaluation.{IsScannable, IsEvaluable, IsEvaluation, IsEvaluationWithin};
-ghost use Rattle.ded_eval.specs.Joining.{begun, IsJoinedWith};
+ghost use Rattle.ded_eval.specs.Joining.{begun, IsJoinedWith, IsJoinStep};
 
 use crate::across::{join_inside, rows_across};
 use crate::beside::{alone, begun_with, is_rows, leaves_nothing, narrowed, rows_of_parts};
@@ -20,6 +18,7 @@ use crate::fronts::{front_part, place_of};
 use crate::lookups::is_lookup;
 use crate::scanning::scanned;
 use crate::slots::{add_all, rational_slots, shared, slots_of_rows};
+use crate::step::JoinStep;
 use crate::window::without_slot;
 use ded_algebra::Relations;
 use ded_atoms::{OfTuples, conjunction, distinct};
@@ -27,7 +26,6 @@ use ded_complement::{complement, minus};
 use ded_genrel::{GenRel, both_conjs};
 use ded_model::memory::{NoMemory, Refused};
 use ded_model::plan::Plan;
-use ded_model::slot::Slot;
 use ded_model::tuple::Tuple;
 use ded_theory::Theory;
 use std::alloc::Global;
@@ -161,7 +159,12 @@ fn joined<T: OfTuples, R: Relations>(
         let own = rational_slots(alloc, part)?;
         let near = shared(alloc, &own, &slots)?;
         let across = rows_across::<T>(alloc, &within, &slots, &own)?;
-        list = Some(joined_with(alloc, list, part, relations, &within, &near, &across, met)?);
+        let step = JoinStep {
+            within: &within,
+            slots: &near,
+            across: &across,
+        };
+        list = Some(joined_with(alloc, list, part, relations, &step, met)?);
         add_all(&mut slots, &own)?;
     }
     Ok(whole(alloc, list)?)
@@ -175,25 +178,20 @@ fn joined_with<T: OfTuples, R: Relations>(
     before: Option<GenRel<T>>,
     part: &Plan,
     relations: &R,
-    within: &[T::Atom],
-    slots: &[Slot],
-    across: &[T::Atom],
+    step: &JoinStep<'_, T>,
     met: &mut u64,
 ) -> Result<GenRel<T>, Refused>
     requires part { IsEvaluable T.reads (R.catalogue relations.now) (plan_form part.now) }
-    requires within { AllByRecursion T.normal within.now }
-    requires rational { AreRational slots.now }
-    requires across { AllByRecursion T.normal across.now }
-    requires weaker { (p : Point) → conj_holds T.holds within.now p ≡ true → conj_holds T.holds across.now p ≡ true }
-    ensures is { IfOk result (λ r. IsJoinedWith T.holds T.mentions T.lines (R.catalogue relations.now) (conj_holds T.holds within.now) (plan_form part.now) (begun before) r) }
+    requires step { IsJoinStep T.normal T.holds step.now.within.now step.now.slots.now step.now.across.now }
+    ensures is { IfOk result (λ r. IsJoinedWith T.holds T.mentions T.lines (R.catalogue relations.now) (conj_holds T.holds step.now.within.now) (plan_form part.now) (begun before) r) }
     ensures wide { IsErrOf result Wide → plan_clashes (stored_measures (R.catalogue relations.now)) (plan_form part.now) ≡ true }
     ensures never_wide { T.decides → IsErrOf result Wide → ⊥ }
 {
     match before {
         Some(list) if is_lookup(alloc, &list, part, relations) => {
-            probed(alloc, &list, part, relations, within, across, met)
+            probed(alloc, &list, part, relations, step, met)
         }
-        before => met_with(alloc, before, part, relations, within, slots, across, met),
+        before => met_with(alloc, before, part, relations, step, met),
     }
 }
 
@@ -204,24 +202,19 @@ fn met_with<T: OfTuples, R: Relations>(
     before: Option<GenRel<T>>,
     part: &Plan,
     relations: &R,
-    within: &[T::Atom],
-    slots: &[Slot],
-    across: &[T::Atom],
+    step: &JoinStep<'_, T>,
     met: &mut u64,
 ) -> Result<GenRel<T>, Refused>
     requires part { IsEvaluable T.reads (R.catalogue relations.now) (plan_form part.now) }
-    requires within { AllByRecursion T.normal within.now }
-    requires rational { AreRational slots.now }
-    requires across { AllByRecursion T.normal across.now }
-    requires weaker { (p : Point) → conj_holds T.holds within.now p ≡ true → conj_holds T.holds across.now p ≡ true }
-    ensures is { IfOk result (λ r. IsJoinedWith T.holds T.mentions T.lines (R.catalogue relations.now) (conj_holds T.holds within.now) (plan_form part.now) (begun before) r) }
+    requires step { IsJoinStep T.normal T.holds step.now.within.now step.now.slots.now step.now.across.now }
+    ensures is { IfOk result (λ r. IsJoinedWith T.holds T.mentions T.lines (R.catalogue relations.now) (conj_holds T.holds step.now.within.now) (plan_form part.now) (begun before) r) }
     ensures wide { IsErrOf result Wide → plan_clashes (stored_measures (R.catalogue relations.now)) (plan_form part.now) ≡ true }
     ensures never_wide { T.decides → IsErrOf result Wide → ⊥ }
 {
-    let inner = narrowed(alloc, within, &before)?;
+    let inner = narrowed(alloc, step.within, &before)?;
     let next = evaluate_within(alloc, part, relations, &inner, met)?;
     match before {
-        Some(list) => Ok(join_inside(alloc, &list, &next, slots, across, met)?),
+        Some(list) => Ok(join_inside(alloc, &list, &next, step, met)?),
         None => Ok(next),
     }
 }
@@ -233,22 +226,24 @@ fn probed<T: OfTuples, R: Relations>(
     list: &GenRel<T>,
     part: &Plan,
     relations: &R,
-    within: &[T::Atom],
-    across: &[T::Atom],
+    step: &JoinStep<'_, T>,
     met: &mut u64,
 ) -> Result<GenRel<T>, Refused>
     requires part { IsEvaluable T.reads (R.catalogue relations.now) (plan_form part.now) }
-    requires within { AllByRecursion T.normal within.now }
-    requires across { AllByRecursion T.normal across.now }
-    requires weaker { (p : Point) → conj_holds T.holds within.now p ≡ true → conj_holds T.holds across.now p ≡ true }
-    ensures is { IfOk result (λ r. IsJoinedWith T.holds T.mentions T.lines (R.catalogue relations.now) (conj_holds T.holds within.now) (plan_form part.now) list.now r) }
+    requires step { IsJoinStep T.normal T.holds step.now.within.now step.now.slots.now step.now.across.now }
+    ensures is { IfOk result (λ r. IsJoinedWith T.holds T.mentions T.lines (R.catalogue relations.now) (conj_holds T.holds step.now.within.now) (plan_form part.now) list.now r) }
     ensures wide { IsErrOf result Wide → plan_clashes (stored_measures (R.catalogue relations.now)) (plan_form part.now) ≡ true }
     ensures never_wide { T.decides → IsErrOf result Wide → ⊥ }
 {
+    let each = JoinStep {
+        within: step.within,
+        slots: &[],
+        across: step.across,
+    };
     let mut joined = GenRel::new(alloc);
     for conj in list.list() {
         let before = Some(alone(alloc, conj)?);
-        let more = met_with(alloc, before, part, relations, within, &[], across, met)?;
+        let more = met_with(alloc, before, part, relations, &each, met)?;
         joined.append(more)?;
     }
     Ok(joined)

@@ -37,6 +37,7 @@ mod meeting;
 mod over_atoms;
 mod scanning;
 mod slots;
+mod step;
 mod tried;
 mod window;
 

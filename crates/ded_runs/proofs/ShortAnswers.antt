@@ -9,7 +9,7 @@ use Rattle.ded_model.specs.declared.name.Column.{Column}
 use Rattle.ded_model.specs.Catalogue.{Entry, Catalogue, entry_name}
 use Rattle.ded_model.specs.Catalogue as entry
 use Rattle.ded_model.specs.Command.{CommandForm, query, show}
-use Rattle.ded_model.specs.Entries.{entry_of, known, stored_in, tuples_in}
+use Rattle.ded_model.specs.Entries.{entry_of, known, stored_in}
 use Rattle.ded_model.specs.Form.{Form}
 use Rattle.ded_model.specs.Known.{KnownNames, AreStored, IsAccepted, IsEntryOver, AreEntriesOver, IsTupleOver, IsWellFormed, with_known}
 use Rattle.ded_model.specs.Lines.{AreWithin, tuples_lines}

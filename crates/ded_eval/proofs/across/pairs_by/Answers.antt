@@ -10,8 +10,8 @@ use Rattle.ded_eval.proofs.across.pairs_by.Goals as goal
 
 pub loop-conj-init : goal.loop-conj-init
 loop-conj-init g c =
-    subst (IsMeetInside g.T.Theory.holds g.T.Theory.mentions g.T.Theory.lines (conj_holds g.T.Theory.holds c.args.across.now) [] c.args.next.now) (sym c.new-out.ensures)
-    (meet_inside_none g.T.Theory.holds g.T.Theory.mentions g.T.Theory.lines (conj_holds g.T.Theory.holds c.args.across.now) c.args.next.now)
+    subst (IsMeetInside g.T.Theory.holds g.T.Theory.mentions g.T.Theory.lines (conj_holds g.T.Theory.holds c.args.step.now.across.now) [] c.args.next.now) (sym c.new-out.ensures)
+    (meet_inside_none g.T.Theory.holds g.T.Theory.mentions g.T.Theory.lines (conj_holds g.T.Theory.holds c.args.step.now.across.now) c.args.next.now)
 
 pub alone-requires : goal.alone-requires
 alone-requires g c =
@@ -25,7 +25,7 @@ loop-conj-preserved g c =
     let items = c.list-conj-items.result.now in
     let i = c.loop-conj.conj-index in
     let one = c.conj-item.result.items in
-    let inside = conj_holds h c.args.across.now in
+    let inside = conj_holds h c.args.step.now.across.now in
     let same = c.in_ok-one.ensures ∙ ap (λ atoms. atoms ∷ []) c.deref.ensures.value in
     subst (λ xs. IsMeetInside h m l inside xs c.args.next.now c.append.new.self) (sym (conjs_to items i c.conj-item.result c.loop-conj-test.true c.conj-item.is))
     (subst (IsMeetInside h m l inside (conjs_of (take i items) ++ one ∷ []) c.args.next.now) (sym c.in_ok-append.ensures)
@@ -34,5 +34,5 @@ loop-conj-preserved g c =
 
 pub returns : goal.returns
 returns g c =
-    subst (λ xs. IsMeetInside g.T.Theory.holds g.T.Theory.mentions g.T.Theory.lines (conj_holds g.T.Theory.holds c.args.across.now) xs c.args.next.now c.loop-conj.out)
+    subst (λ xs. IsMeetInside g.T.Theory.holds g.T.Theory.mentions g.T.Theory.lines (conj_holds g.T.Theory.holds c.args.step.now.across.now) xs c.args.next.now c.loop-conj.out)
     (conjs_done c.list-conj-items.result.now c.loop-conj.conj-index c.loop-conj-test.false ∙ c.list-conj-items.ensures.list) c.loop-conj.invariant

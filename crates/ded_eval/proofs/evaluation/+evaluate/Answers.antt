@@ -172,19 +172,19 @@ joined-joined_with-requires g t c κs within =
     let normal : AllByRecursion g.T.Theory.normal c.deref-in-loop-i-6.result.now
     = subst (AllByRecursion g.T.Theory.normal) (sym (c.deref-in-loop-i-6.ensures.value ∙ c.in_ok-within.ensures ∙ ap (λ xs. c.args.window.now ++ xs) c.deref.ensures.value))
     (all-append g.T.Theory.normal c.args.window.now c.in_ok-rows.rows.items c.requires.window c.in_ok-rows.ensures.normal) in
-    (omega (arith, c.decreases, less), (search rules, (search rules, (search rules, (scannable, (normal, (search rules, (search rules, search rules))))))))
+    (omega (arith, c.decreases, less), (search rules, (search rules, (search rules, (scannable, record { within = normal; rational = search rules; across = search rules; weaker = search rules })))))
 
 pub met_with-returns-in-Some-clause-is : goal.met_with-returns-in-Some-clause-is
 met_with-returns-in-Some-clause-is g t c =
-    subst (λ xs. IsJoinedWith g.T.Theory.holds g.T.Theory.mentions g.T.Theory.lines (g.R.Relations.catalogue c.args.relations.now) (conj_holds g.T.Theory.holds c.args.within.now) (plan_form c.args.part.now) xs c.in_ok-join_inside-in-Some.field-0) (sym (ap begun c.in-Some.is))
-    (met_with g.T.Theory.holds g.T.Theory.mentions g.T.Theory.lines (g.R.Relations.catalogue c.args.relations.now) (conj_holds g.T.Theory.holds c.args.within.now) (plan_form c.args.part.now) c.in-Some.list c.in_ok-next.next c.in_ok-join_inside-in-Some.field-0 (conj_holds g.T.Theory.holds c.deref.result.now) (conj_holds g.T.Theory.holds c.args.across.now)
+    subst (λ xs. IsJoinedWith g.T.Theory.holds g.T.Theory.mentions g.T.Theory.lines (g.R.Relations.catalogue c.args.relations.now) (conj_holds g.T.Theory.holds c.args.step.now.within.now) (plan_form c.args.part.now) xs c.in_ok-join_inside-in-Some.field-0) (sym (ap begun c.in-Some.is))
+    (met_with g.T.Theory.holds g.T.Theory.mentions g.T.Theory.lines (g.R.Relations.catalogue c.args.relations.now) (conj_holds g.T.Theory.holds c.args.step.now.within.now) (plan_form c.args.part.now) c.in-Some.list c.in_ok-next.next c.in_ok-join_inside-in-Some.field-0 (conj_holds g.T.Theory.holds c.deref.result.now) (conj_holds g.T.Theory.holds c.args.step.now.across.now)
     (λ p w y. ap (λ xs. conj_holds g.T.Theory.holds xs p) c.deref.ensures.value ∙ c.in_ok-inner.ensures.holds p w (ap (λ o. conjs_hold g.T.Theory.holds (begun o) p) c.in-Some.is ∙ y))
-    c.requires.weaker c.in_ok-next.ensures.is c.in_ok-join_inside-in-Some.ensures)
+    c.requires.step.weaker c.in_ok-next.ensures.is c.in_ok-join_inside-in-Some.ensures)
 
 pub met_with-returns-clause-is : goal.met_with-returns-clause-is
 met_with-returns-clause-is g t c =
-    subst (λ xs. IsJoinedWith g.T.Theory.holds g.T.Theory.mentions g.T.Theory.lines (g.R.Relations.catalogue c.args.relations.now) (conj_holds g.T.Theory.holds c.args.within.now) (plan_form c.args.part.now) xs c.in_ok-next.next) (sym (ap begun c.in-None.is))
-    (first_with g.T.Theory.holds g.T.Theory.mentions g.T.Theory.lines (g.R.Relations.catalogue c.args.relations.now) (conj_holds g.T.Theory.holds c.args.within.now) (plan_form c.args.part.now) c.in_ok-next.next (conj_holds g.T.Theory.holds c.deref.result.now)
+    subst (λ xs. IsJoinedWith g.T.Theory.holds g.T.Theory.mentions g.T.Theory.lines (g.R.Relations.catalogue c.args.relations.now) (conj_holds g.T.Theory.holds c.args.step.now.within.now) (plan_form c.args.part.now) xs c.in_ok-next.next) (sym (ap begun c.in-None.is))
+    (first_with g.T.Theory.holds g.T.Theory.mentions g.T.Theory.lines (g.R.Relations.catalogue c.args.relations.now) (conj_holds g.T.Theory.holds c.args.step.now.within.now) (plan_form c.args.part.now) c.in_ok-next.next (conj_holds g.T.Theory.holds c.deref.result.now)
     (λ p w. ap (λ xs. conj_holds g.T.Theory.holds xs p) c.deref.ensures.value ∙ c.in_ok-inner.ensures.holds p w (ap (λ o. conjs_hold g.T.Theory.holds (begun o) p) c.in-None.is)) c.in_ok-next.ensures.is)
 
 pub probed-alone-requires : goal.probed-alone-requires
@@ -192,20 +192,20 @@ probed-alone-requires g t c =
     subst (AllByRecursion g.T.Theory.normal) (sym c.deref.ensures.value) (normal-at g.T.Theory.normal c.list-conj-items.result.now c.loop-conj.conj-index c.conj-item.result c.loop-conj-test.true c.conj-item.is c.list-conj-items.ensures.normal)
 
 pub probed-loop-conj-init : goal.probed-loop-conj-init
-probed-loop-conj-init g t c = subst (IsJoinedWith g.T.Theory.holds g.T.Theory.mentions g.T.Theory.lines (g.R.Relations.catalogue c.args.relations.now) (conj_holds g.T.Theory.holds c.args.within.now) (plan_form c.args.part.now) []) (sym c.new-joined.ensures) (probed_none g.T.Theory.holds g.T.Theory.mentions g.T.Theory.lines (g.R.Relations.catalogue c.args.relations.now) (conj_holds g.T.Theory.holds c.args.within.now) (plan_form c.args.part.now))
+probed-loop-conj-init g t c = subst (IsJoinedWith g.T.Theory.holds g.T.Theory.mentions g.T.Theory.lines (g.R.Relations.catalogue c.args.relations.now) (conj_holds g.T.Theory.holds c.args.step.now.within.now) (plan_form c.args.part.now) []) (sym c.new-joined.ensures) (probed_none g.T.Theory.holds g.T.Theory.mentions g.T.Theory.lines (g.R.Relations.catalogue c.args.relations.now) (conj_holds g.T.Theory.holds c.args.step.now.within.now) (plan_form c.args.part.now))
 
 pub probed-loop-conj-preserved : goal.probed-loop-conj-preserved
 probed-loop-conj-preserved g t c =
     let items = c.list-conj-items.result.now in
     let i = c.loop-conj.conj-index in
-    subst (λ xs. IsJoinedWith g.T.Theory.holds g.T.Theory.mentions g.T.Theory.lines (g.R.Relations.catalogue c.args.relations.now) (conj_holds g.T.Theory.holds c.args.within.now) (plan_form c.args.part.now) xs c.append.new.self) (sym (conjs_to items i c.conj-item.result c.loop-conj-test.true c.conj-item.is))
-    (subst (IsJoinedWith g.T.Theory.holds g.T.Theory.mentions g.T.Theory.lines (g.R.Relations.catalogue c.args.relations.now) (conj_holds g.T.Theory.holds c.args.within.now) (plan_form c.args.part.now) (conjs_of (take i items) ++ c.conj-item.result.items ∷ [])) (sym c.in_ok-append.ensures)
-    (probed_more g.T.Theory.holds g.T.Theory.mentions g.T.Theory.lines (g.R.Relations.catalogue c.args.relations.now) (conj_holds g.T.Theory.holds c.args.within.now) (plan_form c.args.part.now) (conjs_of (take i items)) (c.conj-item.result.items ∷ []) c.loop-conj.joined c.in_ok-more.more c.loop-conj.invariant
-    (subst (λ xs. IsJoinedWith g.T.Theory.holds g.T.Theory.mentions g.T.Theory.lines (g.R.Relations.catalogue c.args.relations.now) (conj_holds g.T.Theory.holds c.args.within.now) (plan_form c.args.part.now) xs c.in_ok-more.more) (c.in_ok-alone.ensures ∙ ap (λ atoms. atoms ∷ []) c.deref.ensures.value) c.in_ok-more.ensures.is)))
+    subst (λ xs. IsJoinedWith g.T.Theory.holds g.T.Theory.mentions g.T.Theory.lines (g.R.Relations.catalogue c.args.relations.now) (conj_holds g.T.Theory.holds c.args.step.now.within.now) (plan_form c.args.part.now) xs c.append.new.self) (sym (conjs_to items i c.conj-item.result c.loop-conj-test.true c.conj-item.is))
+    (subst (IsJoinedWith g.T.Theory.holds g.T.Theory.mentions g.T.Theory.lines (g.R.Relations.catalogue c.args.relations.now) (conj_holds g.T.Theory.holds c.args.step.now.within.now) (plan_form c.args.part.now) (conjs_of (take i items) ++ c.conj-item.result.items ∷ [])) (sym c.in_ok-append.ensures)
+    (probed_more g.T.Theory.holds g.T.Theory.mentions g.T.Theory.lines (g.R.Relations.catalogue c.args.relations.now) (conj_holds g.T.Theory.holds c.args.step.now.within.now) (plan_form c.args.part.now) (conjs_of (take i items)) (c.conj-item.result.items ∷ []) c.loop-conj.joined c.in_ok-more.more c.loop-conj.invariant
+    (subst (λ xs. IsJoinedWith g.T.Theory.holds g.T.Theory.mentions g.T.Theory.lines (g.R.Relations.catalogue c.args.relations.now) (conj_holds g.T.Theory.holds c.args.step.now.within.now) (plan_form c.args.part.now) xs c.in_ok-more.more) (c.in_ok-alone.ensures ∙ ap (λ atoms. atoms ∷ []) c.deref.ensures.value) c.in_ok-more.ensures.is)))
 
 pub probed-returns-clause-is : goal.probed-returns-clause-is
 probed-returns-clause-is g t c =
-    subst (λ xs. IsJoinedWith g.T.Theory.holds g.T.Theory.mentions g.T.Theory.lines (g.R.Relations.catalogue c.args.relations.now) (conj_holds g.T.Theory.holds c.args.within.now) (plan_form c.args.part.now) xs c.loop-conj.joined) (conjs_done c.list-conj-items.result.now c.loop-conj.conj-index c.loop-conj-test.false ∙ c.list-conj-items.ensures.list) c.loop-conj.invariant
+    subst (λ xs. IsJoinedWith g.T.Theory.holds g.T.Theory.mentions g.T.Theory.lines (g.R.Relations.catalogue c.args.relations.now) (conj_holds g.T.Theory.holds c.args.step.now.within.now) (plan_form c.args.part.now) xs c.loop-conj.joined) (conjs_done c.list-conj-items.result.now c.loop-conj.conj-index c.loop-conj-test.false ∙ c.list-conj-items.ensures.list) c.loop-conj.invariant
 
 pub united-loop-part-init : goal.united-loop-part-init
 united-loop-part-init g t c = (

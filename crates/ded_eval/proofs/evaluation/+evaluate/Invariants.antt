@@ -23,4 +23,4 @@ invariant-united-loop-part g l =
 
 abbrev pub invariant-probed-loop-conj : goal.invariant-probed-loop-conj
 invariant-probed-loop-conj g l =
-    IsJoinedWith g.T.Theory.holds g.T.Theory.mentions g.T.Theory.lines (g.R.Relations.catalogue l.relations) (conj_holds g.T.Theory.holds l.within) (plan_form l.part) (conjs_of (take l.conj-index l.conj-items)) l.joined
+    IsJoinedWith g.T.Theory.holds g.T.Theory.mentions g.T.Theory.lines (g.R.Relations.catalogue l.relations) (conj_holds g.T.Theory.holds l.step.within.now) (plan_form l.part) (conjs_of (take l.conj-index l.conj-items)) l.joined
