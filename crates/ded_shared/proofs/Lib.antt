@@ -39,3 +39,4 @@ pub mod Stepping
 pub mod TagsRead
 pub mod TextsApart
 pub mod Verbing
+pub mod StaleNames
