@@ -11,6 +11,7 @@ IMPL = re.compile(r"impl(?:<.*?>)? (\w+)")
 ITEM = re.compile(r"( *)(pub )?(fn|struct|enum|trait|const|type|ghost) (?!use\b)(\w+)")
 CLAUSE = re.compile(r"\s*ensures (\w*)")
 EXPORT = re.compile(r"^pub use ([\w:]+)::(?:\{(.*?)\}|(\w+));", re.M | re.S)
+USE = re.compile(r"^use ([\w:]+)::(?:\{(.*?)\}|(\w+));", re.M | re.S)
 IMPORT = re.compile(r"^\s*(?:ghost )?use ((?:Rattle|lib)[\w.+-]*?)\.\{(.*?)\};?\s*$", re.M)
 WHOLE_IMPORT = re.compile(r"^\s*(?:ghost )?use ((?:Rattle|lib)[\w.+-]*) as (\w+);?\s*$", re.M)
 SENTENCE = re.compile(r".*?[.!?](?=\s|$)")
@@ -137,10 +138,20 @@ def items_of(path: str) -> Iterator[tuple[str, Item]]:
             owner, in_trait = name, True
 
 
+def named(lines: re.Pattern[str], text: str) -> Iterator[tuple[str, list[str]]]:
+    """The modules that some lines of a file name, each with the names that they take from it."""
+    for module, several, one in lines.findall(text):
+        yield module, [name.strip() for name in (several or one).split(",") if name.strip()]
+
+
 def exports(lib: str) -> Iterator[tuple[str, list[str]]]:
     """The modules of which a root file makes items public, each with their names."""
-    for module, several, one in EXPORT.findall(lib):
-        yield module, [name.strip() for name in (several or one).split(",") if name.strip()]
+    return named(EXPORT, lib)
+
+
+def uses(text: str) -> Iterator[tuple[str, list[str]]]:
+    """The modules of which a file uses items in Rust, each with their names."""
+    return named(USE, text)
 
 
 def path_of(crate: str, module: str) -> str:
