@@ -1,7 +1,11 @@
--- What a call of a sink does to the bytes that it holds, where those are told.
-use Rattle.std.specs.Prelude.{◌≡◌, ℕ, ◌<◌, ◌≤◌, List, ◌++◌, length, Result, IfOk, MatchResult}
+-- What a call of a source tells of the bytes that it gave, and what one of a sink does to the bytes that it holds, where those are told.
+use Rattle.std.specs.Prelude.{◌≡◌, ℕ, ◌<◌, ◌≤◌, List, ◌++◌, length, take, Result, IfOk, IfSome, MatchResult}
 use Rattle.std.specs.Io.KnownBytes.{Appends}
 use Rattle.std.specs.declared.option.Option.{Option}
+
+-- behind a read the source tells the bytes that this gave, and behind one that failed what it told before
+abbrev pub TellsLast : {E : Type 0} → Option (List ℕ) → Option (List ℕ) → Result ℕ E → List ℕ → Type 0
+TellsLast before now r into = MatchResult r (λ n. IfSome now (λ bytes. bytes ≡ take n into)) (λ _. now ≡ before)
 
 -- a write takes at most all of a piece, and of one that isn't empty at least one byte
 abbrev pub TakesSome : {E : Type 0} → Result ℕ E → List ℕ → Type 0

@@ -1,5 +1,5 @@
 -- What the devices in memory are made of, and what each of their calls does.
-use Rattle.std.specs.Prelude.{ℕ, ◌+◌, ◌-◌, ◌^◌, min, Bool, ◌&&◌, ◌||◌, ◌==◌, nat_lt, if◌then◌else◌, List, ◌++◌, length, take, drop, Result}
+use Rattle.std.specs.Prelude.{ℕ, ◌+◌, ◌-◌, ◌^◌, min, Bool, ◌&&◌, ◌||◌, ◌==◌, nat_lt, if◌then◌else◌, List, [], ◌++◌, length, take, drop, Result}
 use Rattle.std.specs.List.{list_any}
 use Rattle.std.specs.Result.{result_unwrap_or}
 use Rattle.ded_io.specs.Causes.{next_count}
@@ -26,9 +26,19 @@ after_call s failed = record {
   faults = if failed then next_count s.faults else s.faults;
 }
 
--- the bytes that are left, the most that a call gives, and which calls fail
+-- the bytes that are left, and those that the last read gave
+pub record Supply : Type 0 where
+  pub left : List ℕ
+  pub last : List ℕ
+
+-- the supply before the first read
+abbrev pub new_supply : List ℕ → Supply
+new_supply bytes = record { left = bytes; last = [] }
+
+-- the bytes that are left and those that the last read gave, the most that a call gives, and which calls fail
 pub record SourceState : Type 0 where
   pub left : List ℕ
+  pub last : List ℕ
   pub piece : ℕ
   pub schedule : Schedule
 

@@ -4,7 +4,7 @@ ghost use Rattle.std.specs.Io.{ReadsAtMost};
 ghost use Rattle.std.specs.Io.KnownBytes.{ReadConsumes, WriteAppends};
 ghost use Rattle.std.specs.declared.option.Option.{Option};
 ghost use Rattle.ded_io.specs.Causes.{HasCause};
-ghost use Rattle.ded_io.specs.Devices.{TakesSome, AddsAll};
+ghost use Rattle.ded_io.specs.Devices.{TakesSome, AddsAll, TellsLast};
 
 /// The device failed at this call, and nothing was given or taken.
 ///
@@ -16,6 +16,10 @@ pub struct Failed;
 pub trait Source {
     /// The bytes that are left, where it tells them.
     ghost left: { Self → Option (List ℕ) };
+
+    /// The bytes that the last read gave which didn't fail, where it tells them. So a contract can say what was done
+    /// before that read.
+    ghost last: { Self → Option (List ℕ) };
 
     /// How many faults it has counted. A call never lowers this.
     ghost faults: { Self → ℕ };
@@ -29,6 +33,7 @@ pub trait Source {
     fn read(&mut self, into: &mut [u8]) -> Result<usize, Failed>
         ensures bound { ReadsAtMost result into.new }
         ensures bytes { ReadConsumes (left self.old) (left self.new) result into.new }
+        ensures last { TellsLast (last self.old) (last self.new) result into.new }
         ensures cause { HasCause (faults self.old) (faults self.new) result };
 }
 

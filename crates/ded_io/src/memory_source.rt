@@ -1,9 +1,10 @@
 //! Sources in memory.
-ghost use Rattle.std.specs.Prelude.{◌≡◌, ◌↔◌, min, max, length, drop, Some, Ok, IfOk, IsErr, IsTrue};
+ghost use Rattle.std.specs.Prelude.{◌≡◌, ◌↔◌, [], min, max, length, drop, Some, Ok, IfOk, IsErr, IsTrue};
 ghost use Rattle.std.specs.Io.{ReadsAtMost};
 ghost use Rattle.std.specs.Io.KnownBytes.{ReadConsumes};
 ghost use Rattle.ded_io.specs.Causes.{HasCause};
-ghost use Rattle.ded_io.specs.InMemory.{new_schedule, next_fails, after_call, given_count, moved, filled};
+ghost use Rattle.ded_io.specs.Devices.{TellsLast};
+ghost use Rattle.ded_io.specs.InMemory.{new_schedule, new_supply, next_fails, after_call, given_count, moved, filled};
 
 use crate::schedule::Schedule;
 use crate::unread::Unread;
@@ -30,7 +31,12 @@ impl Model for BytesSource {
 
     ghost Value = { SourceState };
 
-    ghost view = { λ s. record { left = s.unread; piece = s.piece; schedule = s.schedule } };
+    ghost view = { λ s. record {
+      left = s.unread.left;
+      last = s.unread.last;
+      piece = s.piece;
+      schedule = s.schedule;
+    } };
 
     ghost invariant = { λ s. 0 < s.piece };
 }
@@ -48,6 +54,7 @@ impl BytesSource {
     ) -> Result<BytesSource, NoMemory>
         ensures { IfOk result (λ s. s ≡ record {
           left = bytes.now;
+          last = [];
           piece = max piece 1;
           schedule = new_schedule fails.now;
         }) }
@@ -63,11 +70,14 @@ impl BytesSource {
 impl Source for BytesSource {
     ghost left = { λ s. Some s.left };
 
+    ghost last = { λ s. Some s.last };
+
     ghost faults = { λ s. s.schedule.faults };
 
     fn read(&mut self, into: &mut [u8]) -> Result<usize, Failed>
         ensures bound { ReadsAtMost result into.new }
         ensures bytes { ReadConsumes (Some self.old.left) (Some self.new.left) result into.new }
+        ensures last { TellsLast (Some self.old.last) (Some self.new.last) result into.new }
         ensures cause { HasCause self.old.schedule.faults self.new.schedule.faults result }
         ensures fails { IsErr result ↔ IsTrue (next_fails self.old.schedule) }
         ensures count { IfOk result (λ n. n ≡ given_count self.old (length into.old)) }
@@ -91,9 +101,9 @@ pub struct SureSource {
 }
 
 impl Model for SureSource {
-    ghost use Rattle.std.specs.Prelude.{List, ℕ};
+    ghost use Rattle.ded_io.specs.InMemory.{Supply};
 
-    ghost Value = { List ℕ };
+    ghost Value = { Supply };
 
     ghost view = { λ s. s.unread };
 }
@@ -104,7 +114,7 @@ impl SureSource {
     /// # Errors
     /// Out of memory.
     pub fn new(alloc: Global, bytes: &[u8]) -> Result<SureSource, NoMemory>
-        ensures { IfOk result (λ s. s ≡ bytes.now) }
+        ensures { IfOk result (λ s. s ≡ new_supply bytes.now) }
     {
         Ok(SureSource {
             unread: Unread::new(alloc, bytes)?,
@@ -113,17 +123,20 @@ impl SureSource {
 }
 
 impl Source for SureSource {
-    ghost left = { λ s. Some s };
+    ghost left = { λ s. Some s.left };
+
+    ghost last = { λ s. Some s.last };
 
     ghost faults = { λ _. 0 };
 
     fn read(&mut self, into: &mut [u8]) -> Result<usize, Failed>
         ensures bound { ReadsAtMost result into.new }
-        ensures bytes { ReadConsumes (Some self.old) (Some self.new) result into.new }
+        ensures bytes { ReadConsumes (Some self.old.left) (Some self.new.left) result into.new }
+        ensures last { TellsLast (Some self.old.last) (Some self.new.last) result into.new }
         ensures cause { HasCause 0 0 result }
-        ensures count { result ≡ Ok (min (length into.old) (length self.old)) }
-        ensures into { into.new ≡ filled into.old self.old (moved result) }
-        ensures left { self.new ≡ drop (moved result) self.old }
+        ensures count { result ≡ Ok (min (length into.old) (length self.old.left)) }
+        ensures into { into.new ≡ filled into.old self.old.left (moved result) }
+        ensures left { self.new.left ≡ drop (moved result) self.old.left }
     {
         Ok(self.unread.give(into, usize::MAX))
     }

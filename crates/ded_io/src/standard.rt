@@ -3,7 +3,7 @@
 //! No contract knows when a reader or a writer fails. So it is tested, and not proved, that a fault
 //! is counted only where one did, that what a signal interrupts is tried again, and that an empty
 //! piece isn't handed on.
-ghost use Rattle.std.specs.Prelude.{◌≡◌};
+ghost use Rattle.std.specs.Prelude.{◌≡◌, None};
 ghost use Rattle.ded_io.specs.Standard.{source_reader, source_faults, sink_writer, sink_faults};
 
 use crate::{Failed, Sink, Source};
@@ -11,8 +11,8 @@ use std::io::{ErrorKind, Read, Write};
 
 /// A source over a reader, which counts the reader's failures.
 ///
-/// It tells the reader's bytes where the reader does, and nothing of a process's input. A read that
-/// a signal interrupts is tried again.
+/// It tells the reader's bytes where the reader does, and nothing of a process's input. It doesn't tell what its last
+/// read gave. A read that a signal interrupts is tried again.
 #[derive(Drop)]
 pub struct StdSource<R> {
     reader: R,
@@ -31,6 +31,8 @@ impl<R> StdSource<R> {
 
 impl<R: Read> Source for StdSource<R> {
     ghost left = { λ s. R.remaining (source_reader s) };
+
+    ghost last = { λ _. None };
 
     ghost faults = { source_faults };
 
