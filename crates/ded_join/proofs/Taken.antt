@@ -94,5 +94,8 @@ module _ {A : Type 0} (h : A → Point → Bool) (m : A → Slot → Bool) (l : 
     pub all_near : IsTakenMeet All h m l ss xs ys out old new → AreNearPairs h m l ss xs ys out
     all_near r = subst (AreNearPairs h m l ss xs ys) (sym r.are) r.near
 
+    pub all_count : IsTakenMeet All h m l ss xs ys out old new → IsCount out old new
+    all_count r = subst (λ cs. IsCount cs old new) (sym r.are) r.count
+
     pub inhabited_are : 0 < length ss → length ys < 2 ^ 32 → IsTakenMeet Inhabited h m l ss xs ys out old new → IsKeptMeet h m l ss xs ys out old new
     inhabited_are some few r = record { met = r.met; is = r.is; near = λ _ _. r.near; whole = no_whole ss xs ys r.met some few; kept = r.are; count = r.count }

@@ -12,8 +12,7 @@ ghost use Rattle.ded_join.specs.Picks.{IsIndexOver};
 ghost use Rattle.ded_join.specs.Taken.{AreTakenAfter};
 ghost use Rattle.ded_join.specs.declared.near.Taken.TheVariants as taken_pairs;
 
-use crate::indexing::index_of;
-use crate::joining::TOO_MANY;
+use crate::indexing::{IndexedList, index_over};
 use crate::near::{Taken, near_by, push_both};
 use ded_genrel::GenRel;
 use ded_index::BoxIndex;
@@ -43,34 +42,14 @@ pub fn join_inhabited<T: Theory>(
     ensures met { IfOk result (λ r. IsKeptMeet T.holds T.mentions T.lines slots.now a.now b.now r met.old met.new) }
 {
     let index = index_over(alloc, b, slots)?;
-    join_over(alloc, a, b, slots, &index, met)
+    inhabited_over(alloc, a, b, slots, &index, met)
 }
 
-/// The index over the list by which [`join_over`] finds pairs. There is none where no slots are given, or the list has 2^32
-/// conjunctions or more.
+/// The list of [`join_inhabited`], by an index over the second list. `met` grows as there.
 ///
 /// # Errors
 /// Out of memory.
-pub fn index_over<T: Theory>(
-    alloc: Global,
-    list: &GenRel<T>,
-    slots: &[Slot],
-) -> Result<Option<BoxIndex>, NoMemory>
-    requires { AreRational slots.now }
-    ensures { IfOk result (λ o. IsIndexOver T.holds T.mentions T.lines slots.now list.now o) }
-{
-    if slots.is_empty() || list.list().len() >= TOO_MANY {
-        Ok(None)
-    } else {
-        Ok(Some(index_of(alloc, list, slots)?))
-    }
-}
-
-/// The list of [`join_inhabited`], by an index over the second list, which is made once for many first lists. `met` grows as there.
-///
-/// # Errors
-/// Out of memory.
-pub fn join_over<T: Theory>(
+fn inhabited_over<T: Theory>(
     alloc: Global,
     a: &GenRel<T>,
     b: &GenRel<T>,
@@ -86,7 +65,14 @@ pub fn join_over<T: Theory>(
     ensures met { IfOk result (λ r. IsKeptMeet T.holds T.mentions T.lines slots.now a.now b.now r met.old met.new) }
 {
     match index {
-        Some(index) => near_by(alloc, a, b, slots, index, Taken::Inhabited, met),
+        Some(index) => {
+            let list = IndexedList {
+                list: b,
+                slots,
+                index,
+            };
+            near_by(alloc, a, &list, Taken::Inhabited, met)
+        }
         None => meet_inhabited(alloc, a, b, met),
     }
 }

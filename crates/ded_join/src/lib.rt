@@ -2,9 +2,9 @@
 //!
 //! [`join`] holds where both lists do, as `GenRel::meet` does. But it doesn't pair each conjunction of the one with each of the
 //! other: on given rational slots it puts a box of exact bounds round each conjunction, indexes those of the second list, and
-//! pairs each conjunction of the first list with those only whose boxes share values with its own. [`join_inhabited`] keeps of
-//! these pairs only what some point may satisfy; [`index_over`] makes the index once for many first lists, of which [`join_over`]
-//! takes one at a time. [`join_shorter`], where the second list is small, merges atoms of which one implies another and keeps no pair
+//! pairs each conjunction of the first list with those only whose boxes share values with its own; [`index_over`] makes the index once
+//! for many first lists, of which [`join_over`] takes one at a time. [`join_inhabited`] keeps of these pairs only what some point may
+//! satisfy. [`join_shorter`], where the second list is small, merges atoms of which one implies another and keeps no pair
 //! that lies within another one, and where the pairs are still many it takes the join by the complement of the second list.
 //!
 //! It stands on `ded_genrel` for lists of conjunctions over any theory and the boxes around them, on `ded_index` for the look-ups,
@@ -19,6 +19,7 @@ mod merging;
 mod near;
 mod outside;
 
-pub use inhabited::{index_over, join_inhabited, join_over};
-pub use joining::{join, join_counted};
+pub use indexing::index_over;
+pub use inhabited::join_inhabited;
+pub use joining::{join, join_counted, join_over};
 pub use outside::{is_small, join_shorter};

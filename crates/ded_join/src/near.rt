@@ -1,16 +1,14 @@
 //! Pairs of conjunctions that are near, through an index over the second list.
-ghost use Rattle.std.specs.Prelude.{◌<◌, ◌^◌, ◌++◌, ◌∷◌, [], length, IfOk};
+ghost use Rattle.std.specs.Prelude.{◌<◌, ◌++◌, ◌∷◌, [], length, IfOk};
 ghost use Rattle.std.specs.List.{AllByRecursion};
 ghost use Rattle.ded_genrel.specs.Rounds.{AreRational};
 ghost use Rattle.ded_join.specs.Picks.{picked, IsIndexOf};
 ghost use Rattle.ded_join.specs.Taken.{AreTakenAfter, IsTakenMeet};
 ghost use Rattle.ded_join.specs.declared.near.Taken.TheVariants as taken_pairs;
 
-use crate::indexing::index_of;
+use crate::indexing::IndexedList;
 use ded_genrel::{GenRel, both_conjs, box_round};
-use ded_index::BoxIndex;
 use ded_model::memory::NoMemory;
-use ded_model::slot::Slot;
 use ded_theory::{Theory, Verdict};
 use std::alloc::Global;
 
@@ -27,47 +25,24 @@ pub(crate) enum Taken {
 ///
 /// # Errors
 /// Out of memory.
-pub(crate) fn near_pairs<T: Theory>(
-    alloc: Global,
-    a: &GenRel<T>,
-    b: &GenRel<T>,
-    slots: &[Slot],
-    taken: Taken,
-    met: &mut u64,
-) -> Result<GenRel<T>, NoMemory>
-    requires some { 0 < length slots.now }
-    requires few { length b.now < 2 ^ 32 }
-    requires rational { AreRational slots.now }
-    ensures { IfOk result (λ r. IsTakenMeet taken T.holds T.mentions T.lines slots.now a.now b.now r met.old met.new) }
-{
-    let index = index_of(alloc, b, slots)?;
-    near_by(alloc, a, b, slots, &index, taken, met)
-}
-
-/// What is taken of the pairs of conjunctions that are near, as [`near_pairs`] gives it, by an index over the second list.
-///
-/// # Errors
-/// Out of memory.
 pub(crate) fn near_by<T: Theory>(
     alloc: Global,
     a: &GenRel<T>,
-    b: &GenRel<T>,
-    slots: &[Slot],
-    index: &BoxIndex,
+    b: &IndexedList<'_, T>,
     taken: Taken,
     met: &mut u64,
 ) -> Result<GenRel<T>, NoMemory>
-    requires some { 0 < length slots.now }
-    requires rational { AreRational slots.now }
-    requires index { IsIndexOf T.holds T.mentions T.lines slots.now b.now index.now }
-    ensures { IfOk result (λ r. IsTakenMeet taken T.holds T.mentions T.lines slots.now a.now b.now r met.old met.new) }
+    requires some { 0 < length b.now.slots.now }
+    requires rational { AreRational b.now.slots.now }
+    requires index { IsIndexOf T.holds T.mentions T.lines b.now.slots.now b.now.list.now b.now.index.now }
+    ensures { IfOk result (λ r. IsTakenMeet taken T.holds T.mentions T.lines b.now.slots.now a.now b.now.list.now r met.old met.new) }
 {
     let mut out = GenRel::new(alloc);
     let mut count = *met;
     for conj in a.list() {
-        let near = index.find(alloc, &box_round::<T>(alloc, conj, slots)?)?;
+        let near = b.index.find(alloc, &box_round::<T>(alloc, conj, b.slots)?)?;
         count = count.saturating_add(near.len() as u64);
-        push_near(alloc, &mut out, conj, b, &near, taken)?;
+        push_near(alloc, &mut out, conj, b.list, &near, taken)?;
     }
     *met = count;
     Ok(out)

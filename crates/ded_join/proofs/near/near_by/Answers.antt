@@ -12,7 +12,7 @@ use Rattle.ded_join.proofs.Taken.{IsTakenSoFar, so_far_none, so_far_more, so_far
 use Rattle.ded_join.proofs.near.near_by.Goals as goal
 
 pub loop-conj-init : goal.loop-conj-init
-loop-conj-init g c = so_far_none g.T.Theory.holds g.T.Theory.mentions g.T.Theory.lines c.args.taken c.args.slots.now c.args.b.now c.new-out.result c.args.met.now c.new-out.ensures c.type_inv.count.fits
+loop-conj-init g c = so_far_none g.T.Theory.holds g.T.Theory.mentions g.T.Theory.lines c.args.taken c.args.b.now.slots.now c.args.b.now.list.now c.new-out.result c.args.met.now c.new-out.ensures c.type_inv.count.fits
 
 pub box_round-requires-clause-normal : goal.box_round-requires-clause-normal
 box_round-requires-clause-normal g c =
@@ -24,8 +24,8 @@ push_near-requires-clause-normal g c =
 
 pub push_near-requires-clause-places : goal.push_near-requires-clause-places
 push_near-requires-clause-places g c =
-    subst (AllByRecursion (λ j. j < length c.args.b.now)) (sym c.deref-in-loop-conj-2.ensures.value)
-    (places g.T.Theory.holds g.T.Theory.mentions g.T.Theory.lines c.args.slots.now c.deref.result.now c.args.b.now c.args.index.now c.in_ok-box_round.field-0 c.in_ok-near.near.items c.requires.index c.in_ok-box_round.ensures c.in_ok-near.ensures)
+    subst (AllByRecursion (λ j. j < length c.args.b.now.list.now)) (sym c.deref-in-loop-conj-2.ensures.value)
+    (places g.T.Theory.holds g.T.Theory.mentions g.T.Theory.lines c.args.b.now.slots.now c.deref.result.now c.args.b.now.list.now c.args.b.now.index.now c.in_ok-box_round.field-0 c.in_ok-near.near.items c.requires.index c.in_ok-box_round.ensures c.in_ok-near.ensures)
 
 pub loop-conj-preserved : goal.loop-conj-preserved
 loop-conj-preserved g c =
@@ -33,8 +33,8 @@ loop-conj-preserved g c =
     let m = g.T.Theory.mentions in
     let l = g.T.Theory.lines in
     let x = c.conj-item.result in
-    let b = c.args.b.now in
-    let ss = c.args.slots.now in
+    let b = c.args.b.now.list.now in
+    let ss = c.args.b.now.slots.now in
     let js = c.in_ok-near.near.items in
     let done = conjs_of (take c.loop-conj.conj-index c.list-conj-items.result.now) in
     let added = picked x.items b js in
@@ -44,10 +44,10 @@ loop-conj-preserved g c =
     let count = count_picked x.items b js c.loop-conj.count c.saturating_add-count.result (c.saturating_add-count.ensures ∙ ap (λ n. min (c.loop-conj.count + n) (2 ^ 64 - 1)) (c.len.ensures ∙ c.in_ok-near.near.ok.0)) in
     subst (λ xs. IsTakenSoFar h m l c.args.taken ss xs b c.push_near.new.out c.args.met.now c.saturating_add-count.result) (sym (conjs_to c.list-conj-items.result.now c.loop-conj.conj-index x c.loop-conj-test.true c.conj-item.is))
     (so_far_more h m l c.args.taken ss done b c.loop-conj.out c.push_near.new.out x.items added c.args.met.now c.loop-conj.count c.saturating_add-count.result c.loop-conj.invariant
-    (picked_part h m l ss x.items b c.args.index.now c.in_ok-box_round.field-0 js c.requires.index box c.in_ok-near.ensures)
-    (picked_near h m l ss c.requires.some x.items b c.in_ok-box_round.field-0 box c.args.index.now js c.requires.index c.in_ok-near.ensures) kept count)
+    (picked_part h m l ss x.items b c.args.b.now.index.now c.in_ok-box_round.field-0 js c.requires.index box c.in_ok-near.ensures)
+    (picked_near h m l ss c.requires.some x.items b c.in_ok-box_round.field-0 box c.args.b.now.index.now js c.requires.index c.in_ok-near.ensures) kept count)
 
 pub returns : goal.returns
 returns g c =
-    so_far_done g.T.Theory.holds g.T.Theory.mentions g.T.Theory.lines c.args.taken c.args.slots.now c.args.a.now c.args.b.now c.loop-conj.out c.args.met.now c.loop-conj.count
-    (subst (λ xs. IsTakenSoFar g.T.Theory.holds g.T.Theory.mentions g.T.Theory.lines c.args.taken c.args.slots.now xs c.args.b.now c.loop-conj.out c.args.met.now c.loop-conj.count) (conjs_done c.list-conj-items.result.now c.loop-conj.conj-index c.loop-conj-test.false ∙ c.list-conj-items.ensures.list) c.loop-conj.invariant)
+    so_far_done g.T.Theory.holds g.T.Theory.mentions g.T.Theory.lines c.args.taken c.args.b.now.slots.now c.args.a.now c.args.b.now.list.now c.loop-conj.out c.args.met.now c.loop-conj.count
+    (subst (λ xs. IsTakenSoFar g.T.Theory.holds g.T.Theory.mentions g.T.Theory.lines c.args.taken c.args.b.now.slots.now xs c.args.b.now.list.now c.loop-conj.out c.args.met.now c.loop-conj.count) (conjs_done c.list-conj-items.result.now c.loop-conj.conj-index c.loop-conj-test.false ∙ c.list-conj-items.ensures.list) c.loop-conj.invariant)

@@ -3,7 +3,7 @@ use Rattle.std.proofs.lemmas.Result.{IfOk-weaker}
 use Rattle.ded_join.specs.Picks.{IsIndexOver}
 use Rattle.ded_join.proofs.Kept.{all_kept, kept_is, kept_near, kept_hold}
 use Rattle.ded_join.proofs.Taken.{inhabited_are}
-use Rattle.ded_join.proofs.inhabited.join_over.Goals as goal
+use Rattle.ded_join.proofs.inhabited.inhabited_over.Goals as goal
 
 -- what is kept of the pairs that are near
 pub returns-in-Some-clause-met : goal.returns-in-Some-clause-met
