@@ -1,9 +1,8 @@
 //! Snapshots.
-ghost use Rattle.std.specs.Prelude.{◌≡◌, ◌==◌, ◌+◌, ◌≤◌, ◌<◌, true, None, is_some, IfOk};
+ghost use Rattle.std.specs.Prelude.{◌≡◌, ◌==◌, ◌+◌, ◌≤◌, true, None, is_some, IfOk, IfSome, length};
 ghost use Rattle.std.specs.List.{list_any};
 ghost use Rattle.std.specs.Option.{option_map};
 ghost use Rattle.ded_model.specs.Entries.{entry_of, relation_in};
-ghost use Rattle.ded_relation.specs.Nearby.{numbered, AreFound};
 ghost use Rattle.ded_catalog.specs.State.{catalogue_of};
 
 use crate::catalogue::Catalogue;
@@ -13,12 +12,12 @@ use ded_model::memory::NoMemory;
 use ded_model::name::{Heading, Name};
 use ded_model::steps::Steps;
 use ded_model::tuple::Tuple;
-use ded_packed::{Lent, Packed};
+use ded_packed::Lent;
 use ded_ranges::Window;
 use ded_relation::finding::all;
 use std::alloc::Global;
-use std::marker::{Brand, Model};
-use std::sync::ledger::{Blank, Ledger};
+use std::marker::Model;
+use std::sync::ledger::Ledger;
 
 /// A catalogue as it is, or as it will be when a tuple is inserted into a relation or deleted from one. It borrows the
 /// catalogue, and copies nothing. Contracts see the catalogue that it stands for.
@@ -57,7 +56,7 @@ impl<'a> Snapshot<'a> {
     ghost use Rattle.ded_sorts.specs.Changes.{Inserts, Deletes};
     ghost use Rattle.ded_ranges.specs.Windows.{AreLent};
     ghost use Rattle.ded_packed.specs.Lent.{lent};
-    ghost use Rattle.ded_catalog.specs.Snapshots.{snapshot_of};
+    ghost use Rattle.ded_catalog.specs.Snapshots.{snapshot_of, AreSnapshotSteps};
 
     /// The catalogue as it is.
     #[tactic(auto, unfolding(crate::specs::Snapshots::snapshot_of))]
@@ -131,24 +130,29 @@ impl<'a> Snapshot<'a> {
     }
 
     /// The tuples of a relation that may hold in the window, in order of their numbers. All that hold somewhere in it are among
-    /// them. None exactly where the name is no relation.
+    /// them. None exactly where the name is no relation. The steps are those of [`Catalogue::look_up`], and one more for the tuple that may
+    /// be inserted.
     ///
     /// # Errors
     /// Out of memory.
-    pub fn near(
+    pub fn near<L: Ledger>(
         &self,
         alloc: Global,
         name: &Name,
         window: &Window,
+        steps: &mut Steps<L>,
     ) -> Result<Option<Vec<Lent<'_>>>, NoMemory>
-        ensures { IfOk result (λ found. AreLent window.now (option_map (λ v. lent v.items) found) (option_map tuples_of (relation_in (entry_of (snapshot_of self.now).entries name.now)))) }
+        ensures found { IfOk result (λ found. AreLent window.now (option_map (λ v. lent v.items) found) (option_map tuples_of (relation_in (entry_of (snapshot_of self.now).entries name.now)))) }
+        ensures steps { AreSnapshotSteps self.now name.now window.now steps.old steps.new }
+        ensures read { IfOk result (λ found. IfSome found (λ ts. steps.old + length ts.items ≤ steps.new)) }
     {
         let catalogue = self.catalogue;
-        let Some(found) = near_in::<Brand>(catalogue, alloc, name, window, Blank::new(1))? else {
+        let Some(found) = catalogue.look_up(alloc, name, window, steps)? else {
             return Ok(None);
         };
         let left = left_of(alloc, &found, self.change.deleted(name))?;
         drop(found);
+        steps.tick(); // for the tuple that may be inserted
         Ok(Some(with_inserted(left, self.change.inserted(name))?))
     }
 
@@ -169,25 +173,4 @@ impl<'a> Snapshot<'a> {
         let inserted = self.change.inserted(name);
         Ok(Some(with_inserted(left, inserted)?))
     }
-}
-
-/// The tuples of a relation that may hold in the window, with their numbers, in ascending order of these, with the steps counted on a new
-/// ledger. None exactly where the name is no relation.
-///
-/// # Errors
-/// Out of memory.
-fn near_in<'a, L: Ledger>(
-    catalogue: &'a Catalogue,
-    alloc: Global,
-    name: &Name,
-    window: &Window,
-    blank: Blank,
-) -> Result<Option<Vec<(u32, &'a Packed)>>, NoMemory>
-    requires name { blank.name ≡ L.name }
-    requires parts { blank.parts ≡ L.parts }
-    requires some { 0 < L.parts }
-    ensures { IfOk result (λ found. AreFound window.now (option_map (λ v. numbered v.items) found) (relation_in (entry_of (catalogue_of catalogue.now).entries name.now))) }
-{
-    let mut steps = Steps::<L>::new(blank);
-    catalogue.look_up(alloc, name, window, &mut steps)
 }
