@@ -12,6 +12,7 @@ pub mod ArgumentRows
 pub mod Apart
 pub mod Gathered
 pub mod Names
+pub mod Owed
 pub mod Taken
 pub mod Columns
 pub mod ColumnCoefs

@@ -1,5 +1,5 @@
 -- What plans are evaluated over, and what an evaluation gives.
-use Rattle.std.specs.Prelude.{◌≡◌, ◌↔◌, ◌&&◌, ◌||◌, ◌++◌, ℕ, Bool, true, false, IsTrue, Option, Some, None, List, [], ◌∷◌}
+use Rattle.std.specs.Prelude.{◌≡◌, ◌↔◌, ◌&&◌, ◌||◌, ◌++◌, ℕ, Bool, true, false, IsTrue, Option, Some, None, List, [], ◌∷◌, length}
 use Rattle.std.specs.Str.{bytes_eq}
 use Rattle.std.specs.List.{list_any, AllByRecursion}
 use Rattle.ded_model.specs.declared.slot.Slot.{Slot}
@@ -27,6 +27,11 @@ AreGiven (view n h f ∷ es) = ⊥
 -- the tuples that stand under a name, none where it isn't given
 abbrev pub given_tuples : Catalogue → List ℕ → Option (List (List Atom))
 given_tuples c n = option_map tuples_of (relation_in (entry_of c.entries n))
+
+-- how many there are, none where there is no list
+abbrev pub count_of : Option (List (List Atom)) → ℕ
+count_of None = 0
+count_of (Some ts) = length ts
 
 -- ---- plans that can be evaluated
 

@@ -1,15 +1,18 @@
 //! Relations that are given by name.
-ghost use Rattle.std.specs.Prelude.{◌≡◌, ◌++◌, ◌∷◌, [], false, length, take, OnOk, OnErr};
+ghost use Rattle.std.specs.Prelude.{◌≡◌, ◌≤◌, ◌+◌, ◌++◌, ◌∷◌, [], false, length, take, OnOk, OnErr};
 ghost use Rattle.std.specs.Option.{option_map};
 
 use crate::evaluation::Relations;
+use crate::lending::near_among;
 use ded_model::memory::NoMemory;
 use ded_model::name::{Heading, Name};
+use ded_model::steps::Steps;
 use ded_model::tuple::{Tuple, Tuples};
 use ded_packed::{Lent, lend};
 use ded_ranges::Window;
 use std::alloc::Global;
 use std::marker::Model;
+use std::sync::ledger::Ledger;
 
 /// A relation under its name, with its heading and its tuples.
 #[derive(Drop)]
@@ -122,9 +125,14 @@ impl Given {
 }
 
 impl Relations for Given {
+    ghost use Rattle.ded_algebra.specs.Evaluation.{given_tuples, count_of};
     ghost use Rattle.ded_algebra.specs.Given.{given_catalogue};
 
     ghost catalogue = { given_catalogue };
+
+    ghost indexed = { λ g n. false };
+
+    ghost reads = { λ g n w before after. after ≤ before + count_of (given_tuples (given_catalogue g) n) };
 
     fn formed(&self) {
         let _ = &self.relations; // for its invariant
@@ -134,14 +142,15 @@ impl Relations for Given {
         false
     }
 
-    fn near(
+    fn near<L: Ledger>(
         &self,
         alloc: Global,
         name: &Name,
         window: &Window,
+        steps: &mut Steps<L>,
     ) -> Result<Option<Vec<Lent<'_>>>, NoMemory> {
         match self.tuples(name) {
-            Some(tuples) => Ok(Some(window.near(alloc, tuples)?)),
+            Some(tuples) => Ok(Some(near_among(alloc, tuples, window, steps)?)),
             None => Ok(None),
         }
     }

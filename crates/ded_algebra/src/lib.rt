@@ -6,6 +6,8 @@
 //!
 //! [`Relations`] is what a plan is evaluated over, of which [`Given`] is a list by name, and [`Evaluate`] is what evaluates it. The tuples
 //! of a scan are over columns, each of which is read into a slot ([`column_pairs`]); of a closed plan comes [`everywhere`] or [`nowhere`].
+//! Each tuple that a look-up lends has been counted, and [`Relations`] says how many steps it may take; [`near_in`] counts them on a ledger
+//! of its own.
 //!
 //! It stands on `ded_model`, which says what goals and plans mean, on `ded_row` for the rows of arguments, on `ded_tuple` and `ded_packed`
 //! for the tuples that a plan is evaluated over, and on `ded_ranges` for windows of these. Over every
@@ -17,6 +19,7 @@ mod arguments;
 mod compiling;
 mod evaluation;
 mod given;
+mod lending;
 mod pairing;
 mod scanning;
 mod trivial;
@@ -24,5 +27,6 @@ mod trivial;
 pub use compiling::compile;
 pub use evaluation::{Evaluate, Relations};
 pub use given::{Given, GivenRelation};
+pub use lending::{near_among, near_in};
 pub use pairing::column_pairs;
 pub use trivial::{everywhere, nowhere};
