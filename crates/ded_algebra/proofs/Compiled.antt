@@ -13,6 +13,7 @@ use Rattle.ded_algebra.specs.Compiled.{HasByteTexts, IsOfBytes, IsCompiled}
 use Rattle.ded_algebra.proofs.PlanMeanings.{means}
 use Rattle.ded_algebra.proofs.PlanLines.{plan_of-length, plan_of-rank, plan_of-lines, plan_of-clashes}
 use Rattle.ded_algebra.proofs.PlanShapes.{plan_slots, plan_atoms, conjunctive_plan}
+use Rattle.ded_algebra.proofs.PlanSorts.{plan_sorted}
 
 pub plan_compiled : (g : GoalForm) → IsNormalGoal g → IsOfBytes g → IsCompiled g (plan_of g)
 plan_compiled g n b = record {
@@ -24,6 +25,7 @@ plan_compiled g n b = record {
   clashes = λ M h. plan_of-clashes M g h;
   atoms = plan_atoms g g (λ a h. h);
   conjunctive = λ h. conjunctive_plan g h;
+  sorts = λ sort_of h. plan_sorted sort_of g h;
 }
 
 -- ---- the plans of several goals

@@ -7,6 +7,7 @@ pub mod Scans
 pub mod PlanMeanings
 pub mod PlanLines
 pub mod PlanShapes
+pub mod PlanSorts
 pub mod Compiled
 pub mod ArgumentRows
 pub mod Apart

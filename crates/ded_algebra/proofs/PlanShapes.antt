@@ -65,7 +65,7 @@ tie_slots u (Value t) s e h = argument_slots u t s h
 tie_slots u (Quoted x) s e h = inl h
 
 -- it is a new slot, or one of the places
-abbrev IsOld : List Place → List Scanned → Slot → Type 0
+abbrev pub IsOld : List Place → List Scanned → Slot → Type 0
 IsOld ts gs s = (stands_in (fresh_slots gs) s ≡ true) ⊎ (list_any (λ t. place_mentions t s) ts ≡ true)
 
 old_fresh : (t : Place) (ts : List Place) (u : Slot) (a : Atom) (gs : List Scanned) (s : Slot) → IsOld ts gs s → IsOld (t ∷ ts) (fresh u a ∷ gs) s
@@ -144,16 +144,21 @@ turned_slots (t ∷ ss) s h k = elim (or_split (same_slot t s) _ k) [
   | inr e ↦ turned_slots ss s (or_false_right (same_slot s t) _ h) e
 ]
 
+-- what the scan and its ties mention
+pub base_old : (n : List ℕ) (ts : List Place) (s : Slot) → plan_mentions (joined (atom (scan n (scanned_slots (scanned ts)))) (map row_plan (tied_atoms (scanned ts)))) (slot s) ≡ true → IsOld ts (scanned ts) s
+base_old n ts s h =
+    let gs = scanned ts in
+    let are = scanned-are [] (first_free ts) ts in
+    ⊎_elim (λ (e : stands_in (scanned_slots gs) s ≡ true). scanned_old ts gs are s e) (λ e. tied_old ts gs are s e) (base_slots n (scanned_slots gs) (tied_atoms gs) s h)
+
 member_slots : (n : List ℕ) (ts : List Place) (k : Key) → plan_mentions (atom_plan (member n ts)) k ≡ true → in_goal_atom (member n ts) k ≡ true
 member_slots n ts (name x) h =
     let gs = scanned ts in
     base_names n (scanned_slots gs) (tied_atoms gs) x (projected_slots (fresh_slots gs) (joined (atom (scan n (scanned_slots gs))) (map row_plan (tied_atoms gs))) (name x) h).0
 member_slots n ts (slot s) h =
     let gs = scanned ts in
-    let are = scanned-are [] (first_free ts) ts in
     let r = projected_slots (fresh_slots gs) (joined (atom (scan n (scanned_slots gs))) (map row_plan (tied_atoms gs))) (slot s) h in
-    let old = ⊎_elim (λ (e : stands_in (scanned_slots gs) s ≡ true). scanned_old ts gs are s e) (λ e. tied_old ts gs are s e) (base_slots n (scanned_slots gs) (tied_atoms gs) s r.0) in
-    elim old [ inl e ↦ absurd (true≢false (sym (turned_slots (fresh_slots gs) s r.1 e))) | inr e ↦ e ]
+    elim (base_old n ts s r.0) [ inl e ↦ absurd (true≢false (sym (turned_slots (fresh_slots gs) s r.1 e))) | inr e ↦ e ]
 
 linear_slots : (r : LinearConstraint) (b : Bool) (s : Slot) → tuple_mentions (cond b [] (First r ∷ [])) s ≡ true → row_mentions r s ≡ true
 unfolding tuple_mentions atom_mentions

@@ -9,14 +9,14 @@ use Rattle.ded_model.specs.declared.slot.Sort.{Sort}
 use Rattle.ded_model.specs.declared.slot.Sort.TheVariants.{Rat, Text}
 use Rattle.ded_model.specs.declared.goal.Place.{Place}
 use Rattle.ded_model.specs.declared.goal.Place.TheVariants.{At, Value, Quoted}
-use Rattle.ded_model.specs.Point.{Key, AllBytes, Point, IsPoint, same_sort}
+use Rattle.ded_model.specs.Point.{Key, slot, AllBytes, Point, IsPoint, same_sort}
 use Rattle.ded_model.specs.declared.tuple.BothAtom.TheVariants.{Second}
 use Rattle.ded_model.specs.Row.{Atom}
 use Rattle.ded_model.specs.Normal.{atom_order}
 use Rattle.ded_model.specs.Scanned.{scanned, tied_atoms}
 use Rattle.ded_model.specs.Slotted.{goal_atoms}
-use Rattle.ded_model.specs.Logic.{atom, some_atom, count_atoms, conjunctive, AllAtoms}
-use Rattle.ded_model.specs.Goal.{GoalAtom, linear, theme, member, GoalForm, goal_mentions}
+use Rattle.ded_model.specs.Logic.{atom, always, never, negation, every_of, some_of, implies, minus, exists, forall, Logics, none, also, some_atom, count_atoms, conjunctive, AllAtoms}
+use Rattle.ded_model.specs.Goal.{GoalAtom, linear, theme, member, GoalForm, goal_atom_mentions, goal_mentions}
 use Rattle.ded_model.specs.PlanForm.{PlanAtom, scan, rows, PlanForm, plan_mentions}
 use Rattle.ded_model.specs.Catalogue.{Catalogue, GoalHolds, PlanHolds}
 use Rattle.ded_model.specs.Lines.{IsSubset}
@@ -107,10 +107,44 @@ pub record IsConjunctivePlan (g : GoalForm) (f : PlanForm) : Type 0 where
   pub conjunctive : conjunctive f ≡ true
   pub scans : (n : List ℕ) → count_atoms (is_scan_of n) f ≡ count_atoms (is_member_of n) g
 
+-- ---- numbers and sorts
+
+-- each slot that the goal's atom mentions has the sort that its number has
+abbrev pub HasSortsBy : (ℕ → Sort) → GoalAtom → Type 0
+HasSortsBy sort_of a = (s : Slot) → goal_atom_mentions a s ≡ true → s.sort ≡ sort_of s.number
+
+-- two slots of one number that the plan mentions freely have one sort
+abbrev pub HasOneSort : PlanForm → Type 0
+HasOneSort f = (s t : Slot) → plan_mentions f (slot s) ≡ true → plan_mentions f (slot t) ≡ true → s.number ≡ t.number → s.sort ≡ t.sort
+
+abbrev mutual
+  -- two slots of one number that a part of the plan mentions freely have one sort, whichever part it is
+  pub PartsHaveOneSort : PlanForm → Type 0
+  PartsHaveOneSort (atom a) = Unit {0}
+  PartsHaveOneSort always = Unit {0}
+  PartsHaveOneSort never = Unit {0}
+  PartsHaveOneSort (negation f) = HasOneSort f × PartsHaveOneSort f
+  PartsHaveOneSort (every_of fs) = EachHasOneSort fs
+  PartsHaveOneSort (some_of fs) = EachHasOneSort fs
+  PartsHaveOneSort (implies f g) = (HasOneSort f × PartsHaveOneSort f) × (HasOneSort g × PartsHaveOneSort g)
+  PartsHaveOneSort (minus f g) = (HasOneSort f × PartsHaveOneSort f) × (HasOneSort g × PartsHaveOneSort g)
+  PartsHaveOneSort (exists s k f) = HasOneSort f × PartsHaveOneSort f
+  PartsHaveOneSort (forall s k f) = HasOneSort f × PartsHaveOneSort f
+
+  -- so it is in each of the plans and in their parts
+  pub EachHasOneSort : Logics PlanAtom → Type 0
+  EachHasOneSort none = Unit {0}
+  EachHasOneSort (also f fs) = (HasOneSort f × PartsHaveOneSort f) × EachHasOneSort fs
+
+-- so it is in the plan and in all its parts: where slots meet, their numbers alone tell them apart
+abbrev pub IsOneSorted : PlanForm → Type 0
+IsOneSorted f = HasOneSort f × PartsHaveOneSort f
+
 -- ---- the plan of a goal
 
 -- it holds where the goal does over every catalogue, mentions freely only what the goal does, has lengths and a rank of at most
--- the goal's, lines among the goal's, and clashes only where the goal does; each of its atoms comes from one of the goal's
+-- the goal's, lines among the goal's, and clashes only where the goal does; each of its atoms comes from one of the goal's. Where
+-- in the goal each number has one sort, so it has in each part of the plan
 pub record IsCompiled (g : GoalForm) (f : PlanForm) : Type 0 where
   pub holds : (c : Catalogue) (p : Point) → IsPoint p → GoalHolds c g p ↔ PlanHolds c f p
   pub slots : (k : Key) → plan_mentions f k ≡ true → goal_mentions g k ≡ true
@@ -120,3 +154,4 @@ pub record IsCompiled (g : GoalForm) (f : PlanForm) : Type 0 where
   pub clashes : (M : Measures) → plan_clashes M f ≡ true → goal_clashes M g ≡ true
   pub atoms : AllAtoms (ComesFrom g) f
   pub conjunctive : conjunctive g ≡ true → IsConjunctivePlan g f
+  pub sorts : (sort_of : ℕ → Sort) → AllAtoms (HasSortsBy sort_of) g → IsOneSorted f
