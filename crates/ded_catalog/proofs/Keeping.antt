@@ -1,10 +1,11 @@
 -- The entries stay kept where one is added, changed or dropped, and the catalogue changes as promised.
 use Rattle.std.proofs.Common.{◌≡◌, ℕ, ◌≤◌, Bool, true, false, cond, List, [], ◌∷◌, ◌++◌, None, Some, is_some, refl, sym, ap, ◌∙◌, subst, true≢false, bytes_eq}
-use Rattle.std.specs.List.{list_any}
+use Rattle.std.specs.List.{AllByRecursion, list_any}
 use Rattle.ded_num.proofs.Tests.{from_same_texts}
 use Rattle.ded_model.specs.Form.{form}
 use Rattle.ded_model.specs.Known.{KnownNames, AreEntriesOver, IsEntryOver, IsWellFormed, IsNewName, entry_known, with_known, known_from, known_of}
 use Rattle.ded_model.specs.Made.{is_made}
+use Rattle.ded_model.specs.ShortRows.{HasShortRows}
 use Rattle.ded_sorts.specs.Changes.{AddsEntry, ChangesEntry, DropsEntry}
 use Rattle.ded_model.specs.Entries.{entry_uses}
 use Rattle.ded_catalog.specs.declared.stored.Stored.{Stored}
@@ -23,6 +24,19 @@ entries-kept limit K (e ∷ es) h = ((ap K (named e.0 e.1) ∙ h.0.0, ap is_made
 
 pub formed : (t : Table) → IsKept t.limit t.names → IsWellFormed (catalogue_of t)
 formed t h = entries-kept t.limit (λ n. None) t.names h.entries
+
+-- ---- kept views have short rows
+
+right_short : (K : KnownNames) (n : List ℕ) (s : Stored) → IsRight K s → HasShortRows (entry_form n s)
+right_short K n (Relation r) h = tt
+right_short K n (View v) h = (h.2, h.3)
+
+views_short : (limit : ℕ) (K : KnownNames) (es : List (List ℕ × Stored)) → AreKept limit K es → AllByRecursion HasShortRows (entry_forms es)
+views_short limit K [] h = tt
+views_short limit K (e ∷ es) h = (right_short K e.0 e.1 h.2, views_short limit (with_known K (entry_form e.0 e.1)) es h.3)
+
+pub short : (t : Table) → IsKept t.limit t.names → AllByRecursion HasShortRows (catalogue_of t).entries
+short t h = views_short t.limit (λ n. None) t.names h.entries
 
 -- ---- one more
 

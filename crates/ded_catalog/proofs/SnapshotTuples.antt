@@ -1,7 +1,7 @@
 -- The changes of a catalogue: what they make of it, and what is read of that.
 use Rattle.std.proofs.Common.{◌≡◌, ℕ, ◌+◌, ◌<◌, ◌≤◌, ◌==◌, nat_le, Bool, true, false, ◌||◌, length, List, [], ◌∷◌, ◌++◌, Option, Some, None, is_some, refl, sym, ap, ◌∙◌, subst, true≢false, bytes_eq, arith}
 use Rattle.std.specs.Prelude.{if◌then◌else◌}
-use Rattle.std.specs.List.{list_any}
+use Rattle.std.specs.List.{AllByRecursion, list_any}
 use Rattle.std.specs.Option.{option_map}
 use Rattle.std.proofs.lemmas.Bool.Decides.{nat_tests}
 use Rattle.std.proofs.lemmas.List.{length-append}
@@ -12,6 +12,7 @@ use Rattle.ded_model.specs.Catalogue.{Entry, relation, view, Catalogue, entry_na
 use Rattle.ded_model.specs.Entries.{entry_of, stored_in, relation_in, view_in, inserts_in, tuples_in, known, columns_in}
 use Rattle.ded_model.specs.Known.{KnownNames, AreStored, IsTupleOver, IsEntryOver, IsWellFormed, entry_known, known_of}
 use Rattle.ded_model.specs.Row.{Atom}
+use Rattle.ded_model.specs.ShortRows.{HasShortRows}
 use Rattle.ded_sorts.specs.Changes.{Inserts, Deletes}
 use Rattle.ded_sorts.proofs.KnownEntries.{relation_there, columns_there}
 use Rattle.ded_relation.proofs.Numbers.{stored-push, stored-remove, length-remove}
@@ -195,6 +196,28 @@ pub changed_formed : (c : Catalogue) (x : Change) → IsWellFormed c → MayChan
 changed_formed c none w may = w
 changed_formed c (insertion n t) w may = with_formed c n w t may
 changed_formed c (deletion n k) w may = without_formed c n w k may
+
+with_short : (t : List Atom) (e : Entry) → HasShortRows e → HasShortRows (entry_with t e)
+with_short t (relation n h m ts) s = tt
+with_short t (view n h f) s = s
+
+without_short : (k : ℕ) (e : Entry) → HasShortRows e → HasShortRows (entry_without k e)
+without_short k (relation n h m ts) s = tt
+without_short k (view n h f) s = s
+
+short_under : (n : List ℕ) (f : Entry → Entry) → ((e : Entry) → HasShortRows e → HasShortRows (f e)) → (es : List Entry) → AllByRecursion HasShortRows es → AllByRecursion HasShortRows (changed_under n f es)
+short_under n f keeps [] s = tt
+short_under n f keeps (e ∷ es) s = by (bytes_eq n (entry_name e)) (short_under n f keeps es s.1)
+  where
+    by : (b : Bool) → AllByRecursion HasShortRows (changed_under n f es) → AllByRecursion HasShortRows (if b then f e ∷ es else e ∷ changed_under n f es)
+    by true next = (keeps e s.0, s.1)
+    by false next = (s.0, next)
+
+-- views have short rows where they had
+pub changed_short : (c : Catalogue) (x : Change) → AllByRecursion HasShortRows c.entries → AllByRecursion HasShortRows (changed c x).entries
+changed_short c none s = s
+changed_short c (insertion n t) s = short_under n (entry_with t) (with_short t) c.entries s
+changed_short c (deletion n k) s = short_under n (entry_without k) (without_short k) c.entries s
 
 -- the same is known of names
 pub known-changed : (c : Catalogue) (x : Change) (m : List ℕ) → known (changed c x) m ≡ known c m

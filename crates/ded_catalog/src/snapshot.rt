@@ -1,6 +1,6 @@
 //! Snapshots.
 ghost use Rattle.std.specs.Prelude.{◌≡◌, ◌==◌, ◌+◌, ◌≤◌, true, None, is_some, IfOk, IfSome, length};
-ghost use Rattle.std.specs.List.{list_any};
+ghost use Rattle.std.specs.List.{list_any, AllByRecursion};
 ghost use Rattle.std.specs.Option.{option_map};
 ghost use Rattle.ded_model.specs.Entries.{entry_of, relation_in};
 ghost use Rattle.ded_catalog.specs.State.{catalogue_of};
@@ -50,6 +50,7 @@ impl<'a> Snapshot<'a> {
     ghost use Rattle.ded_model.specs.Entries.{known, view_in, tuples_in, columns_in, inserts_in};
     ghost use Rattle.ded_model.specs.Goal.{goal_form};
     ghost use Rattle.ded_model.specs.Known.{IsTupleOver, IsWellFormed};
+    ghost use Rattle.ded_model.specs.ShortRows.{HasShortRows};
     ghost use Rattle.ded_model.specs.Slotted.{goal_of};
     ghost use Rattle.ded_model.specs.Width.{tuple_length};
     ghost use Rattle.ded_sorts.specs.Causes.{insert_refusal, is_relation_with};
@@ -103,6 +104,14 @@ impl<'a> Snapshot<'a> {
     {
         let catalogue = self.catalogue;
         catalogue.formed();
+    }
+
+    /// Every view has short rows, as those of every catalogue have. It does nothing.
+    pub fn short(&self)
+        ensures { AllByRecursion HasShortRows (snapshot_of self.now).entries }
+    {
+        let catalogue = self.catalogue;
+        catalogue.short();
     }
 
     /// The heading of a relation or a view. None exactly where no entry has the name.

@@ -1,5 +1,6 @@
 //! What a catalogue is asked. Only look-ups in windows and copies allocate.
 ghost use Rattle.std.specs.Prelude.{◌≡◌, ◌≤◌, ◌<◌, ◌+◌, true, false, Some, IfOk, IfSome, is_none, length, map};
+ghost use Rattle.std.specs.List.{AllByRecursion};
 ghost use Rattle.std.specs.Map.{lookup};
 ghost use Rattle.std.specs.Option.{option_map};
 ghost use Rattle.std.specs.Str.{bytes_eq};
@@ -27,6 +28,7 @@ impl Catalogue {
     ghost use Rattle.ded_model.specs.Logic.{some_atom};
     ghost use Rattle.ded_model.specs.LongRows.{is_long_atom};
     ghost use Rattle.ded_model.specs.Plain.{IsPlain};
+    ghost use Rattle.ded_model.specs.ShortRows.{HasShortRows};
     ghost use Rattle.ded_model.specs.Slotted.{goal_of};
     ghost use Rattle.ded_sorts.specs.Causes.{insert_refusal, is_relation_with};
     ghost use Rattle.ded_model.specs.Entries.{known, entry_of, relation_in, view_in};
@@ -40,6 +42,14 @@ impl Catalogue {
     /// and numbered in ascending order, and each view is accepted over the entries before it. It does nothing.
     pub fn formed(&self)
         ensures { IsWellFormed (catalogue_of self.now) }
+    {
+        let _ = &self.names; // for its invariant
+    }
+
+    /// Every view has short rows: each sum of its formula has each name once, the two sides of each comparison are over
+    /// one denominator, and no row of it has a number above 2^63 - 1 in magnitude. It does nothing.
+    pub fn short(&self)
+        ensures { AllByRecursion HasShortRows (catalogue_of self.now).entries }
     {
         let _ = &self.names; // for its invariant
     }
