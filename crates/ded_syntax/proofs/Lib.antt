@@ -12,6 +12,7 @@ pub mod LongSymbols
 pub mod Marked
 pub mod One
 pub mod OpeningAlike
+pub mod PlainAlike
 pub mod PlainSums
 pub mod Refused
 pub mod Unfit

@@ -1,7 +1,7 @@
 //! Laws of the grammar. Each is the contract of a function that does nothing.
-ghost use Rattle.std.specs.Prelude.{◌≡◌, ◌⊎◌, List, ℕ};
+ghost use Rattle.std.specs.Prelude.{◌≡◌, ◌⊎◌, ◌↔◌, List, ℕ};
 ghost use Rattle.ded_model.specs.declared.command.Language.{Language};
-ghost use Rattle.ded_model.specs.declared.command.Language.TheVariants.{Opening, One};
+ghost use Rattle.ded_model.specs.declared.command.Language.TheVariants.{Opening, One, Two};
 ghost use Rattle.ded_model.specs.declared.command.Refusal.{Refusal};
 ghost use Rattle.ded_model.specs.declared.command.Refusal.TheVariants.{Syntax};
 ghost use Rattle.ded_model.specs.Command.{CommandForm, header};
@@ -36,6 +36,15 @@ pub fn opening_language()
         (refusal : Refusal) → AppliesIn refusal Opening bytes → AppliesIn refusal One bytes }
     ensures read { (bytes : List ℕ) → IsHeader bytes → IsRead Opening bytes header }
     ensures decided { (bytes : List ℕ) → IsHeader bytes ⊎ (IsHeader bytes → ⊥) }
+{}
+
+/// What the plain language spells, the second one spells as the same command with the same nesting, and the same refusals apply to it in both.
+/// So the second language adds to the plain one, and takes nothing from it.
+pub fn second_language()
+    ensures spelled { (bytes : List ℕ) (command : CommandForm) (depth : ℕ) →
+        Spells One bytes command depth → Spells Two bytes command depth }
+    ensures refused { (bytes : List ℕ) (command : CommandForm) (depth : ℕ) → Spells One bytes command depth →
+        (refusal : Refusal) → AppliesIn refusal Two bytes ↔ AppliesIn refusal One bytes }
 {}
 
 /// In a command that is spelled each sum has each name once, and the sums of a comparison are over one denominator.
