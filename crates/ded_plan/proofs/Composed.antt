@@ -74,6 +74,7 @@ planned g f p k r = record {
   clashes = λ M h. k.clashes M (r.clashes M h);
   atoms = r.atoms (λ a. some_atom (comes_from a) g) k.atoms;
   conjunctive = λ h. conjunctive_stays g f p r (k.conjunctive h);
+  sorts = λ sort_of h. r.sorts (k.sorts sort_of h);
   pushed = r.pushed;
   tidy = r.tidy;
 }

@@ -2,7 +2,7 @@
 -- another.
 --
 -- What is said of lines and clashes holds of tidy plans, as every plan of the program is; so a step also says that its plan is
--- tidy again.
+-- tidy again. Of sorts it says that each number has one in each part of its plan, where it is so in the plan that it begins with.
 use Rattle.std.proofs.Common.{◌≡◌, ℕ, ◌+◌, ◌<◌, ◌≤◌, Bool, true, not, List, inl, inr, refl, ap₂, ◌∙◌, arith, ⊎_elim}
 use Rattle.std.specs.Prelude.{◌↔◌}
 use Rattle.ded_model.specs.declared.slot.Slot.{Slot}
@@ -15,9 +15,12 @@ use Rattle.ded_model.specs.Lines.{Line, IsSubset, all_lines, any_clashes}
 use Rattle.ded_model.specs.Measure.{Measures, plan_atom_lines, plan_atom_clash, plan_lines, plan_clashes}
 use Rattle.ded_model.proofs.Points.{positive-extension}
 use Rattle.ded_model.proofs.Members.{subset_append}
+use Rattle.ded_model.proofs.Rows.{or_right}
 use Rattle.ded_model.proofs.Monotone.{past-grows, clash_past-grows, or-grows, max-grows, one_more-grows}
 use Rattle.ded_plan.specs.Rewritten.{IsTidyPlan, IsPassed, is_scan_with}
+use Rattle.ded_algebra.specs.Compiled.{HasOneSort, PartsHaveOneSort, IsOneSorted}
 use Rattle.ded_algebra.proofs.PlanShapes.{and_grows}
+use Rattle.ded_algebra.proofs.PlanSorts.{fewer_slots}
 
 -- what members mention, their lines, and whether one clashes
 abbrev pub any_mention : Logics PlanAtom → Key → Bool
@@ -39,6 +42,21 @@ pub record Keeps (f g : PlanForm) : Type 0 where
   pub scans : (test : List ℕ → List Slot → Bool) → count_atoms (is_scan_with test) g ≡ count_atoms (is_scan_with test) f
   pub tidy : IsTidyPlan f → IsTidyPlan g
   pub atoms : (test : PlanAtom → Bool) → AllAtoms (IsPassed test) f → AllAtoms (IsPassed test) g
+  pub parts : IsOneSorted f → PartsHaveOneSort g
+
+-- the plan as a whole mentions no more slots
+pub one_sorted : (f g : PlanForm) → Keeps f g → IsOneSorted f → IsOneSorted g
+one_sorted f g a t = (fewer_slots f g a.slots t.0, a.parts t)
+
+-- so it is with members and parts without the first one
+other_slots : (f : PlanForm) (fs : Logics PlanAtom) (k : Key) → any_mention fs k ≡ true → any_mention (also f fs) k ≡ true
+other_slots f fs k h = or_right (plan_mentions f k) (any_mention fs k) h
+
+pub other_members : (f : PlanForm) (fs : Logics PlanAtom) → HasOneSort (every_of (also f fs)) → HasOneSort (every_of fs)
+other_members f fs h = fewer_slots (every_of (also f fs)) (every_of fs) (other_slots f fs) h
+
+pub other_parts : (f : PlanForm) (fs : Logics PlanAtom) → HasOneSort (some_of (also f fs)) → HasOneSort (some_of fs)
+other_parts f fs h = fewer_slots (some_of (also f fs)) (some_of fs) (other_slots f fs) h
 
 pub keeps_refl : (f : PlanForm) → Keeps f f
 keeps_refl f = record {
@@ -51,6 +69,7 @@ keeps_refl f = record {
   scans = λ test. refl;
   tidy = λ h. h;
   atoms = λ test t. t;
+  parts = λ t. t.1;
 }
 
 pub keeps_trans : (f g h : PlanForm) → Keeps f g → Keeps g h → Keeps f h
@@ -64,6 +83,7 @@ keeps_trans f g h a b = record {
   scans = λ test. b.scans test ∙ a.scans test;
   tidy = λ x. b.tidy (a.tidy x);
   atoms = λ test x. b.atoms test (a.atoms test x);
+  parts = λ t. b.parts (one_sorted f g a t);
 }
 
 -- ---- inside
@@ -79,6 +99,7 @@ keeps_negation f g a = record {
   scans = a.scans;
   tidy = a.tidy;
   atoms = a.atoms;
+  parts = λ t. one_sorted f g a t.1;
 }
 
 pub keeps_exists : (s : Sort) (k : Key) (f g : PlanForm) → Keeps f g → Keeps (exists s k f) (exists s k g)
@@ -95,6 +116,7 @@ keeps_exists s k f g a = record {
   scans = a.scans;
   tidy = λ t. let r = a.tidy (t.0.1, t.1) in ((t.0.0, r.0), r.1);
   atoms = a.atoms;
+  parts = λ t. one_sorted f g a t.1;
 }
 
 pub keeps_minus : (f f' g g' : PlanForm) → Keeps f f' → Keeps g g' → Keeps (minus f g) (minus f' g')
@@ -111,6 +133,7 @@ keeps_minus f f' g g' a b = record {
   scans = λ test. ap₂ (λ m n. m + n) (a.scans test) (b.scans test);
   tidy = λ t. let q = a.tidy (t.0.0, t.1.0) in let r = b.tidy (t.0.1, t.1.1) in ((q.0, r.0), (q.1, r.1));
   atoms = λ test t. (a.atoms test t.0, b.atoms test t.1);
+  parts = λ t. (one_sorted f f' a t.1.0, one_sorted g g' b t.1.1);
 }
 
 -- a member and the others of a join
@@ -125,6 +148,7 @@ keeps_member f g fs gs a b = record {
   scans = λ test. ap₂ (λ m n. m + n) (a.scans test) (b.scans test);
   tidy = λ t. let q = a.tidy (t.0.0, t.1.0) in let r = b.tidy (t.0.1, t.1.1) in ((q.0, r.0), (q.1, r.1));
   atoms = λ test t. (a.atoms test t.0, b.atoms test t.1);
+  parts = λ t. (one_sorted f g a t.1.0, b.parts (other_members f fs t.0, t.1.1));
 }
 
 -- a part and the others of a union
@@ -142,4 +166,5 @@ keeps_part f g fs gs a b = record {
   scans = λ test. ap₂ (λ m n. m + n) (a.scans test) (b.scans test);
   tidy = λ t. let q = a.tidy (t.0.0, t.1.0) in let r = b.tidy (t.0.1, t.1.1) in ((q.0, r.0), (q.1, r.1));
   atoms = λ test t. (a.atoms test t.0, b.atoms test t.1);
+  parts = λ t. (one_sorted f g a t.1.0, b.parts (other_parts f fs t.0, t.1.1));
 }

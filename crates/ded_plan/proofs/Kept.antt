@@ -12,7 +12,8 @@ use Rattle.ded_model.specs.PlanForm.{PlanAtom, scan, rows, PlanForm, plan_mentio
 use Rattle.ded_model.specs.Pushed.{is_union, is_not, is_rows, some_member, is_one}
 use Rattle.ded_plan.specs.Rewrite.{appended, is_none, join_of, union_of, negated, with_rows, each_with_rows, also_rows, also_all_rows, atoms_of, rows_of, no_rows_of, distributed, members_of, flattened, part_of, kept, taken, difference_of, joined, inside, outside, projected_join, projected_down, each_projected, projected, rewritten, each_rewritten}
 use Rattle.ded_plan.proofs.Keeps.{Keeps, any_mention, keeps_refl, keeps_trans, keeps_negation, keeps_exists, keeps_minus, keeps_member, keeps_part}
-use Rattle.ded_plan.proofs.Steps.{member_alone, alone_member, no_members, first_member, members_swapped, two_members, part_alone, rows_beside_nothing, rows_beside_union, complement_twice, nothing_taken, taken_from_everything, everything_without, member_without, complement_beside, member_beside, always_is, never_is, implies_is, forall_is}
+use Rattle.ded_plan.proofs.Steps.{member_alone, alone_member, no_members, first_member, members_swapped, two_members, part_alone, rows_beside_nothing, rows_beside_union, complement_twice, nothing_taken, taken_from_everything, everything_without, member_without, complement_beside, member_beside}
+use Rattle.ded_plan.proofs.FormSteps.{always_is, never_is, implies_is, forall_is}
 use Rattle.ded_plan.proofs.PastSteps.{past_other, past_nothing, past_union, past_member}
 use Rattle.ded_model.proofs.Bools.{or_false_left, or_false_right}
 

@@ -3,7 +3,9 @@ pub mod AtomsWithin
 pub mod BothTests
 pub mod Composed
 pub mod ConjunctivePlans
+pub mod FormSteps
 pub mod GoalScans
+pub mod GoalSorts
 pub mod InsideLists
 pub mod Keeps
 pub mod Kept
@@ -15,5 +17,6 @@ pub mod PushedPlans
 pub mod Rewritten
 pub mod RowLists
 pub mod ScannedNames
+pub mod StepSlots
 pub mod Steps
 pub mod TidyPlans

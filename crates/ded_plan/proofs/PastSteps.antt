@@ -18,14 +18,17 @@ use Rattle.ded_laws.proofs.AtomSlots.{plan_lines-over}
 use Rattle.ded_model.proofs.Members.{In-left, In-right, subset_none, subset_join, In-elim-kept}
 use Rattle.ded_model.proofs.Monotone.{past-grows, clash_past-grows}
 use Rattle.ded_model.proofs.Points.{same_key_is}
-use Rattle.ded_model.proofs.Rows.{or_left}
+use Rattle.ded_model.proofs.Rows.{or_left, or_right}
 use Rattle.ded_model.proofs.Sats.{plan_respects}
 use Rattle.ded_model.proofs.Unused.{extension, unused}
 use Rattle.ded_plan.specs.Rewritten.{IsTidyPlan}
-use Rattle.ded_plan.proofs.Keeps.{Keeps, any_mention, member_lines, any_clash}
+use Rattle.ded_plan.proofs.Keeps.{Keeps, any_mention, member_lines, any_clash, other_members, other_parts}
 use Rattle.ded_plan.proofs.TidyPlans.{sorted_plan, rational_plan}
 use Rattle.std.proofs.lemmas.Bool.{and_from}
+use Rattle.ded_algebra.specs.Compiled.{HasOneSort}
 use Rattle.ded_algebra.proofs.PlanLines.{drop_none}
+use Rattle.ded_algebra.proofs.PlanShapes.{and_grows}
+use Rattle.ded_algebra.proofs.PlanSorts.{fewer_slots}
 
 -- ---- a key that isn't mentioned
 
@@ -62,6 +65,7 @@ past_other s k f n = record {
   scans = λ test. refl;
   tidy = λ t. (t.0.1, t.1);
   atoms = λ test t. t;
+  parts = λ t. t.1.1;
 }
 
 -- ---- unions
@@ -77,6 +81,7 @@ past_nothing s k = record {
   scans = λ test. refl;
   tidy = λ t. (tt, tt);
   atoms = λ test t. tt;
+  parts = λ t. tt;
 }
 
 and_parts : (n a b : Bool) → ((n && a) || ((n && b) || false)) ≡ true → (n && (a || b)) ≡ true
@@ -108,6 +113,17 @@ or_clash false false true y z f g h = f refl
 or_clash false false false true z f g h = g refl
 or_clash false false false false z f g h = absurd (true≢false (sym h))
 
+-- the projections of the first part and of the others
+first_slots : (s : Sort) (k : Key) (f : PlanForm) (fs : Logics PlanAtom) → HasOneSort (exists s k (some_of (also f fs))) → HasOneSort (exists s k f)
+first_slots s k f fs h =
+    fewer_slots (exists s k (some_of (also f fs))) (exists s k f)
+    (λ j m. and_grows (not (same_key j k)) (plan_mentions f j) (plan_mentions f j || any_mention fs j) (or_left (plan_mentions f j) (any_mention fs j)) m) h
+
+rest_slots : (s : Sort) (k : Key) (f : PlanForm) (fs : Logics PlanAtom) → HasOneSort (exists s k (some_of (also f fs))) → HasOneSort (exists s k (some_of fs))
+rest_slots s k f fs h =
+    fewer_slots (exists s k (some_of (also f fs))) (exists s k (some_of fs))
+    (λ j m. and_grows (not (same_key j k)) (any_mention fs j) (plan_mentions f j || any_mention fs j) (or_right (plan_mentions f j) (any_mention fs j)) m) h
+
 pub past_union : (s : Sort) (k : Key) (f : PlanForm) (fs : Logics PlanAtom) → Keeps (exists s k (some_of (also f fs))) (some_of (also (exists s k f) (also (exists s k (some_of fs)) none)))
 past_union s k f fs = record {
   holds = λ c p i. (
@@ -124,6 +140,8 @@ past_union s k f fs = record {
   scans = λ test. omega arith;
   tidy = λ t. (((t.0.0, t.0.1.0), ((t.0.0, t.0.1.1), tt)), (t.1.0, (t.1.1, tt)));
   atoms = λ test t. (t.0, (t.1, tt));
+  parts = λ t.
+      ((first_slots s k f fs t.0, t.1.1.0), ((rest_slots s k f fs t.0, (other_parts f fs t.1.0, t.1.1.1)), tt));
 }
 
 -- ---- joins
@@ -150,6 +168,12 @@ or_other false true y z g h = refl
 or_other false false true z g h = g refl
 or_other false false false z g h = absurd (true≢false (sym h))
 
+-- the projection of the other members
+others_slots : (s : Sort) (k : Key) (f : PlanForm) (fs : Logics PlanAtom) → HasOneSort (exists s k (every_of (also f fs))) → HasOneSort (exists s k (every_of fs))
+others_slots s k f fs h =
+    fewer_slots (exists s k (every_of (also f fs))) (exists s k (every_of fs))
+    (λ j m. and_grows (not (same_key j k)) (any_mention fs j) (plan_mentions f j || any_mention fs j) (or_right (plan_mentions f j) (any_mention fs j)) m) h
+
 pub past_member : (s : Sort) (k : Key) (f : PlanForm) (fs : Logics PlanAtom) → plan_mentions f k ≡ false
     → Keeps (exists s k (every_of (also f fs))) (every_of (also f (also (exists s k (every_of fs)) none)))
 past_member s k f fs n = record {
@@ -165,4 +189,5 @@ past_member s k f fs n = record {
   scans = λ test. omega arith;
   tidy = λ t. ((t.0.1.0, ((t.0.0, t.0.1.1), tt)), (t.1.0, (t.1.1, tt)));
   atoms = λ test t. (t.0, (t.1, tt));
+  parts = λ t. (t.1.1.0, ((others_slots s k f fs t.0, (other_members f fs t.1.0, t.1.1.1)), tt));
 }

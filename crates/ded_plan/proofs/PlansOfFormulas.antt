@@ -21,6 +21,7 @@ use Rattle.ded_sorts.proofs.Frees.{goal_free}
 use Rattle.ded_plan.specs.Planned.{IsPlanned}
 use Rattle.ded_plan.specs.Plans.{AreArguments, IsScanOf, IsPlanOf}
 use Rattle.ded_plan.proofs.GoalScans.{goal_use}
+use Rattle.ded_plan.proofs.GoalSorts.{goal_sort, goal_sorts}
 use Rattle.ded_plan.proofs.TidyPlans.{all_weaker}
 
 -- ---- scans
@@ -76,6 +77,7 @@ plan_of-formula c h f plan e p = record {
   atoms = p.atoms;
   projections = p.tidy.0;
   slots = plan_slots c h f plan e p;
+  sorts = p.sorts (goal_sort h f) (goal_sorts h f e.bound);
   conjunctive = p.conjunctive;
   holds = λ d w s den xs i a. plan_holds c h f plan e p d den xs i a;
   lengths = λ d w s. p.length (measures d);

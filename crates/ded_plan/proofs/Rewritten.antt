@@ -3,6 +3,7 @@ use Rattle.ded_model.specs.PlanForm.{PlanForm}
 use Rattle.ded_model.specs.Measure.{plan_atom_b, plan_atom_rank}
 use Rattle.ded_plan.specs.Rewrite.{rewritten}
 use Rattle.ded_plan.specs.Rewritten.{IsTidyPlan, IsRewritten}
+use Rattle.ded_plan.proofs.Keeps.{one_sorted}
 use Rattle.ded_plan.proofs.Kept.{keeps_rewritten}
 use Rattle.ded_plan.proofs.PushedPlans.{pushed_rewritten}
 use Rattle.ded_plan.proofs.ConjunctivePlans.{conjunctive_rewritten}
@@ -22,4 +23,5 @@ is_rewritten f t =
       conjunctive = conjunctive_rewritten f;
       pushed = pushed_rewritten f;
       tidy = k.tidy t;
+      sorts = one_sorted f (rewritten f) k;
     }

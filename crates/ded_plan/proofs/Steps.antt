@@ -1,18 +1,17 @@
 -- The single steps of a rewriting that only move the members of joins and the parts of unions: each plan holds where the other
 -- does by the laws of `and`, `or` and `not`, and has the same atoms.
 use Rattle.std.proofs.Common.{◌≡◌, Bool, true, false, ◌||◌, List, [], ◌++◌, inl, inr, refl, sym, arith, ⊎_elim, true≢false}
-use Rattle.ded_model.specs.declared.slot.Sort.{Sort}
-use Rattle.ded_model.specs.Point.{Key}
 use Rattle.ded_model.specs.Row.{Atom}
-use Rattle.ded_model.specs.Logic.{atom, always, never, negation, every_of, some_of, implies, minus, exists, forall, Logics, none, also}
+use Rattle.ded_model.specs.Logic.{atom, negation, every_of, some_of, minus, Logics, none, also}
 use Rattle.ded_model.specs.PlanForm.{PlanAtom, rows, PlanForm, plan_mentions}
 use Rattle.ded_model.specs.Catalogue.{PlanHolds}
 use Rattle.ded_model.specs.Lines.{Line, In, IsSubset}
 use Rattle.ded_model.specs.Measure.{plan_lines, plan_clashes}
-use Rattle.ded_laws.proofs.Decided.{plan_stable, plan_decided}
+use Rattle.ded_laws.proofs.Decided.{plan_stable}
 use Rattle.ded_model.proofs.Members.{In-left, In-right, subset_none, subset_join}
-use Rattle.ded_plan.proofs.Keeps.{any_mention, member_lines, any_clash, Keeps}
+use Rattle.ded_plan.proofs.Keeps.{any_mention, member_lines, any_clash, Keeps, other_members, other_parts}
 use Rattle.ded_algebra.proofs.PlanShapes.{or_one}
+use Rattle.ded_plan.proofs.StepSlots.{two_slots, beside_first, beside_rest, taken_slots, kept_slots}
 use Rattle.ded_algebra.proofs.PlanLines.{drop_none}
 
 -- ---- two members, or three, in other places
@@ -62,6 +61,7 @@ member_alone f = record {
   scans = λ test. omega arith;
   tidy = λ t. (t.0.0, t.1.0);
   atoms = λ test t. t.0;
+  parts = λ t. t.1.0.1;
 }
 
 pub alone_member : (f : PlanForm) → Keeps f (every_of (also f none))
@@ -75,6 +75,7 @@ alone_member f = record {
   scans = λ test. omega arith;
   tidy = λ t. ((t.0, tt), (t.1, tt));
   atoms = λ test t. (t, tt);
+  parts = λ t. (t, tt);
 }
 
 -- the members of an empty join as a member
@@ -89,6 +90,7 @@ no_members fs = record {
   scans = λ test. omega arith;
   tidy = λ t. (t.0.1, t.1.1);
   atoms = λ test t. t.1;
+  parts = λ t. t.1.1;
 }
 
 -- the first member of a join as a member
@@ -103,6 +105,7 @@ first_member f gs fs = record {
   scans = λ test. omega arith;
   tidy = λ t. ((t.0.0.0, (t.0.0.1, t.0.1)), (t.1.0.0, (t.1.0.1, t.1.1)));
   atoms = λ test t. (t.0.0, (t.0.1, t.1));
+  parts = λ t. (t.1.0.1.0, ((other_members f gs t.1.0.0, t.1.0.1.1), t.1.1));
 }
 
 pub members_swapped : (f g : PlanForm) (fs : Logics PlanAtom) → Keeps (every_of (also f (also g fs))) (every_of (also g (also f fs)))
@@ -116,6 +119,7 @@ members_swapped f g fs = record {
   scans = λ test. omega arith;
   tidy = λ t. ((t.0.1.0, (t.0.0, t.0.1.1)), (t.1.1.0, (t.1.0, t.1.1.1)));
   atoms = λ test t. (t.1.0, (t.0, t.1.1));
+  parts = λ t. (t.1.1.0, (t.1.0, t.1.1.1));
 }
 
 -- the first two as one
@@ -130,6 +134,7 @@ two_members f g fs = record {
   scans = λ test. omega arith;
   tidy = λ t. (((t.0.0, (t.0.1.0, tt)), t.0.1.1), ((t.1.0, (t.1.1.0, tt)), t.1.1.1));
   atoms = λ test t. ((t.0, (t.1.0, tt)), t.1.1);
+  parts = λ t. ((two_slots f g fs t.0, (t.1.0, (t.1.1.0, tt))), t.1.1.1);
 }
 
 -- ---- unions
@@ -145,6 +150,7 @@ part_alone f = record {
   scans = λ test. omega arith;
   tidy = λ t. (t.0.0, t.1.0);
   atoms = λ test t. t.0;
+  parts = λ t. t.1.0.1;
 }
 
 -- ---- rows beside a union
@@ -174,6 +180,7 @@ rows_beside_nothing a = record {
   scans = λ test. refl;
   tidy = λ t. (tt, tt);
   atoms = λ test t. tt;
+  parts = λ t. tt;
 }
 
 -- rows beside a union are rows beside its first part, or beside the union of the others
@@ -194,6 +201,10 @@ rows_beside_union a f fs = record {
   scans = λ test. omega arith;
   tidy = λ t. (((tt, (t.0.1.0.0, tt)), ((tt, (t.0.1.0.1, tt)), tt)), ((t.1.0, (t.1.1.0.0, tt)), ((t.1.0, (t.1.1.0.1, tt)), tt)));
   atoms = λ test t. ((t.0, (t.1.0.0, tt)), ((t.0, (t.1.0.1, tt)), tt));
+  parts = λ t. (
+    (beside_first (atom (rows a)) f fs t.0, (t.1.0, (t.1.1.0.1.0, tt))),
+    ((beside_rest (atom (rows a)) f fs t.0, (t.1.0, ((other_parts f fs t.1.1.0.0, t.1.1.0.1.1), tt))), tt),
+  );
 }
 
 -- ---- complements
@@ -209,6 +220,7 @@ complement_twice f = record {
   scans = λ test. refl;
   tidy = λ t. t;
   atoms = λ test t. t;
+  parts = λ t. t.1.1.1;
 }
 
 -- nothing is taken away
@@ -223,6 +235,7 @@ nothing_taken f = record {
   scans = λ test. omega arith;
   tidy = λ t. (t.0.0, t.1.0);
   atoms = λ test t. t.0;
+  parts = λ t. t.1.0.1;
 }
 
 pub taken_from_everything : Keeps (every_of none) (minus (every_of none) (some_of none))
@@ -236,6 +249,7 @@ taken_from_everything = record {
   scans = λ test. refl;
   tidy = λ t. ((tt, tt), (tt, tt));
   atoms = λ test t. (tt, tt);
+  parts = λ t. ((t.0, tt), (t.0, tt));
 }
 
 pub everything_without : (f : PlanForm) → Keeps (minus (every_of none) f) (negation f)
@@ -249,6 +263,7 @@ everything_without f = record {
   scans = λ test. omega arith;
   tidy = λ t. (t.0.1, t.1.1);
   atoms = λ test t. t.1;
+  parts = λ t. t.1.1;
 }
 
 -- a complement beside another member is taken from it
@@ -263,6 +278,7 @@ member_without f g = record {
   scans = λ test. omega arith;
   tidy = λ t. ((t.0.0, t.0.1.0), (t.1.0, t.1.1.0));
   atoms = λ test t. (t.0, t.1.0);
+  parts = λ t. (t.1.0, t.1.1.0.1);
 }
   where
     or_beside : (a b : Bool) → (a || b) ≡ true → (a || (b || false)) ≡ true
@@ -296,6 +312,7 @@ complement_beside f g gs = record {
   scans = λ test. omega arith;
   tidy = λ t. ((t.0.1.0.0, (t.0.0, t.0.1.0.1)), (t.1.1.0.0, (t.1.0, t.1.1.0.1)));
   atoms = λ test t. (t.1.0.0, (t.0, t.1.0.1));
+  parts = λ t. (t.1.1.0.1.0, (taken_slots f g gs t.0, (t.1.0.1, t.1.1.0.1.1.1)));
 }
 
 or_kept : (a b d : Bool) → ((a || b) || d) ≡ true → (a || ((b || d) || false)) ≡ true
@@ -321,69 +338,5 @@ member_beside f g fs = record {
   scans = λ test. omega arith;
   tidy = λ t. (((t.0.0, t.0.1.0.0), t.0.1.0.1), ((t.1.0, t.1.1.0.0), t.1.1.0.1));
   atoms = λ test t. ((t.0, t.1.0.0), t.1.0.1);
-}
-
--- ---- what is no plan
-
-pub always_is : Keeps always (every_of none)
-always_is = record {
-  holds = λ c p i. (λ x. x, λ x. x);
-  slots = λ k h. h;
-  length = λ of. omega arith;
-  rank = λ of. omega arith;
-  lines = λ t M l h. h;
-  clashes = λ t M h. h;
-  scans = λ test. refl;
-  tidy = λ t. t;
-  atoms = λ test t. t;
-}
-
-pub never_is : Keeps never (some_of none)
-never_is = record {
-  holds = λ c p i. (λ x. x, λ x. x);
-  slots = λ k h. h;
-  length = λ of. omega arith;
-  rank = λ of. omega arith;
-  lines = λ t M l h. h;
-  clashes = λ t M h. h;
-  scans = λ test. refl;
-  tidy = λ t. t;
-  atoms = λ test t. t;
-}
-
-or_both : (a b : Bool) → (a || (b || false)) ≡ true → (a || b) ≡ true
-or_both true b h = refl
-or_both false true h = refl
-or_both false false h = h
-
-both_lines : (xs ys : List Line) → IsSubset (xs ++ (ys ++ [])) (xs ++ ys)
-both_lines xs ys = subset_join xs (ys ++ []) _ (λ l h. In-left l xs ys h) (λ l h. In-right l xs ys (drop_none ys l h))
-
-pub implies_is : (f g : PlanForm) → Keeps (implies f g) (some_of (also (negation f) (also g none)))
-implies_is f g = record {
-  holds = λ c p i. (
-    λ x. ⊎_elim (λ (y : PlanHolds c f p). inr (inl (x y))) (λ n. inl n) (plan_decided c f p),
-    λ x y. ⊎_elim (λ (n : ¬ PlanHolds c f p). absurd (n y)) (⊎_elim (λ (z : PlanHolds c g p). z) (λ z. absurd z)) x,
-  );
-  slots = λ k h. or_both (plan_mentions f k) (plan_mentions g k) h;
-  length = λ of. omega arith;
-  rank = λ of. omega arith;
-  lines = λ t M. both_lines (plan_lines M f) (plan_lines M g);
-  clashes = λ t M h. or_both (plan_clashes M f) (plan_clashes M g) h;
-  scans = λ test. omega arith;
-  tidy = λ t. ((t.0.0, (t.0.1, tt)), (t.1.0, (t.1.1, tt)));
-  atoms = λ test t. (t.0, (t.1, tt));
-}
-
-pub forall_is : (s : Sort) (k : Key) (f : PlanForm) → Keeps (forall s k f) (negation (exists s k (negation f)))
-forall_is s k f = record {
-  holds = λ c p i. (λ every w. w.2 (every w.0 w.1), λ n q x. plan_stable c f q (λ fails. n (q, x, fails)));
-  slots = λ j h. h;
-  length = λ of. omega arith;
-  rank = λ of. omega arith;
-  lines = λ t M l h. h;
-  clashes = λ t M h. h;
-  scans = λ test. refl;
-  tidy = λ t. t;
-  atoms = λ test t. t;
+  parts = λ t. ((kept_slots f g fs t.0, (t.1.0, t.1.1.0.1.0.1)), t.1.1.0.1.1);
 }

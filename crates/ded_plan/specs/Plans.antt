@@ -14,7 +14,7 @@ use Rattle.ded_model.specs.Point.{slot, stands_in, AllBytes}
 use Rattle.ded_model.specs.Pushed.{pushed}
 use Rattle.ded_model.specs.Slotted.{goal_of}
 use Rattle.ded_model.specs.Value.{Argument}
-use Rattle.ded_algebra.specs.Compiled.{ComesFrom, IsConjunctivePlan}
+use Rattle.ded_algebra.specs.Compiled.{ComesFrom, IsConjunctivePlan, IsOneSorted}
 use Rattle.ded_algebra.specs.Evaluation.{HaveSorts}
 use Rattle.ded_plan.specs.Rewritten.{ProjectsSlots, IsTidyAtom}
 
@@ -38,9 +38,9 @@ IsScanOf c f (scan n ss) = (uses n f ≡ true) × HaveSorts (columns_in c (base 
 IsScanOf c f (rows t) = Unit {0}
 
 -- a pushed plan whose atoms are tidy, each from an atom of the formula's goal, whose projections are of slots, which mentions
--- freely only slots of the heading, and which is conjunctive where the goal is. It holds where the formula does, with lengths and
--- a rank of at most the formula's, over every well formed catalogue in which the names that the formula speaks of have the same
--- kinds and headings
+-- freely only slots of the heading, and which is conjunctive where the goal is. In each part of it, and in the whole, two slots of
+-- one number that are free there have one sort. It holds where the formula does, with lengths and a rank of at most the formula's,
+-- over every well formed catalogue in which the names that the formula speaks of have the same kinds and headings
 pub record IsPlanOf (c : Catalogue) (h : List Column) (f : Form) (plan : PlanForm) : Type 0 where
   pub pushed : pushed plan ≡ true
   pub scans : AllAtoms (IsScanOf c f) plan
@@ -48,6 +48,7 @@ pub record IsPlanOf (c : Catalogue) (h : List Column) (f : Form) (plan : PlanFor
   pub atoms : AllAtoms (ComesFrom (goal_of h f)) plan
   pub projections : ProjectsSlots plan
   pub slots : (s : Slot) → plan_mentions plan (slot s) ≡ true → stands_in (heading_slots 0 h) s ≡ true
+  pub sorts : IsOneSorted plan
   pub conjunctive : conjunctive (goal_of h f) ≡ true → IsConjunctivePlan (goal_of h f) plan
   pub holds : (d : Catalogue) → IsWellFormed d → ((n : List ℕ) → speaks_of n f ≡ true → SameHead (known c n) (known d n))
       → (den : ℕ) (xs : List Argument) → 0 < den → AreArguments h xs

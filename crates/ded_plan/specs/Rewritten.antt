@@ -9,6 +9,7 @@ use Rattle.ded_model.specs.Catalogue.{Catalogue, PlanHolds}
 use Rattle.ded_model.specs.Lines.{IsSubset}
 use Rattle.ded_model.specs.Measure.{Measures, plan_b, plan_rank, plan_lines, plan_clashes}
 use Rattle.ded_model.specs.Pushed.{pushed}
+use Rattle.ded_algebra.specs.Compiled.{IsOneSorted}
 
 -- ---- tidy plans
 
@@ -55,7 +56,7 @@ is_scan_with test (rows t) = false
 -- it is pushed and holds where the plan does over every catalogue, mentions freely only what the plan does, has lengths and a
 -- rank of at most the plan's, lines among the plan's, and clashes only where the plan does. As many scans pass each test of
 -- names and slots, so each name is scanned as often, at the same slots; what all atoms of the plan pass, all of its own do; and
--- where the plan is conjunctive, it is. It is tidy
+-- where the plan is conjunctive, it is. It is tidy, and has one sort for each number in each of its parts where the plan has
 pub record IsRewritten (f g : PlanForm) : Type 0 where
   pub holds : (c : Catalogue) (p : Point) → 0 < p.den → PlanHolds c f p ↔ PlanHolds c g p
   pub slots : (k : Key) → plan_mentions g k ≡ true → plan_mentions f k ≡ true
@@ -67,4 +68,5 @@ pub record IsRewritten (f g : PlanForm) : Type 0 where
   pub atoms : (test : PlanAtom → Bool) → AllAtoms (IsPassed test) f → AllAtoms (IsPassed test) g
   pub conjunctive : conjunctive f ≡ true → conjunctive g ≡ true
   pub tidy : IsTidyPlan g
+  pub sorts : IsOneSorted f → IsOneSorted g
   pub pushed : pushed g ≡ true

@@ -21,7 +21,8 @@ use std::alloc::Global;
 /// or beside another member, and no join or union of one part. Over every catalogue it holds exactly where the plan does. It
 /// mentions freely only slots that the plan does, has lengths and a rank of at most the plan's, lines among the plan's, and
 /// clashes only where the plan does. It has the same scans, each as often, and atoms of the plan alone, and is conjunctive where
-/// the plan is. Its projections are of slots, its scans at distinct ones, and its rows are normal.
+/// the plan is. Its projections are of slots, its scans at distinct ones, and its rows are normal. Where two slots of one number
+/// that a part of the plan mentions freely have one sort, so it is in each of its parts.
 ///
 /// # Errors
 /// Out of memory; the plan is lost.

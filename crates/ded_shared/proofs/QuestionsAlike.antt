@@ -85,6 +85,7 @@ module _ (c d : Catalogue) (names : List ℕ → Bool) (s : AreAlike c d names) 
     atoms = p.atoms;
     projections = p.projections;
     slots = p.slots;
+    sorts = p.sorts;
     conjunctive = p.conjunctive;
     holds = λ e w same. p.holds e w (heads e same);
     lengths = λ e w same. p.lengths e w (heads e same);
