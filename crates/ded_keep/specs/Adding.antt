@@ -1,5 +1,5 @@
 -- One tuple more in a relation, and what it adds to the tuples of a plan.
-use Rattle.std.specs.Prelude.{◌≡◌, ◌↔◌, ◌⊎◌, ◌<◌, ℕ, true, IsTrue, List, [], ◌∷◌, ◌++◌, map}
+use Rattle.std.specs.Prelude.{◌≡◌, ◌↔◌, ◌⊎◌, ◌+◌, ◌<◌, ◌≤◌, ℕ, Bool, true, false, IsTrue, List, [], ◌∷◌, ◌++◌, length, map}
 use Rattle.ded_model.specs.declared.name.Column.{Column}
 use Rattle.ded_model.specs.declared.slot.Slot.{Slot}
 use Rattle.ded_model.specs.Catalogue.{relation, Catalogue, at_slots, stored, meaning, GivenHolds}
@@ -20,6 +20,11 @@ with_tuples c n h ts = record { limit = 0; entries = relation n h 0 (map (λ t. 
 -- the given relations, and the name as a relation of the tuple alone
 abbrev pub with_alone : Catalogue → List ℕ → List Column → List Atom → Catalogue
 with_alone c n h t = with_tuples c n h (t ∷ [])
+
+-- the steps of looking a name up: where it is that of the tuples, one for each of them at most, and else those of the other relations
+pub record AreStepsBeside (own : Bool) (ts : List (List Atom)) (Others : ℕ → ℕ → Type 0) (before after : ℕ) : Type 0 where
+  pub here : own ≡ true → after ≤ before + length ts
+  pub there : own ≡ false → Others before after
 
 -- the kept tuples and more behind them: they hold exactly where the kept ones or the plan do, mention only slots that one of both
 -- mentions, and have lines among those of both

@@ -1,5 +1,5 @@
 //! One tuple alone under a name, and other relations as they are given.
-ghost use Rattle.std.specs.Prelude.{◌≡◌, true, is_none, None, IfOk, IsErrOf};
+ghost use Rattle.std.specs.Prelude.{◌≡◌, ◌&&◌, not, true, is_none, None, IfOk, IsErrOf};
 ghost use Rattle.ded_model.specs.declared.memory.Refused.TheVariants.{Wide};
 ghost use Rattle.ded_model.specs.Entries.{entry_of};
 ghost use Rattle.ded_model.specs.Lines.{tuples_lines};
@@ -9,14 +9,16 @@ ghost use Rattle.ded_model.specs.Row.{tuples_hold, tuples_mention};
 ghost use Rattle.ded_algebra.specs.Evaluation.{IsAnyAtom, IsEvaluable, IsEvaluation};
 ghost use Rattle.ded_keep.specs.Adding.{with_alone};
 
-use ded_algebra::{Evaluate, Relations};
+use ded_algebra::{Evaluate, Relations, near_among};
 use ded_model::memory::{NoMemory, Refused};
 use ded_model::name::{Heading, Name};
 use ded_model::plan::Plan;
+use ded_model::steps::Steps;
 use ded_model::tuple::{Tuple, Tuples};
 use ded_packed::{Lent, lend};
 use ded_ranges::Window;
 use std::alloc::Global;
+use std::sync::ledger::Ledger;
 
 /// A tuple that a relation gets or loses, with the relation's name and heading.
 #[derive(Clone, Copy)]
@@ -37,24 +39,30 @@ pub(crate) struct Alone<'a, R: Relations> {
 }
 
 impl<'a, R: Relations> Relations for Alone<'a, R> {
-    ghost use Rattle.ded_keep.specs.Adding.{with_tuples};
+    ghost use Rattle.std.specs.Str.{bytes_eq};
+    ghost use Rattle.ded_keep.specs.Adding.{with_tuples, AreStepsBeside};
 
     ghost catalogue = { λ a. with_tuples (R.catalogue a.others.now) a.name.now a.heading.now a.tuples.now };
+
+    ghost indexed = { λ a n. not (bytes_eq n a.name.now) && R.indexed a.others.now n };
+
+    ghost reads = { λ a n w before after. AreStepsBeside (bytes_eq n a.name.now) a.tuples.now (R.reads a.others.now n w) before after };
 
     fn formed(&self) {
         self.others.formed();
     }
 
-    fn near(
+    fn near<L: Ledger>(
         &self,
         alloc: Global,
         name: &Name,
         window: &Window,
+        steps: &mut Steps<L>,
     ) -> Result<Option<Vec<Lent<'_>>>, NoMemory> {
         if name.is_same(self.name) {
-            Ok(Some(window.near(alloc, self.tuples)?))
+            Ok(Some(near_among(alloc, self.tuples, window, steps)?))
         } else {
-            self.others.near(alloc, name, window)
+            self.others.near(alloc, name, window, steps)
         }
     }
 
