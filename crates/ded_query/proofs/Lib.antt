@@ -1,5 +1,6 @@
 pub mod Answered
 pub mod Arguments
+pub mod BelowTried
 pub mod Closings
 pub mod ColumnsRead
 pub mod Entries
@@ -10,7 +11,9 @@ pub mod GivenNames
 pub mod MadeNames
 pub mod Names
 pub mod NearViews
+pub mod Owed
 pub mod Posed
 pub mod ScanPoints
 pub mod Standing
+pub mod Tries
 pub mod Witnesses

@@ -33,12 +33,14 @@ use Rattle.ded_views.proofs.GoalNames.{speaks_used}
 use Rattle.ded_views.proofs.PlansAlike.{arguments_bytes, slots_positive, arguments_length}
 use Rattle.ded_query.specs.Gathering.{IsGivenOf, IsGathered, IsFront, IsPosed}
 use Rattle.ded_query.specs.Over.{over_relations}
+use Rattle.ded_query.specs.Tried.{TriesMore, IsGatheredBy}
 use Rattle.ded_query.specs.Windows.{column_values, IsOverSlots, IsReadable, scans_of, IsShapedOf, IsReadFrom, IsGivenNear, IsNearView, added}
 use Rattle.ded_query.proofs.Evaluable.{sorts_long, evaluable}
-use Rattle.ded_query.proofs.Gathered.{gathered_more, front_none, front_more, posed_scans}
+use Rattle.ded_query.proofs.Gathered.{front_none, front_more, posed_scans}
 use Rattle.ded_query.proofs.GivenNames.{MeansThere, means_there, has_last}
 use Rattle.ded_query.proofs.Names.{used_known}
 use Rattle.ded_query.proofs.Standing.{still_there, given_there, over_all}
+use Rattle.ded_query.proofs.Tries.{by_more, tries_more}
 
 -- ---- what is given is right everywhere
 
@@ -164,27 +166,30 @@ pub has_more : (rs : List GivenRelation) (r : GivenRelation) (n : List ℕ) → 
 has_more rs r n h = list_any-append (λ (x : GivenRelation). bytes_eq n x.name) rs (r ∷ []) ∙ or_left (has_name n rs) _ h
 
 -- what is gathered up to a place of the scans
-abbrev pub IsGatheredTo : Catalogue → List ScanWithin → List GivenRelation → ℕ → List GivenRelation → List GivenRelation → Type 0
-IsGatheredTo c ss old i gs rs = IsGathered c old gs × AllByRecursion (IsGivenNear c ss) rs × AllByRecursion (IsThere c gs rs) (take i ss) × IsFront old gs
+abbrev pub IsGatheredTo : Catalogue → List ScanWithin → List GivenRelation → List (List ℕ) → ℕ → List GivenRelation → List (List ℕ) → List GivenRelation → Type 0
+IsGatheredTo c ss old before i gs ts rs = IsGatheredBy c old before gs ts × AllByRecursion (IsGivenNear c ss) rs × AllByRecursion (IsThere c gs rs) (take i ss) × IsFront old gs × TriesMore old before ts
 
-module _ (c : Catalogue) (ss : List ScanWithin) (old : List GivenRelation) (i : ℕ) (s : ScanWithin) (l : i < length ss) (e : s ≡ get_or ss i s) (gs gs' rs : List GivenRelation) (h : IsGatheredTo c ss old i gs rs) (g : IsGathered c gs gs') (f : IsFront gs gs') where
+module _ (c : Catalogue) (ss : List ScanWithin) (old : List GivenRelation) (before : List (List ℕ)) (i : ℕ) (s : ScanWithin) (l : i < length ss) (e : s ≡ get_or ss i s) (gs gs' : List GivenRelation) (ts ts' : List (List ℕ)) (rs : List GivenRelation)
+    (h : IsGatheredTo c ss old before i gs ts rs) (g : IsGatheredBy c gs ts gs' ts') (f : IsFront gs gs') (r : TriesMore gs ts ts') where
   -- a scan of which the name is given
-  pub whole_next : has_name s.name (over_relations c None gs') ≡ true → IsGatheredTo c ss old (i + 1) gs' rs
+  pub whole_next : has_name s.name (over_relations c None gs') ≡ true → IsGatheredTo c ss old before (i + 1) gs' ts' rs
   whole_next t = (
-    gathered_more c old gs gs' h.0 g,
+    by_more c old gs gs' before ts ts' h.0 g,
     h.1,
-    there_next c gs gs' rs rs ss i s l e g (λ n x. x) (or_left (has_name s.name (over_relations c None gs')) (has_name s.name rs) t) h.2,
+    there_next c gs gs' rs rs ss i s l e g.gathered (λ n x. x) (or_left (has_name s.name (over_relations c None gs')) (has_name s.name rs) t) h.2,
     front_more old gs gs' h.3 f,
+    tries_more old gs before ts ts' h.3 h.4 r,
   )
 
   -- or of which the view is right near it
-  pub near_next : (r : GivenRelation) → IsNearView c s r → scans_of s.name ss ≡ 1 → IsGatheredTo c ss old (i + 1) gs' (rs ++ r ∷ [])
-  near_next r v z = (
-    gathered_more c old gs gs' h.0 g,
-    all-push (IsGivenNear c ss) rs r h.1 (near_one c ss i s r l e z v),
-    there_next c gs gs' rs (rs ++ r ∷ []) ss i s l e g (has_more rs r)
-        (or_right (has_name s.name (over_relations c None gs')) (has_name s.name (rs ++ r ∷ [])) (subst (λ n. has_name n (rs ++ r ∷ []) ≡ true) v.named (has_last rs r))) h.2,
+  pub near_next : (n : GivenRelation) → IsNearView c s n → scans_of s.name ss ≡ 1 → IsGatheredTo c ss old before (i + 1) gs' ts' (rs ++ n ∷ [])
+  near_next n v z = (
+    by_more c old gs gs' before ts ts' h.0 g,
+    all-push (IsGivenNear c ss) rs n h.1 (near_one c ss i s n l e z v),
+    there_next c gs gs' rs (rs ++ n ∷ []) ss i s l e g.gathered (has_more rs n)
+        (or_right (has_name s.name (over_relations c None gs')) (has_name s.name (rs ++ n ∷ [])) (subst (λ m. has_name m (rs ++ n ∷ []) ≡ true) v.named (has_last rs n))) h.2,
     front_more old gs gs' h.3 f,
+    tries_more old gs before ts ts' h.3 h.4 r,
   )
 
 -- ---- views added to what is given

@@ -5,4 +5,5 @@ pub mod Gathering
 pub mod Made
 pub mod Over
 pub mod Questions
+pub mod Tried
 pub mod Windows

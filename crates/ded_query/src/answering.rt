@@ -19,7 +19,10 @@ ghost use Rattle.ded_query.specs.Gathering.{IsGivenOf, IsGathered, IsFront, IsPo
 ghost use Rattle.ded_query.specs.Over.{over_relations};
 ghost use Rattle.ded_query.specs.Questions.{IsQuestion, IsAnswer};
 
-use crate::gathering::{evaluated_by, give_all};
+use crate::gathering::evaluated_by;
+use crate::giving::give_all;
+use crate::strata::Strata;
+use crate::tried::Tried;
 use ded_algebra::{Evaluate, Given};
 use ded_atoms::{holds_everywhere, reduced};
 use ded_catalog::Snapshot;
@@ -153,7 +156,13 @@ pub fn give_names<E: Evaluate>(
     ensures wide { IsErrOf result Wide → list_any (λ n. (measures (snapshot_of snapshot.now) n).clash) names.now ≡ true }
 {
     snapshot.formed();
-    give_all::<E>(alloc, snapshot, names, limits::LEVELS, held)
+    let strata = Strata {
+        alloc,
+        snapshot,
+        level: limits::LEVELS,
+    };
+    let mut tried = Tried::new(alloc);
+    give_all::<E>(&strata, names, held, &mut tried)
 }
 
 /// What the goal of an accepted formula is evaluated to. What is held is the same after it.
@@ -195,8 +204,14 @@ fn planned_over<E: Evaluate>(
     ensures wide { IsErrOf result Wide → (g : GoalForm) → IsPosed (snapshot_of snapshot.now) g 16 → IsPlanned g (plan_form plan.now)
         → goal_clashes (measures (snapshot_of snapshot.now)) g ≡ true }
 {
+    let strata = Strata {
+        alloc,
+        snapshot,
+        level: limits::LEVELS,
+    };
+    let mut tried = Tried::new(alloc);
     let count = held.count();
-    let tuples = evaluated_by::<E>(alloc, snapshot, plan, limits::LEVELS, held);
+    let tuples = evaluated_by::<E>(&strata, plan, held, &mut tried);
     held.keep_first(count);
     tuples
 }

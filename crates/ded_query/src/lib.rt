@@ -9,7 +9,8 @@
 //! tuple that holds wherever the plan asks for it. What comes of it is right there, and is taken away after the evaluation.
 //!
 //! A question that asks only whether a view has a point is asked of the view's own goal, with a quantifier for each column, so that it
-//! ends where one is found. Where that is too wide, it is asked of the whole view.
+//! ends where one is found. Where that is too wide, it is asked of the whole view. What was given till then stays, and a view that was
+//! too wide as a whole isn't evaluated again in the question.
 //!
 //! The catalogue is read as a `Snapshot`: as it is, or as a change will make it. Answers of views that are held already are handed
 //! in as relations under the views' names ([`held_view`]). They are read in place of the views, without a copy, and are the same
@@ -24,10 +25,14 @@
 mod answering;
 mod columns;
 mod gathering;
+mod giving;
 mod made;
 mod near;
 mod over;
+mod strata;
+mod tried;
 mod views;
+mod within;
 mod witness;
 
 pub use answering::{answer, give_names, is_true, planned_view, view_tuples};

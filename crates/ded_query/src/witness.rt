@@ -1,8 +1,9 @@
 //! Plans that ask only whether a view has a point, and the closed goal that says it: that of the view's formula, with a quantifier for
 //! each column.
-ghost use Rattle.std.specs.Prelude.{◌≡◌, ◌≤◌, true, is_some, IfOk, OnOk};
+ghost use Rattle.std.specs.Prelude.{◌≡◌, ◌≤◌, true, is_some, IfOk, IsErrOf, OnOk};
 ghost use Rattle.std.specs.List.{AllByRecursion};
 ghost use Rattle.std.specs.Option.{IfSome};
+ghost use Rattle.ded_model.specs.declared.memory.Refused.TheVariants.{Wide};
 ghost use Rattle.ded_model.specs.Entries.{known, entry_of, view_in};
 ghost use Rattle.ded_model.specs.Goal.{goal_form};
 ghost use Rattle.ded_model.specs.Known.{heading_slots, level_with};
@@ -11,9 +12,12 @@ ghost use Rattle.ded_model.specs.PlanForm.{plan_form};
 ghost use Rattle.ded_catalog.specs.Snapshots.{snapshot_of};
 ghost use Rattle.ded_query.specs.Asking.{projects, IsRoundScan, IsAsking, IsAskedView, IsClosedView, IsClosedPlan, IsWitness, IsTruthOf};
 ghost use Rattle.ded_query.specs.Closing.{closing};
-ghost use Rattle.ded_query.specs.Gathering.{IsGivenOf, IsGathered, IsFront};
+ghost use Rattle.ded_query.specs.Gathering.{IsGivenOf, IsFront};
+ghost use Rattle.ded_query.specs.Tried.{TriesMore, IsBelowTried, IsGatheredBy};
 
 use crate::gathering::evaluated_whole;
+use crate::strata::Strata;
+use crate::tried::Tried;
 use ded_algebra::{Evaluate, Given, everywhere, nowhere};
 use ded_atoms::holds_everywhere;
 use ded_catalog::Snapshot;
@@ -99,26 +103,37 @@ fn is_projected(plan: &Plan, slot: Slot) -> bool
 /// Its closed goal is too wide, or out of memory. More may be given then.
 #[cycle(evaluated)]
 pub(crate) fn witnessed<E: Evaluate>(
-    alloc: Global,
-    snapshot: &Snapshot<'_>,
+    strata: &Strata<'_, '_>,
     name: &Name,
-    level: u32,
     given: &mut Given,
+    tried: &mut Tried,
 ) -> Result<bool, Refused>
-    requires view { is_some (view_in (entry_of (snapshot_of snapshot.now).entries name.now)) ≡ true }
-    requires level { level_with (known (snapshot_of snapshot.now) (base name.now)) ≤ level }
-    requires given { AllByRecursion (IsGivenOf (snapshot_of snapshot.now)) given.old }
-    ensures is { IfOk result (IsWitness (snapshot_of snapshot.now) name.now) }
-    ensures gathered { OnOk result (IsGathered (snapshot_of snapshot.now) given.old given.new) }
+    requires view { is_some
+        (view_in (entry_of (snapshot_of strata.now.snapshot.now).entries name.now)) ≡ true }
+    requires level { level_with (known (snapshot_of strata.now.snapshot.now) (base name.now)) ≤ strata.now.level }
+    requires given { AllByRecursion (IsGivenOf (snapshot_of strata.now.snapshot.now)) given.old }
+    requires below { IsBelowTried (snapshot_of strata.now.snapshot.now) given.old tried.old
+        (λ m. level_with (known (snapshot_of strata.now.snapshot.now) (base name.now)) ≤ m) }
+    ensures is { IfOk result (IsWitness (snapshot_of strata.now.snapshot.now) name.now) }
+    ensures gathered { OnOk result
+        (IsGatheredBy (snapshot_of strata.now.snapshot.now) given.old tried.old given.new tried.new) }
+    ensures left { IsErrOf result Wide
+        → IsGatheredBy (snapshot_of strata.now.snapshot.now) given.old tried.old given.new tried.new }
     ensures front { IsFront given.old given.new }
+    ensures tried { TriesMore given.old tried.old tried.new }
 {
-    snapshot.formed();
-    let plan = closed_plan(alloc, snapshot, name)?;
-    let Some(inner) = asked_view(snapshot, &plan, given) else {
-        let tuples = evaluated_whole::<E>(alloc, snapshot, &plan, level - 1, given)?;
+    strata.snapshot.formed();
+    let plan = closed_plan(strata.alloc, strata.snapshot, name)?;
+    let below = Strata {
+        alloc: strata.alloc,
+        snapshot: strata.snapshot,
+        level: strata.level - 1,
+    };
+    let Some(inner) = asked_view(strata.snapshot, &plan, given) else {
+        let tuples = evaluated_whole::<E>(&below, &plan, given, tried)?;
         return Ok(holds_everywhere(&tuples.list));
     };
-    witnessed::<E>(alloc, snapshot, inner, level - 1, given)
+    witnessed::<E>(&below, inner, given, tried)
 }
 
 /// A plan of the view's goal with a quantifier for each of its columns.
