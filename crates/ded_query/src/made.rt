@@ -13,7 +13,7 @@ ghost use Rattle.ded_query.specs.Made.{IsStanding, IsMadeBy, IsTooWide};
 ghost use Rattle.ded_query.specs.Over.{over_relations};
 
 use crate::over::Over;
-use ded_algebra::{Given, GivenRelation, Relations};
+use ded_algebra::{Given, GivenRelation, near_in};
 use ded_catalog::Snapshot;
 use ded_model::memory::{NoMemory, Refused};
 use ded_model::name::Name;
@@ -104,7 +104,7 @@ fn standing(
         hidden: None,
     };
     let window = Window::everything(alloc);
-    let Some(tuples) = over.near(alloc, name, &window)? else {
+    let Some(tuples) = near_in(alloc, &over, name, &window)? else {
         unreachable!()
     };
     copied(alloc, &tuples)

@@ -1,13 +1,15 @@
 //! The relations of a catalogue where they stand, and what is given under other names.
-ghost use Rattle.std.specs.Prelude.{◌≡◌};
+ghost use Rattle.std.specs.Prelude.{◌≡◌, ◌&&◌, not};
 
 use ded_algebra::{Given, Relations};
 use ded_catalog::Snapshot;
 use ded_model::memory::NoMemory;
 use ded_model::name::Name;
+use ded_model::steps::Steps;
 use ded_packed::Lent;
 use ded_ranges::Window;
 use std::alloc::Global;
+use std::sync::ledger::Ledger;
 
 /// What is given, and the relations of a catalogue under all other names but the hidden one. Nothing is copied.
 #[derive(Drop)]
@@ -35,29 +37,34 @@ impl<'a, 'b, 'c> Over<'a, 'b, 'c> {
 impl<'a, 'b, 'c> Relations for Over<'a, 'b, 'c> {
     ghost use Rattle.std.specs.Option.{option_map};
     ghost use Rattle.ded_catalog.specs.Snapshots.{snapshot_of};
-    ghost use Rattle.ded_algebra.specs.Given.{given_catalogue};
-    ghost use Rattle.ded_query.specs.Over.{over_relations};
+    ghost use Rattle.ded_algebra.specs.Given.{given_catalogue, has_name};
+    ghost use Rattle.ded_query.specs.Over.{over_relations, is_hidden, AreStepsOver};
 
     ghost catalogue = { λ o. given_catalogue (over_relations (snapshot_of o.snapshot.now) (option_map (λ n. n.now) o.hidden) o.given.now) };
+
+    ghost indexed = { λ o n. not (has_name n o.given.now) && not (is_hidden (option_map (λ n. n.now) o.hidden) n) };
+
+    ghost reads = { λ o n w before after. AreStepsOver o.snapshot.now o.given.now n w before after };
 
     fn formed(&self) {
         self.snapshot.formed();
         self.given.formed();
     }
 
-    fn near(
+    fn near<L: Ledger>(
         &self,
         alloc: Global,
         name: &Name,
         window: &Window,
+        steps: &mut Steps<L>,
     ) -> Result<Option<Vec<Lent<'_>>>, NoMemory> {
         self.snapshot.formed();
         if self.given.has(name) {
-            self.given.near(alloc, name, window)
+            self.given.near(alloc, name, window, steps)
         } else if self.hides(name) {
             Ok(None)
         } else {
-            self.snapshot.near(alloc, name, window)
+            self.snapshot.near(alloc, name, window, steps)
         }
     }
 
