@@ -1,14 +1,21 @@
 -- Reads that go on, and how they end.
-use Rattle.std.proofs.Common.{◌≡◌, ℕ, ◌+◌, ◌<◌, ◌≤◌, length, take, drop, List, [], ◌++◌, refl, sym, ap, ◌∙◌, append_assoc, length-append, subst, arith, Bool}
-use Rattle.std.specs.Prelude.{Option, None, Some, IfSome}
-use Rattle.std.specs.Io.KnownBytes.{Consumes, Keeps, IsAtEnd}
-use Rattle.std.proofs.lemmas.List.{append-nil, length-take-le, take-take, take-append-drop}
+use Rattle.std.proofs.Common.{◌≡◌, ℕ, ◌+◌, ◌<◌, ◌≤◌, length, take, drop, List, [], ◌++◌, refl, sym, ap, ◌∙◌, append_assoc, length-append, subst, arith, Bool, false}
+use Rattle.std.specs.Prelude.{Option, None, Some, IfSome, map, ◌-◌}
+use Rattle.std.specs.Io.KnownBytes.{Appends, Consumes, Keeps, IsAtEnd}
+use Rattle.std.proofs.lemmas.List.{append-nil, length-map, length-take-le, take-take, take-append-drop, take_at, drop_at}
 use Rattle.std.proofs.Math.Seq.{take-append-add}
 use Rattle.ded_dialogue.specs.declared.dialogue.Dialogue.{Dialogue}
-use Rattle.ded_dialogue.specs.Runs.{Answers}
+use Rattle.ded_io.specs.Devices.{Sent}
+use Rattle.ded_io.proofs.Steps.{all_sent}
+use Rattle.ded_lex.specs.Pieces.{Whole}
+use Rattle.ded_lex.proofs.Cuts.{statements_on}
+use Rattle.ded_dialogue.specs.Replies.{Said, texts}
+use Rattle.ded_dialogue.specs.Runs.{Answers, Run}
 use Rattle.ded_dialogue.specs.Outcome.{AnsweredIn, ConcludedIn, WholesAnswered, Unread, Overlong, Interrupted, Broken}
-use Rattle.ded_dialogue.specs.Streams.{IsFresh, Streamed, Grows, Breaks, Reading}
-use Rattle.ded_dialogue.proofs.Feeding.{fresh_streams, wholes_answered}
+use Rattle.ded_dialogue.specs.Hearing.{heard_from}
+use Rattle.ded_dialogue.specs.Streams.{IsFresh, SoFar, Streamed, Grows, Breaks, Reading}
+use Rattle.ded_dialogue.proofs.Feeding.{fresh_streams, steps_here, streams_from_here, wholes_answered}
+use Rattle.ded_dialogue.proofs.Steps.{many_steps}
 
 -- ---- bytes that are told
 
@@ -42,6 +49,11 @@ nothing_more s0 s1 s2 taken bytes n so_far none takes =
 take_within : (n within : ℕ) (bytes : List ℕ) → within ≤ n → take n bytes ≡ take within bytes ++ drop within (take n bytes)
 take_within n within bytes le = sym (take-append-drop within (take n bytes)) ∙ ap (λ (l : List ℕ). l ++ drop within (take n bytes)) (take-take within n bytes le)
 
+-- what the last read gave
+gave : (given : Option (List ℕ)) (chunk : List ℕ) → IfSome given (λ bytes. bytes ≡ chunk) → IfSome given (λ bytes. chunk ≡ bytes)
+gave None chunk h = tt
+gave (Some bytes) chunk h = sym h
+
 module _ {A M : Type 0} (R : Answers M) (state : A → M) where
   -- ---- how reading goes on
 
@@ -53,8 +65,8 @@ module _ {A M : Type 0} (R : Answers M) (state : A → M) where
     streamed = fresh_streams R state machine 0 d contents fresh;
   }
 
-  answered_here : (start : M) (d : Dialogue A) (taken : List ℕ) (h0 h1 : Option (List ℕ)) → Streamed R state start 0 d taken h0 h1 → WholesAnswered R start taken h0 h1
-  answered_here start d taken h0 h1 s = wholes_answered R start _ taken s.tail _ _ h0 h1 s.so_far
+  answered_here : (start : M) (d : Dialogue A) (taken : List ℕ) (h0 h1 : Option (List ℕ)) → Streamed R state start 0 false d taken h0 h1 → WholesAnswered (heard_from R start) taken h0 h1
+  answered_here start d taken h0 h1 s = wholes_answered R start d.silent false taken s.tail (state d.machine) d.refused h0 h1 s.so_far
 
   module _ (start : M) (input_limit room : ℕ) (d : Dialogue A) (s0 s1 h0 h1 : Option (List ℕ)) (r : Reading R state start input_limit room d s0 s1 h0 h1) where
     -- a piece that fits was read and answered
@@ -65,13 +77,13 @@ module _ {A M : Type 0} (R : Answers M) (state : A → M) where
       taken = r.taken ++ take n bytes;
       takes = consumes_both s0 s1 s2 r.taken (take n bytes) r.takes takes;
       counts = omega (arith, r.counts, length-append r.taken (take n bytes), length-take-le n bytes fits);
-      streamed = subst (λ (k : ℕ). Streamed R state start 0 e (r.taken ++ take k bytes) h0 h2) same (streamed.on start 0 r.taken h0 r.streamed);
+      streamed = subst (λ (k : ℕ). Streamed R state start 0 false e (r.taken ++ take k bytes) h0 h2) same (streamed.on start 0 false r.taken h0 r.streamed);
     }
 
     -- ---- how it ends
 
     -- the read failed
-    pub stays_unread : (s2 : Option (List ℕ)) → Keeps s1 s2 → Unread R start input_limit s0 s2 h0 h1
+    pub stays_unread : (s2 : Option (List ℕ)) → Keeps s1 s2 → Unread (heard_from R start) input_limit s0 s2 h0 h1
     stays_unread s2 kept = record {
       taken = r.taken;
       takes = consumes_kept s0 s1 s2 r.taken r.takes kept;
@@ -81,47 +93,84 @@ module _ {A M : Type 0} (R : Answers M) (state : A → M) where
 
     -- the input ended, and its last statement is answered
     pub all_answered : (s2 h2 : Option (List ℕ)) (refused : Bool) (last : M) (bytes : List ℕ) (n : ℕ) → n ≡ 0 → Consumes s1 s2 (take n bytes) → IsAtEnd s2
-        → ((taken : List ℕ) → Streamed R state start 0 d taken h0 h1 → ConcludedIn R start 0 taken h0 h2 refused last)
-        → AnsweredIn R start input_limit s0 s2 h0 h2 refused last
+        → ((taken : List ℕ) → Streamed R state start 0 false d taken h0 h1 → ConcludedIn (heard_from R start) 0 taken h0 h2 refused last)
+        → AnsweredIn (heard_from R start) input_limit s0 s2 h0 h2 refused last
     all_answered s2 h2 refused last bytes n none takes end conclude =
-        let c = conclude r.taken r.streamed in (
+        let c = conclude r.taken r.streamed in
+        let all : Consumes s0 s2 r.taken = nothing_more s0 s1 s2 r.taken bytes n r.takes none takes in (
           record {
             taken = r.taken;
-            takes = nothing_more s0 s1 s2 r.taken bytes n r.takes none takes;
+            takes = all;
             read = end;
+            whole = whole_input s0 s2 r.taken (λ (script : List ℕ). script ≡ r.taken) all end refl;
             within = omega (arith, r.counts);
             concluded = c.0;
           },
           c.1,
         )
 
+    -- the sink failed behind what was answered, in the bytes that the last read gave
+    breaks_behind : (s2 given h2 : Option (List ℕ)) (chunk : List ℕ) → Consumes s1 s2 chunk → IfSome given (λ bytes. chunk ≡ bytes)
+        → Interrupted (heard_from R (state d.machine)) d.silent (r.streamed.tail ++ chunk) h1 h2
+        → Broken (heard_from R start) s0 s2 given h0 h2
+    breaks_behind s2 given h2 chunk takes newest i =
+        let f : SoFar R start 0 d.silent false r.taken r.streamed.tail (state d.machine) d.refused [] h0 h1 = r.streamed.so_far in
+        let later : Run R (state d.machine) (r.streamed.tail ++ chunk) i.replies i.last = i.run in
+        let many : length f.replies ≡ length f.pieces =
+        many_steps R start (state d.machine) (map Whole f.pieces) f.replies (steps_here R start 0 d.silent false r.taken r.streamed.tail (state d.machine) d.refused [] h0 h1 f)
+        ∙ length-map f.pieces Whole in
+        let none : d.silent ≡ 0 = omega (arith, f.counts) in
+        record {
+          before = r.taken;
+          chunk = chunk;
+          takes = consumes_both s0 s1 s2 r.taken chunk r.takes takes;
+          newest = newest;
+          pieces = f.pieces;
+          rest = r.streamed.tail;
+          cut = f.cut;
+          replies = f.replies ++ i.replies;
+          last = i.last;
+          run = record {
+            statements = map Whole f.pieces ++ later.statements;
+            cut = statements_on r.taken chunk f.pieces r.streamed.tail later.statements f.cut later.cut;
+            steps = f.goes later.statements i.replies i.last later.steps;
+          };
+          between = h1;
+          answered = subst (λ (rs : List Said). Appends h0 h1 (texts rs)) (sym (take_at f.replies i.replies (length f.pieces) many)) (all_sent h0 h1 (texts f.replies) f.written);
+          unwritten = i.unwritten;
+          written = subst (λ (rs : List Said). Sent h1 h2 (texts rs) i.unwritten) (sym (drop_at f.replies i.replies (length f.pieces) many))
+              (subst (λ (k : ℕ). Sent h1 h2 (texts (drop k i.replies)) i.unwritten) none i.written);
+        }
+
+    here : Streamed R state (state d.machine) d.silent d.refused d r.streamed.tail h1 h1
+    here = streams_from_here R state start 0 false d r.taken h0 h1 r.streamed
+
     -- or the sink failed at its reply
-    pub breaks_at_end : (s2 h2 : Option (List ℕ)) (bytes : List ℕ) (n : ℕ) → n ≡ 0 → Consumes s1 s2 (take n bytes)
-        → ((taken : List ℕ) → Streamed R state start 0 d taken h0 h1 → Interrupted R start 0 taken h0 h2)
-        → Broken R start s0 s2 h0 h2
-    breaks_at_end s2 h2 bytes n none takes stops = record {
-      taken = r.taken;
-      takes = nothing_more s0 s1 s2 r.taken bytes n r.takes none takes;
-      interrupted = stops r.taken r.streamed;
-    }
+    pub breaks_at_end : (s2 given h2 : Option (List ℕ)) (bytes : List ℕ) (n : ℕ) → n ≡ 0 → Consumes s1 s2 (take n bytes) → IfSome given (λ b. b ≡ take n bytes)
+        → ((m : M) (silent : ℕ) (before : Bool) (taken : List ℕ) → Streamed R state m silent before d taken h1 h1 → Interrupted (heard_from R m) silent taken h1 h2)
+        → Broken (heard_from R start) s0 s2 given h0 h2
+    breaks_at_end s2 given h2 bytes n none takes last stops =
+        let all : r.streamed.tail ≡ r.streamed.tail ++ take n bytes =
+        sym (append-nil r.streamed.tail) ∙ ap (λ (k : ℕ). r.streamed.tail ++ take k bytes) (sym none) in
+        breaks_behind s2 given h2 (take n bytes) takes (gave given (take n bytes) last)
+        (subst (λ (l : List ℕ). Interrupted (heard_from R (state d.machine)) d.silent l h1 h2) all (stops (state d.machine) d.silent d.refused r.streamed.tail here))
 
     -- the sink failed at a reply in a piece that was read
-    pub breaks_in : (s2 h2 : Option (List ℕ)) (bytes : List ℕ) (n within : ℕ) → within ≤ n → Consumes s1 s2 (take n bytes)
+    pub breaks_in : (s2 given h2 : Option (List ℕ)) (bytes : List ℕ) (n within : ℕ) → within ≤ n → Consumes s1 s2 (take n bytes) → IfSome given (λ b. b ≡ take n bytes)
         → Breaks R state d h1 h2 (take within bytes)
-        → Broken R start s0 s2 h0 h2
-    breaks_in s2 h2 bytes n within le takes stops =
-        let all : (r.taken ++ take within bytes) ++ drop within (take n bytes) ≡ r.taken ++ take n bytes =
-        append_assoc r.taken (take within bytes) (drop within (take n bytes)) ∙ ap (λ (l : List ℕ). r.taken ++ l) (sym (take_within n within bytes le)) in
-        record {
-          taken = r.taken ++ take n bytes;
-          takes = consumes_both s0 s1 s2 r.taken (take n bytes) r.takes takes;
-          interrupted = subst (λ (l : List ℕ). Interrupted R start 0 l h0 h2) all (stops.on start 0 r.taken h0 r.streamed (drop within (take n bytes)));
-        }
+        → Broken (heard_from R start) s0 s2 given h0 h2
+    breaks_in s2 given h2 bytes n within le takes last stops =
+        let tail : List ℕ = r.streamed.tail in
+        let all : (tail ++ take within bytes) ++ drop within (take n bytes) ≡ tail ++ take n bytes =
+        append_assoc tail (take within bytes) (drop within (take n bytes)) ∙ ap (λ (l : List ℕ). tail ++ l) (sym (take_within n within bytes le)) in
+        breaks_behind s2 given h2 (take n bytes) takes (gave given (take n bytes) last)
+        (subst (λ (l : List ℕ). Interrupted (heard_from R (state d.machine)) d.silent l h1 h2) all
+        (stops.on (state d.machine) d.silent d.refused tail h1 here (drop within (take n bytes))))
 
     -- more was read than may come
     pub is_overlong : (e : Dialogue A) (s2 h2 : Option (List ℕ)) (bytes : List ℕ) (n within : ℕ) → n ≤ length bytes → within ≡ room → room < n → Consumes s1 s2 (take n bytes)
         → Grows R state d e h1 h2 (take within bytes)
-        → Overlong R start input_limit s0 s2 h0 h2
+        → Overlong (heard_from R start) input_limit s0 s2 h0 h2
     is_overlong e s2 h2 bytes n within fits same more takes streamed =
         let front : take input_limit (r.taken ++ take n bytes) ≡ r.taken ++ take room bytes =
         ap (λ (k : ℕ). take k (r.taken ++ take n bytes)) (sym r.counts) ∙ take-append-add r.taken (take n bytes) room ∙ ap (λ (l : List ℕ). r.taken ++ l) (take-take room n bytes (omega arith)) in
@@ -129,6 +178,6 @@ module _ {A M : Type 0} (R : Answers M) (state : A → M) where
           taken = r.taken ++ take n bytes;
           takes = consumes_both s0 s1 s2 r.taken (take n bytes) r.takes takes;
           more = omega (arith, r.counts, length-append r.taken (take n bytes), length-take-le n bytes fits);
-          answered = subst (λ (l : List ℕ). WholesAnswered R start l h0 h2) (ap (λ (k : ℕ). r.taken ++ take k bytes) same ∙ sym front)
-              (answered_here start e (r.taken ++ take within bytes) h0 h2 (streamed.on start 0 r.taken h0 r.streamed));
+          answered = subst (λ (l : List ℕ). WholesAnswered (heard_from R start) l h0 h2) (ap (λ (k : ℕ). r.taken ++ take k bytes) same ∙ sym front)
+              (answered_here start e (r.taken ++ take within bytes) h0 h2 (streamed.on start 0 false r.taken h0 r.streamed));
         }

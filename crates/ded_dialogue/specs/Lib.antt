@@ -1,5 +1,6 @@
 pub mod Exits
 pub mod Forms
+pub mod Hearing
 pub mod Outcome
 pub mod Replies
 pub mod Runs

@@ -7,6 +7,7 @@ use Rattle.ded_lex.specs.Pieces.{Statement, Whole, IsCut}
 use Rattle.ded_lex.specs.Splits.{Since}
 use Rattle.ded_dialogue.specs.declared.dialogue.Dialogue.{Dialogue}
 use Rattle.ded_dialogue.specs.Outcome.{Interrupted}
+use Rattle.ded_dialogue.specs.Hearing.{heard_from}
 use Rattle.ded_dialogue.specs.Replies.{Said, texts, some_refusal}
 use Rattle.ded_dialogue.specs.Runs.{Answers, Steps, StandsFor}
 use Rattle.ded_dialogue.specs.Waiting.{WritesBehind}
@@ -24,9 +25,9 @@ pub record IsBehind {M : Type 0} (R : Answers M) (m : M) : Type 0 where
   pub step : R before statement reply m
 
 -- The whole pieces of the bytes taken are answered, and the tail stands behind them. Of the replies the first so many aren't
--- written, and so many of these are left; of their texts the last bytes may wait still. Whatever replies further statements may get in
--- this state, they may get them behind these.
-pub record SoFar {M : Type 0} (R : Answers M) (start : M) (silent left : ℕ) (taken tail : List ℕ) (m : M) (refused : Bool) (waiting : List ℕ) (contents now : Option (List ℕ)) : Type 0 where
+-- written, and so many of these are left; of their texts the last bytes may wait still. Some reply is a refusal, or some was before, as
+-- `refused` says. Whatever replies further statements may get in this state, they may get them behind these.
+pub record SoFar {M : Type 0} (R : Answers M) (start : M) (silent left : ℕ) (before : Bool) (taken tail : List ℕ) (m : M) (refused : Bool) (waiting : List ℕ) (contents now : Option (List ℕ)) : Type 0 where
   pub pieces : List (List ℕ)
   pub cut : IsCut taken pieces tail
   pub replies : List Said
@@ -36,7 +37,7 @@ pub record SoFar {M : Type 0} (R : Answers M) (start : M) (silent left : ℕ) (t
   pub counts : left ≡ silent - length replies
   pub written : Sent contents now (texts (drop silent replies)) waiting
   pub behind : (waiting ≡ []) ⊎ IsBehind R m
-  pub refuses : some_refusal replies ≡ refused
+  pub refuses : before || some_refusal replies ≡ refused
 
 -- a piece got a reply, whose text was written behind what waits where none is left that isn't, or a front of it where the sink failed
 pub record IsReplied {M T E : Type 0} (R : Answers M) (piece : Piece) (m n : M) (before refused : Bool) (silent left : ℕ) (contents : Option (List ℕ)) (waiting : List ℕ) (now : Option (List ℕ)) (waits : List ℕ) (result : Result T E) : Type 0 where
@@ -54,38 +55,38 @@ pub record IsFresh {A : Type 0} (machine : A) (silent : ℕ) (d : Dialogue A) : 
   pub left : d.silent ≡ silent
 
 -- the whole pieces of the bytes taken are answered, the splitter was fed the tail, and the last bytes of the texts wait
-pub record Streaming {A M : Type 0} (R : Answers M) (state : A → M) (start : M) (silent : ℕ) (d : Dialogue A) (taken waiting : List ℕ) (contents now : Option (List ℕ)) : Type 0 where
+pub record Streaming {A M : Type 0} (R : Answers M) (state : A → M) (start : M) (silent : ℕ) (before : Bool) (d : Dialogue A) (taken waiting : List ℕ) (contents now : Option (List ℕ)) : Type 0 where
   pub tail : List ℕ
   pub since : Since d.splitter tail
-  pub so_far : SoFar R start silent d.silent taken tail (state d.machine) d.refused waiting contents now
+  pub so_far : SoFar R start silent d.silent before taken tail (state d.machine) d.refused waiting contents now
 
 -- the same where nothing waits
-abbrev pub Streamed : {A M : Type 0} → Answers M → (A → M) → M → ℕ → Dialogue A → List ℕ → Option (List ℕ) → Option (List ℕ) → Type 0
-Streamed R state start silent d taken contents now = Streaming R state start silent d taken [] contents now
+abbrev pub Streamed : {A M : Type 0} → Answers M → (A → M) → M → ℕ → Bool → Dialogue A → List ℕ → Option (List ℕ) → Option (List ℕ) → Type 0
+Streamed R state start silent before d taken contents now = Streaming R state start silent before d taken [] contents now
 
 -- the sink failed in these bytes, however the script goes on
 abbrev pub Stopped : {M : Type 0} → Answers M → M → ℕ → List ℕ → Option (List ℕ) → Option (List ℕ) → Type 0
-Stopped R start silent bytes contents now = (more : List ℕ) → Interrupted R start silent (bytes ++ more) contents now
+Stopped R start silent bytes contents now = (more : List ℕ) → Interrupted (heard_from R start) silent (bytes ++ more) contents now
 
 -- the bytes were taken, and the statements that end in them are answered
-pub record Grows {A M : Type 0} (R : Answers M) (state : A → M) (before after : Dialogue A) (contents now : Option (List ℕ)) (bytes : List ℕ) : Type 0 where
-  pub on : (start : M) (silent : ℕ) (taken : List ℕ) (was : Option (List ℕ)) → Streamed R state start silent before taken was contents → Streamed R state start silent after (taken ++ bytes) was now
+pub record Grows {A M : Type 0} (R : Answers M) (state : A → M) (old new : Dialogue A) (contents now : Option (List ℕ)) (bytes : List ℕ) : Type 0 where
+  pub on : (start : M) (silent : ℕ) (before : Bool) (taken : List ℕ) (was : Option (List ℕ)) → Streamed R state start silent before old taken was contents → Streamed R state start silent before new (taken ++ bytes) was now
 
 -- the sink failed in the bytes
-pub record Breaks {A M : Type 0} (R : Answers M) (state : A → M) (before : Dialogue A) (contents now : Option (List ℕ)) (bytes : List ℕ) : Type 0 where
-  pub on : (start : M) (silent : ℕ) (taken : List ℕ) (was : Option (List ℕ)) → Streamed R state start silent before taken was contents → Stopped R start silent (taken ++ bytes) was now
+pub record Breaks {A M : Type 0} (R : Answers M) (state : A → M) (old : Dialogue A) (contents now : Option (List ℕ)) (bytes : List ℕ) : Type 0 where
+  pub on : (start : M) (silent : ℕ) (before : Bool) (taken : List ℕ) (was : Option (List ℕ)) → Streamed R state start silent before old taken was contents → Stopped R start silent (taken ++ bytes) was now
 
 -- the same of bytes before which some texts wait, and others behind them
-pub record GrowsBehind {A M : Type 0} (R : Answers M) (state : A → M) (before after : Dialogue A) (contents : Option (List ℕ)) (waiting : List ℕ) (now : Option (List ℕ)) (waits bytes : List ℕ) : Type 0 where
-  pub on : (start : M) (silent : ℕ) (taken : List ℕ) (was : Option (List ℕ)) → Streaming R state start silent before taken waiting was contents → Streaming R state start silent after (taken ++ bytes) waits was now
+pub record GrowsBehind {A M : Type 0} (R : Answers M) (state : A → M) (old new : Dialogue A) (contents : Option (List ℕ)) (waiting : List ℕ) (now : Option (List ℕ)) (waits bytes : List ℕ) : Type 0 where
+  pub on : (start : M) (silent : ℕ) (before : Bool) (taken : List ℕ) (was : Option (List ℕ)) → Streaming R state start silent before old taken waiting was contents → Streaming R state start silent before new (taken ++ bytes) waits was now
 
 -- the sink failed in bytes before which some texts wait
-pub record BreaksBehind {A M : Type 0} (R : Answers M) (state : A → M) (before : Dialogue A) (contents : Option (List ℕ)) (waiting : List ℕ) (now : Option (List ℕ)) (bytes : List ℕ) : Type 0 where
-  pub on : (start : M) (silent : ℕ) (taken : List ℕ) (was : Option (List ℕ)) → Streaming R state start silent before taken waiting was contents → Stopped R start silent (taken ++ bytes) was now
+pub record BreaksBehind {A M : Type 0} (R : Answers M) (state : A → M) (old : Dialogue A) (contents : Option (List ℕ)) (waiting : List ℕ) (now : Option (List ℕ)) (bytes : List ℕ) : Type 0 where
+  pub on : (start : M) (silent : ℕ) (before : Bool) (taken : List ℕ) (was : Option (List ℕ)) → Streaming R state start silent before old taken waiting was contents → Stopped R start silent (taken ++ bytes) was now
 
 -- What was taken so far is answered, and so many bytes may still come.
 pub record Reading {A M : Type 0} (R : Answers M) (state : A → M) (start : M) (input_limit room : ℕ) (d : Dialogue A) (input left contents now : Option (List ℕ)) : Type 0 where
   pub taken : List ℕ
   pub takes : Consumes input left taken
   pub counts : length taken + room ≡ input_limit
-  pub streamed : Streamed R state start 0 d taken contents now
+  pub streamed : Streamed R state start 0 false d taken contents now

@@ -60,9 +60,10 @@ impl<A> Dialogue<A> {
 }
 
 impl<A: Answering> Dialogue<A> {
-    ghost use Rattle.std.specs.Prelude.{◌≡◌, ◌∷◌, [], List, ℕ, Option, IfOk, OnErr};
+    ghost use Rattle.std.specs.Prelude.{◌≡◌, ◌∷◌, [], List, ℕ, Bool, false, Option, IfOk, OnErr};
     ghost use Rattle.ded_io.specs.Causes.{HasCause};
     ghost use Rattle.ded_dialogue.specs.Outcome.{ConcludedIn, Interrupted};
+    ghost use Rattle.ded_dialogue.specs.Hearing.{heard_from};
     ghost use Rattle.ded_dialogue.specs.Streams.{Streamed, Grows, Breaks, GrowsBehind, BreaksBehind};
 
     /// Takes the next byte, and answers the statement that ends there, where one does.
@@ -123,11 +124,13 @@ impl<A: Answering> Dialogue<A> {
     /// `Failed` only where the sink's count of faults rose.
     pub fn finish<K: Sink>(&mut self, sink: &mut K) -> Result<(), Failed>
         ensures concluded { IfOk result (λ _. (start : A.State) (silent : ℕ) (taken : List ℕ) (contents : Option (List ℕ)) →
-            Streamed A.answers A.state start silent self.old taken contents (K.contents sink.old) →
-            ConcludedIn A.answers start silent taken contents (K.contents sink.new) self.new.refused (A.state self.new.machine)) }
-        ensures stopped { OnErr result ((start : A.State) (silent : ℕ) (taken : List ℕ) (contents : Option (List ℕ)) →
-            Streamed A.answers A.state start silent self.old taken contents (K.contents sink.old) →
-            Interrupted A.answers start silent taken contents (K.contents sink.new)) }
+            Streamed A.answers A.state start silent false self.old taken contents (K.contents sink.old) →
+            ConcludedIn (heard_from A.answers start) silent taken contents (K.contents sink.new) self.new.refused
+            (A.state self.new.machine)) }
+        ensures stopped { OnErr result ((start : A.State) (silent : ℕ) (before : Bool) (taken : List ℕ)
+            (contents : Option (List ℕ)) →
+            Streamed A.answers A.state start silent before self.old taken contents (K.contents sink.old) →
+            Interrupted (heard_from A.answers start) silent taken contents (K.contents sink.new)) }
         ensures cause { HasCause (K.faults sink.old) (K.faults sink.new) result }
     {
         match self.splitter.finish() {

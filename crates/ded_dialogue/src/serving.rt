@@ -1,7 +1,8 @@
 //! A whole run: from the bytes of a source to the texts of a sink.
-ghost use Rattle.std.specs.Prelude.{◌≡◌, ◌≢◌, ◌⊎◌, false, true, ℕ, List, Option};
+ghost use Rattle.std.specs.Prelude.{◌≡◌, ◌≢◌, ◌⊎◌, Bool, false, true, ℕ, List, Option};
 ghost use Rattle.ded_io.specs.Causes.{Rose};
 ghost use Rattle.ded_dialogue.specs.Outcome.{Answered, AnsweredIn, Broken, ConcludedIn, Interrupted, Overlong, Unread};
+ghost use Rattle.ded_dialogue.specs.Hearing.{heard_from};
 ghost use Rattle.ded_dialogue.specs.Streams.{IsFresh, Streamed};
 
 use crate::answering::Answering;
@@ -14,8 +15,8 @@ const READ_AT_ONCE: usize = 4_096;
 
 /// Reads an input of at most `input_limit` bytes to its end, and writes the machine's reply to each statement.
 ///
-/// What ended in the bytes of a read is answered before more is read: a test that talks to a program shows it, and no
-/// clause says so.
+/// What ended in the bytes of a read is answered before more is read: at whichever write the sink fails, the replies to
+/// all that ended before the last read are written (clause `broken`).
 pub fn serve<A: Answering + Drop, S: Source, K: Sink>(
     alloc: Global,
     machine: A,
@@ -23,16 +24,26 @@ pub fn serve<A: Answering + Drop, S: Source, K: Sink>(
     source: &mut S,
     sink: &mut K,
 ) -> Status
-    ensures done { result ≡ Status.Done → Answered A.answers (A.state machine) input_limit (S.left source.old) (S.left source.new) (K.contents sink.old) (K.contents sink.new) false }
-    ensures done_with_refusals { result ≡ Status.DoneWithRefusals → Answered A.answers (A.state machine) input_limit (S.left source.old) (S.left source.new) (K.contents sink.old) (K.contents sink.new) true }
+    ensures done { result ≡ Status.Done →
+        Answered (heard_from A.answers (A.state machine)) input_limit
+        (S.left source.old) (S.left source.new) (K.contents sink.old) (K.contents sink.new) false }
+    ensures done_with_refusals { result ≡ Status.DoneWithRefusals →
+        Answered (heard_from A.answers (A.state machine)) input_limit
+        (S.left source.old) (S.left source.new) (K.contents sink.old) (K.contents sink.new) true }
     ensures faultless { (result ≡ Status.Done) ⊎ (result ≡ Status.DoneWithRefusals) ⊎ (result ≡ Status.TooLong) → (S.faults source.new ≡ S.faults source.old) × (K.faults sink.new ≡ K.faults sink.old) }
     ensures bad_words { result ≢ Status.BadWords }
     ensures read_fault { result ≡ Status.ReadFault → Rose (S.faults source.old) (S.faults source.new) × (K.faults sink.new ≡ K.faults sink.old) }
-    ensures unread { result ≡ Status.ReadFault → Unread A.answers (A.state machine) input_limit (S.left source.old) (S.left source.new) (K.contents sink.old) (K.contents sink.new) }
+    ensures unread { result ≡ Status.ReadFault →
+        Unread (heard_from A.answers (A.state machine)) input_limit
+        (S.left source.old) (S.left source.new) (K.contents sink.old) (K.contents sink.new) }
     ensures write_fault { result ≡ Status.WriteFault → Rose (K.faults sink.old) (K.faults sink.new) × (S.faults source.new ≡ S.faults source.old) }
-    ensures broken { result ≡ Status.WriteFault → Broken A.answers (A.state machine) (S.left source.old) (S.left source.new) (K.contents sink.old) (K.contents sink.new) }
+    ensures broken { result ≡ Status.WriteFault →
+        Broken (heard_from A.answers (A.state machine))
+        (S.left source.old) (S.left source.new) (S.last source.new) (K.contents sink.old) (K.contents sink.new) }
     ensures no_memory { result ≡ Status.NoMemory → (source.new ≡ source.old) × (sink.new ≡ sink.old) }
-    ensures overlong { result ≡ Status.TooLong → Overlong A.answers (A.state machine) input_limit (S.left source.old) (S.left source.new) (K.contents sink.old) (K.contents sink.new) }
+    ensures overlong { result ≡ Status.TooLong →
+        Overlong (heard_from A.answers (A.state machine)) input_limit
+        (S.left source.old) (S.left source.new) (K.contents sink.old) (K.contents sink.new) }
     ensures ends { (Rose (S.faults source.old) (S.faults source.new) → ⊥) → (Rose (K.faults sink.old) (K.faults sink.new) → ⊥) → result ≢ Status.NoMemory → result ≢ Status.TooLong → (result ≡ Status.Done) ⊎ (result ≡ Status.DoneWithRefusals) }
 {
     let Ok(mut dialogue) = Dialogue::new(alloc, machine, 0) else {
@@ -50,16 +61,28 @@ pub fn serve_dialogue<A: Answering, S: Source, K: Sink>(
     sink: &mut K,
 ) -> Status
     requires fresh { IsFresh dialogue.old.machine 0 dialogue.old }
-    ensures done { result ≡ Status.Done → AnsweredIn A.answers (A.state dialogue.old.machine) input_limit (S.left source.old) (S.left source.new) (K.contents sink.old) (K.contents sink.new) false (A.state dialogue.new.machine) }
-    ensures done_with_refusals { result ≡ Status.DoneWithRefusals → AnsweredIn A.answers (A.state dialogue.old.machine) input_limit (S.left source.old) (S.left source.new) (K.contents sink.old) (K.contents sink.new) true (A.state dialogue.new.machine) }
+    ensures done { result ≡ Status.Done →
+        AnsweredIn (heard_from A.answers (A.state dialogue.old.machine)) input_limit
+        (S.left source.old) (S.left source.new) (K.contents sink.old) (K.contents sink.new) false
+        (A.state dialogue.new.machine) }
+    ensures done_with_refusals { result ≡ Status.DoneWithRefusals →
+        AnsweredIn (heard_from A.answers (A.state dialogue.old.machine)) input_limit
+        (S.left source.old) (S.left source.new) (K.contents sink.old) (K.contents sink.new) true
+        (A.state dialogue.new.machine) }
     ensures faultless { (result ≡ Status.Done) ⊎ (result ≡ Status.DoneWithRefusals) ⊎ (result ≡ Status.TooLong) → (S.faults source.new ≡ S.faults source.old) × (K.faults sink.new ≡ K.faults sink.old) }
     ensures bad_words { result ≢ Status.BadWords }
     ensures memory { result ≢ Status.NoMemory }
     ensures read_fault { result ≡ Status.ReadFault → Rose (S.faults source.old) (S.faults source.new) × (K.faults sink.new ≡ K.faults sink.old) }
-    ensures unread { result ≡ Status.ReadFault → Unread A.answers (A.state dialogue.old.machine) input_limit (S.left source.old) (S.left source.new) (K.contents sink.old) (K.contents sink.new) }
+    ensures unread { result ≡ Status.ReadFault →
+        Unread (heard_from A.answers (A.state dialogue.old.machine)) input_limit
+        (S.left source.old) (S.left source.new) (K.contents sink.old) (K.contents sink.new) }
     ensures write_fault { result ≡ Status.WriteFault → Rose (K.faults sink.old) (K.faults sink.new) × (S.faults source.new ≡ S.faults source.old) }
-    ensures broken { result ≡ Status.WriteFault → Broken A.answers (A.state dialogue.old.machine) (S.left source.old) (S.left source.new) (K.contents sink.old) (K.contents sink.new) }
-    ensures overlong { result ≡ Status.TooLong → Overlong A.answers (A.state dialogue.old.machine) input_limit (S.left source.old) (S.left source.new) (K.contents sink.old) (K.contents sink.new) }
+    ensures broken { result ≡ Status.WriteFault →
+        Broken (heard_from A.answers (A.state dialogue.old.machine))
+        (S.left source.old) (S.left source.new) (S.last source.new) (K.contents sink.old) (K.contents sink.new) }
+    ensures overlong { result ≡ Status.TooLong →
+        Overlong (heard_from A.answers (A.state dialogue.old.machine)) input_limit
+        (S.left source.old) (S.left source.new) (K.contents sink.old) (K.contents sink.new) }
     ensures ends { (Rose (S.faults source.old) (S.faults source.new) → ⊥) → (Rose (K.faults sink.old) (K.faults sink.new) → ⊥) → result ≢ Status.TooLong → (result ≡ Status.Done) ⊎ (result ≡ Status.DoneWithRefusals) }
 {
     let mut buffer = [0u8; READ_AT_ONCE];
@@ -86,12 +109,18 @@ pub fn serve_dialogue<A: Answering, S: Source, K: Sink>(
 pub fn conclude<A: Answering, K: Sink>(dialogue: &mut Dialogue<A>, sink: &mut K) -> Status
     ensures kinds { (result ≡ Status.Done) ⊎ (result ≡ Status.DoneWithRefusals) ⊎ (result ≡ Status.WriteFault) }
     ensures done { result ≡ Status.Done → (start : A.State) (silent : ℕ) (taken : List ℕ) (contents : Option (List ℕ)) →
-        Streamed A.answers A.state start silent dialogue.old taken contents (K.contents sink.old) → ConcludedIn A.answers start silent taken contents (K.contents sink.new) false (A.state dialogue.new.machine) }
+        Streamed A.answers A.state start silent false dialogue.old taken contents (K.contents sink.old) →
+        ConcludedIn (heard_from A.answers start) silent taken contents (K.contents sink.new) false
+        (A.state dialogue.new.machine) }
     ensures done_with_refusals { result ≡ Status.DoneWithRefusals → (start : A.State) (silent : ℕ) (taken : List ℕ) (contents : Option (List ℕ)) →
-        Streamed A.answers A.state start silent dialogue.old taken contents (K.contents sink.old) → ConcludedIn A.answers start silent taken contents (K.contents sink.new) true (A.state dialogue.new.machine) }
+        Streamed A.answers A.state start silent false dialogue.old taken contents (K.contents sink.old) →
+        ConcludedIn (heard_from A.answers start) silent taken contents (K.contents sink.new) true
+        (A.state dialogue.new.machine) }
     ensures faultless { (result ≡ Status.Done) ⊎ (result ≡ Status.DoneWithRefusals) → K.faults sink.new ≡ K.faults sink.old }
-    ensures broken { result ≡ Status.WriteFault → (start : A.State) (silent : ℕ) (taken : List ℕ) (contents : Option (List ℕ)) →
-        Streamed A.answers A.state start silent dialogue.old taken contents (K.contents sink.old) → Interrupted A.answers start silent taken contents (K.contents sink.new) }
+    ensures broken { result ≡ Status.WriteFault → (start : A.State) (silent : ℕ) (before : Bool) (taken : List ℕ)
+        (contents : Option (List ℕ)) →
+        Streamed A.answers A.state start silent before dialogue.old taken contents (K.contents sink.old) →
+        Interrupted (heard_from A.answers start) silent taken contents (K.contents sink.new) }
     ensures write_fault { result ≡ Status.WriteFault → Rose (K.faults sink.old) (K.faults sink.new) }
 {
     match dialogue.finish(sink) {

@@ -21,12 +21,12 @@ returns-then-count-eq0-clause-done_with_refusals g c = λ is.
 
 pub returns-then-count-eq0-clause-broken : goal.returns-then-count-eq0-clause-broken
 returns-then-count-eq0-clause-broken g c = λ is.
-    breaks_at_end _ _ _ _ _ _ _ _ _ _ c.loop-count.invariant.reading _ _ _ _ c.if-count-eq0.true c.in-Ok.ensures.bytes.0
-    (λ taken s. c.conclude.ensures.broken is _ 0 taken _ s)
+    breaks_at_end _ _ _ _ _ _ _ _ _ _ c.loop-count.invariant.reading _ _ _ _ _ c.if-count-eq0.true c.in-Ok.ensures.bytes.0 c.in-Ok.ensures.last
+    (λ m silent before taken s. c.conclude.ensures.broken is m silent before taken _ s)
 
 pub returns-in-Err-clause-broken : goal.returns-in-Err-clause-broken
 returns-in-Err-clause-broken g c = λ is.
-    breaks_in _ _ _ _ _ _ _ _ _ _ c.loop-count.invariant.reading _ _ _ _ _ (omega (arith, c.min-within.ensures)) c.in-Ok.ensures.bytes.0
+    breaks_in _ _ _ _ _ _ _ _ _ _ c.loop-count.invariant.reading _ _ _ _ _ _ (omega (arith, c.min-within.ensures)) c.in-Ok.ensures.bytes.0 c.in-Ok.ensures.last
     c.in-Err.ensures.breaks
 
 pub returns-then-within-count-clause-overlong : goal.returns-then-within-count-clause-overlong

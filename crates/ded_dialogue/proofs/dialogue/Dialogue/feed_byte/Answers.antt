@@ -10,9 +10,9 @@ answer-requires g c = short_piece _ _ _ c.piece.ensures c.feed.new.self.last
 
 pub returns-in-More-clause-grows : goal.returns-in-More-clause-grows
 returns-in-More-clause-grows g c = record {
-  on = λ start silent taken was s.
+  on = λ start silent before taken was s.
       let more = c.in-More.ensures.more refl s.tail s.since in
-      record { tail = s.tail ++ c.args.byte ∷ []; since = more.0; so_far = byte_more _ _ _ _ _ _ _ _ _ _ _ s.so_far _ more.1 };
+      record { tail = s.tail ++ c.args.byte ∷ []; since = more.0; so_far = byte_more _ _ _ _ _ _ _ _ _ _ _ _ s.so_far _ more.1 };
 }
 
 pub returns-in-Ended-clause-grows : goal.returns-in-Ended-clause-grows
@@ -20,12 +20,12 @@ returns-in-Ended-clause-grows g c =
     let a = c.answer.ensures.replied in
     if_written _ _ _ _ _ _ _ a.written
     (λ w. record {
-      on = λ start silent taken was s.
+      on = λ start silent before taken was s.
           let end = c.in-Ended.ensures.ended refl s.tail s.since in
           record {
             tail = [];
             since = end.3;
-            so_far = piece_ends _ _ _ _ _ _ _ _ _ _ _ s.so_far _ _ _ _ _ _ a.reply end.0 (a.step (Whole s.tail) (ap Whole (sym (c.piece.ensures ∙ end.2)))) a.refuses a.counts w;
+            so_far = piece_ends _ _ _ _ _ _ _ _ _ _ _ _ s.so_far _ _ _ _ _ _ a.reply end.0 (a.step (Whole s.tail) (ap Whole (sym (c.piece.ensures ∙ end.2)))) a.refuses a.counts w;
           };
     })
 
@@ -34,9 +34,9 @@ returns-in-Ended-clause-breaks g c =
     let a = c.answer.ensures.replied in
     if_not _ _ _ _ _ _ _ a.written
     (λ rest w. record {
-      on = λ start silent taken was s.
+      on = λ start silent before taken was s.
           let end = c.in-Ended.ensures.ended refl s.tail s.since in
-          piece_stops _ _ _ _ _ _ _ _ _ _ _ s.so_far g.met.A.Answering.goes_on _ _ _ a.reply rest end.0 (a.step (Whole s.tail) (ap Whole (sym (c.piece.ensures ∙ end.2)))) w;
+          piece_stops _ _ _ _ _ _ _ _ _ _ _ _ s.so_far g.met.A.Answering.goes_on _ _ _ a.reply rest end.0 (a.step (Whole s.tail) (ap Whole (sym (c.piece.ensures ∙ end.2)))) w;
     })
 
 pub returns-in-EndedLong-clause-grows : goal.returns-in-EndedLong-clause-grows
@@ -44,12 +44,12 @@ returns-in-EndedLong-clause-grows g c =
     let a = c.answer-in-EndedLong.ensures.replied in
     if_written _ _ _ _ _ _ _ a.written
     (λ w. record {
-      on = λ start silent taken was s.
+      on = λ start silent before taken was s.
           let end = c.in-EndedLong.ensures.ended_long refl s.tail s.since in
           record {
             tail = [];
             since = end.2;
-            so_far = piece_ends _ _ _ _ _ _ _ _ _ _ _ s.so_far _ _ _ _ _ _ a.reply end.0 (a.step (Whole s.tail) end.1) a.refuses a.counts w;
+            so_far = piece_ends _ _ _ _ _ _ _ _ _ _ _ _ s.so_far _ _ _ _ _ _ a.reply end.0 (a.step (Whole s.tail) end.1) a.refuses a.counts w;
           };
     })
 
@@ -58,7 +58,7 @@ returns-in-EndedLong-clause-breaks g c =
     let a = c.answer-in-EndedLong.ensures.replied in
     if_not _ _ _ _ _ _ _ a.written
     (λ rest w. record {
-      on = λ start silent taken was s.
+      on = λ start silent before taken was s.
           let end = c.in-EndedLong.ensures.ended_long refl s.tail s.since in
-          piece_stops _ _ _ _ _ _ _ _ _ _ _ s.so_far g.met.A.Answering.goes_on _ _ _ a.reply rest end.0 (a.step (Whole s.tail) end.1) w;
+          piece_stops _ _ _ _ _ _ _ _ _ _ _ _ s.so_far g.met.A.Answering.goes_on _ _ _ a.reply rest end.0 (a.step (Whole s.tail) end.1) w;
     })
