@@ -4,6 +4,7 @@ use Rattle.std.specs.Prelude.{Option}
 use Rattle.std.specs.Io.KnownBytes.{Appends}
 use Rattle.ded_io.specs.Devices.{Sent}
 use Rattle.ded_dialogue.specs.Outcome.{AnsweredIn, Overlong}
+use Rattle.ded_dialogue.specs.Hearing.{heard_from}
 use Rattle.ded_drawing.specs.Drawings.{IsDrawing}
 use Rattle.ded_drawing.specs.declared.drawing.Drawing.{Drawing}
 use Rattle.ded_drawing.specs.declared.style.Style.{Style}
@@ -13,7 +14,7 @@ use Rattle.ded_draw.specs.Gathering.{Gathered, MayGather, first_gathered}
 use Rattle.ded_draw.specs.Outcome.{IsOverlong, Pictured, HalfPictured, Written, HalfWritten}
 use Rattle.ded_draw.proofs.Gathered.{AllGathered, all_gathered}
 
-module _ (limit input_limit : ℕ) (style : Style) (m n : Gathered) (begins : m ≡ first_gathered limit) (fed : n.starved ≡ false) (s0 s1 g0 g1 : Option (List ℕ)) (refused : Bool) (a : AnsweredIn MayGather m input_limit s0 s1 g0 g1 refused n) where
+module _ (limit input_limit : ℕ) (style : Style) (m n : Gathered) (begins : m ≡ first_gathered limit) (fed : n.starved ≡ false) (s0 s1 g0 g1 : Option (List ℕ)) (refused : Bool) (a : AnsweredIn (heard_from MayGather m) input_limit s0 s1 g0 g1 refused n) where
   gathered : AllGathered (first_gathered limit) a.0.concluded.run.statements a.0.concluded.replies n
   gathered =
       subst (λ (k : Gathered). AllGathered k a.0.concluded.run.statements a.0.concluded.replies n) begins
@@ -62,11 +63,11 @@ module _ (limit input_limit : ℕ) (style : Style) (m n : Gathered) (begins : m 
     }
 
 -- the same where it is known otherwise whether a statement was refused
-pub by_status : (m n : Gathered) (input_limit : ℕ) (s0 s1 g0 g1 : Option (List ℕ)) {refused now : Bool} → AnsweredIn MayGather m input_limit s0 s1 g0 g1 refused n → now ≡ refused → AnsweredIn MayGather m input_limit s0 s1 g0 g1 now n
-by_status m n input_limit s0 s1 g0 g1 a is = subst (λ (b : Bool). AnsweredIn MayGather m input_limit s0 s1 g0 g1 b n) (sym is) a
+pub by_status : (m n : Gathered) (input_limit : ℕ) (s0 s1 g0 g1 : Option (List ℕ)) {refused now : Bool} → AnsweredIn (heard_from MayGather m) input_limit s0 s1 g0 g1 refused n → now ≡ refused → AnsweredIn (heard_from MayGather m) input_limit s0 s1 g0 g1 now n
+by_status m n input_limit s0 s1 g0 g1 a is = subst (λ (b : Bool). AnsweredIn (heard_from MayGather m) input_limit s0 s1 g0 g1 b n) (sym is) a
 
 -- more was taken than may be
-pub is_overlong : (m : Gathered) (input_limit : ℕ) (s0 s1 g0 g1 : Option (List ℕ)) → Overlong MayGather m input_limit s0 s1 g0 g1 → IsOverlong input_limit s0 s1
+pub is_overlong : (m : Gathered) (input_limit : ℕ) (s0 s1 g0 g1 : Option (List ℕ)) → Overlong (heard_from MayGather m) input_limit s0 s1 g0 g1 → IsOverlong input_limit s0 s1
 is_overlong m input_limit s0 s1 g0 g1 o = record { taken = o.taken; takes = o.takes; more = o.more }
 
 -- ---- the text of a drawing

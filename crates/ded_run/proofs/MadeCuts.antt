@@ -5,6 +5,7 @@ use Rattle.std.specs.Fmt.{digit_glyph, digits_onto}
 use Rattle.std.specs.List.{flat_map}
 use Rattle.std.proofs.lemmas.List.{append-nil, map-append, length-map, length-take-le, take-append-drop}
 use Rattle.std.proofs.lemmas.List.Concat.{flat_map-append}
+use Rattle.ded_dialogue.specs.Outcome.{Concluded, Interrupted}
 use Rattle.ded_lex.specs.declared.state.State.{State}
 use Rattle.ded_lex.specs.declared.state.State.TheVariants.{Plain, Quote}
 use Rattle.ded_lex.specs.Machine.{turned, walked}
@@ -17,7 +18,7 @@ use Rattle.ded_model.specs.Catalogue.{Catalogue}
 use Rattle.ded_print.specs.Numbers.{number_text}
 use Rattle.ded_print.proofs.Numerals.{glyph_is}
 use Rattle.ded_run.specs.Made.{below, joined, land_parts, land_insert, land_row, road_parts, corner_parts, other_corner_parts, corner_question, other_corner_question, road_insert, made_setup, made_questions, made_script, lines, Made, HalfMade}
-use Rattle.ded_run.specs.Outcome.{Concluded, Interrupted}
+use Rattle.ded_run.specs.OneSession.{session_protocol}
 use Rattle.ded_session.specs.Replies.{ReplyForm, some_refusal}
 use Rattle.ded_session.specs.Runs.{Steps, Run}
 
@@ -260,7 +261,7 @@ module _ (limit size silent : ℕ) (h0 h1 : Option (List ℕ)) (counts : silent 
   both_runs : (replies : List ReplyForm) (last : Catalogue) → Run limit (made_script size) replies last → Run limit (made_script size) (take silent replies ++ drop silent replies) last
   both_runs replies last run = subst (λ (rs : List ReplyForm). Run limit (made_script size) rs last) (sym (take-append-drop silent replies)) run
 
-  pub is_made : (refused : Bool) → Concluded limit silent (made_script size) h0 h1 refused → Made limit size h0 h1 refused
+  pub is_made : (refused : Bool) → Concluded (session_protocol limit) silent (made_script size) h0 h1 refused → Made limit size h0 h1 refused
   is_made refused c = record {
     setup = take silent c.replies;
     questions = drop silent c.replies;
@@ -271,7 +272,7 @@ module _ (limit size silent : ℕ) (h0 h1 : Option (List ℕ)) (counts : silent 
     refuses = ap some_refusal (take-append-drop silent c.replies) ∙ c.refuses;
   }
 
-  pub is_half_made : Interrupted limit silent (made_script size) h0 h1 → HalfMade limit size h0 h1
+  pub is_half_made : Interrupted (session_protocol limit) silent (made_script size) h0 h1 → HalfMade limit size h0 h1
   is_half_made c = record {
     setup = take silent c.replies;
     questions = drop silent c.replies;

@@ -2,6 +2,5 @@ pub mod CommandLine
 pub mod Following
 pub mod Made
 pub mod OneSession
-pub mod Outcome
 pub mod Parts
 pub mod Words

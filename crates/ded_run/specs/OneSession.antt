@@ -1,18 +1,19 @@
--- What one session may answer, as the loop hears it.
+-- What one session may answer, as it gives it and as the loop hears it.
 use Rattle.std.specs.Prelude.{ℕ}
 use Rattle.ded_dialogue.specs.Forms.{Heard}
+use Rattle.ded_dialogue.specs.Outcome.{Protocol}
 use Rattle.ded_dialogue.specs.Replies.{Said}
 use Rattle.ded_dialogue.specs.Runs.{Answers}
 use Rattle.ded_lex.specs.Pieces.{Statement}
 use Rattle.ded_model.specs.declared.command.Language.{Language}
 use Rattle.ded_model.specs.declared.command.Language.TheVariants.{Opening}
 use Rattle.ded_model.specs.Catalogue.{Catalogue}
-use Rattle.ded_session.specs.Replies.{ReplyForm, is_refusal}
-use Rattle.ded_session.specs.Runs.{GoesOn, empty_catalogue}
+use Rattle.ded_session.specs.Replies.{ReplyForm, is_refusal, some_refusal}
+use Rattle.ded_session.specs.Runs.{GoesOn, Run, Steps, empty_catalogue}
 use Rattle.ded_session.specs.State.{catalogue_in, language_in}
 use Rattle.ded_session.specs.Steps.{Step}
 use Rattle.ded_session.specs.declared.session.Session.{Session}
-use Rattle.ded_session.specs.Texts.{text_of}
+use Rattle.ded_session.specs.Texts.{text_of, texts}
 
 -- the language in which the next statement is read, and the catalogue over which
 pub record Standing : Type 0 where
@@ -39,3 +40,7 @@ pub record MayReply (m : Standing) (s : Statement) (reply : ReplyForm) (n : Stan
 -- what one session may answer
 abbrev pub MayAnswer : Answers Standing
 MayAnswer = Heard MayReply said_of
+
+-- which replies a script may get that begins with an empty catalogue, and what is written of them
+abbrev pub session_protocol : ℕ → Protocol ReplyForm Catalogue
+session_protocol limit = record { runs = Run limit; steps = Steps Opening (empty_catalogue limit); texts = texts; refuses = some_refusal }

@@ -2,7 +2,7 @@
 //!
 //! A session answers the statements (`OneSession`), in the loop of `ded_dialogue`. [`serve`] runs it over a source: where
 //! it is done, the whole script was read, and the sink holds what it held, then the text of one reply for each statement,
-//! in order, each by the rules of `ded_session` (`specs/Outcome.antt`). Where a device fails, or the script is too long,
+//! in order, each by the rules of `ded_session` (`session_protocol`). Where a device fails, or the script is too long,
 //! the contract says what stands written. [`Status::exit_number`] is the program's exit status. [`make`] runs a script
 //! that is made (`specs/Made.antt`), and writes the replies to its questions alone. [`run`] has `clap` read the words of
 //! the command line first (`specs/Words.antt`), as [`options_in`] does for other programs; [`has_dashes`], [`limit_of`] and [`number_of`] read

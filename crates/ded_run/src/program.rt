@@ -1,8 +1,9 @@
 //! A whole run: from the bytes of a source to the texts of a sink.
 ghost use Rattle.std.specs.Prelude.{◌≡◌, ◌≢◌, ◌≤◌, ◌^◌, ◌⊎◌, false, true, MatchOption, None};
 ghost use Rattle.ded_io.specs.Causes.{Rose};
+ghost use Rattle.ded_dialogue.specs.Outcome.{Answered, Broken, Overlong, Unread};
 ghost use Rattle.ded_run.specs.Made.{HalfMade, Made};
-ghost use Rattle.ded_run.specs.Outcome.{Answered, Broken, Overlong, Unread};
+ghost use Rattle.ded_run.specs.OneSession.{session_protocol};
 ghost use Rattle.ded_run.specs.declared.words.Options.{Options};
 ghost use Rattle.ded_run.specs.Words.{AcceptedWords, WithOptions, texts_in};
 
@@ -28,8 +29,8 @@ pub struct Setup {
 
 /// Reads a script to its end, and writes a reply to each statement.
 ///
-/// What ended in the bytes of a read is answered before more is read: a test that talks to the program shows it, and no
-/// clause says so.
+/// What ended in the bytes of a read is answered before more is read: at whichever write the sink fails, the replies to
+/// all that ended before the last read are written (clause `broken`).
 pub fn serve<S: Source, K: Sink>(
     alloc: Global,
     setup: &Setup,
@@ -40,16 +41,26 @@ pub fn serve<S: Source, K: Sink>(
     requires high { setup.now.limit ≤ 1000000 }
     requires input_low { 1 ≤ setup.now.input_limit }
     requires input_high { setup.now.input_limit ≤ 2 ^ 40 }
-    ensures done { result ≡ Status.Done → Answered setup.now.limit setup.now.input_limit (S.left source.old) (S.left source.new) (K.contents sink.old) (K.contents sink.new) false }
-    ensures done_with_refusals { result ≡ Status.DoneWithRefusals → Answered setup.now.limit setup.now.input_limit (S.left source.old) (S.left source.new) (K.contents sink.old) (K.contents sink.new) true }
+    ensures done { result ≡ Status.Done →
+        Answered (session_protocol setup.now.limit) setup.now.input_limit
+        (S.left source.old) (S.left source.new) (K.contents sink.old) (K.contents sink.new) false }
+    ensures done_with_refusals { result ≡ Status.DoneWithRefusals →
+        Answered (session_protocol setup.now.limit) setup.now.input_limit
+        (S.left source.old) (S.left source.new) (K.contents sink.old) (K.contents sink.new) true }
     ensures faultless { (result ≡ Status.Done) ⊎ (result ≡ Status.DoneWithRefusals) ⊎ (result ≡ Status.TooLong) → (S.faults source.new ≡ S.faults source.old) × (K.faults sink.new ≡ K.faults sink.old) }
     ensures bad_words { result ≢ Status.BadWords }
     ensures read_fault { result ≡ Status.ReadFault → Rose (S.faults source.old) (S.faults source.new) × (K.faults sink.new ≡ K.faults sink.old) }
-    ensures unread { result ≡ Status.ReadFault → Unread setup.now.limit setup.now.input_limit (S.left source.old) (S.left source.new) (K.contents sink.old) (K.contents sink.new) }
+    ensures unread { result ≡ Status.ReadFault →
+        Unread (session_protocol setup.now.limit) setup.now.input_limit
+        (S.left source.old) (S.left source.new) (K.contents sink.old) (K.contents sink.new) }
     ensures write_fault { result ≡ Status.WriteFault → Rose (K.faults sink.old) (K.faults sink.new) × (S.faults source.new ≡ S.faults source.old) }
-    ensures broken { result ≡ Status.WriteFault → Broken setup.now.limit (S.left source.old) (S.left source.new) (K.contents sink.old) (K.contents sink.new) }
+    ensures broken { result ≡ Status.WriteFault →
+        Broken (session_protocol setup.now.limit)
+        (S.left source.old) (S.left source.new) (S.last source.new) (K.contents sink.old) (K.contents sink.new) }
     ensures no_memory { result ≡ Status.NoMemory → (source.new ≡ source.old) × (sink.new ≡ sink.old) }
-    ensures overlong { result ≡ Status.TooLong → Overlong setup.now.limit setup.now.input_limit (S.left source.old) (S.left source.new) (K.contents sink.old) (K.contents sink.new) }
+    ensures overlong { result ≡ Status.TooLong →
+        Overlong (session_protocol setup.now.limit) setup.now.input_limit
+        (S.left source.old) (S.left source.new) (K.contents sink.old) (K.contents sink.new) }
     ensures ends { (Rose (S.faults source.old) (S.faults source.new) → ⊥) → (Rose (K.faults sink.old) (K.faults sink.new) → ⊥) → result ≢ Status.NoMemory → result ≢ Status.TooLong → (result ≡ Status.Done) ⊎ (result ≡ Status.DoneWithRefusals) }
 {
     let session = OneSession::new(alloc, setup.limit, setup.keys);
@@ -97,20 +108,27 @@ pub fn run<S: Source, K: Sink>(
     ensures no_options { ((options : Options) → AcceptedWords (texts_in words.now) options → ⊥) → (result ≡ Status.BadWords) ⊎ (result ≡ Status.NoMemory) }
     ensures no_words { result ≡ Status.BadWords → (source.new ≡ source.old) × (sink.new ≡ sink.old) }
     ensures done { result ≡ Status.Done → WithOptions (texts_in words.now) (λ options. MatchOption options.size
-        (Answered options.limit (2 ^ 40) (S.left source.old) (S.left source.new) (K.contents sink.old) (K.contents sink.new) false)
+        (Answered (session_protocol options.limit) (2 ^ 40)
+        (S.left source.old) (S.left source.new) (K.contents sink.old) (K.contents sink.new) false)
         (λ size. Made options.limit size (K.contents sink.old) (K.contents sink.new) false × (source.new ≡ source.old))) }
     ensures done_with_refusals { result ≡ Status.DoneWithRefusals → WithOptions (texts_in words.now) (λ options. MatchOption options.size
-        (Answered options.limit (2 ^ 40) (S.left source.old) (S.left source.new) (K.contents sink.old) (K.contents sink.new) true)
+        (Answered (session_protocol options.limit) (2 ^ 40)
+        (S.left source.old) (S.left source.new) (K.contents sink.old) (K.contents sink.new) true)
         (λ size. Made options.limit size (K.contents sink.old) (K.contents sink.new) true × (source.new ≡ source.old))) }
     ensures faultless { (result ≡ Status.Done) ⊎ (result ≡ Status.DoneWithRefusals) ⊎ (result ≡ Status.TooLong) → (S.faults source.new ≡ S.faults source.old) × (K.faults sink.new ≡ K.faults sink.old) }
     ensures read_fault { result ≡ Status.ReadFault → Rose (S.faults source.old) (S.faults source.new) × (K.faults sink.new ≡ K.faults sink.old) }
-    ensures unread { result ≡ Status.ReadFault → WithOptions (texts_in words.now) (λ options. (options.size ≡ None) × Unread options.limit (2 ^ 40) (S.left source.old) (S.left source.new) (K.contents sink.old) (K.contents sink.new)) }
+    ensures unread { result ≡ Status.ReadFault → WithOptions (texts_in words.now) (λ options.
+        (options.size ≡ None) × Unread (session_protocol options.limit) (2 ^ 40)
+        (S.left source.old) (S.left source.new) (K.contents sink.old) (K.contents sink.new)) }
     ensures write_fault { result ≡ Status.WriteFault → Rose (K.faults sink.old) (K.faults sink.new) × (S.faults source.new ≡ S.faults source.old) }
     ensures broken { result ≡ Status.WriteFault → WithOptions (texts_in words.now) (λ options. MatchOption options.size
-        (Broken options.limit (S.left source.old) (S.left source.new) (K.contents sink.old) (K.contents sink.new))
+        (Broken (session_protocol options.limit)
+        (S.left source.old) (S.left source.new) (S.last source.new) (K.contents sink.old) (K.contents sink.new))
         (λ size. HalfMade options.limit size (K.contents sink.old) (K.contents sink.new) × (source.new ≡ source.old))) }
     ensures no_memory { result ≡ Status.NoMemory → (source.new ≡ source.old) × (sink.new ≡ sink.old) }
-    ensures overlong { result ≡ Status.TooLong → WithOptions (texts_in words.now) (λ options. (options.size ≡ None) × Overlong options.limit (2 ^ 40) (S.left source.old) (S.left source.new) (K.contents sink.old) (K.contents sink.new)) }
+    ensures overlong { result ≡ Status.TooLong → WithOptions (texts_in words.now) (λ options.
+        (options.size ≡ None) × Overlong (session_protocol options.limit) (2 ^ 40)
+        (S.left source.old) (S.left source.new) (K.contents sink.old) (K.contents sink.new)) }
     ensures ends { (Rose (S.faults source.old) (S.faults source.new) → ⊥) → (Rose (K.faults sink.old) (K.faults sink.new) → ⊥) → result ≢ Status.NoMemory → result ≢ Status.TooLong → result ≢ Status.BadWords → (result ≡ Status.Done) ⊎ (result ≡ Status.DoneWithRefusals) }
 {
     let options = match options_in(alloc, &words.list) {

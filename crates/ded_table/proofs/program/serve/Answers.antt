@@ -11,7 +11,7 @@ pub returns-clause-unread : goal.returns-clause-unread
 returns-clause-unread g c = λ is. unread _ _ c.new-session.ensures _ _ _ _ _ (c.serve.ensures.unread is)
 
 pub returns-clause-broken : goal.returns-clause-broken
-returns-clause-broken g c = λ is. broken _ _ c.new-session.ensures _ _ _ _ (c.serve.ensures.broken is)
+returns-clause-broken g c = λ is. broken _ _ c.new-session.ensures _ _ _ _ _ (c.serve.ensures.broken is)
 
 pub returns-clause-overlong : goal.returns-clause-overlong
 returns-clause-overlong g c = λ is. overlong _ _ c.new-session.ensures _ _ _ _ _ (c.serve.ensures.overlong is)
