@@ -23,4 +23,4 @@ mod statement;
 
 pub use command::{read_command, read_tokens};
 pub use header::is_header;
-pub use laws::{one_command, opening_language, some_command, spelled_sums};
+pub use laws::{one_command, opening_language, second_language, some_command, spelled_sums};
