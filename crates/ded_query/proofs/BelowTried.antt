@@ -1,5 +1,5 @@
 -- What is asked for is below the views that are still being evaluated.
-use Rattle.std.proofs.Common.{◌≡◌, ℕ, ◌-◌, ◌<◌, ◌≤◌, arith, true, false, List, [], ◌∷◌, ◌++◌, get_or, length, inl, inr, sym, ap, subst, bytes_eq}
+use Rattle.std.proofs.Common.{◌≡◌, ℕ, ◌-◌, ◌<◌, ◌≤◌, arith, true, false, List, [], ◌∷◌, ◌++◌, get_or, length, inl, inr, bytes_eq}
 use Rattle.std.specs.List.{AllByRecursion, list_any}
 use Rattle.ded_num.proofs.Tests.{all-at}
 use Rattle.ded_model.specs.Catalogue.{Catalogue}
@@ -24,7 +24,7 @@ use Rattle.ded_query.proofs.Entries.{view_posed, view_low, view_level}
 use Rattle.ded_query.proofs.Gathered.{posed_levels}
 use Rattle.ded_query.proofs.NearViews.{posed_readable}
 use Rattle.ded_query.proofs.Tries.{settled_none, settled_lower, settled_after, settled_begun}
-use Rattle.ded_query.proofs.Witnesses.{closed_level, closed_posed, asked_low}
+use Rattle.ded_query.proofs.Witnesses.{closed_posed, asked_low}
 
 module _ (c : Catalogue) (g : List GivenRelation) (t : List (List ℕ)) where
   -- where nothing was tried

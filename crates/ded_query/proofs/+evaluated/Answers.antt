@@ -31,7 +31,7 @@ use Rattle.ded_query.proofs.MadeNames.{headed_known, is_other, inner_known, inne
 use Rattle.ded_query.proofs.NearViews.{IsGatheredTo, posed_readable, scans_clash, right_shapes, near_agrees, near_evaluable, holds_without, whole_next, near_next}
 use Rattle.ded_query.proofs.Posed.{posed_normal}
 use Rattle.ded_query.proofs.Standing.{over_right, given_there, stored_there}
-use Rattle.ded_query.proofs.Tries.{tries_none, tries_more, tries_begun, tries_it, by_none, by_more, by_given, by_begun, by_wide, below_after}
+use Rattle.ded_query.proofs.Tries.{tries_none, tries_more, tries_begun, tries_it, by_none, by_more, by_given, by_begun, by_wide}
 use Rattle.ded_query.proofs.Witnesses.{closed_mentions, closed_witness, closed_level, closed_posed, asked_low, asked_is, asked_within}
 use Rattle.ded_query.proofs.+evaluated.Goals.{within::gathered-in-Some+in_ok-view_near-in-Some+in_ok-push-in-Some, within::gathered-in-None+in_ok-give-in-None}
 use Rattle.ded_query.proofs.+evaluated.Goals as goal
