@@ -1,0 +1,15 @@
+pub mod Answering
+pub mod Boxing
+pub mod Causing
+pub mod Certifying
+pub mod Combining
+pub mod Disjoint
+pub mod Eliminating
+pub mod Explaining
+pub mod Paired
+pub mod Refusing
+pub mod Somewhere
+pub mod Spanning
+pub mod Updates
+pub mod Verifying
+pub mod Wording
