@@ -2,7 +2,7 @@
 
 use crate::beside::is_rows;
 use crate::window::columns_window;
-use ded_algebra::Relations;
+use ded_algebra::{Relations, near_in};
 use ded_atoms::OfTuples;
 use ded_genrel::GenRel;
 use ded_model::memory::NoMemory;
@@ -94,7 +94,7 @@ fn near_of<T: OfTuples, R: Relations>(
     relations: &R,
 ) -> Result<usize, NoMemory> {
     let window = columns_window::<T>(alloc, conj, &slots.list)?;
-    let near = relations.near(alloc, name, &window);
+    let near = near_in(alloc, relations, name, &window);
     drop(window);
     Ok(count(near?))
 }
@@ -111,7 +111,7 @@ fn is_selective<T: OfTuples, R: Relations>(
     relations: &R,
 ) -> Result<bool, NoMemory> {
     let near = near_of::<T, R>(alloc, conj, name, slots, relations)?;
-    let all = count(relations.near(alloc, name, &Window::everything(alloc))?);
+    let all = count(near_in(alloc, relations, name, &Window::everything(alloc))?);
     Ok(near <= all / LOOKED_UP_AT_ONE_OF)
 }
 

@@ -13,7 +13,7 @@ ghost use Rattle.ded_eval.specs.Finding.{IsFoundIn, IsWholeIn};
 ghost use Rattle.ded_algebra.specs.Columns.{column_pairs};
 
 use crate::window::columns_window;
-use ded_algebra::{Relations, column_pairs};
+use ded_algebra::{Relations, column_pairs, near_in};
 use ded_atoms::{OfTuples, conjunctions};
 use ded_genrel::GenRel;
 use ded_model::memory::NoMemory;
@@ -38,12 +38,10 @@ pub(crate) fn scanned<T: OfTuples, R: Relations>(
 {
     relations.formed();
     let columns = columns_window::<T>(alloc, window, &slots.list)?;
-    let near = relations.near(alloc, name, &columns);
+    let near = near_in(alloc, relations, name, &columns);
     drop(columns);
-    match near? {
-        Some(tuples) => in_slots(alloc, conjunctions::<T>(alloc, &tuples)?, slots),
-        None => unreachable!(),
-    }
+    let tuples = near?.unwrap();
+    in_slots(alloc, conjunctions::<T>(alloc, &tuples)?, slots)
 }
 
 /// The first tuples of a name, and whether they are all that hold somewhere in the window.
@@ -72,17 +70,13 @@ pub(crate) fn first_scanned<T: OfTuples, R: Relations>(
 {
     relations.formed();
     let columns = columns_window::<T>(alloc, window, &slots.list)?;
-    let near = relations.near(alloc, name, &columns);
+    let near = near_in(alloc, relations, name, &columns);
     drop(columns);
-    match near? {
-        Some(mut tuples) => {
-            let is_whole = tuples.len() <= count;
-            tuples.truncate(count);
-            let list = in_slots(alloc, conjunctions::<T>(alloc, &tuples)?, slots)?;
-            Ok(FirstTuples { list, is_whole })
-        }
-        None => unreachable!(),
-    }
+    let mut tuples = near?.unwrap();
+    let is_whole = tuples.len() <= count;
+    tuples.truncate(count);
+    let list = in_slots(alloc, conjunctions::<T>(alloc, &tuples)?, slots)?;
+    Ok(FirstTuples { list, is_whole })
 }
 
 /// The list with its columns read into the slots, as [`GenRel::rename`] gives it. It stays as it is where each column is its slot.

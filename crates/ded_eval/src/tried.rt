@@ -2,9 +2,11 @@
 ghost use Rattle.std.specs.Prelude.{◌≡◌, ◌∷◌, ◌++◌, [], IfOk};
 
 use crate::beside::is_rows;
+use ded_atoms::{first_slot, last_slot};
 use ded_model::memory::NoMemory;
 use ded_model::plan::Plan;
 use ded_model::slot::Slot;
+use ded_model::tuple::{Atom, BothAtom};
 use std::alloc::Global;
 
 /// Whether the plan projects a slot.
@@ -64,12 +66,12 @@ impl<'a> Bound<'a> {
     }
 }
 
-/// Whether each slot that the plan scans is projected in it, or around it.
+/// Whether each slot that the plan scans, or that its rows and text atoms mention, is projected in it, or around it.
 #[cycle(is_closed)]
 pub(crate) fn is_closed(plan: &Plan, bound: &Bound<'_>) -> bool {
     match plan {
         Plan::Scan(_, slots) => slots.list.iter().all(|slot| bound.has(*slot)),
-        Plan::Rows(_) => true,
+        Plan::Rows(tuple) => tuple.atoms.iter().all(|atom| is_bound(atom, bound)),
         Plan::Join(parts) | Plan::Union(parts) => are_closed(parts, bound),
         Plan::Minus(from, taken) => is_closed(from, bound) && is_closed(taken, bound),
         Plan::Not(part) => is_closed(part, bound),
@@ -77,7 +79,7 @@ pub(crate) fn is_closed(plan: &Plan, bound: &Bound<'_>) -> bool {
     }
 }
 
-/// Whether each slot that one of the parts scans is so.
+/// Whether each slot of each part is so.
 #[cycle(is_closed)]
 fn are_closed(parts: &Vec<Plan>, bound: &Bound<'_>) -> bool {
     for part in parts {
@@ -86,6 +88,14 @@ fn are_closed(parts: &Vec<Plan>, bound: &Bound<'_>) -> bool {
         }
     }
     true
+}
+
+/// Whether each slot that the atom mentions is projected around it.
+fn is_bound(atom: &Atom, bound: &Bound<'_>) -> bool {
+    match atom {
+        BothAtom::First(row) => row.coefs.list().iter().all(|coef| bound.has(coef.0)),
+        BothAtom::Second(theme) => bound.has(first_slot(theme)) && bound.has(last_slot(theme)),
+    }
 }
 
 /// The slots, and the slot behind them.

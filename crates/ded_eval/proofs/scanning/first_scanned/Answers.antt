@@ -12,49 +12,49 @@ use Rattle.ded_eval.proofs.scanning.first_scanned.Goals as goal
 
 pub in_slots-requires-clause-one : goal.in_slots-requires-clause-one
 in_slots-requires-clause-one g c =
-    first_apart g.T.Theory.holds g.T.Theory.mentions g.T.Theory.lines g.T.OfTuples.reads (g.R.Relations.catalogue c.args.relations.now) c.args.name.now c.args.slots.now (lent c.deref-in-Some.result.now)
-    (subst (λ bs. IsSomeOf g.T.OfTuples.reads (g.R.Relations.catalogue c.args.relations.now) c.args.name.now c.args.slots.now (lent bs)) (sym (c.deref-in-Some.ensures.value ∙ c.truncate.ensures.items))
-    (first_lent g.T.OfTuples.reads (g.R.Relations.catalogue c.args.relations.now) c.args.name.now c.args.slots.now c.in_ok-columns.columns c.args.count c.in-Some.tuples.items
-    (lent_found g.T.OfTuples.reads (g.R.Relations.catalogue c.args.relations.now) c.args.name.now c.args.slots.now c.in_ok-columns.columns (lent c.in-Some.tuples.items) (option_map (λ ts. lent ts.items) c.in_ok-tuples.field-0) (ap (option_map (λ ts. lent ts.items)) c.in-Some.is) c.formed.ensures c.requires c.in_ok-tuples.ensures)))
-    c.in_ok-conjunctions-in-Some.field-0 c.in_ok-conjunctions-in-Some.ensures (subst AreDistinctSlots c.slots.view_is c.slots.invariant)
+    first_apart g.T.Theory.holds g.T.Theory.mentions g.T.Theory.lines g.T.OfTuples.reads (g.R.Relations.catalogue c.args.relations.now) c.args.name.now c.args.slots.now (lent c.deref-2.result.now)
+    (subst (λ bs. IsSomeOf g.T.OfTuples.reads (g.R.Relations.catalogue c.args.relations.now) c.args.name.now c.args.slots.now (lent bs)) (sym (c.deref-2.ensures.value ∙ c.truncate.ensures.items))
+    (first_lent g.T.OfTuples.reads (g.R.Relations.catalogue c.args.relations.now) c.args.name.now c.args.slots.now c.in_ok-columns.columns c.args.count c.unwrap-tuples.result.items
+    (lent_found g.T.OfTuples.reads (g.R.Relations.catalogue c.args.relations.now) c.args.name.now c.args.slots.now c.in_ok-columns.columns (lent c.unwrap-tuples.result.items) (option_map (λ ts. lent ts.items) c.in_ok-near.field-0) (ap (option_map (λ ts. lent ts.items)) c.unwrap-tuples.ensures) c.formed.ensures c.requires c.in_ok-near.ensures)))
+    c.in_ok-conjunctions.field-0 c.in_ok-conjunctions.ensures (subst AreDistinctSlots c.slots.view_is c.slots.invariant)
 
 pub in_slots-requires-clause-sorts : goal.in_slots-requires-clause-sorts
 in_slots-requires-clause-sorts g c =
-    first_sorts g.T.Theory.holds g.T.Theory.mentions g.T.Theory.lines g.T.OfTuples.reads (g.R.Relations.catalogue c.args.relations.now) c.args.name.now c.args.slots.now (lent c.deref-in-Some.result.now)
-    (subst (λ bs. IsSomeOf g.T.OfTuples.reads (g.R.Relations.catalogue c.args.relations.now) c.args.name.now c.args.slots.now (lent bs)) (sym (c.deref-in-Some.ensures.value ∙ c.truncate.ensures.items))
-    (first_lent g.T.OfTuples.reads (g.R.Relations.catalogue c.args.relations.now) c.args.name.now c.args.slots.now c.in_ok-columns.columns c.args.count c.in-Some.tuples.items
-    (lent_found g.T.OfTuples.reads (g.R.Relations.catalogue c.args.relations.now) c.args.name.now c.args.slots.now c.in_ok-columns.columns (lent c.in-Some.tuples.items) (option_map (λ ts. lent ts.items) c.in_ok-tuples.field-0) (ap (option_map (λ ts. lent ts.items)) c.in-Some.is) c.formed.ensures c.requires c.in_ok-tuples.ensures)))
-    c.in_ok-conjunctions-in-Some.field-0 c.in_ok-conjunctions-in-Some.ensures
+    first_sorts g.T.Theory.holds g.T.Theory.mentions g.T.Theory.lines g.T.OfTuples.reads (g.R.Relations.catalogue c.args.relations.now) c.args.name.now c.args.slots.now (lent c.deref-2.result.now)
+    (subst (λ bs. IsSomeOf g.T.OfTuples.reads (g.R.Relations.catalogue c.args.relations.now) c.args.name.now c.args.slots.now (lent bs)) (sym (c.deref-2.ensures.value ∙ c.truncate.ensures.items))
+    (first_lent g.T.OfTuples.reads (g.R.Relations.catalogue c.args.relations.now) c.args.name.now c.args.slots.now c.in_ok-columns.columns c.args.count c.unwrap-tuples.result.items
+    (lent_found g.T.OfTuples.reads (g.R.Relations.catalogue c.args.relations.now) c.args.name.now c.args.slots.now c.in_ok-columns.columns (lent c.unwrap-tuples.result.items) (option_map (λ ts. lent ts.items) c.in_ok-near.field-0) (ap (option_map (λ ts. lent ts.items)) c.unwrap-tuples.ensures) c.formed.ensures c.requires c.in_ok-near.ensures)))
+    c.in_ok-conjunctions.field-0 c.in_ok-conjunctions.ensures
 
 pub in_slots-requires-clause-stays : goal.in_slots-requires-clause-stays
 in_slots-requires-clause-stays g c =
-    list_stays g.T.Theory.holds g.T.Theory.mentions g.T.Theory.lines c.in_ok-conjunctions-in-Some.field-0 (lent c.deref-in-Some.result.now)
-    (first_normal g.T.OfTuples.reads (g.R.Relations.catalogue c.args.relations.now) c.args.name.now c.args.slots.now (lent c.deref-in-Some.result.now)
-    (subst (λ bs. IsSomeOf g.T.OfTuples.reads (g.R.Relations.catalogue c.args.relations.now) c.args.name.now c.args.slots.now (lent bs)) (sym (c.deref-in-Some.ensures.value ∙ c.truncate.ensures.items))
-    (first_lent g.T.OfTuples.reads (g.R.Relations.catalogue c.args.relations.now) c.args.name.now c.args.slots.now c.in_ok-columns.columns c.args.count c.in-Some.tuples.items
-    (lent_found g.T.OfTuples.reads (g.R.Relations.catalogue c.args.relations.now) c.args.name.now c.args.slots.now c.in_ok-columns.columns (lent c.in-Some.tuples.items) (option_map (λ ts. lent ts.items) c.in_ok-tuples.field-0) (ap (option_map (λ ts. lent ts.items)) c.in-Some.is) c.formed.ensures c.requires c.in_ok-tuples.ensures))))
-    c.in_ok-conjunctions-in-Some.ensures
+    list_stays g.T.Theory.holds g.T.Theory.mentions g.T.Theory.lines c.in_ok-conjunctions.field-0 (lent c.deref-2.result.now)
+    (first_normal g.T.OfTuples.reads (g.R.Relations.catalogue c.args.relations.now) c.args.name.now c.args.slots.now (lent c.deref-2.result.now)
+    (subst (λ bs. IsSomeOf g.T.OfTuples.reads (g.R.Relations.catalogue c.args.relations.now) c.args.name.now c.args.slots.now (lent bs)) (sym (c.deref-2.ensures.value ∙ c.truncate.ensures.items))
+    (first_lent g.T.OfTuples.reads (g.R.Relations.catalogue c.args.relations.now) c.args.name.now c.args.slots.now c.in_ok-columns.columns c.args.count c.unwrap-tuples.result.items
+    (lent_found g.T.OfTuples.reads (g.R.Relations.catalogue c.args.relations.now) c.args.name.now c.args.slots.now c.in_ok-columns.columns (lent c.unwrap-tuples.result.items) (option_map (λ ts. lent ts.items) c.in_ok-near.field-0) (ap (option_map (λ ts. lent ts.items)) c.unwrap-tuples.ensures) c.formed.ensures c.requires c.in_ok-near.ensures))))
+    c.in_ok-conjunctions.ensures
 
 pub conjunctions-requires : goal.conjunctions-requires
 conjunctions-requires g c =
-    first_reads g.T.OfTuples.reads (g.R.Relations.catalogue c.args.relations.now) c.args.name.now c.args.slots.now (lent c.deref-in-Some.result.now)
-    (subst (λ bs. IsSomeOf g.T.OfTuples.reads (g.R.Relations.catalogue c.args.relations.now) c.args.name.now c.args.slots.now (lent bs)) (sym (c.deref-in-Some.ensures.value ∙ c.truncate.ensures.items))
-    (first_lent g.T.OfTuples.reads (g.R.Relations.catalogue c.args.relations.now) c.args.name.now c.args.slots.now c.in_ok-columns.columns c.args.count c.in-Some.tuples.items
-    (lent_found g.T.OfTuples.reads (g.R.Relations.catalogue c.args.relations.now) c.args.name.now c.args.slots.now c.in_ok-columns.columns (lent c.in-Some.tuples.items) (option_map (λ ts. lent ts.items) c.in_ok-tuples.field-0) (ap (option_map (λ ts. lent ts.items)) c.in-Some.is) c.formed.ensures c.requires c.in_ok-tuples.ensures)))
+    first_reads g.T.OfTuples.reads (g.R.Relations.catalogue c.args.relations.now) c.args.name.now c.args.slots.now (lent c.deref-2.result.now)
+    (subst (λ bs. IsSomeOf g.T.OfTuples.reads (g.R.Relations.catalogue c.args.relations.now) c.args.name.now c.args.slots.now (lent bs)) (sym (c.deref-2.ensures.value ∙ c.truncate.ensures.items))
+    (first_lent g.T.OfTuples.reads (g.R.Relations.catalogue c.args.relations.now) c.args.name.now c.args.slots.now c.in_ok-columns.columns c.args.count c.unwrap-tuples.result.items
+    (lent_found g.T.OfTuples.reads (g.R.Relations.catalogue c.args.relations.now) c.args.name.now c.args.slots.now c.in_ok-columns.columns (lent c.unwrap-tuples.result.items) (option_map (λ ts. lent ts.items) c.in_ok-near.field-0) (ap (option_map (λ ts. lent ts.items)) c.unwrap-tuples.ensures) c.formed.ensures c.requires c.in_ok-near.ensures)))
 
 pub returns-clause-found : goal.returns-clause-found
 returns-clause-found g c =
-    first_found g.T.Theory.holds g.T.Theory.mentions g.T.Theory.lines g.T.OfTuples.reads (g.R.Relations.catalogue c.args.relations.now) c.args.name.now c.args.slots.now (lent c.deref-in-Some.result.now)
-    (subst (λ bs. IsSomeOf g.T.OfTuples.reads (g.R.Relations.catalogue c.args.relations.now) c.args.name.now c.args.slots.now (lent bs)) (sym (c.deref-in-Some.ensures.value ∙ c.truncate.ensures.items))
-    (first_lent g.T.OfTuples.reads (g.R.Relations.catalogue c.args.relations.now) c.args.name.now c.args.slots.now c.in_ok-columns.columns c.args.count c.in-Some.tuples.items
-    (lent_found g.T.OfTuples.reads (g.R.Relations.catalogue c.args.relations.now) c.args.name.now c.args.slots.now c.in_ok-columns.columns (lent c.in-Some.tuples.items) (option_map (λ ts. lent ts.items) c.in_ok-tuples.field-0) (ap (option_map (λ ts. lent ts.items)) c.in-Some.is) c.formed.ensures c.requires c.in_ok-tuples.ensures)))
-    c.in_ok-conjunctions-in-Some.field-0 c.in_ok-conjunctions-in-Some.ensures (conj_holds g.T.Theory.holds c.args.window.now) c.in_ok-list-in-Some.list c.in_ok-list-in-Some.ensures
+    first_found g.T.Theory.holds g.T.Theory.mentions g.T.Theory.lines g.T.OfTuples.reads (g.R.Relations.catalogue c.args.relations.now) c.args.name.now c.args.slots.now (lent c.deref-2.result.now)
+    (subst (λ bs. IsSomeOf g.T.OfTuples.reads (g.R.Relations.catalogue c.args.relations.now) c.args.name.now c.args.slots.now (lent bs)) (sym (c.deref-2.ensures.value ∙ c.truncate.ensures.items))
+    (first_lent g.T.OfTuples.reads (g.R.Relations.catalogue c.args.relations.now) c.args.name.now c.args.slots.now c.in_ok-columns.columns c.args.count c.unwrap-tuples.result.items
+    (lent_found g.T.OfTuples.reads (g.R.Relations.catalogue c.args.relations.now) c.args.name.now c.args.slots.now c.in_ok-columns.columns (lent c.unwrap-tuples.result.items) (option_map (λ ts. lent ts.items) c.in_ok-near.field-0) (ap (option_map (λ ts. lent ts.items)) c.unwrap-tuples.ensures) c.formed.ensures c.requires c.in_ok-near.ensures)))
+    c.in_ok-conjunctions.field-0 c.in_ok-conjunctions.ensures (conj_holds g.T.Theory.holds c.args.window.now) c.in_ok-list.list c.in_ok-list.ensures
 
 pub returns-clause-whole : goal.returns-clause-whole
 returns-clause-whole g c = λ e p i w x.
-    (scan_holds g.T.Theory.holds g.T.Theory.mentions g.T.Theory.lines g.T.OfTuples.reads (g.R.Relations.catalogue c.args.relations.now) c.args.name.now c.args.slots.now c.in_ok-columns.columns (lent c.deref-in-Some.result.now)
-    (subst (λ bs. IsLent g.T.OfTuples.reads (g.R.Relations.catalogue c.args.relations.now) c.args.name.now c.args.slots.now c.in_ok-columns.columns (lent bs)) (sym (c.deref-in-Some.ensures.value ∙ c.truncate.ensures.items))
-    (all_lent g.T.OfTuples.reads (g.R.Relations.catalogue c.args.relations.now) c.args.name.now c.args.slots.now c.in_ok-columns.columns c.args.count c.len.result c.in-Some.tuples.items (c.len.ensures ∙ c.in-Some.tuples.ok.0) e
-    (lent_found g.T.OfTuples.reads (g.R.Relations.catalogue c.args.relations.now) c.args.name.now c.args.slots.now c.in_ok-columns.columns (lent c.in-Some.tuples.items) (option_map (λ ts. lent ts.items) c.in_ok-tuples.field-0) (ap (option_map (λ ts. lent ts.items)) c.in-Some.is) c.formed.ensures c.requires c.in_ok-tuples.ensures)))
-    c.in_ok-conjunctions-in-Some.field-0 c.in_ok-conjunctions-in-Some.ensures (conj_holds g.T.Theory.holds c.args.window.now)
-    (subst (λ ss. IsWindowOf ss (conj_holds g.T.Theory.holds c.args.window.now) c.in_ok-columns.columns) (c.deref.ensures.value ∙ c.slots.view_is) c.in_ok-columns.ensures) c.in_ok-list-in-Some.list c.in_ok-list-in-Some.ensures p i w).1 x
+    (scan_holds g.T.Theory.holds g.T.Theory.mentions g.T.Theory.lines g.T.OfTuples.reads (g.R.Relations.catalogue c.args.relations.now) c.args.name.now c.args.slots.now c.in_ok-columns.columns (lent c.deref-2.result.now)
+    (subst (λ bs. IsLent g.T.OfTuples.reads (g.R.Relations.catalogue c.args.relations.now) c.args.name.now c.args.slots.now c.in_ok-columns.columns (lent bs)) (sym (c.deref-2.ensures.value ∙ c.truncate.ensures.items))
+    (all_lent g.T.OfTuples.reads (g.R.Relations.catalogue c.args.relations.now) c.args.name.now c.args.slots.now c.in_ok-columns.columns c.args.count c.len.result c.unwrap-tuples.result.items (c.len.ensures ∙ c.unwrap-tuples.result.ok.0) e
+    (lent_found g.T.OfTuples.reads (g.R.Relations.catalogue c.args.relations.now) c.args.name.now c.args.slots.now c.in_ok-columns.columns (lent c.unwrap-tuples.result.items) (option_map (λ ts. lent ts.items) c.in_ok-near.field-0) (ap (option_map (λ ts. lent ts.items)) c.unwrap-tuples.ensures) c.formed.ensures c.requires c.in_ok-near.ensures)))
+    c.in_ok-conjunctions.field-0 c.in_ok-conjunctions.ensures (conj_holds g.T.Theory.holds c.args.window.now)
+    (subst (λ ss. IsWindowOf ss (conj_holds g.T.Theory.holds c.args.window.now) c.in_ok-columns.columns) (c.deref.ensures.value ∙ c.slots.view_is) c.in_ok-columns.ensures) c.in_ok-list.list c.in_ok-list.ensures p i w).1 x
