@@ -12,19 +12,15 @@ use Rattle.ded_session.specs.Carrying.{IsFirstCause, MayRefuseFor, NoCause}
 
 -- ---- refusals by their numbers
 
-low_refusal : ℕ → Refusal
-low_refusal n =
-    if n == 1 then LongStatement else if n == 2 then Unfinished else if n == 3 then Syntax else if n == 4 then LongName else if n == 5 then LongNumber
-    else if n == 6 then Deep else if n == 7 then Many else if n == 8 then Twice else if n == 9 then Unknown else Taken
-
 refusal_of : ℕ → Refusal
 refusal_of n =
-    if n == 11 then Kind else if n == 12 then Arity else if n == 13 then Unbound else if n == 14 then WrongSort else if n == 15 then Used
-    else if n == 16 then NoTuple else if n == 17 then Full else if n == 18 then Spent else if n == 19 then Level else if n == 20 then Wide
-    else if n == 21 then Memory else low_refusal n
+    if n == 1 then LongStatement else if n == 2 then Unfinished else if n == 3 then Syntax else if n == 4 then LongName else if n == 5 then LongNumber
+    else if n == 6 then Deep else if n == 7 then Many else if n == 8 then Twice else if n == 9 then Unknown else if n == 10 then Taken
+    else if n == 11 then Kind else if n == 12 then Arity else if n == 13 then Unbound else if n == 14 then WrongSort else if n == 15 then Used
+    else if n == 16 then NoTuple else if n == 17 then Full else if n == 18 then Spent else if n == 19 then Level else if n == 20 then Wide else Memory
 
 numbered : (r : Refusal) → refusal_of (refusal_number r) ≡ r
-unfolding refusal_of low_refusal
+unfolding refusal_of
 numbered LongStatement = refl
 numbered Unfinished = refl
 numbered Syntax = refl

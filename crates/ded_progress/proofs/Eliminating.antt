@@ -4,6 +4,7 @@ use Rattle.std.specs.Prelude.{ℤ, pos, ◌<ℤ◌, int_lt, unsigned_abs}
 use Rattle.std.specs.List.{AllByRecursion}
 use Rattle.std.specs.Ordering.{int_eq}
 use Rattle.std.proofs.lemmas.Int.{ints}
+use Rattle.std.proofs.lemmas.List.{append-nil, append_assoc}
 use Rattle.std.proofs.lemmas.Bool.{false_from_ne_true}
 use Rattle.std.proofs.lemmas.Bool.Decides.{Decides-int_eq}
 use Rattle.ded_num.proofs.Signs.{above_test, is_positive}
@@ -345,14 +346,6 @@ any_reduced s rows linear tight = elim (equality s rows) [
 
 -- ---- slots one after another
 
-append_none : (ss : List Slot) → ss ++ [] ≡ ss
-append_none [] = refl
-append_none (s ∷ ss) = ap (λ (us : List Slot). s ∷ us) (append_none ss)
-
-append_more : (ss : List Slot) (s : Slot) (us : List Slot) → (ss ++ s ∷ []) ++ us ≡ ss ++ s ∷ us
-append_more [] s us = refl
-append_more (t ∷ ss) s us = ap (λ (vs : List Slot). t ∷ vs) (append_more ss s us)
-
 fewer : (ss : List Slot) (s : Slot) (us : List Slot) → length ss < length (ss ++ s ∷ us)
 fewer [] s us = omega arith
 fewer (t ∷ ss) s us = let k = fewer ss s us in omega (arith, k)
@@ -368,7 +361,7 @@ module _ (Kind : LinearConstraint → Type 0) (step : (s : Slot) (rows : Rows) �
   module _ (rows : Rows) where
     -- the slots are eliminated after those that are done, or lines get long
     eliminated : (ss done : List Slot) → AllByRecursion (λ s. s.sort ≡ Rat) ss → IsLeft Kind rows done → IsLeft Kind rows (done ++ ss) ⊎ GetLong rows (length (done ++ ss))
-    eliminated [] done r l = inl (subst (IsLeft Kind rows) (sym (append_none done)) l)
+    eliminated [] done r l = inl (subst (IsLeft Kind rows) (sym (append-nil done)) l)
     eliminated (s ∷ ss) done r l = by (clash_at s (conj_lines row_lines l.left)) refl (eliminated ss (done ++ s ∷ []) r.1)
       where
         more : IsReduced Kind s l.left → IsLeft Kind rows (done ++ s ∷ [])
@@ -378,7 +371,7 @@ module _ (Kind : LinearConstraint → Type 0) (step : (s : Slot) (rows : Rows) �
             → (IsLeft Kind rows (done ++ s ∷ []) → IsLeft Kind rows ((done ++ s ∷ []) ++ ss) ⊎ GetLong rows (length ((done ++ s ∷ []) ++ ss)))
             → IsLeft Kind rows (done ++ s ∷ ss) ⊎ GetLong rows (length (done ++ s ∷ ss))
         by true e next = inr (clash_long rows done l.left s [] (length (done ++ s ∷ ss)) (fewer done s ss) l.projected e)
-        by false e next = subst (λ (us : List Slot). IsLeft Kind rows us ⊎ GetLong rows (length us)) (append_more done s ss) (next (more (step s l.left l.linear l.kinds e)))
+        by false e next = subst (λ (us : List Slot). IsLeft Kind rows us ⊎ GetLong rows (length us)) (append_assoc done (s ∷ []) ss) (next (more (step s l.left l.linear l.kinds e)))
 
     pub all_eliminated : (ss : List Slot) → AllByRecursion (λ s. s.sort ≡ Rat) ss → AllByRecursion IsLinearAtom rows → AllByRecursion Kind rows → IsLeft Kind rows ss ⊎ GetLong rows (length ss)
     all_eliminated ss r linear kinds = eliminated ss [] r (record { left = rows; projected = projected_none rows; linear = linear; kinds = kinds })

@@ -3,6 +3,7 @@ use Rattle.std.proofs.Common.{◌≡◌, ℕ, suc, ◌+◌, ◌<◌, ◌≤◌, 
 use Rattle.std.specs.Prelude.{ℤ, pos, ◌+ℤ◌, nat_lt}
 use lib.IntN.{neg_ℤ}
 use Rattle.std.specs.List.{AllByRecursion}
+use Rattle.std.proofs.lemmas.List.{append_assoc}
 use Rattle.ded_num.specs.Length.{length_of}
 use Rattle.ded_num.proofs.Lengths.{within_from_length}
 use Rattle.ded_model.specs.declared.command.Refusal.TheVariants.{Many, Twice, Unknown, Arity, Unbound, WrongSort}
@@ -178,10 +179,6 @@ ties_normal (Second a ∷ atoms) g t l = (t.0, ties_normal atoms g t.1 l)
 
 -- ---- slots of scans
 
-moved : (xs : List Slot) (y : Slot) (zs : List Slot) → (xs ++ y ∷ []) ++ zs ≡ xs ++ y ∷ zs
-moved [] y zs = refl
-moved (x ∷ xs) y zs = ap (λ (us : List Slot). x ∷ us) (moved xs y zs)
-
 next_apart : (n : ℕ) (ss : List Slot) (u : Slot) → IsApart n ss → u.number ≡ n → IsApart (suc n) (ss ++ u ∷ [])
 next_apart n ss u a e = let next : n + 1 ≡ suc n = omega arith in subst (λ (k : ℕ). IsApart k (ss ++ u ∷ [])) next (apart_new n ss u a e)
 
@@ -200,14 +197,14 @@ apart_slots done n (At s ∷ ts) l a =
     by : (d : Bool) → stands_in done s ≡ d → (IsApart (suc n) (done ++ new ∷ []) → AreDistinctSlots ((done ++ new ∷ []) ++ scanned_slots (scanned_after (done ++ new ∷ []) (suc n) ts)))
         → (IsApart n (done ++ s ∷ []) → AreDistinctSlots ((done ++ s ∷ []) ++ scanned_slots (scanned_after (done ++ s ∷ []) n ts)))
         → AreDistinctSlots (done ++ scanned_slots (cond d (fresh new (same_atom n s.sort s) ∷ scanned_after (done ++ new ∷ []) (suc n) ts) (kept s ∷ scanned_after (done ++ s ∷ []) n ts)))
-    by true e other own = subst AreDistinctSlots (moved done new (scanned_slots (scanned_after (done ++ new ∷ []) (suc n) ts))) (other (next_apart n done new a refl))
-    by false e other own = subst AreDistinctSlots (moved done s (scanned_slots (scanned_after (done ++ s ∷ []) n ts))) (own (apart_old n done s a (omega (arith, l)) e))
+    by true e other own = subst AreDistinctSlots (append_assoc done (new ∷ []) (scanned_slots (scanned_after (done ++ new ∷ []) (suc n) ts))) (other (next_apart n done new a refl))
+    by false e other own = subst AreDistinctSlots (append_assoc done (s ∷ []) (scanned_slots (scanned_after (done ++ s ∷ []) n ts))) (own (apart_old n done s a (omega (arith, l)) e))
 apart_slots done n (Value t ∷ ts) l a =
     let new : Slot = record { number = n; sort = Rat } in
-    subst AreDistinctSlots (moved done new (scanned_slots (scanned_after (done ++ new ∷ []) (suc n) ts))) (apart_slots (done ++ new ∷ []) (suc n) ts (omega (arith, l)) (next_apart n done new a refl))
+    subst AreDistinctSlots (append_assoc done (new ∷ []) (scanned_slots (scanned_after (done ++ new ∷ []) (suc n) ts))) (apart_slots (done ++ new ∷ []) (suc n) ts (omega (arith, l)) (next_apart n done new a refl))
 apart_slots done n (Quoted x ∷ ts) l a =
     let new : Slot = record { number = n; sort = Text } in
-    subst AreDistinctSlots (moved done new (scanned_slots (scanned_after (done ++ new ∷ []) (suc n) ts))) (apart_slots (done ++ new ∷ []) (suc n) ts (omega (arith, l)) (next_apart n done new a refl))
+    subst AreDistinctSlots (append_assoc done (new ∷ []) (scanned_slots (scanned_after (done ++ new ∷ []) (suc n) ts))) (apart_slots (done ++ new ∷ []) (suc n) ts (omega (arith, l)) (next_apart n done new a refl))
 
 pub distinct_scans : (ts : List Place) → AreDistinctSlots (scanned_slots (scanned ts))
 distinct_scans ts = apart_slots [] (first_free ts) ts (omega arith) (apart_none (first_free ts))
