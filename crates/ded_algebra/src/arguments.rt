@@ -40,7 +40,8 @@ pub fn argument_row(slot: Slot, sum: &SlotTerm) -> Result<Row, NoMemory>
 fn argument_coefs(slot: Slot, sum: &SlotTerm) -> Result<Coefs, NoMemory>
     requires rational { slot.sort ≡ Rat }
     requires above { above_coefs sum.now.coefs ≤ slot.number }
-    ensures { IfOk result (λ cs. cs ≡ put slot (pos (denominator sum.now.over)) (put_all (neg_ℤ (pos 1)) sum.now.coefs [])) }
+    ensures { IfOk result (λ cs. cs ≡ put slot (pos (denominator sum.now.over))
+        (put_all (neg_ℤ (pos 1)) sum.now.coefs [])) }
 {
     let _ = sum.coefs.list(); // for its invariant
     let mut coefs = sum.coefs.copy()?;

@@ -23,12 +23,12 @@ use ded_model::tuple::{BothAtom, ThemeAtom, Tuple};
 use ded_tuple::is_true;
 use std::alloc::Global;
 
-/// The plan of a goal whose rows and text atoms are normal, as those of the goal of a formula are. Over every catalogue it holds
-/// exactly where the goal does. It mentions freely only slots that the goal does, has lengths and a rank of at most the goal's,
-/// lines among the goal's, and clashes only where the goal does. Each scan is of an atom of the goal, at slots of the sorts of its
-/// arguments, and each list of rows is an atom of the goal or ties an argument of one. Of a conjunctive goal it is conjunctive and
-/// scans each name as often as the goal has it. Where in the goal each number has one sort, two slots of one number that a part of
-/// the plan mentions freely have one sort.
+/// The plan of a goal whose rows and text atoms are normal, as those of the goal of a formula are. Over every catalogue
+/// it holds exactly where the goal does. It mentions freely only slots that the goal does, has lengths and a rank of at
+/// most the goal's, lines among the goal's, and clashes only where the goal does. Each scan is of an atom of the goal,
+/// at slots of the sorts of its arguments, and each list of rows is an atom of the goal or ties an argument of one. Of
+/// a conjunctive goal it is conjunctive and scans each name as often as the goal has it. Where in the goal each number
+/// has one sort, two slots of one number that a part of the plan mentions freely have one sort.
 ///
 /// # Errors
 /// Out of memory, also where an atom has a slot of the greatest number and an argument that needs a new one.

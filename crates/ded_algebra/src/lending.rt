@@ -53,7 +53,8 @@ pub fn near_in<'a, R: Relations>(
     name: &Name,
     window: &Window,
 ) -> Result<Option<Vec<Lent<'a>>>, NoMemory>
-    ensures { IfOk result (λ o. AreLent window.now (option_map (λ ts. lent ts.items) o) (given_tuples (R.catalogue relations.now) name.now)) }
+    ensures { IfOk result (λ o. AreLent window.now (option_map (λ ts. lent ts.items) o)
+        (given_tuples (R.catalogue relations.now) name.now)) }
 {
     near_over::<R, Brand>(alloc, relations, name, window, Blank::new(1))
 }
@@ -72,7 +73,8 @@ fn near_over<'a, R: Relations, L: Ledger>(
     requires name { blank.name ≡ L.name }
     requires parts { blank.parts ≡ L.parts }
     requires some { 0 < L.parts }
-    ensures { IfOk result (λ o. AreLent window.now (option_map (λ ts. lent ts.items) o) (given_tuples (R.catalogue relations.now) name.now)) }
+    ensures { IfOk result (λ o. AreLent window.now (option_map (λ ts. lent ts.items) o)
+        (given_tuples (R.catalogue relations.now) name.now)) }
 {
     let mut steps = Steps::<L>::new(blank);
     relations.near(alloc, name, window, &mut steps)

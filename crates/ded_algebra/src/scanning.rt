@@ -17,8 +17,8 @@ use ded_model::slot::{Slot, Sort, stands_in};
 use ded_model::tuple::{Atom, BothAtom, ThemeAtom, Tuple};
 use std::alloc::{AllocError, Global};
 
-/// The slots of the arguments so far, the new ones among them, the plans of the atoms that tie these, and the number of the next
-/// new slot.
+/// The slots of the arguments so far, the new ones among them, the plans of the atoms that tie these, and the number of
+/// the next new slot.
 #[derive(Drop)]
 pub struct Scanning {
     pub slots: Vec<Slot>,
@@ -78,7 +78,8 @@ impl Scanning {
         requires apart { IsApart self.old.next self.old.slots.items }
         ensures slots { OnOk result (self.new.slots.items ≡ self.old.slots.items ++ fresh ∷ []) }
         ensures fresh { OnOk result (self.new.fresh.items ≡ self.old.fresh.items ++ fresh ∷ []) }
-        ensures ties { OnOk result (map plan_form self.new.ties.items ≡ map plan_form self.old.ties.items ++ row_plan atom ∷ []) }
+        ensures ties { OnOk result (map plan_form self.new.ties.items
+            ≡ map plan_form self.old.ties.items ++ row_plan atom ∷ []) }
         ensures next { OnOk result (self.new.next ≡ self.old.next + 1) }
         ensures apart { OnOk result (IsApart self.new.next self.new.slots.items) }
     {

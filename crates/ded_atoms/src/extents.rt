@@ -30,8 +30,8 @@ use std::alloc::Global;
 /// The bounds over some points and all points of the tuple, from those over the points.
 ///
 /// # Errors
-/// `Wide` only where the tuple alone isn't narrow with all rational columns of the heading and some row of it is no order row,
-/// otherwise out of memory.
+/// `Wide` only where the tuple alone isn't narrow with all rational columns of the heading and some row of it is no
+/// order row, otherwise out of memory.
 pub fn extended(
     alloc: Global,
     heading: &Heading,
@@ -39,7 +39,8 @@ pub fn extended(
     tuple: &Tuple,
 ) -> Result<BoxReply, Refused>
     requires { IsTupleOver heading.now tuple.now }
-    ensures is { IfOk result (λ r. (test : Point → Bool) → IsBox test heading.now extent → IsBox (λ p. test p || tuple_holds tuple.now p) heading.now r) }
+    ensures is { IfOk result (λ r. (test : Point → Bool) → IsBox test heading.now extent
+        → IsBox (λ p. test p || tuple_holds tuple.now p) heading.now r) }
     ensures wide { IsErrOf result Wide → IsBoxNarrow heading.now (tuple.now ∷ []) → ⊥ }
     ensures orders { AreOrderAtoms tuple.now → IsErrOf result Wide → ⊥ }
 {

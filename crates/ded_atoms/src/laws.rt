@@ -22,15 +22,18 @@ pub fn tuples_are_conjunctions()
     ensures lines { (t : List Atom) → conj_lines ⟦<Atoms as Theory>⟧.lines t ≡ atoms_lines t }
 {}
 
-/// The atoms of a normal tuple are in the normal form that the theory asks for, and they are wide only where the tuple isn't
-/// narrow. Atoms in that form are normal one by one, as the making of a normal tuple asks.
+/// The atoms of a normal tuple are in the normal form that the theory asks for, and they are wide only where the tuple
+/// isn't narrow. Atoms in that form are normal one by one, as the making of a normal tuple asks.
 pub fn normal_tuples()
     ensures normal { (t : List Atom) → IsNormalTuple t → AllByRecursion ⟦<Atoms as Theory>⟧.normal t }
-    ensures atoms { (atoms : List Atom) → AllByRecursion ⟦<Atoms as Theory>⟧.normal atoms → AllByRecursion IsNormalOrTrue atoms }
-    ensures narrow { (t : List Atom) → IsNormalTuple t → IsNarrowList t → IsWide ⟦<Atoms as Theory>⟧.mentions ⟦<Atoms as Theory>⟧.lines t → ⊥ }
+    ensures atoms { (atoms : List Atom) → AllByRecursion ⟦<Atoms as Theory>⟧.normal atoms
+        → AllByRecursion IsNormalOrTrue atoms }
+    ensures narrow { (t : List Atom) → IsNormalTuple t → IsNarrowList t
+        → IsWide ⟦<Atoms as Theory>⟧.mentions ⟦<Atoms as Theory>⟧.lines t → ⊥ }
 {}
 
 /// Atoms that are normal one by one, in whatever order they stand, are wide only where they aren't narrow.
 pub fn narrow_atoms()
-    ensures { (atoms : List Atom) → AllByRecursion ⟦<Atoms as Theory>⟧.normal atoms → IsNarrowList atoms → IsWide ⟦<Atoms as Theory>⟧.mentions ⟦<Atoms as Theory>⟧.lines atoms → ⊥ }
+    ensures { (atoms : List Atom) → AllByRecursion ⟦<Atoms as Theory>⟧.normal atoms → IsNarrowList atoms
+        → IsWide ⟦<Atoms as Theory>⟧.mentions ⟦<Atoms as Theory>⟧.lines atoms → ⊥ }
 {}

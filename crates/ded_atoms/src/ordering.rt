@@ -19,7 +19,8 @@ pub(crate) fn order_atoms(
     atoms: &[Atom],
 ) -> Result<Option<Vec<BothAtom<OrderAtom, ThemeAtom>>>, NoMemory>
     requires { IsNormalTuple atoms.now }
-    ensures { IfOk result (λ o. MatchOption o (are_orders atoms.now ≡ false) (λ v. (v.items ≡ atoms.now) × AreOrderAtoms atoms.now)) }
+    ensures { IfOk result (λ o. MatchOption o (are_orders atoms.now ≡ false) (λ v. (v.items ≡ atoms.now)
+        × AreOrderAtoms atoms.now)) }
 {
     if !are_orders(atoms) {
         return Ok(None);

@@ -9,7 +9,8 @@ use ded_model::row::Row;
 use ded_model::slot::Slot;
 use ded_model::tuple::{Atom, BothAtom, ThemeAtom, mention};
 
-/// Whether each atom mentions a slot that no other one does. Then normal atoms hold somewhere, and each of them is needed.
+/// Whether each atom mentions a slot that no other one does. Then normal atoms hold somewhere, and each of them is
+/// needed.
 pub(crate) fn have_own_slots(atoms: &[Atom]) -> bool
     ensures { result ≡ true → HaveOwnSlots atoms.now }
 {
@@ -33,7 +34,8 @@ fn has_own_slot(before: &[Atom], atom: &Atom, after: &[Atom]) -> bool
 
 /// Whether the row mentions a slot that none of the atoms before and after does.
 fn row_has_own_slot(before: &[Atom], row: &Row, after: &[Atom]) -> bool
-    ensures { result ≡ true → (s : Slot) × (row_mentions row.now s ≡ true) × (tuple_mentions (before.now ++ after.now) s ≡ false) }
+    ensures { result ≡ true → (s : Slot) × (row_mentions row.now s ≡ true)
+        × (tuple_mentions (before.now ++ after.now) s ≡ false) }
 {
     for entry in row.coefs.list() {
         if is_free(before, entry.0, after) {
@@ -45,7 +47,8 @@ fn row_has_own_slot(before: &[Atom], row: &Row, after: &[Atom]) -> bool
 
 /// Whether the text atom mentions a slot that none of the atoms before and after does.
 fn theme_has_own_slot(before: &[Atom], atom: &ThemeAtom, after: &[Atom]) -> bool
-    ensures { result ≡ true → (s : Slot) × (theme_mentions atom.now s ≡ true) × (tuple_mentions (before.now ++ after.now) s ≡ false) }
+    ensures { result ≡ true → (s : Slot) × (theme_mentions atom.now s ≡ true)
+        × (tuple_mentions (before.now ++ after.now) s ≡ false) }
 {
     is_free(before, first_slot(atom), after) || is_free(before, last_slot(atom), after)
 }

@@ -21,10 +21,10 @@ use ded_order::OrderAtom;
 use ded_reduce::{Reduced, reduce};
 use std::alloc::Global;
 
-/// Tuples that hold at the same points, with nothing superfluous, in the same order: each is one of the tuples without the atoms
-/// that its others imply. Tuples that are found to hold nowhere are dropped, and of equal tuples the first one is kept, so that
-/// none stands twice. Each tuple that is narrow, or whose rows are all order rows, holds somewhere, and each of its atoms is
-/// needed: without it the others hold at a point at which it doesn't.
+/// Tuples that hold at the same points, with nothing superfluous, in the same order: each is one of the tuples without
+/// the atoms that its others imply. Tuples that are found to hold nowhere are dropped, and of equal tuples the first
+/// one is kept, so that none stands twice. Each tuple that is narrow, or whose rows are all order rows, holds
+/// somewhere, and each of its atoms is needed: without it the others hold at a point at which it doesn't.
 ///
 /// # Errors
 /// Out of memory.
@@ -45,8 +45,8 @@ pub fn reduced(alloc: Global, tuples: Tuples) -> Result<Tuples, NoMemory>
     distinct_tuples(alloc, each_reduced(alloc, first)?)
 }
 
-/// Whether each atom of each tuple mentions a slot that no other atom of its tuple does. Then none of the tuples has superfluous
-/// atoms.
+/// Whether each atom of each tuple mentions a slot that no other atom of its tuple does. Then none of the tuples has
+/// superfluous atoms.
 fn all_have_own_slots(tuples: &[Tuple]) -> bool
     ensures { result ≡ true → AreReducedParts tuples.now tuples.now }
 {
@@ -71,8 +71,8 @@ fn each_reduced(alloc: Global, tuples: Tuples) -> Result<Tuples, NoMemory>
     Ok(Tuples { list })
 }
 
-/// The tuple without superfluous atoms, or nothing where it is found to hold nowhere. One whose atoms have slots of their own
-/// stays as it is.
+/// The tuple without superfluous atoms, or nothing where it is found to hold nowhere. One whose atoms have slots of
+/// their own stays as it is.
 fn reduced_tuple(alloc: Global, tuple: Tuple) -> Result<Option<Tuple>, NoMemory>
     ensures { IfOk result (λ r. IsReducedPart tuple r) }
 {
@@ -82,16 +82,18 @@ fn reduced_tuple(alloc: Global, tuple: Tuple) -> Result<Option<Tuple>, NoMemory>
     reduce_answer(alloc, &tuple)
 }
 
-/// The tuple without the atoms that its others imply, or nothing where it is found to hold nowhere. What is left is in normal
-/// form and holds at the same points, with no new slots and lines. Where it is narrow, or its rows are all order rows, it holds
-/// somewhere, and each of its atoms is needed.
+/// The tuple without the atoms that its others imply, or nothing where it is found to hold nowhere. What is left is in
+/// normal form and holds at the same points, with no new slots and lines. Where it is narrow, or its rows are all order
+/// rows, it holds somewhere, and each of its atoms is needed.
 ///
 /// # Errors
 /// Out of memory.
 pub fn reduce_answer(alloc: Global, tuple: &Tuple) -> Result<Option<Tuple>, NoMemory>
     ensures part { IfOk result (λ r. IsReducedPart tuple.now r) }
-    ensures slots { IfOk result (λ r. MatchOption r (Unit {0}) (λ t. (s : Slot) → tuple_mentions t s ≡ true → tuple_mentions tuple.now s ≡ true)) }
-    ensures lines { IfOk result (λ r. MatchOption r (Unit {0}) (λ t. IsSubset (atoms_lines t) (atoms_lines tuple.now))) }
+    ensures slots { IfOk result (λ r. MatchOption r (Unit {0}) (λ t. (s : Slot) → tuple_mentions t s ≡ true
+        → tuple_mentions tuple.now s ≡ true)) }
+    ensures lines { IfOk result (λ r. MatchOption r (Unit {0})
+        (λ t. IsSubset (atoms_lines t) (atoms_lines tuple.now))) }
 {
     if let Some(atoms) = order_atoms(alloc, &tuple.atoms)? {
         return sifted_orders(alloc, &atoms);
@@ -102,7 +104,8 @@ pub fn reduce_answer(alloc: Global, tuple: &Tuple) -> Result<Option<Tuple>, NoMe
     }
 }
 
-/// The tuple without the atoms that its others imply, as rows of any shape, or nothing where it is found to hold nowhere.
+/// The tuple without the atoms that its others imply, as rows of any shape, or nothing where it is found to hold
+/// nowhere.
 fn sifted(alloc: Global, tuple: &Tuple) -> Result<Option<Tuple>, NoMemory>
     ensures { IfOk result (λ r. IsSiftedPart tuple.now r) }
 {

@@ -25,7 +25,8 @@ use std::hash::Hash;
 pub fn distinct<T: OfTuples>(alloc: Global, list: GenRel<T>) -> Result<GenRel<T>, NoMemory>
     ensures holds { IfOk result (λ r. (p : Point) → conjs_hold T.holds r p ≡ conjs_hold T.holds list p) }
     ensures once { IfOk result (λ r. AllPairs (λ c d. c ≢ d) r) }
-    ensures slots { IfOk result (λ r. (s : Slot) → conjs_mention T.mentions r s ≡ true → conjs_mention T.mentions list s ≡ true) }
+    ensures slots { IfOk result (λ r. (s : Slot) → conjs_mention T.mentions r s ≡ true
+        → conjs_mention T.mentions list s ≡ true) }
     ensures lines { IfOk result (λ r. IsSubset (conjs_lines T.lines r) (conjs_lines T.lines list)) }
 {
     T::equal_atoms();

@@ -1,15 +1,16 @@
 //! The default window of a picture.
 ghost use Rattle.std.specs.Prelude.{◌≡◌, ◌≤◌, ◌<◌, ◌^◌, ◌-◌, pos, ◌<ℤ◌};
-ghost use Rattle.ded_axes.specs.Around.{exponent, exponent_from, extent_of, frame_around, framed, margin, spans, usual_frame, widened};
+ghost use Rattle.ded_axes.specs.Around.{exponent, exponent_from, extent_of, frame_around, framed, margin, spans};
+ghost use Rattle.ded_axes.specs.Around.{usual_frame, widened};
 ghost use Rattle.ded_num.specs.Length.{IsWithin};
 
 use crate::power::power;
 use crate::span::{Reach, Reaches, greater, spans};
 use ded_polygon::{Corner, Window};
 
-/// The window around corners: a little more than all of them. A corner with a coordinate of 2 ^ 60 or more in size is left out; where
-/// none is left, the window goes from -10 to 10 both ways. Its denominator is a power of ten, at which the corners span 1000 units or
-/// more as far as that is possible with 9 digits behind the point.
+/// The window around corners: a little more than all of them. A corner with a coordinate of 2 ^ 60 or more in size is
+/// left out; where none is left, the window goes from -10 to 10 both ways. Its denominator is a power of ten, at which
+/// the corners span 1000 units or more as far as that is possible with 9 digits behind the point.
 pub fn window_around(corners: &[Corner]) -> Window
     ensures { result ≡ frame_around corners.now }
 {

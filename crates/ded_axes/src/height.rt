@@ -6,8 +6,8 @@ ghost use Rattle.ded_num.specs.Length.{IsWithin};
 
 use ded_polygon::Window;
 
-/// The height in units of a picture of this width, at which both axes have the same scale, to the nearest unit; but more than an eighth
-/// of the width, and at most four times the width.
+/// The height in units of a picture of this width, at which both axes have the same scale, to the nearest unit; but
+/// more than an eighth of the width, and at most four times the width.
 pub fn height_of(window: Window, width: u32) -> u32
     requires { width ≤ 10000 }
     ensures { result ≡ height_of window width }

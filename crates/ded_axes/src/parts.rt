@@ -6,7 +6,8 @@ ghost use Rattle.ded_num.specs.Length.{IsWithin};
 
 use ded_svg::Coordinate;
 
-/// The part `offset / extent` of a length in units; none of it where the offset is below 0, and all of it where it is above the extent.
+/// The part `offset / extent` of a length in units; none of it where the offset is below 0, and all of it where it is
+/// above the extent.
 pub fn portion(offset: i128, extent: i128, units: u32) -> Coordinate
     requires positive { pos 0 <ℤ extent }
     requires short { IsWithin 126 extent }

@@ -7,8 +7,8 @@ use crate::parts::portion;
 use ded_polygon::{Corner, Window};
 use ded_svg::{Coordinate, Point};
 
-/// Where a corner stands in a picture of the window with this width and height in units. Each coordinate is the nearest one in whole
-/// hundredths; a corner outside of the window stands on the border that is nearest to it.
+/// Where a corner stands in a picture of the window with this width and height in units. Each coordinate is the nearest
+/// one in whole hundredths; a corner outside of the window stands on the border that is nearest to it.
 pub fn place(window: Window, width: u32, height: u32, corner: Corner) -> Point
     ensures { result ≡ place window width height corner }
 {

@@ -1,6 +1,8 @@
 //! Windows that are read from texts.
 ghost use Rattle.std.specs.Prelude.{◌≡◌, ◌≤◌, ◌<◌, ◌^◌, ◌+◌, ◌-◌, ◌*◌, true, Some, None, IfSome, IfNone, MatchOption};
-ghost use Rattle.ded_axes.specs.WindowReading.{behind, decimal_at, digits_at, frame_of, frame_spelled, in_units, is_digit, item_at, magnitude_at, most_places, some_digits, whole_decimal};
+ghost use Rattle.ded_axes.specs.WindowReading.{behind, decimal_at, digits_at, frame_of, frame_spelled, in_units};
+ghost use Rattle.ded_axes.specs.WindowReading.{is_digit, item_at, magnitude_at, most_places, some_digits};
+ghost use Rattle.ded_axes.specs.WindowReading.{whole_decimal};
 ghost use Rattle.ded_num.specs.Length.{IsWithin};
 ghost use Rattle.ded_polygon.specs.Windows.{Frame, IsFrame};
 
@@ -13,10 +15,12 @@ const WHOLE: u32 = 18;
 /// The most digits behind it.
 const PLACES: u32 = 9;
 
-/// The window that a text spells: the left end, the lower, the right and the upper one, as decimals with commas between. Each is 1 to 18
-/// digits, maybe behind `-`, and maybe a point and 1 to 9 digits more. None where the text spells no window.
+/// The window that a text spells: the left end, the lower, the right and the upper one, as decimals with commas
+/// between. Each is 1 to 18 digits, maybe behind `-`, and maybe a point and 1 to 9 digits more. None where the text
+/// spells no window.
 pub fn window_of(text: &[u8]) -> Option<Window>
-    ensures { MatchOption result ((w : Frame) → IsFrame w → frame_spelled text.now ≡ Some w → ⊥) (λ w. frame_spelled text.now ≡ Some w) }
+    ensures { MatchOption result ((w : Frame) → IsFrame w → frame_spelled text.now ≡ Some w
+        → ⊥) (λ w. frame_spelled text.now ≡ Some w) }
 {
     let (left, left_places, rest) = item(text)?;
     let (bottom, bottom_places, rest) = item(rest)?;
@@ -41,7 +45,8 @@ fn window_from(
     requires bottom { IsWithin 90 bottom.0 × (bottom.1 ≤ 9) }
     requires right { IsWithin 90 right.0 × (right.1 ≤ 9) }
     requires top { IsWithin 90 top.0 × (top.1 ≤ 9) }
-    ensures { MatchOption result (IsFrame (frame_of left bottom right top) → ⊥) (λ w. w ≡ frame_of left bottom right top) }
+    ensures { MatchOption result (IsFrame (frame_of left bottom right top)
+        → ⊥) (λ w. w ≡ frame_of left bottom right top) }
 {
     let most = most_places(left.1, bottom.1, right.1, top.1);
     Window::new(
@@ -151,8 +156,8 @@ fn some_digits(most: u32, number: u128, text: &[u8]) -> Option<(u128, u32, &[u8]
     }
 }
 
-/// The digits that a text begins with, read behind `count` others that read as a number: what they read as all together, how many they
-/// are, at most so many, and what stands behind them.
+/// The digits that a text begins with, read behind `count` others that read as a number: what they read as all
+/// together, how many they are, at most so many, and what stands behind them.
 fn digits(most: u32, number: u128, count: u32, text: &[u8]) -> (u128, u32, &[u8])
     requires count { count ≤ most }
     requires short { (number + 1) * 10 ^ (most - count) ≤ 10 ^ 27 }

@@ -1,6 +1,8 @@
 //! What corners span, in whole units.
 ghost use Rattle.std.specs.Prelude.{◌≡◌, ◌<◌, ◌^◌, ◌*◌, true, pos, ◌<ℤ◌, ◌≤ℤ◌, ◌+ℤ◌, ◌-ℤ◌, unsigned_abs};
-ghost use Rattle.ded_axes.specs.Around.{ceiling, counts, extent, floor, greater, greatest, is_far, is_far_span, is_near, joined, joined_span, joined_with, least, length_of_span, reached, span_of, spans, spans_of};
+ghost use Rattle.ded_axes.specs.Around.{ceiling, counts, extent, floor, greater, greatest, is_far, is_far_span};
+ghost use Rattle.ded_axes.specs.Around.{is_near, joined, joined_span, joined_with, least, length_of_span, reached};
+ghost use Rattle.ded_axes.specs.Around.{span_of, spans, spans_of};
 ghost use Rattle.ded_num.specs.Length.{IsShort, IsWithin};
 
 use crate::number::product;

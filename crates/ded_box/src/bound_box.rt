@@ -106,7 +106,8 @@ pub fn cover(alloc: Global, a: &BoundBox, b: &BoundBox) -> Result<BoundBox, NoMe
     })
 }
 
-/// At each place the least interval that contains the intervals of both lists, as far as both lists go; none of them is empty.
+/// At each place the least interval that contains the intervals of both lists, as far as both lists go; none of them is
+/// empty.
 ///
 /// # Errors
 /// Out of memory.

@@ -1,5 +1,6 @@
 //! Catalogues.
-ghost use Rattle.std.specs.Prelude.{◌≡◌, ◌==◌, ◌≤◌, true, false, Some, None, [], length, is_some, IsOk, IfOk, IfErr, OnOk, OnErr};
+ghost use Rattle.std.specs.Prelude.{◌≡◌, ◌==◌, ◌≤◌, true, false, Some, None, [], length, is_some, IsOk, IfOk, IfErr};
+ghost use Rattle.std.specs.Prelude.{OnOk, OnErr};
 ghost use Rattle.std.specs.List.{list_any};
 
 mod names;
@@ -17,8 +18,8 @@ use ded_relation::{Relation, SharedRelation};
 use std::alloc::Global;
 use std::marker::Model;
 
-/// Relations and views in order of definition, and the limit of tuples of a relation. Contracts see the catalogue that it
-/// stands for.
+/// Relations and views in order of definition, and the limit of tuples of a relation. Contracts see the catalogue that
+/// it stands for.
 #[derive(Drop)]
 pub struct Catalogue {
     limit: u32,
@@ -97,7 +98,8 @@ impl Catalogue {
     pub fn define(&mut self, name: Name, heading: Heading) -> Result<(), NoMemory>
         requires new { IsNewName (known (catalogue_of self.old)) name }
         requires few { length heading ≤ 16 }
-        ensures ok { OnOk result (AddsEntry (catalogue_of self.old) (catalogue_of self.new) (relation name heading 0 [])) }
+        ensures ok { OnOk result (AddsEntry (catalogue_of self.old) (catalogue_of self.new)
+            (relation name heading 0 [])) }
         ensures err { OnErr result (catalogue_of self.new ≡ catalogue_of self.old) }
         ensures hashed { self.new.hashing ≡ self.old.hashing }
     {
@@ -112,7 +114,8 @@ impl Catalogue {
     pub fn define_at(&mut self, name: Name, heading: Heading, inserts: u32) -> Result<(), NoMemory>
         requires new { IsNewName (known (catalogue_of self.old)) name }
         requires few { length heading ≤ 16 }
-        ensures ok { OnOk result (AddsEntry (catalogue_of self.old) (catalogue_of self.new) (relation name heading inserts [])) }
+        ensures ok { OnOk result (AddsEntry (catalogue_of self.old) (catalogue_of self.new)
+            (relation name heading inserts [])) }
         ensures err { OnErr result (catalogue_of self.new ≡ catalogue_of self.old) }
         ensures hashed { self.new.hashing ≡ self.old.hashing }
     {
@@ -122,19 +125,20 @@ impl Catalogue {
         add(&mut self.names, name, stored)
     }
 
-    /// Inserts a tuple into the relation of the name, and gives the tuple's number. At most 32 of the reaches in the relation's index stand
-    /// in no tree then.
+    /// Inserts a tuple into the relation of the name, and gives the tuple's number. At most 32 of the reaches in the
+    /// relation's index stand in no tree then.
     ///
     /// # Errors
     /// `Full` exactly where the relation has as many tuples as the limit allows, else `Spent` exactly where it has
-    /// accepted 4,294,967,295 inserts, else `Memory`. A refused insert changes nothing, but after one that finds no memory any number of
-    /// the reaches may stand in no tree.
+    /// accepted 4,294,967,295 inserts, else `Memory`. A refused insert changes nothing, but after one that finds no
+    /// memory any number of the reaches may stand in no tree.
     pub fn insert(&mut self, name: &Name, t: Tuple) -> Result<u32, Refusal>
         requires relation { is_relation_with (known (catalogue_of self.old) name.now) ≡ true }
         requires over { IsTupleOver (columns_in (catalogue_of self.old) name.now) t }
         requires short { tuple_length t ≤ 63 }
         ensures ok { IfOk result (λ k. Inserts (catalogue_of self.old) (catalogue_of self.new) name.now t k) }
-        ensures settled { IfOk result (λ k. (r : Relation) → relation_at (lookup (bytes_eq name.now) self.new.names) ≡ Some r → r.reaches.loose ≤ 32) }
+        ensures settled { IfOk result (λ k. (r : Relation)
+            → relation_at (lookup (bytes_eq name.now) self.new.names) ≡ Some r → r.reaches.loose ≤ 32) }
         ensures room { IfOk result (λ k. insert_refusal (catalogue_of self.old) name.now ≡ None) }
         ensures cause { IfErr result (λ r. r ≡ unwrap_or (insert_refusal (catalogue_of self.old) name.now) Memory) }
         ensures err { OnErr result (catalogue_of self.new ≡ catalogue_of self.old) }
@@ -143,8 +147,8 @@ impl Catalogue {
         insert_into(&mut self.names, name, self.limit, t)
     }
 
-    /// Deletes the tuple of the number, which has to be there, from the relation of the name. It allocates only where another
-    /// catalogue shares the relation.
+    /// Deletes the tuple of the number, which has to be there, from the relation of the name. It allocates only where
+    /// another catalogue shares the relation.
     ///
     /// # Errors
     /// Out of memory; nothing is changed then.
@@ -157,9 +161,9 @@ impl Catalogue {
         delete_from(&mut self.names, name, number)
     }
 
-    /// Defines a view under a new name that no closure or interior has: its formula as written, and the goal of that. Each
-    /// sum of the formula has each name once, the two sides of each comparison are over one denominator, and no row of it
-    /// has a number above 2^63 - 1 in magnitude.
+    /// Defines a view under a new name that no closure or interior has: its formula as written, and the goal of that.
+    /// Each sum of the formula has each name once, the two sides of each comparison are over one denominator, and no
+    /// row of it has a number above 2^63 - 1 in magnitude.
     ///
     /// # Errors
     /// Out of memory; nothing is changed then.
@@ -176,7 +180,8 @@ impl Catalogue {
         requires plain { IsPlain (form f) }
         requires short { some_atom is_long_atom (form f) ≡ false }
         requires goal { goal_form g ≡ goal_of heading (form f) }
-        ensures ok { OnOk result (AddsEntry (catalogue_of self.old) (catalogue_of self.new) (view name heading (form f))) }
+        ensures ok { OnOk result (AddsEntry (catalogue_of self.old) (catalogue_of self.new)
+            (view name heading (form f))) }
         ensures err { OnErr result (catalogue_of self.new ≡ catalogue_of self.old) }
         ensures hashed { self.new.hashing ≡ self.old.hashing }
     {

@@ -94,7 +94,8 @@ pub(crate) fn with_inserted<'a>(
     mut list: Vec<Lent<'a>>,
     last: Option<&'a Tuple>,
 ) -> Result<Vec<Lent<'a>>, NoMemory>
-    ensures { IfOk result (λ ts. lent ts.items ≡ with_last (lent list.entry.items) (option_map (λ t. t.now) last.entry)) }
+    ensures { IfOk result (λ ts. lent ts.items ≡ with_last (lent list.entry.items)
+        (option_map (λ t. t.now) last.entry)) }
 {
     if let Some(tuple) = last {
         list.push(Lent::Plain(tuple))?;

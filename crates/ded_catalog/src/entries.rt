@@ -1,5 +1,6 @@
 //! What stands under each name, found by the name's hash, in order of definition.
-ghost use Rattle.std.specs.Prelude.{◌≡◌, ◌==◌, ◌-◌, ◌<◌, ◌^◌, ◌++◌, ◌∷◌, [], true, None, IfSome, IfOk, IfErr, OnOk, OnErr, length, map};
+ghost use Rattle.std.specs.Prelude.{◌≡◌, ◌==◌, ◌-◌, ◌<◌, ◌^◌, ◌++◌, ◌∷◌, [], true, None, IfSome, IfOk, IfErr, OnOk};
+ghost use Rattle.std.specs.Prelude.{OnErr, length, map};
 ghost use Rattle.std.specs.List.{list_any};
 ghost use Rattle.std.specs.Map.{lookup, remove_entry};
 ghost use Rattle.std.specs.Option.{option_map, unwrap_or};
@@ -28,8 +29,8 @@ pub(crate) struct Entry {
 /// Entries that are linked in order of definition.
 type Linked = LruCache<Name, Entry, NameHashing>;
 
-/// What stands under each name, in order of definition. Memory is allocated for the first name. Whatever is done with one
-/// name takes the same time, however many names there are.
+/// What stands under each name, in order of definition. Memory is allocated for the first name. Whatever is done with
+/// one name takes the same time, however many names there are.
 #[derive(Drop)]
 pub(crate) struct Entries {
     pub(crate) alloc: Global,
@@ -147,9 +148,12 @@ impl Entries {
     /// `Full` or `Spent` as [`Relation::refusal`](ded_relation::Relation::refusal) says, otherwise out of memory. The
     /// relation stays as it is then.
     pub(crate) fn insert(&mut self, name: &Name, limit: u32, tuple: Tuple) -> Result<u32, Refusal>
-        requires { Alters self.old.entries self.old.entries name.now (λ old new. AreUpTo old.inserts old.tuples.entries) }
-        ensures ok { IfOk result (λ k. Alters self.old.entries self.new.entries name.now (λ old new. Pushes old new tuple k × (refusal_of limit old ≡ None))) }
-        ensures err { IfErr result (λ r. Alters self.old.entries self.new.entries name.now (λ old new. IsSame old new × (r ≡ unwrap_or (refusal_of limit old) Memory))) }
+        requires { Alters self.old.entries self.old.entries name.now
+            (λ old new. AreUpTo old.inserts old.tuples.entries) }
+        ensures ok { IfOk result (λ k. Alters self.old.entries self.new.entries name.now
+            (λ old new. Pushes old new tuple k × (refusal_of limit old ≡ None))) }
+        ensures err { IfErr result (λ r. Alters self.old.entries self.new.entries name.now (λ old new. IsSame old new
+            × (r ≡ unwrap_or (refusal_of limit old) Memory))) }
         ensures hashed { self.new.hashing ≡ self.old.hashing }
     {
         match &mut self.linked {
@@ -163,9 +167,12 @@ impl Entries {
     /// # Errors
     /// Out of memory; nothing is changed then.
     pub(crate) fn delete(&mut self, name: &Name, number: u64) -> Result<(), NoMemory>
-        requires { Alters self.old.entries self.old.entries name.now (λ old new. AreUpTo old.inserts old.tuples.entries × (list_any (λ t. t.0 == number) old.tuples.entries ≡ true)) }
-        ensures ok { IfOk result (λ _. Alters self.old.entries self.new.entries name.now (λ old new. Removes old new number)) }
-        ensures err { IfErr result (λ _. Alters self.old.entries self.new.entries name.now (λ old new. IsSame old new)) }
+        requires { Alters self.old.entries self.old.entries name.now (λ old new. AreUpTo old.inserts old.tuples.entries
+            × (list_any (λ t. t.0 == number) old.tuples.entries ≡ true)) }
+        ensures ok { IfOk result (λ _. Alters self.old.entries self.new.entries name.now
+            (λ old new. Removes old new number)) }
+        ensures err { IfErr result (λ _. Alters self.old.entries self.new.entries name.now
+            (λ old new. IsSame old new)) }
         ensures hashed { self.new.hashing ≡ self.old.hashing }
     {
         match &mut self.linked {
@@ -301,9 +308,12 @@ fn lower_in(linked: &mut Linked, name: &Name)
 /// # Errors
 /// As [`Entries::insert`] says.
 fn insert_in(linked: &mut Linked, name: &Name, limit: u32, tuple: Tuple) -> Result<u32, Refusal>
-    requires { Alters linked.old.entries linked.old.entries name.now (λ old new. AreUpTo old.inserts old.tuples.entries) }
-    ensures ok { IfOk result (λ k. Alters linked.old.entries linked.new.entries name.now (λ old new. Pushes old new tuple k × (refusal_of limit old ≡ None))) }
-    ensures err { IfErr result (λ r. Alters linked.old.entries linked.new.entries name.now (λ old new. IsSame old new × (r ≡ unwrap_or (refusal_of limit old) Memory))) }
+    requires { Alters linked.old.entries linked.old.entries name.now
+        (λ old new. AreUpTo old.inserts old.tuples.entries) }
+    ensures ok { IfOk result (λ k. Alters linked.old.entries linked.new.entries name.now
+        (λ old new. Pushes old new tuple k × (refusal_of limit old ≡ None))) }
+    ensures err { IfErr result (λ r. Alters linked.old.entries linked.new.entries name.now (λ old new. IsSame old new
+        × (r ≡ unwrap_or (refusal_of limit old) Memory))) }
     ensures cap { linked.new.cap ≡ linked.old.cap }
 {
     match linked.peek_mut(name) {
@@ -317,9 +327,12 @@ fn insert_in(linked: &mut Linked, name: &Name, limit: u32, tuple: Tuple) -> Resu
 /// # Errors
 /// Out of memory; nothing is changed then.
 fn delete_in(linked: &mut Linked, name: &Name, number: u64) -> Result<(), NoMemory>
-    requires { Alters linked.old.entries linked.old.entries name.now (λ old new. AreUpTo old.inserts old.tuples.entries × (list_any (λ t. t.0 == number) old.tuples.entries ≡ true)) }
-    ensures ok { IfOk result (λ _. Alters linked.old.entries linked.new.entries name.now (λ old new. Removes old new number)) }
-    ensures err { IfErr result (λ _. Alters linked.old.entries linked.new.entries name.now (λ old new. IsSame old new)) }
+    requires { Alters linked.old.entries linked.old.entries name.now (λ old new. AreUpTo old.inserts old.tuples.entries
+        × (list_any (λ t. t.0 == number) old.tuples.entries ≡ true)) }
+    ensures ok { IfOk result (λ _. Alters linked.old.entries linked.new.entries name.now
+        (λ old new. Removes old new number)) }
+    ensures err { IfErr result (λ _. Alters linked.old.entries linked.new.entries name.now
+        (λ old new. IsSame old new)) }
     ensures cap { linked.new.cap ≡ linked.old.cap }
 {
     match linked.peek_mut(name) {

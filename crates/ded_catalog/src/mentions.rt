@@ -60,7 +60,8 @@ fn gather(names: &mut Names, formula: &Formula) -> Result<(), NoMemory>
 /// Out of memory.
 #[cycle(gathering)]
 fn gather_each(names: &mut Names, parts: &Vec<Formula>) -> Result<(), NoMemory>
-    ensures { OnOk result (Gathers (λ n. some_atom_of (atom_speaks_of n) (forms parts.now.items)) names.old.keys names.new.keys) }
+    ensures { OnOk result (Gathers (λ n. some_atom_of (atom_speaks_of n) (forms parts.now.items))
+        names.old.keys names.new.keys) }
 {
     for part in parts {
         gather(names, part)?;

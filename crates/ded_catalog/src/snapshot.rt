@@ -77,7 +77,8 @@ impl<'a> Snapshot<'a> {
         requires over { IsTupleOver (columns_in (catalogue_of catalogue.now) name.now) tuple.now }
         requires short { tuple_length tuple.now ≤ 63 }
         requires room { insert_refusal (catalogue_of catalogue.now) name.now ≡ None }
-        ensures { Inserts (catalogue_of catalogue.now) (snapshot_of result) name.now tuple.now (inserts_in (entry_of (catalogue_of catalogue.now).entries name.now) + 1) }
+        ensures { Inserts (catalogue_of catalogue.now) (snapshot_of result) name.now tuple.now
+            (inserts_in (entry_of (catalogue_of catalogue.now).entries name.now) + 1) }
     {
         catalogue.formed();
         Snapshot {
@@ -86,7 +87,8 @@ impl<'a> Snapshot<'a> {
         }
     }
 
-    /// The catalogue as a delete of the tuple of the number, which has to be there, from the relation of the name makes it.
+    /// The catalogue as a delete of the tuple of the number, which has to be there, from the relation of the name makes
+    /// it.
     pub fn without_tuple(catalogue: &'a Catalogue, name: &'a Name, number: u64) -> Snapshot<'a>
         requires { list_any (λ t. t.0 == number) (tuples_in (catalogue_of catalogue.now) name.now) ≡ true }
         ensures { Deletes (catalogue_of catalogue.now) (snapshot_of result) name.now number }
@@ -124,7 +126,8 @@ impl<'a> Snapshot<'a> {
 
     /// The goal of a view's formula. None exactly where the name is no view.
     pub fn goal(&self, name: &Name) -> Option<&Goal>
-        ensures { option_map (λ g. goal_form g.now) result ≡ option_map (λ v. goal_of v.0 v.1) (view_in (entry_of (snapshot_of self.now).entries name.now)) }
+        ensures { option_map (λ g. goal_form g.now) result
+            ≡ option_map (λ v. goal_of v.0 v.1) (view_in (entry_of (snapshot_of self.now).entries name.now)) }
     {
         let catalogue = self.catalogue;
         catalogue.goal(name)
@@ -138,9 +141,9 @@ impl<'a> Snapshot<'a> {
         catalogue.stored(name).is_some()
     }
 
-    /// The tuples of a relation that may hold in the window, in order of their numbers. All that hold somewhere in it are among
-    /// them. None exactly where the name is no relation. The steps are those of [`Catalogue::look_up`], and one more for the tuple that may
-    /// be inserted.
+    /// The tuples of a relation that may hold in the window, in order of their numbers. All that hold somewhere in it
+    /// are among them. None exactly where the name is no relation. The steps are those of [`Catalogue::look_up`], and
+    /// one more for the tuple that may be inserted.
     ///
     /// # Errors
     /// Out of memory.
@@ -151,7 +154,8 @@ impl<'a> Snapshot<'a> {
         window: &Window,
         steps: &mut Steps<L>,
     ) -> Result<Option<Vec<Lent<'_>>>, NoMemory>
-        ensures found { IfOk result (λ found. AreLent window.now (option_map (λ v. lent v.items) found) (option_map tuples_of (relation_in (entry_of (snapshot_of self.now).entries name.now)))) }
+        ensures found { IfOk result (λ found. AreLent window.now (option_map (λ v. lent v.items) found)
+            (option_map tuples_of (relation_in (entry_of (snapshot_of self.now).entries name.now)))) }
         ensures steps { AreSnapshotSteps self.now name.now window.now steps.old steps.new }
         ensures read { IfOk result (λ found. IfSome found (λ ts. steps.old + length ts.items ≤ steps.new)) }
     {
@@ -170,7 +174,8 @@ impl<'a> Snapshot<'a> {
     /// # Errors
     /// Out of memory.
     pub fn all(&self, alloc: Global, name: &Name) -> Result<Option<Vec<Lent<'_>>>, NoMemory>
-        ensures { IfOk result (λ list. option_map (λ v. lent v.items) list ≡ option_map tuples_of (relation_in (entry_of (snapshot_of self.now).entries name.now))) }
+        ensures { IfOk result (λ list. option_map (λ v. lent v.items) list
+            ≡ option_map tuples_of (relation_in (entry_of (snapshot_of self.now).entries name.now))) }
     {
         let catalogue = self.catalogue;
         let Some(tuples) = catalogue.stored(name) else {

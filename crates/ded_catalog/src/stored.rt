@@ -13,8 +13,8 @@ use ded_model::tuple::Tuple;
 use ded_relation::SharedRelation;
 use std::alloc::AllocError;
 
-/// A view: its heading, its formula as written, the goal of that, its level, and the names that the formula speaks of, each
-/// once.
+/// A view: its heading, its formula as written, the goal of that, its level, and the names that the formula speaks of,
+/// each once.
 #[derive(Drop)]
 pub(crate) struct View {
     pub(crate) heading: Heading,
@@ -38,11 +38,14 @@ impl Stored {
     /// Inserts a tuple into the relation, and gives the tuple's number.
     ///
     /// # Errors
-    /// `Full` or `Spent` as [`Relation::refusal`](ded_relation::Relation::refusal) says, otherwise out of memory. All but the index is as it was then.
+    /// `Full` or `Spent` as [`Relation::refusal`](ded_relation::Relation::refusal) says, otherwise out of memory. All
+    /// but the index is as it was then.
     pub(crate) fn insert(&mut self, limit: u32, tuple: Tuple) -> Result<u32, Refusal>
         requires { AreRelations self.old self.old (λ old new. AreUpTo old.inserts old.tuples.entries) }
-        ensures ok { IfOk result (λ k. AreRelations self.old self.new (λ old new. Pushes old new tuple k × (refusal_of limit old ≡ None))) }
-        ensures err { IfErr result (λ r. AreRelations self.old self.new (λ old new. IsSame old new × (r ≡ unwrap_or (refusal_of limit old) Memory))) }
+        ensures ok { IfOk result (λ k. AreRelations self.old self.new (λ old new. Pushes old new tuple k
+            × (refusal_of limit old ≡ None))) }
+        ensures err { IfErr result (λ r. AreRelations self.old self.new (λ old new. IsSame old new
+            × (r ≡ unwrap_or (refusal_of limit old) Memory))) }
     {
         match self {
             Stored::Relation(relation) => relation.push(limit, tuple),
@@ -55,7 +58,8 @@ impl Stored {
     /// # Errors
     /// Out of memory; all but the index is as it was then.
     pub(crate) fn delete(&mut self, number: u64) -> Result<(), NoMemory>
-        requires { AreRelations self.old self.old (λ old new. AreUpTo old.inserts old.tuples.entries × (list_any (λ t. t.0 == number) old.tuples.entries ≡ true)) }
+        requires { AreRelations self.old self.old (λ old new. AreUpTo old.inserts old.tuples.entries
+            × (list_any (λ t. t.0 == number) old.tuples.entries ≡ true)) }
         ensures ok { IfOk result (λ _. AreRelations self.old self.new (λ old new. Removes old new number)) }
         ensures err { IfErr result (λ _. AreRelations self.old self.new (λ old new. IsSame old new)) }
     {

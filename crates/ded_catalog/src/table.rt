@@ -1,5 +1,6 @@
 //! The table of names.
-ghost use Rattle.std.specs.Prelude.{◌≡◌, ◌==◌, ◌++◌, ◌∷◌, [], true, false, None, map, max, IfSome, OnOk, OnErr, IfOk, IfErr};
+ghost use Rattle.std.specs.Prelude.{◌≡◌, ◌==◌, ◌++◌, ◌∷◌, [], true, false, None, map, max, IfSome, OnOk, OnErr, IfOk};
+ghost use Rattle.std.specs.Prelude.{IfErr};
 ghost use Rattle.std.specs.List.{list_any};
 ghost use Rattle.std.specs.Map.{lookup, remove_entry};
 ghost use Rattle.std.specs.Option.{option_map, unwrap_or};
@@ -13,7 +14,8 @@ ghost use Rattle.ded_relation.specs.Hashing.{keyed};
 ghost use Rattle.ded_catalog.specs.Changed.{ChangesRelation};
 ghost use Rattle.ded_catalog.specs.Copies.{AreCopies};
 ghost use Rattle.ded_catalog.specs.Mentions.{AreMentions};
-ghost use Rattle.ded_catalog.specs.State.{known_with, relation_at, view_at, heading_at, level_at, stored_uses, atom_level_in};
+ghost use Rattle.ded_catalog.specs.State.{known_with, relation_at, view_at, heading_at, level_at, stored_uses};
+ghost use Rattle.ded_catalog.specs.State.{atom_level_in};
 ghost use Rattle.ded_relation.specs.Tuples.{AreUpTo, refusal_of, IsSame, Pushes, Removes};
 ghost use Rattle.ded_catalog.specs.Users.{HasMentions};
 
@@ -31,8 +33,8 @@ use ded_sorts::Known;
 use std::alloc::{AllocError, Global};
 use std::marker::Model;
 
-/// What stands under each name, in order of definition, with the number of the views that speak of the name. Contracts see
-/// all but the numbers, and how names are hashed.
+/// What stands under each name, in order of definition, with the number of the views that speak of the name. Contracts
+/// see all but the numbers, and how names are hashed.
 #[derive(Drop)]
 pub(crate) struct Table {
     entries: Entries,
@@ -186,9 +188,12 @@ pub(crate) fn insert_into(
     limit: u32,
     tuple: Tuple,
 ) -> Result<u32, Refusal>
-    requires { ChangesRelation table.old.entries table.old.entries name.now (λ old new. AreUpTo old.inserts old.tuples.entries) }
-    ensures ok { IfOk result (λ k. ChangesRelation table.old.entries table.new.entries name.now (λ old new. Pushes old new tuple k × (refusal_of limit old ≡ None))) }
-    ensures err { IfErr result (λ r. ChangesRelation table.old.entries table.new.entries name.now (λ old new. IsSame old new × (r ≡ unwrap_or (refusal_of limit old) Memory))) }
+    requires { ChangesRelation table.old.entries table.old.entries name.now
+        (λ old new. AreUpTo old.inserts old.tuples.entries) }
+    ensures ok { IfOk result (λ k. ChangesRelation table.old.entries table.new.entries name.now
+        (λ old new. Pushes old new tuple k × (refusal_of limit old ≡ None))) }
+    ensures err { IfErr result (λ r. ChangesRelation table.old.entries table.new.entries name.now
+        (λ old new. IsSame old new × (r ≡ unwrap_or (refusal_of limit old) Memory))) }
     ensures hashed { table.new.hashing ≡ table.old.hashing }
 {
     table.entries.insert(name, limit, tuple)
@@ -199,9 +204,13 @@ pub(crate) fn insert_into(
 /// # Errors
 /// Out of memory; nothing is changed then.
 pub(crate) fn delete_from(table: &mut Table, name: &Name, number: u64) -> Result<(), NoMemory>
-    requires { ChangesRelation table.old.entries table.old.entries name.now (λ old new. AreUpTo old.inserts old.tuples.entries × (list_any (λ t. t.0 == number) old.tuples.entries ≡ true)) }
-    ensures ok { IfOk result (λ _. ChangesRelation table.old.entries table.new.entries name.now (λ old new. Removes old new number)) }
-    ensures err { IfErr result (λ _. ChangesRelation table.old.entries table.new.entries name.now (λ old new. IsSame old new)) }
+    requires { ChangesRelation table.old.entries table.old.entries name.now
+        (λ old new. AreUpTo old.inserts old.tuples.entries
+        × (list_any (λ t. t.0 == number) old.tuples.entries ≡ true)) }
+    ensures ok { IfOk result (λ _. ChangesRelation table.old.entries table.new.entries name.now
+        (λ old new. Removes old new number)) }
+    ensures err { IfErr result (λ _. ChangesRelation table.old.entries table.new.entries name.now
+        (λ old new. IsSame old new)) }
     ensures hashed { table.new.hashing ≡ table.old.hashing }
 {
     table.entries.delete(name, number)
@@ -220,7 +229,8 @@ pub(crate) fn take_out(table: &mut Table, name: &Name)
 
 /// Whether the formula of a view speaks of the name. None does where the name isn't defined.
 pub(crate) fn some_uses(table: &Table, name: &Name) -> bool
-    requires { lookup (bytes_eq name.now) table.now.entries ≡ None → list_any (stored_uses name.now) (map (λ e. e.1) table.now.entries) ≡ false }
+    requires { lookup (bytes_eq name.now) table.now.entries ≡ None
+        → list_any (stored_uses name.now) (map (λ e. e.1) table.now.entries) ≡ false }
     ensures { result ≡ list_any (stored_uses name.now) (map (λ e. e.1) table.now.entries) }
 {
     match table.entries.get(name) {

@@ -1,7 +1,8 @@
 //! Values as decimals.
 ghost use Rattle.std.specs.Prelude.{◌≡◌, ◌+◌, ◌<◌, ◌≤◌, ◌++◌, true, unsigned_abs, OnOk};
 ghost use Rattle.ded_print.specs.Numbers.{number_text};
-ghost use Rattle.ded_cells.specs.Decimals.{behind_text, decimal_text, digits_behind, has_decimal, magnitude_text, sign_text, value_text};
+ghost use Rattle.ded_cells.specs.Decimals.{behind_text, decimal_text, digits_behind, has_decimal, magnitude_text};
+ghost use Rattle.ded_cells.specs.Decimals.{sign_text, value_text};
 
 use ded_dump::Text;
 use ded_model::bound::Frac;
@@ -9,8 +10,8 @@ use ded_model::memory::NoMemory;
 use ded_num::{gcd, quotient};
 use itoa::Buffer;
 
-/// The least common denominator of the decimals with at most 9 digits behind the point: a value over a denominator that doesn't divide
-/// it has no such decimal.
+/// The least common denominator of the decimals with at most 9 digits behind the point: a value over a denominator that
+/// doesn't divide it has no such decimal.
 const DECIMALS_DENOMINATOR: u128 = 1_000_000_000;
 
 /// The most digits behind the point.

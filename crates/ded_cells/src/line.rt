@@ -1,7 +1,8 @@
 //! The line of a tuple.
 ghost use Rattle.std.specs.Prelude.{◌≡◌, ◌++◌, OnOk};
 ghost use Rattle.ded_print.specs.Tuples.{column_at};
-ghost use Rattle.ded_cells.specs.Lines.{bounded_cell, cell_text, cells_text, has_free, has_two_free, is_fixed, is_one, is_tie, is_told, tie_text, ties_text, told_text, tuple_text};
+ghost use Rattle.ded_cells.specs.Lines.{bounded_cell, cell_text, cells_text, has_free, has_two_free, is_fixed, is_one};
+ghost use Rattle.ded_cells.specs.Lines.{is_tie, is_told, tie_text, ties_text, told_text, tuple_text};
 
 use crate::extent::{Extent, span_at};
 use crate::span::{put_span, value_in};
@@ -220,7 +221,8 @@ fn put_pair(
     sign: &[u8],
     right: u32,
 ) -> Result<(), NoMemory>
-    ensures { OnOk result (text.new ≡ text.old ++ (column_at heading.now left ++ (sign.now ++ column_at heading.now right))) }
+    ensures { OnOk result (text.new ≡ text.old ++ (column_at heading.now left
+        ++ (sign.now ++ column_at heading.now right))) }
 {
     text.put(column_name(&heading.columns, left))?;
     text.put(sign)?;

@@ -50,7 +50,8 @@ fn put_one(text: &mut Text, name: &Name, value: Frac) -> Result<(), NoMemory>
 
 /// Puts between which bounds a column is.
 fn put_interval(text: &mut Text, name: &Name, span: (Bound, Bound)) -> Result<(), NoMemory>
-    ensures { OnOk result (text.new ≡ text.old ++ (name.now ++ (codes " in " ++ (lower_text span.0 ++ (codes ", " ++ upper_text span.1))))) }
+    ensures { OnOk result (text.new ≡ text.old ++ (name.now
+        ++ (codes " in " ++ (lower_text span.0 ++ (codes ", " ++ upper_text span.1))))) }
 {
     text.put_name(name)?;
     text.put(b" in ")?;

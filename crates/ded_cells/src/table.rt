@@ -4,7 +4,8 @@ ghost use Rattle.std.specs.List.{AllByRecursion};
 ghost use Rattle.ded_model.specs.Known.{IsTupleOver};
 ghost use Rattle.ded_model.specs.Catalogue.{tuples_of};
 ghost use Rattle.ded_print.specs.Plans.{sort_text};
-ghost use Rattle.ded_cells.specs.Tables.{IsAnswerLine, IsAnswerTable, IsStoredLine, IsStoredTable, IsTupleLine, titles_text};
+ghost use Rattle.ded_cells.specs.Tables.{IsAnswerLine, IsAnswerTable, IsStoredLine, IsStoredTable, IsTupleLine};
+ghost use Rattle.ded_cells.specs.Tables.{titles_text};
 ghost use Rattle.ded_cells.specs.Writing.{WritesLine, WritesLines};
 
 use crate::decimal::put_number;

@@ -1,7 +1,8 @@
 //! Cells of text columns.
 ghost use Rattle.std.specs.Prelude.{◌≡◌, ◌++◌, [], IfOk, OnOk};
 ghost use Rattle.std.specs.List.{list_any};
-ghost use Rattle.ded_cells.specs.Lines.{condition_after, condition_text, conditions_text, is_about, next_lead, texts_cell};
+ghost use Rattle.ded_cells.specs.Lines.{condition_after, condition_text, conditions_text, is_about, next_lead};
+ghost use Rattle.ded_cells.specs.Lines.{texts_cell};
 
 use ded_dump::Text;
 use ded_model::memory::NoMemory;
@@ -58,7 +59,8 @@ fn put_conditions(text: &mut Text, name: &Name, number: u32, atoms: &[Atom]) -> 
     Ok(())
 }
 
-/// Puts the condition that the atom is on the column after `lead`, where it is one. Returns what stands before the next one.
+/// Puts the condition that the atom is on the column after `lead`, where it is one. Returns what stands before the next
+/// one.
 fn put_condition_after<'a>(
     text: &mut Text,
     name: &Name,

@@ -25,12 +25,12 @@ pub enum Outcome {
     Apart(Proof),
 }
 
-/// Whether the tuples have a common point, or else a certificate that they have none, of which the magnitudes of the numbers sum to
-/// at most 2^63 - 1.
+/// Whether the tuples have a common point, or else a certificate that they have none, of which the magnitudes of the
+/// numbers sum to at most 2^63 - 1.
 ///
 /// # Errors
-/// `Wide` only where, with b the greatest length of their numbers and at least 1, and k the count of rational slots that they mention,
-/// (b + 1) * 2^(k + 1) is above 128; otherwise out of memory, or of slots, of which there are 2^32.
+/// `Wide` only where, with b the greatest length of their numbers and at least 1, and k the count of rational slots
+/// that they mention, (b + 1) * 2^(k + 1) is above 128; otherwise out of memory, or of slots, of which there are 2^32.
 pub fn certify(alloc: Global, first: &Tuple, second: &Tuple) -> Result<Outcome, Refused>
     ensures is { IfOk result (λ o. IsCertified first.now second.now o) }
     ensures wide { IsErrOf result Wide → IsWidePair first.now second.now }

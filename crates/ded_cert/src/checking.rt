@@ -23,8 +23,8 @@ use std::alloc::Global;
 /// Whether the proof shows that the tuples have no common point.
 ///
 /// # Errors
-/// `Wide` only where the proof has as many numbers as the tuples have rows, of the right signs, and a product, or a sum on the way, has
-/// more than 127 binary digits; otherwise out of memory.
+/// `Wide` only where the proof has as many numbers as the tuples have rows, of the right signs, and a product, or a sum
+/// on the way, has more than 127 binary digits; otherwise out of memory.
 pub fn check(alloc: Global, first: &Tuple, second: &Tuple, proof: &Proof) -> Result<bool, Refused>
     ensures is { IfOk result (λ b. IsTrue b ↔ Checks first.now second.now proof.now) }
     ensures wide { IsErrOf result Wide → IsTooLong first.now second.now proof.now }
@@ -39,8 +39,10 @@ pub fn check(alloc: Global, first: &Tuple, second: &Tuple, proof: &Proof) -> Res
 
 /// Whether no texts fit both tuples.
 pub(crate) fn texts_refute(alloc: Global, first: &Tuple, second: &Tuple) -> Result<bool, NoMemory>
-    ensures is { IfOk result (λ b. IsTrue b ↔ HoldsNowhere (conj_holds theme_holds (seconds (first.now ++ second.now)))) }
-    ensures somewhere { IfOk result (λ b. b ≡ false → HoldsSomewhere (conj_holds theme_holds (seconds (first.now ++ second.now)))) }
+    ensures is { IfOk result (λ b. IsTrue b ↔ HoldsNowhere
+        (conj_holds theme_holds (seconds (first.now ++ second.now)))) }
+    ensures somewhere { IfOk result (λ b. b ≡ false
+        → HoldsSomewhere (conj_holds theme_holds (seconds (first.now ++ second.now)))) }
 {
     match Theme::refute(alloc, &texts_of(alloc, first, second)?)? {
         Verdict::Empty => Ok(true),

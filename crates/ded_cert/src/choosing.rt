@@ -20,8 +20,8 @@ use ded_model::row::Row;
 use ded_theory::{Theory, Verdict};
 use std::alloc::Global;
 
-/// Numbers of which the sum of the rows, each times its number, is false, for rows that hold nowhere together: 0 for each row but
-/// for some that do so already, and without any one of which the others are not known to.
+/// Numbers of which the sum of the rows, each times its number, is false, for rows that hold nowhere together: 0 for
+/// each row but for some that do so already, and without any one of which the others are not known to.
 ///
 /// # Errors
 /// As [`refutation`].
@@ -38,7 +38,8 @@ pub(crate) fn short_refutation(alloc: Global, rows: &[&Row]) -> Result<Multiplie
     Ok(spread(alloc, &flags, &numbers)?)
 }
 
-/// A choice of rows that hold nowhere together, as the rows do. Each row is left out in turn, if the others are known to do so.
+/// A choice of rows that hold nowhere together, as the rows do. Each row is left out in turn, if the others are known
+/// to do so.
 fn needed(alloc: Global, rows: &[&Row]) -> Result<Vec<bool>, NoMemory>
     requires normal { AllByRecursion IsLinearAtom (lent rows.now) }
     requires nowhere { HoldsNowhere (conj_holds row_holds (lent rows.now)) }
@@ -145,7 +146,8 @@ struct Next<'a> {
 /// The next number of the list where it is that of a chosen row, and otherwise 0.
 fn next_number<'a>(flag: bool, numbers: &'a [i128]) -> Next<'a>
     ensures spread { (fs : List Bool) → spread (flag ∷ fs) numbers.now ≡ result.number ∷ spread fs result.rest.now }
-    ensures short { AllByRecursion IsShort numbers.now → IsShort result.number × AllByRecursion IsShort result.rest.now }
+    ensures short { AllByRecursion IsShort numbers.now
+        → IsShort result.number × AllByRecursion IsShort result.rest.now }
 {
     match numbers {
         [number, rest @ ..] if flag => Next {

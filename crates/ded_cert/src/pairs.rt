@@ -21,8 +21,9 @@ pub enum Disjointness {
     Meet(u32, u32),
 }
 
-/// Certificates that the two relations, given by their tuples under their numbers, have no common point, or the numbers of the first
-/// pair of tuples that has one. Pairs are ordered by the number in the first relation, and then by that in the second.
+/// Certificates that the two relations, given by their tuples under their numbers, have no common point, or the numbers
+/// of the first pair of tuples that has one. Pairs are ordered by the number in the first relation, and then by that in
+/// the second.
 ///
 /// # Errors
 /// `Wide` only where some pair is wide, otherwise out of memory.
@@ -44,8 +45,8 @@ pub fn certify_all(
     Ok(Disjointness::Apart(entries))
 }
 
-/// Adds a certificate for the tuple with each of the relation, up to the first one with which it has a common point, whose number
-/// it gives.
+/// Adds a certificate for the tuple with each of the relation, up to the first one with which it has a common point,
+/// whose number it gives.
 fn add_entries(
     alloc: Global,
     entries: &mut Vec<Entry>,

@@ -1,9 +1,10 @@
 //! Multipliers for rows that hold nowhere together, after Farkas.
 //!
-//! Rows with tags are eliminated slot after slot until they have none of the rows' own slots. What is left holds where the tags and
-//! the total are 0 and the slack is positive only where the rows themselves hold. So where these hold nowhere, a row that is left is
-//! false there, and the coefficients of its tags are the multipliers.
-ghost use Rattle.std.specs.Prelude.{◌≡◌, ◌+◌, ◌≤◌, ◌<◌, ◌^◌, ℕ, pos, ◌-ℤ◌, ◌≤ℤ◌, true, false, IfOk, IsErrOf, MatchOption};
+//! Rows with tags are eliminated slot after slot until they have none of the rows' own slots. What is left holds where
+//! the tags and the total are 0 and the slack is positive only where the rows themselves hold. So where these hold
+//! nowhere, a row that is left is false there, and the coefficients of its tags are the multipliers.
+ghost use Rattle.std.specs.Prelude.{◌≡◌, ◌+◌, ◌≤◌, ◌<◌, ◌^◌, ℕ, pos, ◌-ℤ◌, ◌≤ℤ◌, true, false, IfOk, IsErrOf};
+ghost use Rattle.std.specs.Prelude.{MatchOption};
 ghost use Rattle.std.specs.List.{AllByRecursion};
 ghost use Rattle.ded_model.specs.declared.memory.Refused.TheVariants.{Wide};
 ghost use Rattle.ded_num.specs.Length.{IsShort};
@@ -31,8 +32,8 @@ const MOST_SLOTS: usize = 5;
 /// Numbers of which the sum of the rows, each times its number, is false, for rows that hold nowhere together.
 ///
 /// # Errors
-/// `Wide` only where eliminating all slots of the rows, and one more, may make numbers of more than 127 binary digits; otherwise out
-/// of memory, or of slots, of which there are 2^32.
+/// `Wide` only where eliminating all slots of the rows, and one more, may make numbers of more than 127 binary digits;
+/// otherwise out of memory, or of slots, of which there are 2^32.
 pub(crate) fn refutation(alloc: Global, rows: &[&Row]) -> Result<Multipliers, Refused>
     requires normal { AllByRecursion IsLinearAtom (lent rows.now) }
     requires nowhere { HoldsNowhere (conj_holds row_holds (lent rows.now)) }
@@ -60,7 +61,8 @@ pub(crate) fn refutation(alloc: Global, rows: &[&Row]) -> Result<Multipliers, Re
 /// The first of the rows that is false where all tags are 0 and the slack is positive, however little.
 fn find_refuting(rows: &[Row], first: u32) -> Option<&Row>
     requires { first < 2 ^ 31 }
-    ensures { MatchOption result (AllByRecursion (λ r. is_refuting first r ≡ false) rows.now) (λ r. In r.now rows.now × (is_refuting first r.now ≡ true)) }
+    ensures { MatchOption result (AllByRecursion (λ r. is_refuting first r ≡ false) rows.now) (λ r. In r.now rows.now
+        × (is_refuting first r.now ≡ true)) }
 {
     for row in rows {
         if is_refuting(row, first) {

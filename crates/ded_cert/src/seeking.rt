@@ -24,7 +24,8 @@ pub(crate) enum Sought {
     Nothing,
 }
 
-/// Looks for a point at which the rows hold, or for numbers that refute them and of which the magnitudes sum to at most 2^63 - 1.
+/// Looks for a point at which the rows hold, or for numbers that refute them and of which the magnitudes sum to at most
+/// 2^63 - 1.
 ///
 /// # Errors
 /// Out of memory.

@@ -1,14 +1,15 @@
 //! Rows with tags, by which a sum of multiples of them tells the multipliers.
 //!
-//! Each row by `<=` or `<` gets a slot of its own, its tag, with the coefficient 1, and an equality becomes two such rows, one in
-//! each direction. All of them have the total, a slot more, and those by `<` the slack. They are all compared by `<=`: a row by `<`
-//! holds where its sum and some positive slack are at most 0.
+//! Each row by `<=` or `<` gets a slot of its own, its tag, with the coefficient 1, and an equality becomes two such
+//! rows, one in each direction. All of them have the total, a slot more, and those by `<` the slack. They are all
+//! compared by `<=`: a row by `<` holds where its sum and some positive slack are at most 0.
 ghost use Rattle.std.specs.Prelude.{◌≡◌, ◌+◌, ◌≤◌, ◌<◌, ◌++◌, ◌^◌, length, IfOk, OnOk, MatchOption};
 ghost use Rattle.ded_num.specs.Length.{IsShort};
 ghost use Rattle.ded_model.specs.Coefs.{AllBelow};
 ghost use Rattle.ded_model.specs.Normal.{normal_row};
 ghost use Rattle.ded_weighing.specs.Columns.{lent};
-ghost use Rattle.ded_cert.specs.Tracing.{tag, slack_of, tagged, turned_coefs, forward, backward, traces_by, traces, AreBelow};
+ghost use Rattle.ded_cert.specs.Tracing.{tag, slack_of, tagged, turned_coefs, forward, backward, traces_by, traces};
+ghost use Rattle.ded_cert.specs.Tracing.{AreBelow};
 
 use ded_model::memory::NoMemory;
 use ded_model::row::{Coefs, Row, RowOp};
@@ -28,7 +29,8 @@ pub(crate) fn tag(number: u32) -> Slot
 
 /// A number above those of all slots of the rows, with room behind it for two slots of each row and two more.
 pub(crate) fn first_free(rows: &[&Row]) -> Option<u32>
-    ensures { MatchOption result (Unit {0}) (λ b. AreBelow b (lent rows.now) × (b < 2 ^ 31) × (length rows.now < 2 ^ 30)) }
+    ensures { MatchOption result (Unit {0}) (λ b. AreBelow b (lent rows.now) × (b < 2 ^ 31)
+        × (length rows.now < 2 ^ 30)) }
 {
     let mut least = 0;
     for row in rows {
@@ -41,7 +43,8 @@ pub(crate) fn first_free(rows: &[&Row]) -> Option<u32>
     }
 }
 
-/// The least number from this one on that is above those of all slots of the coefficients, or 2^32 - 1 where that is less.
+/// The least number from this one on that is above those of all slots of the coefficients, or 2^32 - 1 where that is
+/// less.
 fn above(coefs: &[(Slot, i128)], least: u32) -> u32
     ensures least { least ≤ result }
     ensures above { result < 2 ^ 31 → AllBelow result coefs.now }

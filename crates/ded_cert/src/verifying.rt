@@ -13,8 +13,8 @@ use ded_packed::Packed;
 use std::alloc::Global;
 use std::collections::BTreeMap;
 
-/// Whether for each pair of tuples of the two relations, given by their tuples under their numbers, the first entry with its numbers
-/// shows that it has no common point. Other entries don't matter.
+/// Whether for each pair of tuples of the two relations, given by their tuples under their numbers, the first entry
+/// with its numbers shows that it has no common point. Other entries don't matter.
 ///
 /// # Errors
 /// `Wide` only where in the check of the first entry of some pair a number is too long, otherwise out of memory.
@@ -24,8 +24,10 @@ pub fn verify_all(
     second: &BTreeMap<u32, Packed>,
     entries: &[Entry],
 ) -> Result<bool, Refused>
-    ensures is { IfOk result (λ b. IsTrue b ↔ AllByRecursion (IsVerified entries.now) (pairs_of first.now.entries second.now.entries)) }
-    ensures wide { IsErrOf result Wide → SomePair (IsLongCheck entries.now) (pairs_of first.now.entries second.now.entries) }
+    ensures is { IfOk result (λ b. IsTrue b ↔ AllByRecursion (IsVerified entries.now)
+        (pairs_of first.now.entries second.now.entries)) }
+    ensures wide { IsErrOf result Wide → SomePair (IsLongCheck entries.now)
+        (pairs_of first.now.entries second.now.entries) }
 {
     for (number, packed) in first {
         let tuple = packed.unpack(alloc)?;
@@ -44,8 +46,10 @@ fn are_verified(
     second: &BTreeMap<u32, Packed>,
     entries: &[Entry],
 ) -> Result<bool, Refused>
-    ensures is { IfOk result (λ b. IsTrue b ↔ AllByRecursion (IsVerified entries.now) (pairs_with (number, tuple.now) second.now.entries)) }
-    ensures wide { IsErrOf result Wide → SomePair (IsLongCheck entries.now) (pairs_with (number, tuple.now) second.now.entries) }
+    ensures is { IfOk result (λ b. IsTrue b ↔ AllByRecursion (IsVerified entries.now)
+        (pairs_with (number, tuple.now) second.now.entries)) }
+    ensures wide { IsErrOf result Wide → SomePair (IsLongCheck entries.now)
+        (pairs_with (number, tuple.now) second.now.entries) }
 {
     for (other, packed) in second {
         let Some(entry) = entry_for(entries, u64::from(number), u64::from(*other)) else {

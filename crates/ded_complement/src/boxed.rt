@@ -14,11 +14,12 @@ use ded_model::slot::{Slot, Sort};
 use ded_theory::{Span, Theory};
 use std::alloc::Global;
 
-/// From how many conjunctions on a list gets boxes, as one of fewer isn't worth them. The first so many are asked which slots they
-/// bound, and no more.
+/// From how many conjunctions on a list gets boxes, as one of fewer isn't worth them. The first so many are asked which
+/// slots they bound, and no more.
 const BOXED_FROM: usize = 8;
 
-/// Slots of higher numbers get no intervals. The columns of a relation and the variables of a formula are numbered from 0 on.
+/// Slots of higher numbers get no intervals. The columns of a relation and the variables of a formula are numbered from
+/// 0 on.
 const SLOTS: u32 = 8;
 
 /// A conjunction, and a box around it on some slots.

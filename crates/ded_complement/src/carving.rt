@@ -19,15 +19,15 @@ use ded_model::tuple::Negated;
 use ded_theory::{Theory, Verdict};
 use std::alloc::Global;
 
-/// Above how many conjunctions near a part it is cut in halves, so that each is carved by those near it alone: so many or fewer are
-/// taken away one after another, without a look for halves.
+/// Above how many conjunctions near a part it is cut in halves, so that each is carved by those near it alone: so many
+/// or fewer are taken away one after another, without a look for halves.
 const CUT_IN_HALVES_ABOVE: usize = 6;
 
 /// How often a part is cut in two, then a half of it, and so on, at most.
 pub(crate) const DEEPEST: usize = 64;
 
-/// Sets pieces of what satisfies the part's piece and is outside of the list at the end. Where many conjunctions are near, each
-/// half is carved by those near it.
+/// Sets pieces of what satisfies the part's piece and is outside of the list at the end. Where many conjunctions are
+/// near, each half is carved by those near it.
 ///
 /// # Errors
 /// Out of memory.
@@ -41,7 +41,8 @@ pub(crate) fn carve<T: Theory>(
     requires rational { AreRational slots.now }
     requires boxed { AreBoxed T.holds T.normal slots.now taken.now }
     requires part { IsPart T.holds T.normal slots.now taken.now part }
-    ensures { IfOk result (λ _. AreCarved T.holds T.mentions T.lines T.cell taken.now part.piece.conj.items out.old out.new) }
+    ensures { IfOk result (λ _. AreCarved T.holds T.mentions T.lines T.cell taken.now
+        part.piece.conj.items out.old out.new) }
 {
     if depth == 0 || part.near.len() <= CUT_IN_HALVES_ABOVE {
         return carve_in_turn::<T>(out, part, taken, slots);
@@ -55,8 +56,8 @@ pub(crate) fn carve<T: Theory>(
     }
 }
 
-/// Sets pieces of what satisfies the part's piece and is outside of the list at the end: what is near is taken away from the
-/// pieces that are left, one after another.
+/// Sets pieces of what satisfies the part's piece and is outside of the list at the end: what is near is taken away
+/// from the pieces that are left, one after another.
 fn carve_in_turn<T: Theory>(
     out: &mut GenRel<T>,
     part: Part<T::Atom>,
@@ -66,7 +67,8 @@ fn carve_in_turn<T: Theory>(
     requires rational { AreRational slots.now }
     requires boxed { AreBoxed T.holds T.normal slots.now taken.now }
     requires part { IsPart T.holds T.normal slots.now taken.now part }
-    ensures { IfOk result (λ _. AreCarved T.holds T.mentions T.lines T.cell taken.now part.piece.conj.items out.old out.new) }
+    ensures { IfOk result (λ _. AreCarved T.holds T.mentions T.lines T.cell taken.now
+        part.piece.conj.items out.old out.new) }
 {
     let Part { piece, near } = part;
     let alloc = *near.allocator();
@@ -83,8 +85,11 @@ fn inhabited<T: Theory>(
     piece: Boxed<T::Atom>,
 ) -> Result<Vec<Boxed<T::Atom>>, NoMemory>
     requires { AllByRecursion T.normal piece.conj.items }
-    ensures more { IfOk result (λ v. IsMore T.holds T.mentions T.lines T.cell (λ atoms. IsMadeOf T.mentions T.lines T.cell atoms piece.conj.items) (conj_holds T.holds piece.conj.items) [] (conjs_in v.items)) }
-    ensures boxed { IfOk result (λ v. (ss : List Slot) → IsBoxed T.holds T.normal ss piece → AreBoxed T.holds T.normal ss v.items) }
+    ensures more { IfOk result (λ v. IsMore T.holds T.mentions T.lines T.cell
+        (λ atoms. IsMadeOf T.mentions T.lines T.cell atoms piece.conj.items) (conj_holds T.holds piece.conj.items)
+        [] (conjs_in v.items)) }
+    ensures boxed { IfOk result (λ v. (ss : List Slot) → IsBoxed T.holds T.normal ss piece
+        → AreBoxed T.holds T.normal ss v.items) }
 {
     match T::refute(alloc, &piece.conj)? {
         Verdict::Empty => Ok(Vec::new(alloc)),
@@ -96,8 +101,8 @@ fn inhabited<T: Theory>(
     }
 }
 
-/// The halves of the part of which the larger one has the fewest near it, over all slots; none where each cut leaves more than
-/// three quarters near one half.
+/// The halves of the part of which the larger one has the fewest near it, over all slots; none where each cut leaves
+/// more than three quarters near one half.
 fn halves<T: Theory>(
     part: &Part<T::Atom>,
     taken: &[Boxed<T::Atom>],
@@ -107,7 +112,9 @@ fn halves<T: Theory>(
     requires boxed { AreBoxed T.holds T.normal slots.now taken.now }
     requires part { IsPart T.holds T.normal slots.now taken.now part.now }
     requires some { 0 < length part.now.near.items }
-    ensures { IfOk result (λ o. IfSome o (λ r. AreHalves T.holds T.mentions T.lines T.cell T.normal slots.now taken.now part.now.piece.conj.items r)) }
+    ensures { IfOk result
+        (λ o. IfSome o (λ r. AreHalves T.holds T.mentions T.lines T.cell T.normal slots.now taken.now
+        part.now.piece.conj.items r)) }
 {
     let mut best = None;
     for column in 0..slots.len() {
@@ -145,7 +152,9 @@ fn halves_at<T: Theory>(
     requires part { IsPart T.holds T.normal slots.now taken.now part.now }
     requires some { 0 < length part.now.near.items }
     requires column { column < length slots.now }
-    ensures { IfOk result (λ o. IfSome o (λ r. AreHalves T.holds T.mentions T.lines T.cell T.normal slots.now taken.now part.now.piece.conj.items r)) }
+    ensures { IfOk result
+        (λ o. IfSome o (λ r. AreHalves T.holds T.mentions T.lines T.cell T.normal slots.now taken.now
+        part.now.piece.conj.items r)) }
 {
     match splitter::<T>(&part.near, taken, slots, column)? {
         None => Ok(None),
@@ -153,8 +162,8 @@ fn halves_at<T: Theory>(
     }
 }
 
-/// What of the part doesn't satisfy the atom, and what does; none where the negation has two pieces or the cut leaves more than
-/// three quarters near one half.
+/// What of the part doesn't satisfy the atom, and what does; none where the negation has two pieces or the cut leaves
+/// more than three quarters near one half.
 fn halves_by<T: Theory>(
     part: &Part<T::Atom>,
     atom: T::Atom,
@@ -166,7 +175,9 @@ fn halves_by<T: Theory>(
     requires rational { AreRational slots.now }
     requires boxed { AreBoxed T.holds T.normal slots.now taken.now }
     requires part { IsPart T.holds T.normal slots.now taken.now part.now }
-    ensures { IfOk result (λ o. IfSome o (λ r. AreHalves T.holds T.mentions T.lines T.cell T.normal slots.now taken.now part.now.piece.conj.items r)) }
+    ensures { IfOk result
+        (λ o. IfSome o (λ r. AreHalves T.holds T.mentions T.lines T.cell T.normal slots.now taken.now
+        part.now.piece.conj.items r)) }
 {
     match T::negate(&atom)? {
         Negated::One(negation) => {

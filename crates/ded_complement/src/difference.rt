@@ -18,17 +18,20 @@ use ded_model::slot::Slot;
 use ded_theory::Theory;
 use std::alloc::Global;
 
-/// A list that holds at a point exactly where the other doesn't. No point satisfies two of its conjunctions, and none of them tells
-/// apart points of one cell of the list's atoms. Where those atoms aren't wide, each conjunction holds somewhere, and they are at
-/// most as many as the cells that the atoms realise.
+/// A list that holds at a point exactly where the other doesn't. No point satisfies two of its conjunctions, and none
+/// of them tells apart points of one cell of the list's atoms. Where those atoms aren't wide, each conjunction holds
+/// somewhere, and they are at most as many as the cells that the atoms realise.
 ///
 /// # Errors
 /// Out of memory.
 pub fn complement<T: Theory>(alloc: Global, rel: &GenRel<T>) -> Result<GenRel<T>, NoMemory>
-    ensures is { IfOk result (λ out. IsOperation T.holds T.mentions T.lines (λ p. not (conjs_hold T.holds rel.now p)) (conjs_mention T.mentions rel.now) (conjs_lines T.lines rel.now) out) }
+    ensures is { IfOk result (λ out. IsOperation T.holds T.mentions T.lines (λ p. not (conjs_hold T.holds rel.now p))
+        (conjs_mention T.mentions rel.now) (conjs_lines T.lines rel.now) out) }
     ensures disjoint { IfOk result (λ out. AreDisjoint T.holds out) }
-    ensures cells { IfOk result (λ out. (IsWide T.mentions T.lines (all_atoms rel.now) → ⊥) → HasCells T.cell (all_atoms rel.now) (length out)) }
-    ensures inhabited { IfOk result (λ out. (IsWide T.mentions T.lines (all_atoms rel.now) → ⊥) → AllByRecursion (λ c. HoldsSomewhere (conj_holds T.holds c)) out) }
+    ensures cells { IfOk result (λ out. (IsWide T.mentions T.lines (all_atoms rel.now) → ⊥)
+        → HasCells T.cell (all_atoms rel.now) (length out)) }
+    ensures inhabited { IfOk result (λ out. (IsWide T.mentions T.lines (all_atoms rel.now) → ⊥)
+        → AllByRecursion (λ c. HoldsSomewhere (conj_holds T.holds c)) out) }
     ensures made { IfOk result (λ out. AllByRecursion (IsMadeOf T.mentions T.lines T.cell (all_atoms rel.now)) out) }
 {
     let slots = bounded_slots(alloc, rel)?;
@@ -36,9 +39,9 @@ pub fn complement<T: Theory>(alloc: Global, rel: &GenRel<T>) -> Result<GenRel<T>
     outside::<T>(alloc, Vec::new(alloc), &boxed, &slots)
 }
 
-/// A list that holds at a point exactly where the first one does and the second doesn't. None of its conjunctions tells apart
-/// points of one cell of the atoms of both. Where these together aren't wide, it has for each conjunction of the first list at most
-/// as many as the cells that the atoms realise, and each of them holds somewhere.
+/// A list that holds at a point exactly where the first one does and the second doesn't. None of its conjunctions tells
+/// apart points of one cell of the atoms of both. Where these together aren't wide, it has for each conjunction of the
+/// first list at most as many as the cells that the atoms realise, and each of them holds somewhere.
 ///
 /// # Errors
 /// Out of memory.
@@ -47,9 +50,14 @@ pub fn minus<T: Theory>(
     from: &GenRel<T>,
     taken: &GenRel<T>,
 ) -> Result<GenRel<T>, NoMemory>
-    ensures is { IfOk result (λ out. IsOperation T.holds T.mentions T.lines (λ p. conjs_hold T.holds from.now p && not (conjs_hold T.holds taken.now p)) (λ s. conjs_mention T.mentions from.now s || conjs_mention T.mentions taken.now s) (conjs_lines T.lines from.now ++ conjs_lines T.lines taken.now) out) }
-    ensures cells { IfOk result (λ out. (IsWide T.mentions T.lines (all_atoms from.now ++ all_atoms taken.now) → ⊥) → IsListForEach (λ pieces. HasCells T.cell (all_atoms from.now ++ all_atoms taken.now) (length pieces) × AllByRecursion (λ c. HoldsSomewhere (conj_holds T.holds c)) pieces) from.now out) }
-    ensures made { IfOk result (λ out. AllByRecursion (IsMadeOf T.mentions T.lines T.cell (all_atoms from.now ++ all_atoms taken.now)) out) }
+    ensures is { IfOk result (λ out. IsOperation T.holds T.mentions T.lines (λ p. conjs_hold T.holds from.now p
+        && not (conjs_hold T.holds taken.now p)) (λ s. conjs_mention T.mentions from.now s
+        || conjs_mention T.mentions taken.now s) (conjs_lines T.lines from.now ++ conjs_lines T.lines taken.now) out) }
+    ensures cells { IfOk result (λ out. (IsWide T.mentions T.lines (all_atoms from.now ++ all_atoms taken.now) → ⊥)
+        → IsListForEach (λ pieces. HasCells T.cell (all_atoms from.now ++ all_atoms taken.now) (length pieces)
+        × AllByRecursion (λ c. HoldsSomewhere (conj_holds T.holds c)) pieces) from.now out) }
+    ensures made { IfOk result (λ out. AllByRecursion
+        (IsMadeOf T.mentions T.lines T.cell (all_atoms from.now ++ all_atoms taken.now)) out) }
 {
     let slots = bounded_slots(alloc, taken)?;
     let boxed = boxed_list::<T>(alloc, taken, &slots)?;
@@ -71,7 +79,10 @@ fn outside<T: Theory>(
     requires normal { AllByRecursion T.normal piece.items }
     requires rational { AreRational slots.now }
     requires boxed { AreBoxed T.holds T.normal slots.now taken.now }
-    ensures { IfOk result (λ out. (atoms : List T.Atom) → IsMadeOf T.mentions T.lines T.cell atoms piece.items → AreAmong atoms (all_atoms (conjs_in taken.now)) → ArePieces T.holds T.mentions T.lines T.cell atoms (λ p. conj_holds T.holds piece.items p && not (conjs_hold T.holds (conjs_in taken.now) p)) out) }
+    ensures { IfOk result (λ out. (atoms : List T.Atom) → IsMadeOf T.mentions T.lines T.cell atoms piece.items
+        → AreAmong atoms (all_atoms (conjs_in taken.now))
+        → ArePieces T.holds T.mentions T.lines T.cell atoms (λ p. conj_holds T.holds piece.items p
+        && not (conjs_hold T.holds (conjs_in taken.now) p)) out) }
 {
     let mut out = GenRel::new(alloc);
     let part = whole::<T>(alloc, piece, taken, slots)?;

@@ -31,7 +31,11 @@ pub(crate) fn without<T: Theory>(
     requires rational { AreRational slots.now }
     requires boxed { AreBoxed T.holds T.normal slots.now pieces.items }
     requires boxed_conj { IsBoxed T.holds T.normal slots.now conj.now }
-    ensures is { IfOk result (λ out. (atoms : List T.Atom) → ArePieces T.holds T.mentions T.lines T.cell atoms (conjs_hold T.holds (conjs_in pieces.items)) (conjs_in pieces.items) → AreAmong atoms conj.now.conj.items → ArePieces T.holds T.mentions T.lines T.cell atoms (λ p. conjs_hold T.holds (conjs_in pieces.items) p && not (conj_holds T.holds conj.now.conj.items p)) (conjs_in out.items)) }
+    ensures is { IfOk result (λ out. (atoms : List T.Atom)
+        → ArePieces T.holds T.mentions T.lines T.cell atoms (conjs_hold T.holds (conjs_in pieces.items))
+        (conjs_in pieces.items) → AreAmong atoms conj.now.conj.items
+        → ArePieces T.holds T.mentions T.lines T.cell atoms (λ p. conjs_hold T.holds (conjs_in pieces.items) p
+        && not (conj_holds T.holds conj.now.conj.items p)) (conjs_in out.items)) }
     ensures boxed { IfOk result (λ out. AreBoxed T.holds T.normal slots.now out.items) }
 {
     let mut out = Vec::with_capacity(alloc, pieces.len())?;
@@ -52,7 +56,11 @@ fn push_without<T: Theory>(
     requires boxed { AreBoxed T.holds T.normal slots.now out.old.items }
     requires boxed_piece { IsBoxed T.holds T.normal slots.now piece }
     requires boxed_conj { IsBoxed T.holds T.normal slots.now conj.now }
-    ensures is { IfOk result (λ _. IsMore T.holds T.mentions T.lines T.cell (λ atoms. IsMadeOf T.mentions T.lines T.cell atoms piece.conj.items × AreAmong atoms conj.now.conj.items × ((IsWide T.mentions T.lines atoms → ⊥) → HoldsSomewhere (conj_holds T.holds piece.conj.items))) (λ p. conj_holds T.holds piece.conj.items p && not (conj_holds T.holds conj.now.conj.items p)) (conjs_in out.old.items) (conjs_in out.new.items)) }
+    ensures is { IfOk result (λ _. IsMore T.holds T.mentions T.lines T.cell
+        (λ atoms. IsMadeOf T.mentions T.lines T.cell atoms piece.conj.items × AreAmong atoms conj.now.conj.items
+        × ((IsWide T.mentions T.lines atoms → ⊥) → HoldsSomewhere (conj_holds T.holds piece.conj.items)))
+        (λ p. conj_holds T.holds piece.conj.items p && not (conj_holds T.holds conj.now.conj.items p))
+        (conjs_in out.old.items) (conjs_in out.new.items)) }
     ensures boxed { IfOk result (λ _. AreBoxed T.holds T.normal slots.now out.new.items) }
 {
     let alloc = *out.allocator();
@@ -65,7 +73,8 @@ fn push_without<T: Theory>(
     push_boxed(out, parts, slots)
 }
 
-/// Whether it is plain that no point satisfies both conjunctions: the boxes share no value, or the atoms together are refuted.
+/// Whether it is plain that no point satisfies both conjunctions: the boxes share no value, or the atoms together are
+/// refuted.
 fn are_apart<T: Theory>(
     alloc: Global,
     one: &Boxed<T::Atom>,
@@ -73,7 +82,10 @@ fn are_apart<T: Theory>(
 ) -> Result<bool, NoMemory>
     requires normal { AllByRecursion T.normal one.now.conj.items }
     requires normal_other { AllByRecursion T.normal other.now.conj.items }
-    ensures { IfOk result (λ apart. apart ≡ true → (ss : List Slot) → IsRound T.holds ss one.now.conj.items one.now.bounds → IsRound T.holds ss other.now.conj.items other.now.bounds → HoldsNowhere (λ p. conj_holds T.holds one.now.conj.items p && conj_holds T.holds other.now.conj.items p)) }
+    ensures { IfOk result (λ apart. apart ≡ true → (ss : List Slot)
+        → IsRound T.holds ss one.now.conj.items one.now.bounds
+        → IsRound T.holds ss other.now.conj.items other.now.bounds
+        → HoldsNowhere (λ p. conj_holds T.holds one.now.conj.items p && conj_holds T.holds other.now.conj.items p)) }
 {
     if !meets(&one.bounds, &other.bounds) {
         return Ok(true);

@@ -93,7 +93,8 @@ fn part_of<T: Theory>(
     ensures same { IfOk result (λ r. r.piece.conj.items ≡ piece.items) }
     ensures boxed { IfOk result (λ r. IsBoxed T.holds T.normal slots.now r.piece) }
     ensures places { IfOk result (λ r. ArePlaces taken.now r.near.items) }
-    ensures near { IfOk result (λ r. IsSameOutside T.holds piece.items (conjs_at taken.now places.now) (conjs_at taken.now r.near.items)) }
+    ensures near { IfOk result (λ r. IsSameOutside T.holds piece.items (conjs_at taken.now places.now)
+        (conjs_at taken.now r.near.items)) }
 {
     let alloc = *piece.allocator();
     let piece = with_box::<T>(alloc, piece, slots)?;
@@ -122,7 +123,9 @@ fn near_places<T: Theory>(
 ) -> Result<Vec<usize>, NoMemory>
     requires { ArePlaces taken.now places.now }
     ensures places { IfOk result (λ v. ArePlaces taken.now v.items) }
-    ensures near { IfOk result (λ v. (ss : List Slot) → IsBoxed T.holds T.normal ss piece.now → AreBoxed T.holds T.normal ss taken.now → IsSameOutside T.holds piece.now.conj.items (conjs_at taken.now places.now) (conjs_at taken.now v.items)) }
+    ensures near { IfOk result (λ v. (ss : List Slot) → IsBoxed T.holds T.normal ss piece.now
+        → AreBoxed T.holds T.normal ss taken.now
+        → IsSameOutside T.holds piece.now.conj.items (conjs_at taken.now places.now) (conjs_at taken.now v.items)) }
 {
     let mut near = Vec::new(alloc);
     for place in places {

@@ -11,8 +11,8 @@ use ded_model::tuple::Negated;
 use ded_theory::{Theory, Verdict};
 use std::alloc::Global;
 
-/// Sets pieces of what satisfies the piece and not the conjunction at the end: for each atom what satisfies those before it and
-/// not the atom. An atom that the piece implies gives none, and isn't added to it.
+/// Sets pieces of what satisfies the piece and not the conjunction at the end: for each atom what satisfies those
+/// before it and not the atom. An atom that the piece implies gives none, and isn't added to it.
 ///
 /// # Errors
 /// Out of memory.
@@ -23,7 +23,10 @@ pub(crate) fn push_outside<T: Theory>(
 ) -> Result<(), NoMemory>
     requires normal { AllByRecursion T.normal piece.items }
     requires normal_conj { AllByRecursion T.normal conj.now }
-    ensures { IfOk result (λ _. IsMore T.holds T.mentions T.lines T.cell (λ atoms. IsMadeOf T.mentions T.lines T.cell atoms piece.items × AreAmong atoms conj.now) (λ p. conj_holds T.holds piece.items p && not (conj_holds T.holds conj.now p)) out.old out.new) }
+    ensures { IfOk result (λ _. IsMore T.holds T.mentions T.lines T.cell
+        (λ atoms. IsMadeOf T.mentions T.lines T.cell atoms piece.items
+        × AreAmong atoms conj.now) (λ p. conj_holds T.holds piece.items p
+        && not (conj_holds T.holds conj.now p)) out.old out.new) }
 {
     let Some((last, others)) = conj.split_last() else {
         return Ok(());
@@ -47,8 +50,11 @@ fn push_negated<T: Theory>(
 ) -> Result<bool, NoMemory>
     requires normal { AllByRecursion T.normal rest.items }
     requires normal_atom { T.normal atom.now }
-    ensures more { IfOk result (λ _. IsMore T.holds T.mentions T.lines T.cell (λ atoms. IsMadeOf T.mentions T.lines T.cell atoms rest.items × IsAmong atoms atom.now) (λ p. conj_holds T.holds rest.items p && not (T.holds atom.now p)) out.old out.new) }
-    ensures dropped { IfOk result (λ kept. kept ≡ false → HoldsNowhere (λ p. conj_holds T.holds rest.items p && not (T.holds atom.now p))) }
+    ensures more { IfOk result (λ _. IsMore T.holds T.mentions T.lines T.cell
+        (λ atoms. IsMadeOf T.mentions T.lines T.cell atoms rest.items
+        × IsAmong atoms atom.now) (λ p. conj_holds T.holds rest.items p && not (T.holds atom.now p)) out.old out.new) }
+    ensures dropped { IfOk result (λ kept. kept ≡ false
+        → HoldsNowhere (λ p. conj_holds T.holds rest.items p && not (T.holds atom.now p))) }
 {
     match T::negate(atom)? {
         Negated::One(only) => push_with(out, rest, only),
@@ -69,8 +75,12 @@ fn push_with<T: Theory>(
 ) -> Result<bool, NoMemory>
     requires normal { AllByRecursion T.normal rest.items }
     requires normal_last { T.normal last }
-    ensures more { IfOk result (λ _. IsMore T.holds T.mentions T.lines T.cell (λ atoms. IsMadeOf T.mentions T.lines T.cell atoms rest.items × IsMadeOf T.mentions T.lines T.cell atoms (last ∷ [])) (λ p. conj_holds T.holds rest.items p && T.holds last p) out.old out.new) }
-    ensures dropped { IfOk result (λ kept. kept ≡ false → HoldsNowhere (λ p. conj_holds T.holds rest.items p && T.holds last p)) }
+    ensures more { IfOk result (λ _. IsMore T.holds T.mentions T.lines T.cell
+        (λ atoms. IsMadeOf T.mentions T.lines T.cell atoms rest.items
+        × IsMadeOf T.mentions T.lines T.cell atoms (last ∷ [])) (λ p. conj_holds T.holds rest.items p
+        && T.holds last p) out.old out.new) }
+    ensures dropped { IfOk result (λ kept. kept ≡ false
+        → HoldsNowhere (λ p. conj_holds T.holds rest.items p && T.holds last p)) }
 {
     let piece = with_last::<T>(rest, last)?;
     push_piece(out, piece)
@@ -79,7 +89,9 @@ fn push_with<T: Theory>(
 /// Sets the piece at the end where it may hold somewhere. Returns whether it was set.
 fn push_piece<T: Theory>(out: &mut GenRel<T>, piece: Vec<T::Atom>) -> Result<bool, NoMemory>
     requires normal { AllByRecursion T.normal piece.items }
-    ensures more { IfOk result (λ _. IsMore T.holds T.mentions T.lines T.cell (λ atoms. IsMadeOf T.mentions T.lines T.cell atoms piece.items) (conj_holds T.holds piece.items) out.old out.new) }
+    ensures more { IfOk result (λ _. IsMore T.holds T.mentions T.lines T.cell
+        (λ atoms. IsMadeOf T.mentions T.lines T.cell atoms piece.items)
+        (conj_holds T.holds piece.items) out.old out.new) }
     ensures dropped { IfOk result (λ kept. kept ≡ false → HoldsNowhere (conj_holds T.holds piece.items)) }
 {
     let alloc = *piece.allocator();

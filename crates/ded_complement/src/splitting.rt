@@ -22,8 +22,8 @@ struct Start {
     place: usize,
 }
 
-/// An atom that bounds the slot of the column from below, of the conjunction in the middle of those at the places by where they
-/// begin there; none where it has no such atom.
+/// An atom that bounds the slot of the column from below, of the conjunction in the middle of those at the places by
+/// where they begin there; none where it has no such atom.
 ///
 /// # Errors
 /// Out of memory.

@@ -3,7 +3,8 @@ ghost use Rattle.std.specs.Prelude.{◌≡◌, true, false, IfOk, OnOk, IfSome};
 ghost use Rattle.ded_model.specs.Goal.{member, goal_form, goal_forms};
 ghost use Rattle.ded_model.specs.Logic.{atom};
 ghost use Rattle.ded_model.specs.Point.{slot};
-ghost use Rattle.ded_database.specs.Lost.{lines_mention, binds_one, binds, any_binds, with_all, with_all_of, IsOwnSlot, AreOwnSlots};
+ghost use Rattle.ded_database.specs.Lost.{lines_mention, binds_one, binds, any_binds, with_all, with_all_of, IsOwnSlot};
+ghost use Rattle.ded_database.specs.Lost.{AreOwnSlots};
 
 use ded_model::goal::{Goal, Place, Places};
 use ded_model::memory::NoMemory;

@@ -1,5 +1,6 @@
 //! Databases.
-ghost use Rattle.std.specs.Prelude.{◌≡◌, ◌==◌, ◌↔◌, ◌≤◌, true, false, None, [], length, is_some, IsTrue, IfOk, IfErr, IfSome, IsErrOf, OnOk, OnErr};
+ghost use Rattle.std.specs.Prelude.{◌≡◌, ◌==◌, ◌↔◌, ◌≤◌, true, false, None, [], length, is_some, IsTrue, IfOk, IfErr};
+ghost use Rattle.std.specs.Prelude.{IfSome, IsErrOf, OnOk, OnErr};
 ghost use Rattle.std.specs.List.{list_any};
 ghost use Rattle.std.specs.Option.{option_map, unwrap_or};
 ghost use Rattle.ded_catalog.specs.State.{catalogue_of};
@@ -22,8 +23,8 @@ use ded_query::{answer, is_true};
 use std::alloc::Global;
 use std::marker::Model;
 
-/// A catalogue, the marks of kept views, and the lists that are held of them: each is right over the catalogue. Contracts see all of these, and
-/// how often a list was extended by one tuple alone.
+/// A catalogue, the marks of kept views, and the lists that are held of them: each is right over the catalogue.
+/// Contracts see all of these, and how often a list was extended by one tuple alone.
 #[derive(Drop)]
 pub struct Database {
     catalogue: Catalogue,
@@ -73,8 +74,9 @@ impl Database {
     ghost use Rattle.ded_database.specs.State.{catalogue_at, is_kept, IsSound};
     ghost use Rattle.ded_database.specs.Steps.{KeepsMarks, KeepsLists, Marks, Unmarks};
 
-    /// A database with an empty catalogue whose relations have at most `limit` tuples, 1 to 1,000,000, and no kept view. The names are hashed
-    /// with the keys: where names are untrusted, draw these at random. It does not allocate yet.
+    /// A database with an empty catalogue whose relations have at most `limit` tuples, 1 to 1,000,000, and no kept
+    /// view. The names are hashed with the keys: where names are untrusted, draw these at random. It does not allocate
+    /// yet.
     pub fn new(alloc: Global, limit: u32, keys: (u64, u64)) -> Database
         requires low { 1 ≤ limit }
         requires high { limit ≤ 1000000 }
@@ -126,7 +128,8 @@ impl Database {
         let _ = &self.held; // for its invariant
     }
 
-    /// The list that is held of a kept view: its tuples hold exactly where the view's formula does. None where none is held. It does not allocate.
+    /// The list that is held of a kept view: its tuples hold exactly where the view's formula does. None where none is
+    /// held. It does not allocate.
     pub fn kept(&self, name: &Name) -> Option<&[Tuple]>
         ensures held { option_map (λ ts. ts.now) result ≡ held_under self.now.held name.now }
         ensures list { IfSome result (λ ts. IsListOf (catalogue_at self.now) name.now ts.now) }
@@ -150,7 +153,8 @@ impl Database {
     pub fn define(&mut self, name: Name, heading: Heading) -> Result<(), NoMemory>
         requires new { IsNewName (known (catalogue_at self.old)) name }
         requires few { length heading ≤ 16 }
-        ensures ok { OnOk result (AddsEntry (catalogue_at self.old) (catalogue_at self.new) (relation name heading 0 [])) }
+        ensures ok { OnOk result (AddsEntry (catalogue_at self.old) (catalogue_at self.new)
+            (relation name heading 0 [])) }
         ensures err { OnErr result ((catalogue_at self.new) ≡ (catalogue_at self.old)) }
         ensures lists { KeepsLists self.old self.new }
     {
@@ -177,7 +181,8 @@ impl Database {
         requires plain { IsPlain (form formula) }
         requires short { some_atom is_long_atom (form formula) ≡ false }
         requires goal { goal_form goal ≡ goal_of heading (form formula) }
-        ensures ok { OnOk result (AddsEntry (catalogue_at self.old) (catalogue_at self.new) (view name heading (form formula))) }
+        ensures ok { OnOk result (AddsEntry (catalogue_at self.old) (catalogue_at self.new)
+            (view name heading (form formula))) }
         ensures err { OnErr result ((catalogue_at self.new) ≡ (catalogue_at self.old)) }
         ensures lists { KeepsLists self.old self.new }
     {
@@ -200,11 +205,13 @@ impl Database {
         self.catalogue.formed();
     }
 
-    /// Inserts a tuple into the relation of the name, gives the tuple's number, and brings the lists of kept views up to date.
+    /// Inserts a tuple into the relation of the name, gives the tuple's number, and brings the lists of kept views up
+    /// to date.
     ///
     /// # Errors
-    /// `Full` exactly where the relation has as many tuples as the limit allows, else `Spent` exactly where it has accepted 4,294,967,295
-    /// inserts; nothing is changed then. Else `Memory`: the catalogue is as before, and lists of views that reach the relation may be gone.
+    /// `Full` exactly where the relation has as many tuples as the limit allows, else `Spent` exactly where it has
+    /// accepted 4,294,967,295 inserts; nothing is changed then. Else `Memory`: the catalogue is as before, and lists of
+    /// views that reach the relation may be gone.
     pub fn insert<E: Evaluate>(&mut self, name: &Name, tuple: Tuple) -> Result<u32, Refusal>
         requires relation { is_relation_with (known (catalogue_at self.old) name.now) ≡ true }
         requires over { IsTupleOver (columns_in (catalogue_at self.old) name.now) tuple }
@@ -214,7 +221,8 @@ impl Database {
         ensures cause { IfErr result (λ r. r ≡ unwrap_or (insert_refusal (catalogue_at self.old) name.now) Memory) }
         ensures err { OnErr result ((catalogue_at self.new) ≡ (catalogue_at self.old)) }
         ensures marks { KeepsMarks self.old self.new }
-        ensures kept { OnOk result (KeepsUp (catalogue_at self.old) (catalogue_at self.new) name.now (is_kept self.old) self.old.held self.new.held) }
+        ensures kept { OnOk result (KeepsUp (catalogue_at self.old) (catalogue_at self.new) name.now
+            (is_kept self.old) self.old.held self.new.held) }
         ensures adds { OnOk result (OnlyAdds (catalogue_at self.old) name.now self.old.held self.new.held) }
         ensures left { LeavesOthers (catalogue_at self.old) name.now self.old.held self.new.held }
         ensures refused { IfErr result (λ r. (r ≡ Memory → ⊥) → self.new.held ≡ self.old.held) }
@@ -251,7 +259,8 @@ impl Database {
         }
     }
 
-    /// Deletes the tuple of the number, which has to be there, from the relation of the name, and brings the lists of kept views up to date.
+    /// Deletes the tuple of the number, which has to be there, from the relation of the name, and brings the lists of
+    /// kept views up to date.
     ///
     /// # Errors
     /// Out of memory: the catalogue is as before, and lists of views that reach the relation may be gone.
@@ -260,7 +269,8 @@ impl Database {
         ensures ok { OnOk result (Deletes (catalogue_at self.old) (catalogue_at self.new) name.now number) }
         ensures err { OnErr result ((catalogue_at self.new) ≡ (catalogue_at self.old)) }
         ensures marks { KeepsMarks self.old self.new }
-        ensures kept { OnOk result (KeepsUp (catalogue_at self.old) (catalogue_at self.new) name.now (is_kept self.old) self.old.held self.new.held) }
+        ensures kept { OnOk result (KeepsUp (catalogue_at self.old) (catalogue_at self.new) name.now
+            (is_kept self.old) self.old.held self.new.held) }
         ensures left { LeavesOthers (catalogue_at self.old) name.now self.old.held self.new.held }
     {
         self.catalogue.formed();
@@ -325,8 +335,8 @@ impl Database {
         is_true::<E>(self.alloc, &snapshot, goal, &mut self.held)
     }
 
-    /// Normal tuples over the heading that hold exactly where a formula does, given as its goal. Each narrow one has nothing superfluous. Of
-    /// views whose lists are held it reads these.
+    /// Normal tuples over the heading that hold exactly where a formula does, given as its goal. Each narrow one has
+    /// nothing superfluous. Of views whose lists are held it reads these.
     ///
     /// # Errors
     /// `Wide` only where the formula isn't tight, otherwise out of memory.
@@ -334,7 +344,8 @@ impl Database {
         requires question { (f : Form) × IsQuestion (catalogue_at self.old) heading.now (goal_form goal.now) f }
         ensures is { (f : Form) → IsQuestion (catalogue_at self.old) heading.now (goal_form goal.now) f
             → IfOk result (λ ts. IsAnswer (catalogue_at self.old) heading.now f ts) }
-        ensures wide { IsErrOf result Wide → (f : Form) → IsQuestion (catalogue_at self.old) heading.now (goal_form goal.now) f
+        ensures wide { IsErrOf result Wide → (f : Form)
+            → IsQuestion (catalogue_at self.old) heading.now (goal_form goal.now) f
             → IsTight (catalogue_at self.old) heading.now f → ⊥ }
         ensures same { self.new ≡ self.old }
     {

@@ -25,8 +25,9 @@ use ded_plan::scanned_names;
 use ded_query::{Over, give_names};
 use std::alloc::Global;
 
-/// The list of a view after a tuple is inserted that only adds to it: the list before, and behind it what the plan gives for the tuple
-/// alone, but for what the list is found to cover. What is held is right over the catalogue as it will be, and stays as it is.
+/// The list of a view after a tuple is inserted that only adds to it: the list before, and behind it what the plan
+/// gives for the tuple alone, but for what the list is found to cover. What is held is right over the catalogue as it
+/// will be, and stays as it is.
 ///
 /// # Errors
 /// `Wide` only where the view clashes over the catalogue as it will be, otherwise out of memory. The list is lost then.
@@ -37,7 +38,8 @@ pub(crate) fn extended<E: Evaluate>(
     list: Tuples,
     held: &mut Given,
 ) -> Result<Tuples, Refused>
-    requires insert { IsInsert (before renewal.now.change.now) (after renewal.now.change.now) renewal.now.change.now.name.now tuple.now }
+    requires insert { IsInsert (before renewal.now.change.now)
+        (after renewal.now.change.now) renewal.now.change.now.name.now tuple.now }
     requires mark { IsMark (before renewal.now.change.now) renewal.now.mark.now }
     requires adds { mark_adds renewal.now.mark.now renewal.now.change.now.name.now ≡ true }
     requires list { IsViewOf (before renewal.now.change.now) renewal.now.mark.now.name list }
@@ -45,7 +47,8 @@ pub(crate) fn extended<E: Evaluate>(
     ensures is { IfOk result (IsViewOf (after renewal.now.change.now) renewal.now.mark.now.name) }
     ensures longer { IfOk result (IsLonger list) }
     ensures held { held.new ≡ held.old }
-    ensures wide { IsErrOf result Wide → (measures (after renewal.now.change.now) renewal.now.mark.now.name).clash ≡ true }
+    ensures wide { IsErrOf result Wide
+        → (measures (after renewal.now.change.now) renewal.now.mark.now.name).clash ≡ true }
 {
     let count = held.count();
     let extended = extended_over::<E>(alloc, renewal, tuple, list, held);
@@ -53,8 +56,8 @@ pub(crate) fn extended<E: Evaluate>(
     extended
 }
 
-/// The list of a view after a tuple is inserted that only adds to it, as [`extended`] gives it. Other views that the plan
-/// scans are given behind what is held, and stay there. Other relations are read where they stand.
+/// The list of a view after a tuple is inserted that only adds to it, as [`extended`] gives it. Other views that the
+/// plan scans are given behind what is held, and stay there. Other relations are read where they stand.
 fn extended_over<E: Evaluate>(
     alloc: Global,
     renewal: &Renewal<'_, '_>,
@@ -62,7 +65,8 @@ fn extended_over<E: Evaluate>(
     list: Tuples,
     held: &mut Given,
 ) -> Result<Tuples, Refused>
-    requires insert { IsInsert (before renewal.now.change.now) (after renewal.now.change.now) renewal.now.change.now.name.now tuple.now }
+    requires insert { IsInsert (before renewal.now.change.now)
+        (after renewal.now.change.now) renewal.now.change.now.name.now tuple.now }
     requires mark { IsMark (before renewal.now.change.now) renewal.now.mark.now }
     requires adds { mark_adds renewal.now.mark.now renewal.now.change.now.name.now ≡ true }
     requires list { IsViewOf (before renewal.now.change.now) renewal.now.mark.now.name list }
@@ -70,7 +74,8 @@ fn extended_over<E: Evaluate>(
     ensures is { IfOk result (IsViewOf (after renewal.now.change.now) renewal.now.mark.now.name) }
     ensures longer { IfOk result (IsLonger list) }
     ensures front { IsFront held.old held.new }
-    ensures wide { IsErrOf result Wide → (measures (after renewal.now.change.now) renewal.now.mark.now.name).clash ≡ true }
+    ensures wide { IsErrOf result Wide
+        → (measures (after renewal.now.change.now) renewal.now.mark.now.name).clash ≡ true }
 {
     laws::nothing_beside();
     let change = renewal.change;
@@ -107,7 +112,8 @@ fn extended_over<E: Evaluate>(
 /// # Errors
 /// Out of memory.
 fn other_names(alloc: Global, plan: &Plan, name: &Name) -> Result<Vec<Name>, NoMemory>
-    ensures { IfOk result (λ v. (n : List ℕ) → list_any (bytes_eq n) v.items ≡ (plan_uses n (plan_form plan.now) && not (bytes_eq n name.now))) }
+    ensures { IfOk result (λ v. (n : List ℕ) → list_any (bytes_eq n) v.items
+        ≡ (plan_uses n (plan_form plan.now) && not (bytes_eq n name.now))) }
 {
     let mut others = Vec::new(alloc);
     for scanned in scanned_names(alloc, plan)? {

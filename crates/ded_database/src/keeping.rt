@@ -78,7 +78,8 @@ fn hold<E: Evaluate>(
     }
 }
 
-/// Marks a view, unless it is marked, in front of the marks that reach it. So a list is made before those that may read it.
+/// Marks a view, unless it is marked, in front of the marks that reach it. So a list is made before those that may read
+/// it.
 ///
 /// # Errors
 /// Out of memory; nothing is changed then.

@@ -18,9 +18,9 @@ use ded_model::row::Row;
 use ded_model::tuple::{Atom, Tuple};
 use std::alloc::Global;
 
-/// The lines that the goal of the view has before the delete, and may have no more then: those of the atoms of the deleted tuple, read
-/// into the arguments of each atom of the relation. None where they can't be told: where an argument is no slot of its own, or a
-/// quantifier binds a slot that one of these lines mentions.
+/// The lines that the goal of the view has before the delete, and may have no more then: those of the atoms of the
+/// deleted tuple, read into the arguments of each atom of the relation. None where they can't be told: where an
+/// argument is no slot of its own, or a quantifier binds a slot that one of these lines mentions.
 ///
 /// # Errors
 /// Out of memory.
@@ -30,11 +30,14 @@ pub(crate) fn lost_lines(
     gone: &Tuple,
     atoms: &[Atom],
 ) -> Result<Option<Vec<Row>>, NoMemory>
-    requires delete { IsDelete (before renewal.now.change.now) (after renewal.now.change.now) renewal.now.change.now.name.now gone.now }
-    requires atoms { AreLost (before renewal.now.change.now) (after renewal.now.change.now) renewal.now.change.now.name.now gone.now atoms.now }
+    requires delete { IsDelete (before renewal.now.change.now)
+        (after renewal.now.change.now) renewal.now.change.now.name.now gone.now }
+    requires atoms { AreLost (before renewal.now.change.now)
+        (after renewal.now.change.now) renewal.now.change.now.name.now gone.now atoms.now }
     requires mark { IsMark (before renewal.now.change.now) renewal.now.mark.now }
     requires adds { mark_adds renewal.now.mark.now renewal.now.change.now.name.now ≡ true }
-    ensures { IfOk result (λ o. IfSome o (λ v. LosesOnly (before renewal.now.change.now) (after renewal.now.change.now) renewal.now.mark.now.name v.items)) }
+    ensures { IfOk result (λ o. IfSome o (λ v. LosesOnly (before renewal.now.change.now)
+        (after renewal.now.change.now) renewal.now.mark.now.name v.items)) }
 {
     laws::nothing_beside();
     let change = renewal.change;
@@ -89,7 +92,8 @@ fn add_read(
     atoms: &[Atom],
 ) -> Result<bool, NoMemory>
     requires { AreOverColumns heading.now atoms.now }
-    ensures { IfOk result (λ b. b ≡ true → AddsRead (atoms_lines atoms.now) places.now lines.old.items lines.new.items) }
+    ensures { IfOk result (λ b. b ≡ true → AddsRead
+        (atoms_lines atoms.now) places.now lines.old.items lines.new.items) }
 {
     let Some(slots) = own_slots(alloc, &places.list, &heading.columns)? else {
         return Ok(false);

@@ -31,7 +31,8 @@ impl Reach {
     }
 }
 
-/// What is remembered of a kept view: its name, the plan of its formula, and each name in the formula with what it reaches.
+/// What is remembered of a kept view: its name, the plan of its formula, and each name in the formula with what it
+/// reaches.
 #[derive(Drop)]
 pub struct Mark {
     pub name: Name,
@@ -73,7 +74,8 @@ impl Mark {
         false
     }
 
-    /// Whether the view's answer is only extended where the relation of the name gets one tuple more. It does not allocate.
+    /// Whether the view's answer is only extended where the relation of the name gets one tuple more. It does not
+    /// allocate.
     pub fn adds(&self, name: &Name) -> bool
         ensures { result ≡ mark_adds self.now name.now }
     {

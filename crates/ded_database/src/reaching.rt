@@ -31,8 +31,10 @@ pub(crate) fn uses_of(
     goal: &Goal,
 ) -> Result<Vec<Reach>, NoMemory>
     requires below { AreUsedBelow (catalogue_of catalogue.now) (goal_form goal.now) 17 }
-    ensures used { IfOk result (λ v. (n : List ℕ) → goal_uses n (goal_form goal.now) ≡ list_any (λ u. bytes_eq n u.name) v.items) }
-    ensures reached { IfOk result (λ v. AllByRecursion (λ u. (n : List ℕ) → has u.reached.items n ≡ reaches (catalogue_of catalogue.now) (base u.name) n) v.items) }
+    ensures used { IfOk result (λ v. (n : List ℕ)
+        → goal_uses n (goal_form goal.now) ≡ list_any (λ u. bytes_eq n u.name) v.items) }
+    ensures reached { IfOk result (λ v. AllByRecursion (λ u. (n : List ℕ)
+        → has u.reached.items n ≡ reaches (catalogue_of catalogue.now) (base u.name) n) v.items) }
 {
     let mut uses = Vec::new(alloc);
     for name in used_names(alloc, goal)? {
@@ -58,7 +60,8 @@ fn add_reached(
     requires defined { is_some (known (catalogue_of catalogue.now) (base name.now)) ≡ true }
     requires level { level_with (known (catalogue_of catalogue.now) (base name.now)) ≤ level }
     requires closed { IsClosed (catalogue_of catalogue.now) reached.old.items }
-    ensures { OnOk result (IsReachedAfter (catalogue_of catalogue.now) (base name.now) reached.old.items reached.new.items) }
+    ensures { OnOk result (IsReachedAfter (catalogue_of catalogue.now)
+        (base name.now) reached.old.items reached.new.items) }
 {
     catalogue.formed();
     let base = name.base_name()?;
@@ -86,7 +89,8 @@ fn add_used(
 ) -> Result<(), NoMemory>
     requires below { AreUsedBelow (catalogue_of catalogue.now) (goal_form goal.now) level }
     requires closed { IsClosed (catalogue_of catalogue.now) reached.old.items }
-    ensures { OnOk result (AreReachedAfter (catalogue_of catalogue.now) (goal_form goal.now) reached.old.items reached.new.items) }
+    ensures { OnOk result (AreReachedAfter (catalogue_of catalogue.now)
+        (goal_form goal.now) reached.old.items reached.new.items) }
 {
     let names = used_names(alloc, goal)?;
     for name in &names {

@@ -23,8 +23,9 @@ use ded_model::tuple::Tuples;
 use ded_query::{held_view, planned_view};
 use std::alloc::{AllocError, Global};
 
-/// Makes the lists of those of the marked views that reach the relation, and holds them behind what is held. Where a list is too wide,
-/// none is held of its view. `added` counts the lists that were extended by the tuple alone, up to its greatest number.
+/// Makes the lists of those of the marked views that reach the relation, and holds them behind what is held. Where a
+/// list is too wide, none is held of its view. `added` counts the lists that were extended by the tuple alone, up to
+/// its greatest number.
 ///
 /// # Errors
 /// Out of memory. Some lists may be made then.
@@ -42,8 +43,10 @@ pub(crate) fn renew_all<E: Evaluate>(
     requires apart { AreMarkedApart marks.now }
     requires held { AllByRecursion (IsHeld (after change.now)) held.old }
     requires stale { AllByRecursion (IsHeld (before change.now)) stale.old }
-    requires gone { (v : List ℕ) → is_marked marks.now v ≡ true → reaches (before change.now) v change.now.name.now ≡ true → held_under held.old v ≡ None }
-    ensures ok { OnOk result (AreRenewed (before change.now) (after change.now) change.now.name.now marks.now (inserted_tuple change.now) stale.old stale.new held.old held.new) }
+    requires gone { (v : List ℕ) → is_marked marks.now v ≡ true
+        → reaches (before change.now) v change.now.name.now ≡ true → held_under held.old v ≡ None }
+    ensures ok { OnOk result (AreRenewed (before change.now) (after change.now) change.now.name.now marks.now
+        (inserted_tuple change.now) stale.old stale.new held.old held.new) }
     ensures front { IsFront held.old held.new }
 {
     laws::marks_reach();
@@ -74,7 +77,8 @@ fn renew<E: Evaluate>(
     requires stale { AllByRecursion (IsHeld (before change.now)) stale.old }
     requires new { has_name mark.now.name held.old ≡ false }
     ensures stale { stale.new ≡ without_name mark.now.name stale.old }
-    ensures ok { OnOk result (IsRenewed (before change.now) (after change.now) change.now.name.now mark.now.name (inserted_tuple change.now) (held_under stale.old mark.now.name) held.old held.new) }
+    ensures ok { OnOk result (IsRenewed (before change.now) (after change.now) change.now.name.now mark.now.name
+        (inserted_tuple change.now) (held_under stale.old mark.now.name) held.old held.new) }
     ensures err { OnErr result (held.new ≡ held.old) }
 {
     laws::conjunctive_views();
@@ -87,8 +91,9 @@ fn renew<E: Evaluate>(
     }
 }
 
-/// The list of one view after the change: where there is a list before, and the tuple that comes or goes takes part once, that list,
-/// extended or without what the tuple gave, and else what its plan is evaluated to. What is held stays as it is.
+/// The list of one view after the change: where there is a list before, and the tuple that comes or goes takes part
+/// once, that list, extended or without what the tuple gave, and else what its plan is evaluated to. What is held stays
+/// as it is.
 ///
 /// # Errors
 /// `Wide` only where the view clashes over the catalogue as it will be, otherwise out of memory.
@@ -99,15 +104,20 @@ fn new_list<E: Evaluate>(
     held: &mut Given,
     added: &mut u64,
 ) -> Result<Tuples, Refused>
-    requires change { IsChange (before renewal.now.change.now) (after renewal.now.change.now) renewal.now.change.now.name.now (inserted_tuple renewal.now.change.now) }
-    requires told { IsToldDelete (before renewal.now.change.now) (after renewal.now.change.now) renewal.now.change.now.name.now (deleted_tuple renewal.now.change.now) }
+    requires change { IsChange (before renewal.now.change.now)
+        (after renewal.now.change.now) renewal.now.change.now.name.now (inserted_tuple renewal.now.change.now) }
+    requires told { IsToldDelete (before renewal.now.change.now)
+        (after renewal.now.change.now) renewal.now.change.now.name.now (deleted_tuple renewal.now.change.now) }
     requires mark { IsMark (before renewal.now.change.now) renewal.now.mark.now }
     requires list { IfSome list (λ r. IsViewOf (before renewal.now.change.now) renewal.now.mark.now.name r.tuples) }
     requires held { AllByRecursion (IsHeld (after renewal.now.change.now)) held.old }
     ensures is { IfOk result (IsViewOf (after renewal.now.change.now) renewal.now.mark.now.name) }
-    ensures longer { is_some (inserted_tuple renewal.now.change.now) ≡ true → mark_adds renewal.now.mark.now renewal.now.change.now.name.now ≡ true → IfOk result (λ ts. IfSome list (λ r. IsLonger r.tuples ts)) }
+    ensures longer { is_some (inserted_tuple renewal.now.change.now) ≡ true
+        → mark_adds renewal.now.mark.now renewal.now.change.now.name.now ≡ true
+        → IfOk result (λ ts. IfSome list (λ r. IsLonger r.tuples ts)) }
     ensures held { held.new ≡ held.old }
-    ensures wide { IsErrOf result Wide → (measures (after renewal.now.change.now) renewal.now.mark.now.name).clash ≡ true }
+    ensures wide { IsErrOf result Wide
+        → (measures (after renewal.now.change.now) renewal.now.mark.now.name).clash ≡ true }
 {
     match list {
         Some(list) if renewal.mark.adds(renewal.change.name) => {
@@ -117,8 +127,9 @@ fn new_list<E: Evaluate>(
     }
 }
 
-/// The list of one view in which the tuple that comes or goes takes part once, after the change: extended, or without what the tuple gave.
-/// Where a tuple goes that isn't told, it is what the plan is evaluated to. What is held stays as it is.
+/// The list of one view in which the tuple that comes or goes takes part once, after the change: extended, or without
+/// what the tuple gave. Where a tuple goes that isn't told, it is what the plan is evaluated to. What is held stays as
+/// it is.
 ///
 /// # Errors
 /// `Wide` only where the view clashes over the catalogue as it will be, otherwise out of memory. The list is lost then.
@@ -129,8 +140,10 @@ fn followed<E: Evaluate>(
     held: &mut Given,
     added: &mut u64,
 ) -> Result<Tuples, Refused>
-    requires change { IsChange (before renewal.now.change.now) (after renewal.now.change.now) renewal.now.change.now.name.now (inserted_tuple renewal.now.change.now) }
-    requires told { IsToldDelete (before renewal.now.change.now) (after renewal.now.change.now) renewal.now.change.now.name.now (deleted_tuple renewal.now.change.now) }
+    requires change { IsChange (before renewal.now.change.now)
+        (after renewal.now.change.now) renewal.now.change.now.name.now (inserted_tuple renewal.now.change.now) }
+    requires told { IsToldDelete (before renewal.now.change.now)
+        (after renewal.now.change.now) renewal.now.change.now.name.now (deleted_tuple renewal.now.change.now) }
     requires mark { IsMark (before renewal.now.change.now) renewal.now.mark.now }
     requires adds { mark_adds renewal.now.mark.now renewal.now.change.now.name.now ≡ true }
     requires list { IsViewOf (before renewal.now.change.now) renewal.now.mark.now.name list }
@@ -138,7 +151,8 @@ fn followed<E: Evaluate>(
     ensures is { IfOk result (IsViewOf (after renewal.now.change.now) renewal.now.mark.now.name) }
     ensures longer { is_some (inserted_tuple renewal.now.change.now) ≡ true → IfOk result (IsLonger list) }
     ensures held { held.new ≡ held.old }
-    ensures wide { IsErrOf result Wide → (measures (after renewal.now.change.now) renewal.now.mark.now.name).clash ≡ true }
+    ensures wide { IsErrOf result Wide
+        → (measures (after renewal.now.change.now) renewal.now.mark.now.name).clash ≡ true }
 {
     match renewal.change.step {
         Step::Inserted(tuple) => {
@@ -165,12 +179,14 @@ pub(crate) fn anew<E: Evaluate>(
     renewal: &Renewal<'_, '_>,
     held: &mut Given,
 ) -> Result<Tuples, Refused>
-    requires change { IsChange (before renewal.now.change.now) (after renewal.now.change.now) renewal.now.change.now.name.now (inserted_tuple renewal.now.change.now) }
+    requires change { IsChange (before renewal.now.change.now)
+        (after renewal.now.change.now) renewal.now.change.now.name.now (inserted_tuple renewal.now.change.now) }
     requires mark { IsMark (before renewal.now.change.now) renewal.now.mark.now }
     requires held { AllByRecursion (IsHeld (after renewal.now.change.now)) held.old }
     ensures is { IfOk result (IsViewOf (after renewal.now.change.now) renewal.now.mark.now.name) }
     ensures held { held.new ≡ held.old }
-    ensures wide { IsErrOf result Wide → (measures (after renewal.now.change.now) renewal.now.mark.now.name).clash ≡ true }
+    ensures wide { IsErrOf result Wide
+        → (measures (after renewal.now.change.now) renewal.now.mark.now.name).clash ≡ true }
 {
     planned_view::<E>(
         alloc,

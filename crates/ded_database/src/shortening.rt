@@ -26,9 +26,10 @@ use ded_plan::scanned_names;
 use ded_query::{Over, give_names};
 use std::alloc::Global;
 
-/// The list of a view after a tuple is deleted that only took part once: without what the deleted tuple alone gave. A row of a tuple may
-/// have numbers that only the deleted tuple had. Where it has, or where that can't be told, and where a plan is too wide, the list is made
-/// anew. What is held is right over the catalogue as it will be, and stays as it is.
+/// The list of a view after a tuple is deleted that only took part once: without what the deleted tuple alone gave. A
+/// row of a tuple may have numbers that only the deleted tuple had. Where it has, or where that can't be told, and
+/// where a plan is too wide, the list is made anew. What is held is right over the catalogue as it will be, and stays
+/// as it is.
 ///
 /// # Errors
 /// `Wide` only where the view clashes over the catalogue as it will be, otherwise out of memory. The list is lost then.
@@ -39,15 +40,18 @@ pub(crate) fn list_without<E: Evaluate>(
     list: Tuples,
     held: &mut Given,
 ) -> Result<Tuples, Refused>
-    requires change { IsChange (before renewal.now.change.now) (after renewal.now.change.now) renewal.now.change.now.name.now (inserted_tuple renewal.now.change.now) }
-    requires delete { IsDelete (before renewal.now.change.now) (after renewal.now.change.now) renewal.now.change.now.name.now gone.now }
+    requires change { IsChange (before renewal.now.change.now)
+        (after renewal.now.change.now) renewal.now.change.now.name.now (inserted_tuple renewal.now.change.now) }
+    requires delete { IsDelete (before renewal.now.change.now)
+        (after renewal.now.change.now) renewal.now.change.now.name.now gone.now }
     requires mark { IsMark (before renewal.now.change.now) renewal.now.mark.now }
     requires adds { mark_adds renewal.now.mark.now renewal.now.change.now.name.now ≡ true }
     requires list { IsViewOf (before renewal.now.change.now) renewal.now.mark.now.name list }
     requires held { AllByRecursion (IsHeld (after renewal.now.change.now)) held.old }
     ensures is { IfOk result (IsViewOf (after renewal.now.change.now) renewal.now.mark.now.name) }
     ensures held { held.new ≡ held.old }
-    ensures wide { IsErrOf result Wide → (measures (after renewal.now.change.now) renewal.now.mark.now.name).clash ≡ true }
+    ensures wide { IsErrOf result Wide
+        → (measures (after renewal.now.change.now) renewal.now.mark.now.name).clash ≡ true }
 {
     let Some(lost) = losable(alloc, renewal, gone, &list.list)? else {
         return anew::<E>(alloc, renewal, held);
@@ -69,11 +73,13 @@ fn losable(
     gone: &Tuple,
     list: &[Tuple],
 ) -> Result<Option<Vec<Row>>, NoMemory>
-    requires delete { IsDelete (before renewal.now.change.now) (after renewal.now.change.now) renewal.now.change.now.name.now gone.now }
+    requires delete { IsDelete (before renewal.now.change.now)
+        (after renewal.now.change.now) renewal.now.change.now.name.now gone.now }
     requires mark { IsMark (before renewal.now.change.now) renewal.now.mark.now }
     requires adds { mark_adds renewal.now.mark.now renewal.now.change.now.name.now ≡ true }
     requires list { IsViewOf (before renewal.now.change.now) renewal.now.mark.now.name list.now }
-    ensures { IfOk result (λ o. IfSome o (λ v. HasLinesBut (before renewal.now.change.now) (after renewal.now.change.now) renewal.now.mark.now.name v.items list.now)) }
+    ensures { IfOk result (λ o. IfSome o (λ v. HasLinesBut (before renewal.now.change.now)
+        (after renewal.now.change.now) renewal.now.mark.now.name v.items list.now)) }
 {
     if !has_rows(list) {
         return Ok(Some(Vec::new(alloc)));
@@ -81,7 +87,8 @@ fn losable(
     lost_lines(alloc, renewal, gone, &gone.atoms)
 }
 
-/// The shortened list, where none of its rows has a line that the view loses, or else the list made anew. What is held stays as it is.
+/// The shortened list, where none of its rows has a line that the view loses, or else the list made anew. What is held
+/// stays as it is.
 ///
 /// # Errors
 /// `Wide` only where the view clashes over the catalogue as it will be, otherwise out of memory. The list is lost then.
@@ -93,16 +100,21 @@ fn settled<E: Evaluate>(
     tuples: Tuples,
     held: &mut Given,
 ) -> Result<Tuples, Refused>
-    requires change { IsChange (before renewal.now.change.now) (after renewal.now.change.now) renewal.now.change.now.name.now (inserted_tuple renewal.now.change.now) }
-    requires delete { IsDelete (before renewal.now.change.now) (after renewal.now.change.now) renewal.now.change.now.name.now gone.now }
+    requires change { IsChange (before renewal.now.change.now)
+        (after renewal.now.change.now) renewal.now.change.now.name.now (inserted_tuple renewal.now.change.now) }
+    requires delete { IsDelete (before renewal.now.change.now)
+        (after renewal.now.change.now) renewal.now.change.now.name.now gone.now }
     requires mark { IsMark (before renewal.now.change.now) renewal.now.mark.now }
     requires adds { mark_adds renewal.now.mark.now renewal.now.change.now.name.now ≡ true }
     requires but { IsViewBut (after renewal.now.change.now) renewal.now.mark.now.name lost.now tuples }
-    requires loses { (more : List Line) → LosesOnly (before renewal.now.change.now) (after renewal.now.change.now) renewal.now.mark.now.name more → IsViewBut (after renewal.now.change.now) renewal.now.mark.now.name more tuples }
+    requires loses { (more : List Line) → LosesOnly (before renewal.now.change.now)
+        (after renewal.now.change.now) renewal.now.mark.now.name more
+        → IsViewBut (after renewal.now.change.now) renewal.now.mark.now.name more tuples }
     requires held { AllByRecursion (IsHeld (after renewal.now.change.now)) held.old }
     ensures is { IfOk result (IsViewOf (after renewal.now.change.now) renewal.now.mark.now.name) }
     ensures held { held.new ≡ held.old }
-    ensures wide { IsErrOf result Wide → (measures (after renewal.now.change.now) renewal.now.mark.now.name).clash ≡ true }
+    ensures wide { IsErrOf result Wide
+        → (measures (after renewal.now.change.now) renewal.now.mark.now.name).clash ≡ true }
 {
     if !have_any(&tuples.list, lost)? || have_none_lost(alloc, renewal, gone, &tuples.list)? {
         return Ok(tuples);
@@ -110,8 +122,8 @@ fn settled<E: Evaluate>(
     anew::<E>(alloc, renewal, held)
 }
 
-/// Whether the tuples are found to have none of the lines that the view loses: lines of the deleted tuple that others of the relation
-/// have too aren't lost.
+/// Whether the tuples are found to have none of the lines that the view loses: lines of the deleted tuple that others
+/// of the relation have too aren't lost.
 ///
 /// # Errors
 /// Out of memory.
@@ -121,10 +133,12 @@ fn have_none_lost(
     gone: &Tuple,
     tuples: &[Tuple],
 ) -> Result<bool, NoMemory>
-    requires delete { IsDelete (before renewal.now.change.now) (after renewal.now.change.now) renewal.now.change.now.name.now gone.now }
+    requires delete { IsDelete (before renewal.now.change.now)
+        (after renewal.now.change.now) renewal.now.change.now.name.now gone.now }
     requires mark { IsMark (before renewal.now.change.now) renewal.now.mark.now }
     requires adds { mark_adds renewal.now.mark.now renewal.now.change.now.name.now ≡ true }
-    ensures { IfOk result (λ b. b ≡ true → HaveNoneLost (before renewal.now.change.now) (after renewal.now.change.now) renewal.now.mark.now.name tuples.now) }
+    ensures { IfOk result (λ b. b ≡ true → HaveNoneLost (before renewal.now.change.now)
+        (after renewal.now.change.now) renewal.now.mark.now.name tuples.now) }
 {
     let atoms = unshared(alloc, renewal.change, gone)?;
     match lost_lines(alloc, renewal, gone, &atoms)? {
@@ -158,9 +172,9 @@ fn has_row(tuple: &Tuple) -> bool
     false
 }
 
-/// The list of a view after a tuple is deleted that only took part once: the list before, without what the plan gave for the tuple
-/// alone. Its rows have lines of the view or of the list before. What is held is right over the catalogue as it will be, and stays as it
-/// is.
+/// The list of a view after a tuple is deleted that only took part once: the list before, without what the plan gave
+/// for the tuple alone. Its rows have lines of the view or of the list before. What is held is right over the catalogue
+/// as it will be, and stays as it is.
 ///
 /// # Errors
 /// `Wide` where a plan is too wide, otherwise out of memory. The list is lost then.
@@ -171,12 +185,15 @@ fn shortened<E: Evaluate>(
     list: Tuples,
     held: &mut Given,
 ) -> Result<Tuples, Refused>
-    requires delete { IsDelete (before renewal.now.change.now) (after renewal.now.change.now) renewal.now.change.now.name.now gone.now }
+    requires delete { IsDelete (before renewal.now.change.now)
+        (after renewal.now.change.now) renewal.now.change.now.name.now gone.now }
     requires mark { IsMark (before renewal.now.change.now) renewal.now.mark.now }
     requires adds { mark_adds renewal.now.mark.now renewal.now.change.now.name.now ≡ true }
     requires list { IsViewOf (before renewal.now.change.now) renewal.now.mark.now.name list }
     requires held { AllByRecursion (IsHeld (after renewal.now.change.now)) held.old }
-    ensures is { IfOk result (λ ts. (more : List Line) → HasLinesBut (before renewal.now.change.now) (after renewal.now.change.now) renewal.now.mark.now.name more list → IsViewBut (after renewal.now.change.now) renewal.now.mark.now.name more ts) }
+    ensures is { IfOk result (λ ts. (more : List Line)
+        → HasLinesBut (before renewal.now.change.now) (after renewal.now.change.now) renewal.now.mark.now.name more list
+        → IsViewBut (after renewal.now.change.now) renewal.now.mark.now.name more ts) }
     ensures held { held.new ≡ held.old }
 {
     let count = held.count();
@@ -185,8 +202,8 @@ fn shortened<E: Evaluate>(
     shortened
 }
 
-/// The list of a view after a tuple is deleted that only took part once, as [`shortened`] gives it. Views that the plan scans are
-/// given behind what is held, and stay there. Relations are read where they stand.
+/// The list of a view after a tuple is deleted that only took part once, as [`shortened`] gives it. Views that the plan
+/// scans are given behind what is held, and stay there. Relations are read where they stand.
 fn shortened_over<E: Evaluate>(
     alloc: Global,
     renewal: &Renewal<'_, '_>,
@@ -194,12 +211,15 @@ fn shortened_over<E: Evaluate>(
     list: Tuples,
     held: &mut Given,
 ) -> Result<Tuples, Refused>
-    requires delete { IsDelete (before renewal.now.change.now) (after renewal.now.change.now) renewal.now.change.now.name.now gone.now }
+    requires delete { IsDelete (before renewal.now.change.now)
+        (after renewal.now.change.now) renewal.now.change.now.name.now gone.now }
     requires mark { IsMark (before renewal.now.change.now) renewal.now.mark.now }
     requires adds { mark_adds renewal.now.mark.now renewal.now.change.now.name.now ≡ true }
     requires list { IsViewOf (before renewal.now.change.now) renewal.now.mark.now.name list }
     requires held { AllByRecursion (IsHeld (after renewal.now.change.now)) held.old }
-    ensures is { IfOk result (λ ts. (more : List Line) → HasLinesBut (before renewal.now.change.now) (after renewal.now.change.now) renewal.now.mark.now.name more list → IsViewBut (after renewal.now.change.now) renewal.now.mark.now.name more ts) }
+    ensures is { IfOk result (λ ts. (more : List Line)
+        → HasLinesBut (before renewal.now.change.now) (after renewal.now.change.now) renewal.now.mark.now.name more list
+        → IsViewBut (after renewal.now.change.now) renewal.now.mark.now.name more ts) }
     ensures front { IsFront held.old held.new }
 {
     laws::nothing_beside();

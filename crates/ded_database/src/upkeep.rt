@@ -12,8 +12,8 @@ use ded_algebra::{Evaluate, Given};
 use ded_model::memory::NoMemory;
 use std::alloc::{AllocError, Global};
 
-/// Makes the lists that the change concerns, over the catalogue as it will be, behind the others. Gives how many the others are, which are right
-/// over the catalogue before as well.
+/// Makes the lists that the change concerns, over the catalogue as it will be, behind the others. Gives how many the
+/// others are, which are right over the catalogue before as well.
 ///
 /// # Errors
 /// Out of memory. What is left is right over the catalogue before, and has the lists that the change doesn't concern.
@@ -27,7 +27,8 @@ pub(crate) fn bring_up_to_date<E: Evaluate>(
     requires change { IsChange (before change.now) (after change.now) change.now.name.now (inserted_tuple change.now) }
     requires told { IsToldDelete (before change.now) (after change.now) change.now.name.now (deleted_tuple change.now) }
     requires upheld { IsUpheld (before change.now) marks.now held.old }
-    ensures ok { IfOk result (λ count. IsReady (before change.now) (after change.now) change.now.name.now (inserted_tuple change.now) marks.now held.old held.new count) }
+    ensures ok { IfOk result (λ count. IsReady (before change.now) (after change.now) change.now.name.now
+        (inserted_tuple change.now) marks.now held.old held.new count) }
     ensures err { OnErr result (IsUpheld (before change.now) marks.now held.new) }
     ensures left { OnErr result (LeavesOthers (before change.now) change.now.name.now held.old held.new) }
 {

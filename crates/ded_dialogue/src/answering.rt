@@ -30,13 +30,15 @@ pub trait Answering {
     /// Answers the next statement: whichever statement the piece stands for, it may get this reply.
     fn answer(&mut self, piece: Piece<'_>) -> Self::Reply
         requires { IsShortPiece piece }
-        ensures { (s : Statement) → StandsFor piece.entry s → answers (state self.old) s (said result) (state self.new) };
+        ensures { (s : Statement) → StandsFor piece.entry s
+            → answers (state self.old) s (said result) (state self.new) };
 
     /// Whether the reply is a refusal.
     fn is_refusal(reply: &Self::Reply) -> bool
         ensures { result ≡ (said reply.now).refuses };
 
-    /// Whether the text of a reply is taken for one line, which may wait for further replies. It decides only how many writes there are.
+    /// Whether the text of a reply is taken for one line, which may wait for further replies. It decides only how many
+    /// writes there are.
     fn is_line(reply: &Self::Reply) -> bool;
 
     /// Writes the text of a reply, or a front of it where the sink fails.
@@ -47,7 +49,8 @@ pub trait Answering {
         ensures bytes { AddsAll (K.contents sink.old) (K.contents sink.new) result (said reply.now).text }
         ensures cause { HasCause (K.faults sink.old) (K.faults sink.new) result };
 
-    /// Behind a statement that was answered any other may get some reply: so a run can be told to its end where the sink fails
-    /// before.
-    ghost goes_on: { (m n : Self.State) (s next : Statement) (reply : Said) → answers m s reply n → SomeAnswer answers n next };
+    /// Behind a statement that was answered any other may get some reply: so a run can be told to its end where the
+    /// sink fails before.
+    ghost goes_on: { (m n : Self.State) (s next : Statement) (reply : Said) → answers m s reply n
+        → SomeAnswer answers n next };
 }

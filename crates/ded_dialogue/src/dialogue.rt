@@ -73,8 +73,10 @@ impl<A: Answering> Dialogue<A> {
         pending: &mut Pending,
         sink: &mut K,
     ) -> Result<(), Failed>
-        ensures grows { IfOk result (λ _. GrowsBehind A.answers A.state self.old self.new (K.contents sink.old) pending.old.bytes.items (K.contents sink.new) pending.new.bytes.items (byte ∷ [])) }
-        ensures breaks { OnErr result (BreaksBehind A.answers A.state self.old (K.contents sink.old) pending.old.bytes.items (K.contents sink.new) (byte ∷ [])) }
+        ensures grows { IfOk result (λ _. GrowsBehind A.answers A.state self.old self.new
+            (K.contents sink.old) pending.old.bytes.items (K.contents sink.new) pending.new.bytes.items (byte ∷ [])) }
+        ensures breaks { OnErr result (BreaksBehind A.answers A.state self.old
+            (K.contents sink.old) pending.old.bytes.items (K.contents sink.new) (byte ∷ [])) }
         ensures cause { HasCause (K.faults sink.old) (K.faults sink.new) result }
     {
         match self.splitter.feed(byte) {
@@ -101,14 +103,16 @@ impl<A: Answering> Dialogue<A> {
         }
     }
 
-    /// Takes the next bytes, and answers the statements that end in them. All their replies are written when it is done; those of one
-    /// line go to the sink together.
+    /// Takes the next bytes, and answers the statements that end in them. All their replies are written when it is
+    /// done; those of one line go to the sink together.
     ///
     /// # Errors
     /// `Failed` only where the sink's count of faults rose.
     pub fn feed<K: Sink>(&mut self, bytes: &[u8], sink: &mut K) -> Result<(), Failed>
-        ensures grows { IfOk result (λ _. Grows A.answers A.state self.old self.new (K.contents sink.old) (K.contents sink.new) bytes.now) }
-        ensures breaks { OnErr result (Breaks A.answers A.state self.old (K.contents sink.old) (K.contents sink.new) bytes.now) }
+        ensures grows { IfOk result (λ _. Grows A.answers A.state self.old self.new (K.contents sink.old)
+            (K.contents sink.new) bytes.now) }
+        ensures breaks { OnErr result (Breaks A.answers A.state self.old (K.contents sink.old)
+            (K.contents sink.new) bytes.now) }
         ensures cause { HasCause (K.faults sink.old) (K.faults sink.new) result }
     {
         let mut pending = Pending::new();
@@ -123,7 +127,8 @@ impl<A: Answering> Dialogue<A> {
     /// # Errors
     /// `Failed` only where the sink's count of faults rose.
     pub fn finish<K: Sink>(&mut self, sink: &mut K) -> Result<(), Failed>
-        ensures concluded { IfOk result (λ _. (start : A.State) (silent : ℕ) (taken : List ℕ) (contents : Option (List ℕ)) →
+        ensures concluded { IfOk result (λ _. (start : A.State) (silent : ℕ) (taken : List ℕ)
+            (contents : Option (List ℕ)) →
             Streamed A.answers A.state start silent false self.old taken contents (K.contents sink.old) →
             ConcludedIn (heard_from A.answers start) silent taken contents (K.contents sink.new) self.new.refused
             (A.state self.new.machine)) }
@@ -162,7 +167,8 @@ fn answer_at_once<A: Answering, K: Sink>(
     sink: &mut K,
 ) -> Result<(), Failed>
     requires { IsShortPiece piece }
-    ensures replied { IsReplied A.answers piece.entry (A.state machine.old) (A.state machine.new) refused.old refused.new silent.old silent.new
+    ensures replied { IsReplied A.answers piece.entry (A.state machine.old)
+        (A.state machine.new) refused.old refused.new silent.old silent.new
         (K.contents sink.old) [] (K.contents sink.new) [] result }
     ensures cause { HasCause (K.faults sink.old) (K.faults sink.new) result }
 {
@@ -171,8 +177,8 @@ fn answer_at_once<A: Answering, K: Sink>(
     pending.flush(sink)
 }
 
-/// Answers a piece, notes whether the reply is a refusal, and puts it behind those that wait, unless it is one of those that aren't
-/// written.
+/// Answers a piece, notes whether the reply is a refusal, and puts it behind those that wait, unless it is one of those
+/// that aren't written.
 fn answer<A: Answering, K: Sink>(
     machine: &mut A,
     piece: Piece<'_>,
@@ -182,7 +188,8 @@ fn answer<A: Answering, K: Sink>(
     sink: &mut K,
 ) -> Result<(), Failed>
     requires { IsShortPiece piece }
-    ensures replied { IsReplied A.answers piece.entry (A.state machine.old) (A.state machine.new) refused.old refused.new silent.old silent.new
+    ensures replied { IsReplied A.answers piece.entry (A.state machine.old)
+        (A.state machine.new) refused.old refused.new silent.old silent.new
         (K.contents sink.old) pending.old.bytes.items (K.contents sink.new) pending.new.bytes.items result }
     ensures cause { HasCause (K.faults sink.old) (K.faults sink.new) result }
 {

@@ -66,8 +66,8 @@ impl Sink for Pending {
     }
 }
 
-/// Puts the text of a reply behind the bytes that wait, where it is one line and there is room for it. Otherwise these go to the sink
-/// first, and then the text.
+/// Puts the text of a reply behind the bytes that wait, where it is one line and there is room for it. Otherwise these
+/// go to the sink first, and then the text.
 ///
 /// # Errors
 /// `Failed` only where the sink's count of faults rose.
@@ -76,7 +76,8 @@ pub(crate) fn put<A: Answering, K: Sink>(
     pending: &mut Pending,
     sink: &mut K,
 ) -> Result<(), Failed>
-    ensures written { WritesBehind (K.contents sink.old) pending.old.bytes.items (K.contents sink.new) pending.new.bytes.items result (A.said reply.now).text }
+    ensures written { WritesBehind (K.contents sink.old) pending.old.bytes.items
+        (K.contents sink.new) pending.new.bytes.items result (A.said reply.now).text }
     ensures cause { HasCause (K.faults sink.old) (K.faults sink.new) result }
 {
     if keep::<A>(reply, pending) {
@@ -86,7 +87,8 @@ pub(crate) fn put<A: Answering, K: Sink>(
     A::write(reply, sink)
 }
 
-/// Puts the text of a reply behind the bytes that wait, where it is one line and there is room for it. Returns whether it did.
+/// Puts the text of a reply behind the bytes that wait, where it is one line and there is room for it. Returns whether
+/// it did.
 fn keep<A: Answering>(reply: &A::Reply, pending: &mut Pending) -> bool
     ensures kept { result ≡ true → pending.new.bytes.items ≡ pending.old.bytes.items ++ (A.said reply.now).text }
     ensures left { result ≡ false → pending.new.bytes.items ≡ pending.old.bytes.items }

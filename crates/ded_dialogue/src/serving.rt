@@ -30,13 +30,16 @@ pub fn serve<A: Answering + Drop, S: Source, K: Sink>(
     ensures done_with_refusals { result ≡ Status.DoneWithRefusals →
         Answered (heard_from A.answers (A.state machine)) input_limit
         (S.left source.old) (S.left source.new) (K.contents sink.old) (K.contents sink.new) true }
-    ensures faultless { (result ≡ Status.Done) ⊎ (result ≡ Status.DoneWithRefusals) ⊎ (result ≡ Status.TooLong) → (S.faults source.new ≡ S.faults source.old) × (K.faults sink.new ≡ K.faults sink.old) }
+    ensures faultless { (result ≡ Status.Done) ⊎ (result ≡ Status.DoneWithRefusals) ⊎ (result ≡ Status.TooLong)
+        → (S.faults source.new ≡ S.faults source.old) × (K.faults sink.new ≡ K.faults sink.old) }
     ensures bad_words { result ≢ Status.BadWords }
-    ensures read_fault { result ≡ Status.ReadFault → Rose (S.faults source.old) (S.faults source.new) × (K.faults sink.new ≡ K.faults sink.old) }
+    ensures read_fault { result ≡ Status.ReadFault
+        → Rose (S.faults source.old) (S.faults source.new) × (K.faults sink.new ≡ K.faults sink.old) }
     ensures unread { result ≡ Status.ReadFault →
         Unread (heard_from A.answers (A.state machine)) input_limit
         (S.left source.old) (S.left source.new) (K.contents sink.old) (K.contents sink.new) }
-    ensures write_fault { result ≡ Status.WriteFault → Rose (K.faults sink.old) (K.faults sink.new) × (S.faults source.new ≡ S.faults source.old) }
+    ensures write_fault { result ≡ Status.WriteFault
+        → Rose (K.faults sink.old) (K.faults sink.new) × (S.faults source.new ≡ S.faults source.old) }
     ensures broken { result ≡ Status.WriteFault →
         Broken (heard_from A.answers (A.state machine))
         (S.left source.old) (S.left source.new) (S.last source.new) (K.contents sink.old) (K.contents sink.new) }
@@ -44,7 +47,9 @@ pub fn serve<A: Answering + Drop, S: Source, K: Sink>(
     ensures overlong { result ≡ Status.TooLong →
         Overlong (heard_from A.answers (A.state machine)) input_limit
         (S.left source.old) (S.left source.new) (K.contents sink.old) (K.contents sink.new) }
-    ensures ends { (Rose (S.faults source.old) (S.faults source.new) → ⊥) → (Rose (K.faults sink.old) (K.faults sink.new) → ⊥) → result ≢ Status.NoMemory → result ≢ Status.TooLong → (result ≡ Status.Done) ⊎ (result ≡ Status.DoneWithRefusals) }
+    ensures ends { (Rose (S.faults source.old) (S.faults source.new) → ⊥)
+        → (Rose (K.faults sink.old) (K.faults sink.new) → ⊥) → result ≢ Status.NoMemory → result ≢ Status.TooLong
+        → (result ≡ Status.Done) ⊎ (result ≡ Status.DoneWithRefusals) }
 {
     let Ok(mut dialogue) = Dialogue::new(alloc, machine, 0) else {
         return Status::NoMemory;
@@ -52,8 +57,8 @@ pub fn serve<A: Answering + Drop, S: Source, K: Sink>(
     serve_dialogue(&mut dialogue, input_limit, source, sink)
 }
 
-/// Reads an input of at most `input_limit` bytes to its end as [`serve`] does, with a dialogue to which nothing came in yet. The
-/// dialogue's machine is then as the last statement left it.
+/// Reads an input of at most `input_limit` bytes to its end as [`serve`] does, with a dialogue to which nothing came in
+/// yet. The dialogue's machine is then as the last statement left it.
 pub fn serve_dialogue<A: Answering, S: Source, K: Sink>(
     dialogue: &mut Dialogue<A>,
     input_limit: u64,
@@ -69,21 +74,26 @@ pub fn serve_dialogue<A: Answering, S: Source, K: Sink>(
         AnsweredIn (heard_from A.answers (A.state dialogue.old.machine)) input_limit
         (S.left source.old) (S.left source.new) (K.contents sink.old) (K.contents sink.new) true
         (A.state dialogue.new.machine) }
-    ensures faultless { (result ≡ Status.Done) ⊎ (result ≡ Status.DoneWithRefusals) ⊎ (result ≡ Status.TooLong) → (S.faults source.new ≡ S.faults source.old) × (K.faults sink.new ≡ K.faults sink.old) }
+    ensures faultless { (result ≡ Status.Done) ⊎ (result ≡ Status.DoneWithRefusals) ⊎ (result ≡ Status.TooLong)
+        → (S.faults source.new ≡ S.faults source.old) × (K.faults sink.new ≡ K.faults sink.old) }
     ensures bad_words { result ≢ Status.BadWords }
     ensures memory { result ≢ Status.NoMemory }
-    ensures read_fault { result ≡ Status.ReadFault → Rose (S.faults source.old) (S.faults source.new) × (K.faults sink.new ≡ K.faults sink.old) }
+    ensures read_fault { result ≡ Status.ReadFault
+        → Rose (S.faults source.old) (S.faults source.new) × (K.faults sink.new ≡ K.faults sink.old) }
     ensures unread { result ≡ Status.ReadFault →
         Unread (heard_from A.answers (A.state dialogue.old.machine)) input_limit
         (S.left source.old) (S.left source.new) (K.contents sink.old) (K.contents sink.new) }
-    ensures write_fault { result ≡ Status.WriteFault → Rose (K.faults sink.old) (K.faults sink.new) × (S.faults source.new ≡ S.faults source.old) }
+    ensures write_fault { result ≡ Status.WriteFault
+        → Rose (K.faults sink.old) (K.faults sink.new) × (S.faults source.new ≡ S.faults source.old) }
     ensures broken { result ≡ Status.WriteFault →
         Broken (heard_from A.answers (A.state dialogue.old.machine))
         (S.left source.old) (S.left source.new) (S.last source.new) (K.contents sink.old) (K.contents sink.new) }
     ensures overlong { result ≡ Status.TooLong →
         Overlong (heard_from A.answers (A.state dialogue.old.machine)) input_limit
         (S.left source.old) (S.left source.new) (K.contents sink.old) (K.contents sink.new) }
-    ensures ends { (Rose (S.faults source.old) (S.faults source.new) → ⊥) → (Rose (K.faults sink.old) (K.faults sink.new) → ⊥) → result ≢ Status.TooLong → (result ≡ Status.Done) ⊎ (result ≡ Status.DoneWithRefusals) }
+    ensures ends { (Rose (S.faults source.old) (S.faults source.new) → ⊥)
+        → (Rose (K.faults sink.old) (K.faults sink.new) → ⊥) → result ≢ Status.TooLong
+        → (result ≡ Status.Done) ⊎ (result ≡ Status.DoneWithRefusals) }
 {
     let mut buffer = [0u8; READ_AT_ONCE];
     let mut room = input_limit;
@@ -112,11 +122,13 @@ pub fn conclude<A: Answering, K: Sink>(dialogue: &mut Dialogue<A>, sink: &mut K)
         Streamed A.answers A.state start silent false dialogue.old taken contents (K.contents sink.old) →
         ConcludedIn (heard_from A.answers start) silent taken contents (K.contents sink.new) false
         (A.state dialogue.new.machine) }
-    ensures done_with_refusals { result ≡ Status.DoneWithRefusals → (start : A.State) (silent : ℕ) (taken : List ℕ) (contents : Option (List ℕ)) →
+    ensures done_with_refusals { result ≡ Status.DoneWithRefusals
+        → (start : A.State) (silent : ℕ) (taken : List ℕ) (contents : Option (List ℕ)) →
         Streamed A.answers A.state start silent false dialogue.old taken contents (K.contents sink.old) →
         ConcludedIn (heard_from A.answers start) silent taken contents (K.contents sink.new) true
         (A.state dialogue.new.machine) }
-    ensures faultless { (result ≡ Status.Done) ⊎ (result ≡ Status.DoneWithRefusals) → K.faults sink.new ≡ K.faults sink.old }
+    ensures faultless { (result ≡ Status.Done) ⊎ (result ≡ Status.DoneWithRefusals)
+        → K.faults sink.new ≡ K.faults sink.old }
     ensures broken { result ≡ Status.WriteFault → (start : A.State) (silent : ℕ) (before : Bool) (taken : List ℕ)
         (contents : Option (List ℕ)) →
         Streamed A.answers A.state start silent before dialogue.old taken contents (K.contents sink.old) →

@@ -98,7 +98,8 @@ impl Answering for Gathering {
 /// # Errors
 /// Out of memory.
 fn gather(replies: &mut Vec<Reply>, reply: Reply) -> Result<(), NoMemory>
-    ensures { OnOk result (map reply_form replies.new.items ≡ map reply_form replies.old.items ++ told_of (reply_form reply)) }
+    ensures { OnOk result (map reply_form replies.new.items
+        ≡ map reply_form replies.old.items ++ told_of (reply_form reply)) }
 {
     match reply {
         Reply::Done | Reply::Number(_) => Ok(()),

@@ -29,16 +29,26 @@ pub fn serve<S: Source, K: Sink>(
     requires low { 1 ≤ setup.now.limit }
     requires high { setup.now.limit ≤ 1000000 }
     requires width { style.now.width ≤ 10000 }
-    ensures done { result ≡ Status.Done → Pictured setup.now.limit setup.now.input_limit style.now (S.left source.old) (S.left source.new) (K.contents sink.old) (K.contents sink.new) false }
-    ensures done_with_refusals { result ≡ Status.DoneWithRefusals → Pictured setup.now.limit setup.now.input_limit style.now (S.left source.old) (S.left source.new) (K.contents sink.old) (K.contents sink.new) true }
-    ensures faultless { (result ≡ Status.Done) ⊎ (result ≡ Status.DoneWithRefusals) → (S.faults source.new ≡ S.faults source.old) × (K.faults sink.new ≡ K.faults sink.old) }
+    ensures done { result ≡ Status.Done → Pictured setup.now.limit setup.now.input_limit style.now (S.left source.old)
+        (S.left source.new) (K.contents sink.old) (K.contents sink.new) false }
+    ensures done_with_refusals { result ≡ Status.DoneWithRefusals
+        → Pictured setup.now.limit setup.now.input_limit style.now (S.left source.old) (S.left source.new)
+        (K.contents sink.old) (K.contents sink.new) true }
+    ensures faultless { (result ≡ Status.Done) ⊎ (result ≡ Status.DoneWithRefusals)
+        → (S.faults source.new ≡ S.faults source.old) × (K.faults sink.new ≡ K.faults sink.old) }
     ensures bad_words { result ≢ Status.BadWords }
     ensures read_fault { result ≡ Status.ReadFault → Rose (S.faults source.old) (S.faults source.new) }
-    ensures write_fault { result ≡ Status.WriteFault → Rose (K.faults sink.old) (K.faults sink.new) × (S.faults source.new ≡ S.faults source.old) }
-    ensures broken { result ≡ Status.WriteFault → HalfPictured setup.now.limit setup.now.input_limit style.now (S.left source.old) (S.left source.new) (K.contents sink.old) (K.contents sink.new) }
-    ensures unwritten { (result ≡ Status.ReadFault) ⊎ (result ≡ Status.NoMemory) ⊎ (result ≡ Status.TooLong) → sink.new ≡ sink.old }
-    ensures overlong { result ≡ Status.TooLong → IsOverlong setup.now.input_limit (S.left source.old) (S.left source.new) }
-    ensures ends { (Rose (S.faults source.old) (S.faults source.new) → ⊥) → (Rose (K.faults sink.old) (K.faults sink.new) → ⊥) → result ≢ Status.NoMemory → result ≢ Status.TooLong → (result ≡ Status.Done) ⊎ (result ≡ Status.DoneWithRefusals) }
+    ensures write_fault { result ≡ Status.WriteFault
+        → Rose (K.faults sink.old) (K.faults sink.new) × (S.faults source.new ≡ S.faults source.old) }
+    ensures broken { result ≡ Status.WriteFault → HalfPictured setup.now.limit setup.now.input_limit style.now
+        (S.left source.old) (S.left source.new) (K.contents sink.old) (K.contents sink.new) }
+    ensures unwritten { (result ≡ Status.ReadFault) ⊎ (result ≡ Status.NoMemory)
+        ⊎ (result ≡ Status.TooLong) → sink.new ≡ sink.old }
+    ensures overlong { result ≡ Status.TooLong → IsOverlong setup.now.input_limit
+        (S.left source.old) (S.left source.new) }
+    ensures ends { (Rose (S.faults source.old) (S.faults source.new) → ⊥)
+        → (Rose (K.faults sink.old) (K.faults sink.new) → ⊥) → result ≢ Status.NoMemory → result ≢ Status.TooLong
+        → (result ≡ Status.Done) ⊎ (result ≡ Status.DoneWithRefusals) }
 {
     let gathering = Gathering::new(alloc, setup.limit, setup.keys);
     let Ok(mut dialogue) = Dialogue::new(alloc, gathering, 0) else {
@@ -65,12 +75,17 @@ fn write_picture<K: Sink>(
     sink: &mut K,
 ) -> Status
     requires { style.now.width ≤ 10000 }
-    ensures kinds { (result ≡ Status.Done) ⊎ (result ≡ Status.DoneWithRefusals) ⊎ (result ≡ Status.NoMemory) ⊎ (result ≡ Status.WriteFault) }
-    ensures done { result ≡ Status.Done → Written style.now (map reply_form replies.now) refused (K.contents sink.old) (K.contents sink.new) false }
-    ensures done_with_refusals { result ≡ Status.DoneWithRefusals → Written style.now (map reply_form replies.now) refused (K.contents sink.old) (K.contents sink.new) true }
-    ensures faultless { (result ≡ Status.Done) ⊎ (result ≡ Status.DoneWithRefusals) → K.faults sink.new ≡ K.faults sink.old }
+    ensures kinds { (result ≡ Status.Done) ⊎ (result ≡ Status.DoneWithRefusals) ⊎ (result ≡ Status.NoMemory)
+        ⊎ (result ≡ Status.WriteFault) }
+    ensures done { result ≡ Status.Done → Written style.now (map reply_form replies.now) refused (K.contents sink.old)
+        (K.contents sink.new) false }
+    ensures done_with_refusals { result ≡ Status.DoneWithRefusals
+        → Written style.now (map reply_form replies.now) refused (K.contents sink.old) (K.contents sink.new) true }
+    ensures faultless { (result ≡ Status.Done) ⊎ (result ≡ Status.DoneWithRefusals)
+        → K.faults sink.new ≡ K.faults sink.old }
     ensures write_fault { result ≡ Status.WriteFault → Rose (K.faults sink.old) (K.faults sink.new) }
-    ensures broken { result ≡ Status.WriteFault → HalfWritten style.now (map reply_form replies.now) refused (K.contents sink.old) (K.contents sink.new) }
+    ensures broken { result ≡ Status.WriteFault → HalfWritten style.now (map reply_form replies.now) refused
+        (K.contents sink.old) (K.contents sink.new) }
     ensures unwritten { result ≡ Status.NoMemory → sink.new ≡ sink.old }
 {
     let Ok(drawing) = drawing_of(alloc, style, replies) else {
@@ -95,20 +110,26 @@ pub fn run<S: Source, K: Sink>(
     source: &mut S,
     sink: &mut K,
 ) -> Status
-    ensures bad_words { result ≡ Status.BadWords → (options : Options) → AcceptedWords (texts_in words.now) options → ⊥ }
+    ensures bad_words { result ≡ Status.BadWords → (options : Options)
+        → AcceptedWords (texts_in words.now) options → ⊥ }
     ensures no_words { result ≡ Status.BadWords → (source.new ≡ source.old) × (sink.new ≡ sink.old) }
     ensures done { result ≡ Status.Done → WithOptions (texts_in words.now) (λ options.
         Pictured options.limit (2 ^ 40) options.style (S.left source.old) (S.left source.new) (K.contents sink.old) (K.contents sink.new) false) }
     ensures done_with_refusals { result ≡ Status.DoneWithRefusals → WithOptions (texts_in words.now) (λ options.
         Pictured options.limit (2 ^ 40) options.style (S.left source.old) (S.left source.new) (K.contents sink.old) (K.contents sink.new) true) }
-    ensures faultless { (result ≡ Status.Done) ⊎ (result ≡ Status.DoneWithRefusals) → (S.faults source.new ≡ S.faults source.old) × (K.faults sink.new ≡ K.faults sink.old) }
+    ensures faultless { (result ≡ Status.Done) ⊎ (result ≡ Status.DoneWithRefusals)
+        → (S.faults source.new ≡ S.faults source.old) × (K.faults sink.new ≡ K.faults sink.old) }
     ensures read_fault { result ≡ Status.ReadFault → Rose (S.faults source.old) (S.faults source.new) }
-    ensures write_fault { result ≡ Status.WriteFault → Rose (K.faults sink.old) (K.faults sink.new) × (S.faults source.new ≡ S.faults source.old) }
+    ensures write_fault { result ≡ Status.WriteFault
+        → Rose (K.faults sink.old) (K.faults sink.new) × (S.faults source.new ≡ S.faults source.old) }
     ensures broken { result ≡ Status.WriteFault → WithOptions (texts_in words.now) (λ options.
         HalfPictured options.limit (2 ^ 40) options.style (S.left source.old) (S.left source.new) (K.contents sink.old) (K.contents sink.new)) }
-    ensures unwritten { (result ≡ Status.ReadFault) ⊎ (result ≡ Status.NoMemory) ⊎ (result ≡ Status.TooLong) → sink.new ≡ sink.old }
+    ensures unwritten { (result ≡ Status.ReadFault) ⊎ (result ≡ Status.NoMemory)
+        ⊎ (result ≡ Status.TooLong) → sink.new ≡ sink.old }
     ensures overlong { result ≡ Status.TooLong → IsOverlong (2 ^ 40) (S.left source.old) (S.left source.new) }
-    ensures ends { (Rose (S.faults source.old) (S.faults source.new) → ⊥) → (Rose (K.faults sink.old) (K.faults sink.new) → ⊥) → result ≢ Status.NoMemory → result ≢ Status.TooLong → result ≢ Status.BadWords → (result ≡ Status.Done) ⊎ (result ≡ Status.DoneWithRefusals) }
+    ensures ends { (Rose (S.faults source.old) (S.faults source.new) → ⊥)
+        → (Rose (K.faults sink.old) (K.faults sink.new) → ⊥) → result ≢ Status.NoMemory → result ≢ Status.TooLong
+        → result ≢ Status.BadWords → (result ≡ Status.Done) ⊎ (result ≡ Status.DoneWithRefusals) }
 {
     let options = match options_in(alloc, &words.list) {
         Ok(options) => options,

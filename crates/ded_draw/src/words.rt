@@ -1,5 +1,6 @@
 //! The words of the command line.
-ghost use Rattle.std.specs.Prelude.{◌≡◌, ◌≢◌, [], ℕ, Option, Some, None, Err, IfOk, MatchOption, codes, map, option_map};
+ghost use Rattle.std.specs.Prelude.{◌≡◌, ◌≢◌, [], ℕ, Option, Some, None, Err, IfOk, MatchOption, codes, map};
+ghost use Rattle.std.specs.Prelude.{option_map};
 ghost use Rattle.std.specs.String.{string_bytes};
 ghost use Rattle.clap.specs.Words.{app_of, fault_of};
 ghost use Rattle.clap.specs.Simple.{with_rule};
@@ -7,7 +8,8 @@ ghost use Rattle.ded_polygon.specs.Windows.{Frame};
 ghost use Rattle.ded_run.specs.CommandLine.{option_rule};
 ghost use Rattle.ded_draw.specs.CommandLine.{bare, drawing, value_of};
 ghost use Rattle.ded_draw.specs.declared.words.Options.{Options};
-ghost use Rattle.ded_draw.specs.Words.{AcceptedWords, WidthValue, WindowValue, cut_at_comma, look_of, time_first, two_columns};
+ghost use Rattle.ded_draw.specs.Words.{AcceptedWords, WidthValue, WindowValue, cut_at_comma, look_of, time_first};
+ghost use Rattle.ded_draw.specs.Words.{two_columns};
 
 use clap::error::ErrorKind;
 use clap::{Arg, ArgAction, Command};
@@ -81,8 +83,8 @@ pub(crate) fn options_in(alloc: Global, words: &[String]) -> Result<Options, Wor
     })
 }
 
-/// The command line as `clap` reads it: five options that take one value each. There is no other option, and no argument without a
-/// name.
+/// The command line as `clap` reads it: five options that take one value each. There is no other option, and no
+/// argument without a name.
 fn command<'a>(alloc: Global) -> Result<Command<'a>, NoMemory>
     ensures { IfOk result (λ command. app_of command ≡ drawing) }
 {
@@ -119,11 +121,16 @@ fn with_option<'a>(
 /// The values of the options, where the words have them. `Bad` only where `clap` finds a fault in the words.
 fn values_in<'a>(alloc: Global, words: &'a [String]) -> Result<Values<'a>, WordFault>
     ensures none { IfOk result (λ _. fault_of drawing (map string_bytes words.entry.now) ≡ []) }
-    ensures limit { IfOk result (λ values. option_map (λ t. t.now) values.limit ≡ value_of (codes "limit") (map string_bytes words.entry.now)) }
-    ensures columns { IfOk result (λ values. option_map (λ t. t.now) values.columns ≡ value_of (codes "columns") (map string_bytes words.entry.now)) }
-    ensures window { IfOk result (λ values. option_map (λ t. t.now) values.window ≡ value_of (codes "window") (map string_bytes words.entry.now)) }
-    ensures size { IfOk result (λ values. option_map (λ t. t.now) values.size ≡ value_of (codes "size") (map string_bytes words.entry.now)) }
-    ensures time { IfOk result (λ values. option_map (λ t. t.now) values.time ≡ value_of (codes "time") (map string_bytes words.entry.now)) }
+    ensures limit { IfOk result (λ values. option_map (λ t. t.now) values.limit
+        ≡ value_of (codes "limit") (map string_bytes words.entry.now)) }
+    ensures columns { IfOk result (λ values. option_map (λ t. t.now) values.columns
+        ≡ value_of (codes "columns") (map string_bytes words.entry.now)) }
+    ensures window { IfOk result (λ values. option_map (λ t. t.now) values.window
+        ≡ value_of (codes "window") (map string_bytes words.entry.now)) }
+    ensures size { IfOk result (λ values. option_map (λ t. t.now) values.size
+        ≡ value_of (codes "size") (map string_bytes words.entry.now)) }
+    ensures time { IfOk result (λ values. option_map (λ t. t.now) values.time
+        ≡ value_of (codes "time") (map string_bytes words.entry.now)) }
     ensures bad { result ≡ Err WordFault.Bad → fault_of drawing (map string_bytes words.entry.now) ≢ [] }
 {
     match command(alloc)?.try_get_matches_from(words) {
@@ -172,7 +179,8 @@ fn look_of(
     columns: Option<&str>,
     time: Option<&str>,
 ) -> Result<Option<Look>, NoMemory>
-    ensures { IfOk result (λ look. look ≡ look_of (option_map (λ t. t.now) columns.entry) (option_map (λ t. t.now) time.entry)) }
+    ensures { IfOk result (λ look. look ≡ look_of (option_map (λ t. t.now) columns.entry)
+        (option_map (λ t. t.now) time.entry)) }
 {
     match (columns, time) {
         (None, None) => Ok(Some(Look::FirstTwo)),

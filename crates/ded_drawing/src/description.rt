@@ -2,7 +2,8 @@
 ghost use Rattle.std.specs.Prelude.{◌≡◌, ◌++◌, [], map, IfOk, OnOk};
 ghost use Rattle.ded_session.specs.Answered.{reply_form};
 ghost use Rattle.ded_session.specs.Texts.{text_of};
-ghost use Rattle.ded_drawing.specs.Descriptions.{counted_text, description, is_unseen, lines_from, lines_of, lines_told, unseen_in};
+ghost use Rattle.ded_drawing.specs.Descriptions.{counted_text, description, is_unseen, lines_from, lines_of};
+ghost use Rattle.ded_drawing.specs.Descriptions.{lines_told, unseen_in};
 
 use ded_cells::put_number;
 use ded_dump::Text;
@@ -13,8 +14,8 @@ use ded_model::name::Name;
 use ded_session::{Reply, write_reply};
 use std::alloc::{AllocError, Global};
 
-/// The lines of the description: how many tuples are drawn, how many are too long to be drawn, how many answers lack the columns, and the
-/// lines of all other replies.
+/// The lines of the description: how many tuples are drawn, how many are too long to be drawn, how many answers lack
+/// the columns, and the lines of all other replies.
 ///
 /// # Errors
 /// Out of memory.

@@ -2,7 +2,8 @@
 ghost use Rattle.std.specs.Prelude.{◌≡◌, ◌++◌, OnOk};
 ghost use Rattle.ded_model.specs.Goal.{goal_form};
 ghost use Rattle.ded_print.specs.Tuples.{column_names};
-ghost use Rattle.ded_dump.specs.Comparisons.{constant_text, stated_text, denied_text, row_comparison_text, compare_text, written_text, comparison_text};
+ghost use Rattle.ded_dump.specs.Comparisons.{constant_text, stated_text, denied_text, row_comparison_text};
+ghost use Rattle.ded_dump.specs.Comparisons.{compare_text, written_text, comparison_text};
 
 use crate::goals::{below, row};
 use crate::operand::put_operand;
@@ -26,7 +27,8 @@ pub(crate) fn put_comparison(
     right: &Operand,
     goal: &Goal,
 ) -> Result<(), NoMemory>
-    ensures { OnOk result (text.new ≡ text.old ++ comparison_text (column_names places.now) left.now op right.now (goal_form goal.now)) }
+    ensures { OnOk result (text.new ≡ text.old ++ comparison_text
+        (column_names places.now) left.now op right.now (goal_form goal.now)) }
 {
     match row(below(goal)) {
         Some(row) => put_row_comparison(text, places, op, row),

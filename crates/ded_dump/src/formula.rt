@@ -55,7 +55,8 @@ pub(crate) fn put_formula(
     formula: &Formula,
     goal: &Goal,
 ) -> Result<(), NoMemory>
-    ensures { OnOk result (text.new ≡ text.old ++ whole_text (column_names places.now) (form formula.now) (goal_form goal.now)) }
+    ensures { OnOk result (text.new ≡ text.old ++ whole_text (column_names places.now)
+        (form formula.now) (goal_form goal.now)) }
 {
     match formula {
         Formula::True => text.put(b"true"),
@@ -97,7 +98,8 @@ fn put_bound(
     body: &Formula,
     goal: &Goal,
 ) -> Result<(), NoMemory>
-    ensures { OnOk result (text.new ≡ text.old ++ bound_text (column_names places.now) column.now (form body.now) (goal_form goal.now)) }
+    ensures { OnOk result (text.new ≡ text.old ++ bound_text (column_names places.now) column.now
+        (form body.now) (goal_form goal.now)) }
 {
     put_column(text, column)?;
     text.put(b" (")?;
@@ -114,7 +116,8 @@ fn put_part(
     formula: &Formula,
     goal: &Goal,
 ) -> Result<(), NoMemory>
-    ensures { OnOk result (text.new ≡ text.old ++ part_text (column_names places.now) position (form formula.now) (goal_form goal.now)) }
+    ensures { OnOk result (text.new ≡ text.old ++ part_text (column_names places.now) position
+        (form formula.now) (goal_form goal.now)) }
 {
     if !is_grouped(position, formula) {
         return put_formula(text, places, formula, goal);
@@ -134,7 +137,8 @@ fn put_chain(
     parts: &Vec<Formula>,
     goals: &[Goal],
 ) -> Result<(), NoMemory>
-    ensures { OnOk result (text.new ≡ text.old ++ chain_text (column_names places.now) position [] connective.now (forms parts.now.items) (goal_forms goals.now)) }
+    ensures { OnOk result (text.new ≡ text.old ++ chain_text (column_names places.now) position [] connective.now
+        (forms parts.now.items) (goal_forms goals.now)) }
 {
     let mut lead: &[u8] = b"";
     let mut goals = goals;

@@ -3,7 +3,9 @@ ghost use Rattle.std.specs.Prelude.{◌≡◌, ◌++◌, ◌<ℤ◌, pos, [], On
 ghost use Rattle.ded_num.specs.Length.{IsWithin};
 ghost use Rattle.ded_model.specs.Sum.{ArePartsWithin};
 ghost use Rattle.ded_print.specs.Tuples.{sign_text};
-ghost use Rattle.ded_dump.specs.Operands.{number_over, magnitude, product_text, later_product_text, later_products_text, later_constant_text, parts_text, sum_text, operand_text, operands_text, member_text};
+ghost use Rattle.ded_dump.specs.Operands.{number_over, magnitude, product_text, later_product_text};
+ghost use Rattle.ded_dump.specs.Operands.{later_products_text, later_constant_text, parts_text, sum_text, operand_text};
+ghost use Rattle.ded_dump.specs.Operands.{operands_text, member_text};
 
 use crate::text::Text;
 use ded_model::bound::Frac;

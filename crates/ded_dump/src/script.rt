@@ -34,7 +34,8 @@ fn add_entry(
     catalogue: &Catalogue,
     name: &Name,
 ) -> Result<(), NoMemory>
-    ensures { OnOk result (lines.new.items ≡ lines.old.items ++ lines_under (entry_of (catalogue_of catalogue.now).entries name.now)) }
+    ensures { OnOk result (lines.new.items ≡ lines.old.items
+        ++ lines_under (entry_of (catalogue_of catalogue.now).entries name.now)) }
 {
     catalogue.formed();
     let Some(heading) = catalogue.heading(name) else {
@@ -58,7 +59,8 @@ fn add_view(
     heading: &Heading,
 ) -> Result<(), NoMemory>
     requires { IsView (catalogue_of catalogue.now) name.now heading.now }
-    ensures { OnOk result (lines.new.items ≡ lines.old.items ++ lines_under (entry_of (catalogue_of catalogue.now).entries name.now)) }
+    ensures { OnOk result (lines.new.items ≡ lines.old.items
+        ++ lines_under (entry_of (catalogue_of catalogue.now).entries name.now)) }
 {
     if let (Some(formula), Some(goal)) = (catalogue.formula(name), catalogue.goal(name)) {
         lines.push(view_line(alloc, name, heading, formula, goal)?)?;

@@ -14,8 +14,8 @@ use ded_print::{print_fraction, print_quoted, print_row, print_tuple, print_unli
 use std::alloc::{AllocError, Global};
 use std::marker::Model;
 
-/// A text that is written piece by piece. Contracts see its bytes. As a sink it takes each piece whole or runs out of memory, and
-/// its count of faults stands at the last value.
+/// A text that is written piece by piece. Contracts see its bytes. As a sink it takes each piece whole or runs out of
+/// memory, and its count of faults stands at the last value.
 #[derive(Drop)]
 pub struct Text {
     bytes: Vec<u8>,

@@ -10,7 +10,8 @@ ghost use Rattle.ded_model.specs.Lines.{Line, In, row_lines, clash_at};
 ghost use Rattle.ded_theory.specs.Conjunctions.{conj_lines};
 ghost use Rattle.ded_elimination.specs.LinearAtoms.{IsLinearAtom};
 ghost use Rattle.ded_elimination.specs.Adding.{AreLinear, HoldExtended, Adds};
-ghost use Rattle.ded_elimination.specs.Equalities.{equal_size, NoEquality, IsEqualityAt, IsLeastEquality, settled_row, settled_clash, SettledHolds};
+ghost use Rattle.ded_elimination.specs.Equalities.{equal_size, NoEquality, IsEqualityAt, IsLeastEquality, settled_row};
+ghost use Rattle.ded_elimination.specs.Equalities.{settled_clash, SettledHolds};
 
 use crate::keeping::{Kept, keep};
 use crate::mixing::Mixing;
@@ -18,7 +19,8 @@ use ded_model::memory::Refused;
 use ded_model::row::{Row, RowOp};
 use ded_model::slot::Slot;
 
-/// The place of the equality that mentions the slot with the coefficient of the least magnitude; none where no equality does.
+/// The place of the equality that mentions the slot with the coefficient of the least magnitude; none where no equality
+/// does.
 pub fn find_equality(rows: &[Row], slot: Slot) -> Option<usize>
     ensures { MatchOption result (NoEquality slot rows.now (length rows.now)) (IsLeastEquality slot rows.now) }
 {
@@ -48,7 +50,8 @@ fn equal_size(row: &Row, slot: Slot) -> u128
 /// something may satisfy the rows.
 ///
 /// # Errors
-/// `Wide` only where two lines of the rows clash at the slot, and never of a mixing that decides; otherwise out of memory.
+/// `Wide` only where two lines of the rows clash at the slot, and never of a mixing that decides; otherwise out of
+/// memory.
 pub fn by_equality<M: Mixing>(
     out: &mut Kept,
     rows: &[Row],
@@ -58,7 +61,8 @@ pub fn by_equality<M: Mixing>(
     requires normal { AreLinear rows.now }
     requires rows { AllByRecursion M.rows rows.now }
     requires equality { (n : ℕ) × IsEqualityAt slot rows.now n place }
-    ensures adds { IfOk result (λ more. Adds M.rows slot rows.now (HoldExtended slot rows.now) out.old.rows.items more out.new.rows.items) }
+    ensures adds { IfOk result (λ more. Adds M.rows slot rows.now
+        (HoldExtended slot rows.now) out.old.rows.items more out.new.rows.items) }
     ensures wide { IsErrOf result Wide → clash_at slot (conj_lines row_lines rows.now) ≡ true }
     ensures never_wide { M.decides → IsErrOf result Wide → ⊥ }
 {
@@ -83,9 +87,11 @@ fn add_settled<M: Mixing>(
     requires mentions { coef_at equal.now.coefs slot ≢ pos 0 }
     requires normal { IsLinearAtom equal.now × IsLinearAtom row.now }
     requires rows { M.rows equal.now × M.rows row.now }
-    ensures adds { IfOk result (λ more. (rows : List LinearConstraint) → AreLinear rows → In equal.now rows → In row.now rows
+    ensures adds { IfOk result (λ more. (rows : List LinearConstraint) → AreLinear rows
+        → In equal.now rows → In row.now rows
         → Adds M.rows slot rows (SettledHolds slot equal.now row.now) out.old.rows.items more out.new.rows.items) }
-    ensures wide { IsErrOf result Wide → (rows : List LinearConstraint) → AreLinear rows → In equal.now rows → In row.now rows
+    ensures wide { IsErrOf result Wide → (rows : List LinearConstraint) → AreLinear rows
+        → In equal.now rows → In row.now rows
         → clash_at slot (conj_lines row_lines rows) ≡ true }
     ensures never_wide { M.decides → IsErrOf result Wide → ⊥ }
 {

@@ -1,7 +1,8 @@
 //! Rows that are kept together, none of which another one with its coefficients makes superfluous.
 //!
-//! The first few are looked through one by one. Of those behind them a hash of the coefficients tells where some stand, so that many
-//! are kept in no more than their own time. Nothing rests on the hash: a row that it hides is one too many.
+//! The first few are looked through one by one. Of those behind them a hash of the coefficients tells where some stand,
+//! so that many are kept in no more than their own time. Nothing rests on the hash: a row that it hides is one too
+//! many.
 ghost use Rattle.std.specs.Prelude.{◌≡◌, ◌++◌, ◌∷◌, true, [], IfOk};
 ghost use Rattle.ded_model.specs.Coefs.{AreCoefs};
 ghost use Rattle.ded_model.specs.Normal.{IsNormalRow, is_true_with};
@@ -14,7 +15,8 @@ use std::alloc::Global;
 use std::collections::HashMap;
 use std::hash::{DefaultHasher, Hash, Hasher};
 
-/// How many rows, the first ones, are looked through one by one. Those behind them are found by a hash, which so few rows aren't worth.
+/// How many rows, the first ones, are looked through one by one. Those behind them are found by a hash, which so few
+/// rows aren't worth.
 const LOOKED_THROUGH_UP_TO: usize = 32;
 
 /// Rows that are kept together, and at which place one behind the first few stands by the hash of its coefficients.
@@ -66,8 +68,8 @@ enum Rival {
 }
 
 /// Adds a row, so that the rows hold where they held and the row does. Of two rows with the same coefficients the
-/// stronger is kept, and both where the hash of another row hides one; a row without coefficients is not added. Returns whether
-/// the row holds anywhere.
+/// stronger is kept, and both where the hash of another row hides one; a row without coefficients is not added. Returns
+/// whether the row holds anywhere.
 ///
 /// # Errors
 /// Out of memory.
@@ -97,8 +99,8 @@ fn is_truth(op: RowOp) -> bool
     }
 }
 
-/// A row among those that are kept that has the same coefficients as the row and implies it or is implied by it: one of the first few, or
-/// the last of the others that has their hash.
+/// A row among those that are kept that has the same coefficients as the row and implies it or is implied by it: one of
+/// the first few, or the last of the others that has their hash.
 fn find_rival(kept: &Kept, row: &Row) -> Rival
     ensures { IsRival kept.now.rows.items row.now result }
 {
@@ -135,7 +137,8 @@ fn rival_at(rows: &[Row], place: usize, row: &Row) -> Rival
     }
 }
 
-/// Whether the two rows have the same coefficients, and the first one holds only where the second one does. It does not allocate.
+/// Whether the two rows have the same coefficients, and the first one holds only where the second one does. It does not
+/// allocate.
 pub fn implies(a: &Row, b: &Row) -> bool
     ensures { result ≡ true → Implies a.now b.now }
 {

@@ -1,9 +1,10 @@
 //! How two rows are combined so that a slot falls out.
 //!
-//! An elimination combines rows two by two. What two rows give is fixed; how it is computed, and whether it is ever refused
-//! because a number gets too long, depends on the rows. So an elimination takes the combination as a parameter, a [`Mixing`],
-//! and so does what is built on it. [`Checked`] combines any two rows. Rows of a kind whose combinations multiply nothing can
-//! have a mixing of their own, which is never refused; whatever is written over any [`Mixing`] is then exact for them.
+//! An elimination combines rows two by two. What two rows give is fixed; how it is computed, and whether it is ever
+//! refused because a number gets too long, depends on the rows. So an elimination takes the combination as a parameter,
+//! a [`Mixing`], and so does what is built on it. [`Checked`] combines any two rows. Rows of a kind whose combinations
+//! multiply nothing can have a mixing of their own, which is never refused; whatever is written over any [`Mixing`] is
+//! then exact for them.
 ghost use Rattle.std.specs.Prelude.{◌≡◌, true, false, IfOk, IsErrOf};
 ghost use Rattle.ded_model.specs.declared.memory.Refused.TheVariants.{Wide};
 ghost use Rattle.ded_model.specs.Constraint.{LinearConstraint};
@@ -25,9 +26,9 @@ pub trait Mixing {
     /// Whether the combination of such rows is never refused for the length of its numbers.
     ghost decides: { Type 0 };
 
-    /// Adds the two rows, each times the size of the other's coefficient of the slot, so that the slot falls out, and gives
-    /// the normal form of the sum. The first row bounds the slot from above, the second one from below; an equality counts
-    /// with either sign. Where the sum has a slot, the lines of the two rows don't clash.
+    /// Adds the two rows, each times the size of the other's coefficient of the slot, so that the slot falls out, and
+    /// gives the normal form of the sum. The first row bounds the slot from above, the second one from below; an
+    /// equality counts with either sign. Where the sum has a slot, the lines of the two rows don't clash.
     ///
     /// # Errors
     /// `Wide` only where the lines of the two rows clash, and never of a mixing that decides; otherwise out of memory.

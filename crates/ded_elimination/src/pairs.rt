@@ -21,12 +21,14 @@ use ded_model::slot::Slot;
 /// bounds it from below. Returns whether something may satisfy the rows.
 ///
 /// # Errors
-/// `Wide` only where two lines of the rows clash at the slot, and never of a mixing that decides; otherwise out of memory.
+/// `Wide` only where two lines of the rows clash at the slot, and never of a mixing that decides; otherwise out of
+/// memory.
 pub fn by_pairs<M: Mixing>(out: &mut Kept, rows: &[Row], slot: Slot) -> Result<bool, Refused>
     requires normal { AreLinear rows.now }
     requires rows { AllByRecursion M.rows rows.now }
     requires none { NoEquality slot rows.now (length rows.now) }
-    ensures adds { IfOk result (λ more. Adds M.rows slot rows.now (HoldExtended slot rows.now) out.old.rows.items more out.new.rows.items) }
+    ensures adds { IfOk result (λ more. Adds M.rows slot rows.now
+        (HoldExtended slot rows.now) out.old.rows.items more out.new.rows.items) }
     ensures wide { IsErrOf result Wide → clash_at slot (conj_lines row_lines rows.now) ≡ true }
     ensures never_wide { M.decides → IsErrOf result Wide → ⊥ }
 {
@@ -41,7 +43,8 @@ pub fn by_pairs<M: Mixing>(out: &mut Kept, rows: &[Row], slot: Slot) -> Result<b
 fn keep_level<M: Mixing>(out: &mut Kept, rows: &[Row], slot: Slot) -> Result<bool, NoMemory>
     requires normal { AreLinear rows.now }
     requires rows { AllByRecursion M.rows rows.now }
-    ensures { IfOk result (λ more. Adds M.rows slot rows.now (OfFirst (LevelHolds slot) rows.now (length rows.now)) out.old.rows.items more out.new.rows.items) }
+    ensures { IfOk result (λ more. Adds M.rows slot rows.now
+        (OfFirst (LevelHolds slot) rows.now (length rows.now)) out.old.rows.items more out.new.rows.items) }
 {
     for row in rows {
         if !add_level::<M>(out, row, slot)? {
@@ -55,7 +58,8 @@ fn keep_level<M: Mixing>(out: &mut Kept, rows: &[Row], slot: Slot) -> Result<boo
 fn add_level<M: Mixing>(out: &mut Kept, row: &Row, slot: Slot) -> Result<bool, NoMemory>
     requires normal { IsLinearAtom row.now }
     requires rows { M.rows row.now }
-    ensures { IfOk result (λ more. (rows : List LinearConstraint) → AreLinear rows → In row.now rows → Adds M.rows slot rows (LevelHolds slot row.now) out.old.rows.items more out.new.rows.items) }
+    ensures { IfOk result (λ more. (rows : List LinearConstraint) → AreLinear rows → In row.now rows
+        → Adds M.rows slot rows (LevelHolds slot row.now) out.old.rows.items more out.new.rows.items) }
 {
     if row.coefs.at(slot) == 0 {
         keep(out, row.copy()?)
@@ -69,7 +73,8 @@ fn add_level<M: Mixing>(out: &mut Kept, row: &Row, slot: Slot) -> Result<bool, N
 fn mix_uppers<M: Mixing>(out: &mut Kept, rows: &[Row], slot: Slot) -> Result<bool, Refused>
     requires normal { AreLinear rows.now }
     requires rows { AllByRecursion M.rows rows.now }
-    ensures adds { IfOk result (λ more. Adds M.rows slot rows.now (OfFirst (UpperHolds slot rows.now) rows.now (length rows.now)) out.old.rows.items more out.new.rows.items) }
+    ensures adds { IfOk result (λ more. Adds M.rows slot rows.now
+        (OfFirst (UpperHolds slot rows.now) rows.now (length rows.now)) out.old.rows.items more out.new.rows.items) }
     ensures wide { IsErrOf result Wide → clash_at slot (conj_lines row_lines rows.now) ≡ true }
     ensures never_wide { M.decides → IsErrOf result Wide → ⊥ }
 {
@@ -92,7 +97,8 @@ fn add_upper<M: Mixing>(
     requires normal { AreLinear rows.now }
     requires rows { AllByRecursion M.rows rows.now }
     requires inside { In upper.now rows.now }
-    ensures adds { IfOk result (λ more. Adds M.rows slot rows.now (UpperHolds slot rows.now upper.now) out.old.rows.items more out.new.rows.items) }
+    ensures adds { IfOk result (λ more. Adds M.rows slot rows.now
+        (UpperHolds slot rows.now upper.now) out.old.rows.items more out.new.rows.items) }
     ensures wide { IsErrOf result Wide → clash_at slot (conj_lines row_lines rows.now) ≡ true }
     ensures never_wide { M.decides → IsErrOf result Wide → ⊥ }
 {
@@ -115,7 +121,8 @@ fn mix_lowers<M: Mixing>(
     requires rows { AllByRecursion M.rows rows.now }
     requires inside { In upper.now rows.now }
     requires above { pos 0 <ℤ coef_at upper.now.coefs slot }
-    ensures adds { IfOk result (λ more. Adds M.rows slot rows.now (OfFirst (PairHolds slot upper.now) rows.now (length rows.now)) out.old.rows.items more out.new.rows.items) }
+    ensures adds { IfOk result (λ more. Adds M.rows slot rows.now
+        (OfFirst (PairHolds slot upper.now) rows.now (length rows.now)) out.old.rows.items more out.new.rows.items) }
     ensures wide { IsErrOf result Wide → clash_at slot (conj_lines row_lines rows.now) ≡ true }
     ensures never_wide { M.decides → IsErrOf result Wide → ⊥ }
 {
@@ -138,9 +145,11 @@ fn add_pair<M: Mixing>(
     requires normal { IsLinearAtom upper.now × IsLinearAtom lower.now }
     requires rows { M.rows upper.now × M.rows lower.now }
     requires above { pos 0 <ℤ coef_at upper.now.coefs slot }
-    ensures adds { IfOk result (λ more. (rows : List LinearConstraint) → AreLinear rows → In upper.now rows → In lower.now rows
+    ensures adds { IfOk result (λ more. (rows : List LinearConstraint) → AreLinear rows
+        → In upper.now rows → In lower.now rows
         → Adds M.rows slot rows (PairHolds slot upper.now lower.now) out.old.rows.items more out.new.rows.items) }
-    ensures wide { IsErrOf result Wide → (rows : List LinearConstraint) → AreLinear rows → In upper.now rows → In lower.now rows
+    ensures wide { IsErrOf result Wide → (rows : List LinearConstraint) → AreLinear rows
+        → In upper.now rows → In lower.now rows
         → clash_at slot (conj_lines row_lines rows) ≡ true }
     ensures never_wide { M.decides → IsErrOf result Wide → ⊥ }
 {

@@ -1,8 +1,8 @@
 //! Joins without pairs that hold nowhere inside of a window.
 //!
-//! A projection may stand between the parts of a join and the rows that tie them to each other, as where two things are at one place
-//! at times that are near. These rows are in the window of the join, but no part of it reads them. Of all pairs few may hold where
-//! they do.
+//! A projection may stand between the parts of a join and the rows that tie them to each other, as where two things are
+//! at one place at times that are near. These rows are in the window of the join, but no part of it reads them. Of all
+//! pairs few may hold where they do.
 ghost use Rattle.std.specs.Prelude.{◌≡◌, ◌++◌, ◌∷◌, [], true, IfOk, List};
 ghost use Rattle.std.specs.List.{AllByRecursion};
 ghost use Rattle.ded_model.specs.Cell.{conj_holds};
@@ -34,7 +34,8 @@ pub(crate) fn rows_across<T: OfTuples>(
     second: &[Slot],
 ) -> Result<Vec<T::Atom>, NoMemory>
     requires { AllByRecursion T.normal window.now }
-    ensures weaker { IfOk result (λ v. (p : Point) → conj_holds T.holds window.now p ≡ true → conj_holds T.holds v.items p ≡ true) }
+    ensures weaker { IfOk result (λ v. (p : Point) → conj_holds T.holds window.now p ≡ true
+        → conj_holds T.holds v.items p ≡ true) }
     ensures normal { IfOk result (λ v. AllByRecursion T.normal v.items) }
 {
     let mut rows = Vec::new(alloc);
@@ -66,10 +67,11 @@ fn mentions_other(row: &Row, slots: &[Slot], others: &[Slot]) -> bool {
     false
 }
 
-/// A list that holds only where both do, and exactly there where the rows hold: that of `join_shorter`, or where there are rows and
-/// the second list isn't small, the pairs without those that hold nowhere together with the rows. Those of one conjunction of the
-/// first list are looked through before others are made, so that only what is kept needs memory. `met` grows as in `join_shorter`.
-/// That takes the complement of a small list in place of all pairs at once, where they would be many: so such lists are left to it.
+/// A list that holds only where both do, and exactly there where the rows hold: that of `join_shorter`, or where there
+/// are rows and the second list isn't small, the pairs without those that hold nowhere together with the rows. Those of
+/// one conjunction of the first list are looked through before others are made, so that only what is kept needs memory.
+/// `met` grows as in `join_shorter`. That takes the complement of a small list in place of all pairs at once, where
+/// they would be many: so such lists are left to it.
 ///
 /// # Errors
 /// Out of memory.
@@ -81,7 +83,8 @@ pub(crate) fn join_inside<T: OfTuples>(
     met: &mut u64,
 ) -> Result<GenRel<T>, NoMemory>
     requires { IsJoinStep T.normal T.holds step.now.within.now step.now.slots.now step.now.across.now }
-    ensures { IfOk result (λ r. IsMeetInside T.holds T.mentions T.lines (conj_holds T.holds step.now.across.now) list.now next.now r) }
+    ensures { IfOk result (λ r. IsMeetInside T.holds T.mentions T.lines
+        (conj_holds T.holds step.now.across.now) list.now next.now r) }
 {
     if step.across.is_empty() || is_small(next) {
         join_shorter(alloc, list, next, step.slots, met)
@@ -90,7 +93,8 @@ pub(crate) fn join_inside<T: OfTuples>(
     }
 }
 
-/// The pairs that may hold somewhere together with the rows, those of one conjunction of the first list after those of another.
+/// The pairs that may hold somewhere together with the rows, those of one conjunction of the first list after those of
+/// another.
 fn pairs_inside<T: OfTuples>(
     alloc: Global,
     list: &GenRel<T>,
@@ -99,7 +103,8 @@ fn pairs_inside<T: OfTuples>(
     met: &mut u64,
 ) -> Result<GenRel<T>, NoMemory>
     requires { IsJoinStep T.normal T.holds step.now.within.now step.now.slots.now step.now.across.now }
-    ensures { IfOk result (λ r. IsMeetInside T.holds T.mentions T.lines (conj_holds T.holds step.now.across.now) list.now next.now r) }
+    ensures { IfOk result (λ r. IsMeetInside T.holds T.mentions T.lines
+        (conj_holds T.holds step.now.across.now) list.now next.now r) }
 {
     let index = index_over(alloc, next, step.slots)?;
     let pairs = pairs_by(alloc, list, next, step, &index, met);
@@ -118,7 +123,8 @@ fn pairs_by<T: OfTuples>(
 ) -> Result<GenRel<T>, NoMemory>
     requires step { IsJoinStep T.normal T.holds step.now.within.now step.now.slots.now step.now.across.now }
     requires index { IsIndexOver T.holds T.mentions T.lines step.now.slots.now next.now index.now }
-    ensures { IfOk result (λ r. IsMeetInside T.holds T.mentions T.lines (conj_holds T.holds step.now.across.now) list.now next.now r) }
+    ensures { IfOk result (λ r. IsMeetInside T.holds T.mentions T.lines
+        (conj_holds T.holds step.now.across.now) list.now next.now r) }
 {
     let mut out = GenRel::new(alloc);
     for conj in list.list() {
@@ -154,7 +160,8 @@ fn push_inside<T: OfTuples>(
 ) -> Result<(), NoMemory>
     requires conj { AllByRecursion T.normal conj.items }
     requires across { AllByRecursion T.normal across.now }
-    ensures { IfOk result (λ _. (conjs : List (List T.Atom)) → IsInsidePart T.holds T.mentions T.lines (conj_holds T.holds across.now) conjs out.old
+    ensures { IfOk result (λ _. (conjs : List (List T.Atom))
+        → IsInsidePart T.holds T.mentions T.lines (conj_holds T.holds across.now) conjs out.old
         → IsInsidePart T.holds T.mentions T.lines (conj_holds T.holds across.now) (conjs ++ conj.items ∷ []) out.new) }
 {
     let both = both_conjs::<T>(alloc, &conj, across)?;

@@ -18,8 +18,8 @@ use ded_model::tuple::ThemeAtom;
 use ded_theory::{Theory, Verdict};
 use std::alloc::Global;
 
-/// What is found of the list at points at which the atoms hold: `Empty` where it holds at none of them, and `Inhabited` where one of its
-/// conjunctions is over the slots alone and holds somewhere together with the atoms.
+/// What is found of the list at points at which the atoms hold: `Empty` where it holds at none of them, and `Inhabited`
+/// where one of its conjunctions is over the slots alone and holds somewhere together with the atoms.
 ///
 /// # Errors
 /// Out of memory.
@@ -120,7 +120,8 @@ pub(crate) fn are_over<T: OfTuples>(atoms: &[T::Atom], slots: &[Slot]) -> bool
 
 /// Whether the atom is over the slots alone.
 fn is_over(atom: &AtomRef<'_>, slots: &[Slot]) -> bool
-    ensures { result ≡ true → (p q : Point) → IsPoint p → IsPoint q → HasValues slots.now p q → atom_holds (atom_of atom.now) p ≡ atom_holds (atom_of atom.now) q }
+    ensures { result ≡ true → (p q : Point) → IsPoint p → IsPoint q → HasValues slots.now p q
+        → atom_holds (atom_of atom.now) p ≡ atom_holds (atom_of atom.now) q }
 {
     match atom {
         AtomRef::Linear(row) => is_row_over(row, slots),
@@ -130,7 +131,8 @@ fn is_over(atom: &AtomRef<'_>, slots: &[Slot]) -> bool
 
 /// Whether the row mentions only the slots.
 fn is_row_over(row: &Row, slots: &[Slot]) -> bool
-    ensures { result ≡ true → (p q : Point) → IsPoint p → IsPoint q → HasValues slots.now p q → row_holds row.now p ≡ row_holds row.now q }
+    ensures { result ≡ true → (p q : Point) → IsPoint p → IsPoint q → HasValues slots.now p q
+        → row_holds row.now p ≡ row_holds row.now q }
 {
     are_coefs_over(row.coefs.list(), slots)
 }
@@ -144,7 +146,8 @@ fn are_coefs_over(coefs: &[(Slot, i128)], slots: &[Slot]) -> bool
 
 /// Whether the text atom mentions only the slots.
 fn is_theme_over(atom: &ThemeAtom, slots: &[Slot]) -> bool
-    ensures { result ≡ true → (p q : Point) → HasValues slots.now p q → theme_holds atom.now p ≡ theme_holds atom.now q }
+    ensures { result ≡ true → (p q : Point) → HasValues slots.now p q
+        → theme_holds atom.now p ≡ theme_holds atom.now q }
 {
     is_text_of(first_slot(atom), slots) && is_text_of(last_slot(atom), slots)
 }

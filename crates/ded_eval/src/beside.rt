@@ -1,4 +1,5 @@
-//! The rows and text atoms that stand beside the other parts of a join, and what the parts so far leave to those that follow.
+//! The rows and text atoms that stand beside the other parts of a join, and what the parts so far leave to those that
+//! follow.
 ghost use Rattle.std.specs.Prelude.{◌≡◌, ◌++◌, ◌∷◌, [], true, length, IfOk, List, map};
 ghost use Rattle.std.specs.List.{AllByRecursion};
 ghost use Rattle.ded_model.specs.Catalogue.{Catalogue};
@@ -134,7 +135,8 @@ pub(crate) fn narrowed<T: Theory>(
     list: &Option<GenRel<T>>,
 ) -> Result<Vec<T::Atom>, NoMemory>
     requires { AllByRecursion T.normal window.now }
-    ensures holds { IfOk result (λ v. (p : Point) → conj_holds T.holds window.now p ≡ true → conjs_hold T.holds (begun list.now) p ≡ true → conj_holds T.holds v.items p ≡ true) }
+    ensures holds { IfOk result (λ v. (p : Point) → conj_holds T.holds window.now p ≡ true
+        → conjs_hold T.holds (begun list.now) p ≡ true → conj_holds T.holds v.items p ≡ true) }
     ensures normal { IfOk result (λ v. AllByRecursion T.normal v.items) }
 {
     if let Some(list) = list {

@@ -20,11 +20,12 @@ use ded_packed::Lent;
 use ded_theory::Theory;
 use std::alloc::Global;
 
-/// A list that holds exactly where the plan does over the given relations, as [`crate::eval`] gives it, evaluated over order rows.
-/// `met` grows by the count of pairs that joins meet, up to the greatest `u64`.
+/// A list that holds exactly where the plan does over the given relations, as [`crate::eval`] gives it, evaluated over
+/// order rows. `met` grows by the count of pairs that joins meet, up to the greatest `u64`.
 ///
 /// # Errors
-/// `Wide` only where some row of the plan, or of the tuples of a name that it scans, is no order row; otherwise out of memory.
+/// `Wide` only where some row of the plan, or of the tuples of a name that it scans, is no order row; otherwise out of
+/// memory.
 pub(crate) fn evaluate_orders<R: Relations>(
     alloc: Global,
     plan: &Plan,
@@ -32,7 +33,9 @@ pub(crate) fn evaluate_orders<R: Relations>(
     met: &mut u64,
 ) -> Result<GenRel<Atoms>, Refused>
     requires { IsEvaluable IsAnyAtom (R.catalogue relations.now) (plan_form plan.now) }
-    ensures is { IfOk result (λ r. IsEvaluation (R.catalogue relations.now) (plan_form plan.now) (conjs_hold ⟦<Atoms as Theory>⟧.holds r) (conjs_mention ⟦<Atoms as Theory>⟧.mentions r) (conjs_lines ⟦<Atoms as Theory>⟧.lines r)) }
+    ensures is { IfOk result (λ r. IsEvaluation (R.catalogue relations.now) (plan_form plan.now)
+        (conjs_hold ⟦<Atoms as Theory>⟧.holds r) (conjs_mention ⟦<Atoms as Theory>⟧.mentions r)
+        (conjs_lines ⟦<Atoms as Theory>⟧.lines r)) }
     ensures orders { AreOrderRows (R.catalogue relations.now) (plan_form plan.now) → IsErrOf result Wide → ⊥ }
 {
     if plan_has_other(alloc, plan, relations)? {
@@ -83,7 +86,8 @@ fn some_plan_has_other<R: Relations>(
     plans: &Vec<Plan>,
     relations: &R,
 ) -> Result<bool, NoMemory>
-    ensures { IfOk result (λ b. b ≡ some_atom_of (has_other_in (R.catalogue relations.now)) (plan_forms plans.now.items)) }
+    ensures { IfOk result (λ b. b ≡ some_atom_of (has_other_in (R.catalogue relations.now))
+        (plan_forms plans.now.items)) }
 {
     for plan in plans {
         if plan_has_other(alloc, plan, relations)? {

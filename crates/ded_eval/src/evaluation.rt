@@ -30,12 +30,14 @@ use ded_model::tuple::Tuple;
 use ded_theory::Theory;
 use std::alloc::Global;
 
-/// A list that holds exactly where the plan does over the given relations. It mentions only slots that the plan mentions freely,
-/// and has lines among those of the plan. Each name that the plan scans is given, with tuples over columns of the sorts of the
-/// scan's slots, and the theory reads all atoms. `met` grows by the count of pairs that joins meet, up to the greatest `u64`.
+/// A list that holds exactly where the plan does over the given relations. It mentions only slots that the plan
+/// mentions freely, and has lines among those of the plan. Each name that the plan scans is given, with tuples over
+/// columns of the sorts of the scan's slots, and the theory reads all atoms. `met` grows by the count of pairs that
+/// joins meet, up to the greatest `u64`.
 ///
 /// # Errors
-/// `Wide` only where the plan clashes over the given relations, and never over a theory that decides; otherwise out of memory.
+/// `Wide` only where the plan clashes over the given relations, and never over a theory that decides; otherwise out of
+/// memory.
 pub fn evaluate_counted<T: OfTuples, R: Relations>(
     alloc: Global,
     plan: &Plan,
@@ -43,20 +45,23 @@ pub fn evaluate_counted<T: OfTuples, R: Relations>(
     met: &mut u64,
 ) -> Result<GenRel<T>, Refused>
     requires { IsEvaluable T.reads (R.catalogue relations.now) (plan_form plan.now) }
-    ensures is { IfOk result (λ r. IsEvaluation (R.catalogue relations.now) (plan_form plan.now) (conjs_hold T.holds r) (conjs_mention T.mentions r) (conjs_lines T.lines r)) }
-    ensures wide { IsErrOf result Wide → plan_clashes (stored_measures (R.catalogue relations.now)) (plan_form plan.now) ≡ true }
+    ensures is { IfOk result (λ r. IsEvaluation (R.catalogue relations.now) (plan_form plan.now) (conjs_hold T.holds r)
+        (conjs_mention T.mentions r) (conjs_lines T.lines r)) }
+    ensures wide { IsErrOf result Wide → plan_clashes (stored_measures (R.catalogue relations.now))
+        (plan_form plan.now) ≡ true }
     ensures never_wide { T.decides → IsErrOf result Wide → ⊥ }
 {
     let everywhere = Vec::new(alloc);
     evaluate_within(alloc, plan, relations, &everywhere, met)
 }
 
-/// A list that holds exactly where the plan does over the given relations, at each point at which all atoms of the window hold. It
-/// mentions only slots that the plan mentions freely, and has lines among those of the plan, as [`evaluate_counted`] gives it. Tuples
-/// that hold nowhere in the window needn't be read.
+/// A list that holds exactly where the plan does over the given relations, at each point at which all atoms of the
+/// window hold. It mentions only slots that the plan mentions freely, and has lines among those of the plan, as
+/// [`evaluate_counted`] gives it. Tuples that hold nowhere in the window needn't be read.
 ///
 /// # Errors
-/// `Wide` only where the plan clashes over the given relations, and never over a theory that decides; otherwise out of memory.
+/// `Wide` only where the plan clashes over the given relations, and never over a theory that decides; otherwise out of
+/// memory.
 #[cycle(evaluate)]
 pub fn evaluate_within<T: OfTuples, R: Relations>(
     alloc: Global,
@@ -67,8 +72,10 @@ pub fn evaluate_within<T: OfTuples, R: Relations>(
 ) -> Result<GenRel<T>, Refused>
     requires plan { IsEvaluable T.reads (R.catalogue relations.now) (plan_form plan.now) }
     requires window { AllByRecursion T.normal window.now }
-    ensures is { IfOk result (λ r. IsEvaluationWithin (R.catalogue relations.now) (plan_form plan.now) (conj_holds T.holds window.now) (conjs_hold T.holds r) (conjs_mention T.mentions r) (conjs_lines T.lines r)) }
-    ensures wide { IsErrOf result Wide → plan_clashes (stored_measures (R.catalogue relations.now)) (plan_form plan.now) ≡ true }
+    ensures is { IfOk result (λ r. IsEvaluationWithin (R.catalogue relations.now) (plan_form plan.now)
+        (conj_holds T.holds window.now) (conjs_hold T.holds r) (conjs_mention T.mentions r) (conjs_lines T.lines r)) }
+    ensures wide { IsErrOf result Wide → plan_clashes (stored_measures (R.catalogue relations.now))
+        (plan_form plan.now) ≡ true }
     ensures never_wide { T.decides → IsErrOf result Wide → ⊥ }
 {
     match plan {
@@ -94,8 +101,8 @@ pub fn evaluate_within<T: OfTuples, R: Relations>(
 }
 
 /// The complement of the plan. Where the plan is a union of a complement and another plan, as `implies` makes it, that
-/// is what the other plan leaves of the complement's part: so nothing is complemented twice, and where that part leaves nothing
-/// the other plan isn't evaluated.
+/// is what the other plan leaves of the complement's part: so nothing is complemented twice, and where that part leaves
+/// nothing the other plan isn't evaluated.
 #[cycle(evaluate)]
 fn complemented<T: OfTuples, R: Relations>(
     alloc: Global,
@@ -106,8 +113,10 @@ fn complemented<T: OfTuples, R: Relations>(
 ) -> Result<GenRel<T>, Refused>
     requires plan { IsEvaluable T.reads (R.catalogue relations.now) (plan_form plan.now) }
     requires window { AllByRecursion T.normal window.now }
-    ensures is { IfOk result (λ r. IsEvaluationWithin (R.catalogue relations.now) (negation (plan_form plan.now)) (conj_holds T.holds window.now) (conjs_hold T.holds r) (conjs_mention T.mentions r) (conjs_lines T.lines r)) }
-    ensures wide { IsErrOf result Wide → plan_clashes (stored_measures (R.catalogue relations.now)) (plan_form plan.now) ≡ true }
+    ensures is { IfOk result (λ r. IsEvaluationWithin (R.catalogue relations.now) (negation (plan_form plan.now))
+        (conj_holds T.holds window.now) (conjs_hold T.holds r) (conjs_mention T.mentions r) (conjs_lines T.lines r)) }
+    ensures wide { IsErrOf result Wide → plan_clashes (stored_measures (R.catalogue relations.now))
+        (plan_form plan.now) ≡ true }
     ensures never_wide { T.decides → IsErrOf result Wide → ⊥ }
 {
     if let Plan::Union(parts) = plan {
@@ -126,9 +135,10 @@ fn complemented<T: OfTuples, R: Relations>(
     Ok(complement(alloc, &list)?)
 }
 
-/// The join of the parts, which ends at the first one that leaves nothing. Its rows and text atoms come first, and of two scans the one
-/// with far fewer tuples. Each other part is evaluated within the window and them, and where the parts so far leave one conjunction,
-/// within that. Pairs that hold nowhere in the window by its rows that lie across the two sides are left out.
+/// The join of the parts, which ends at the first one that leaves nothing. Its rows and text atoms come first, and of
+/// two scans the one with far fewer tuples. Each other part is evaluated within the window and them, and where the
+/// parts so far leave one conjunction, within that. Pairs that hold nowhere in the window by its rows that lie across
+/// the two sides are left out.
 #[cycle(evaluate)]
 fn joined<T: OfTuples, R: Relations>(
     alloc: Global,
@@ -139,8 +149,11 @@ fn joined<T: OfTuples, R: Relations>(
 ) -> Result<GenRel<T>, Refused>
     requires parts { AllAtomsOf (IsScannable T.reads (R.catalogue relations.now)) (plan_forms parts.now.items) }
     requires window { AllByRecursion T.normal window.now }
-    ensures is { IfOk result (λ r. IsEvaluationWithin (R.catalogue relations.now) (every_of (plan_forms parts.now.items)) (conj_holds T.holds window.now) (conjs_hold T.holds r) (conjs_mention T.mentions r) (conjs_lines T.lines r)) }
-    ensures wide { IsErrOf result Wide → any_clashes (plan_atom_lines (stored_measures (R.catalogue relations.now))) (plan_atom_clash (stored_measures (R.catalogue relations.now))) (plan_forms parts.now.items) ≡ true }
+    ensures is { IfOk result (λ r. IsEvaluationWithin (R.catalogue relations.now)
+        (every_of (plan_forms parts.now.items)) (conj_holds T.holds window.now) (conjs_hold T.holds r)
+        (conjs_mention T.mentions r) (conjs_lines T.lines r)) }
+    ensures wide { IsErrOf result Wide → any_clashes (plan_atom_lines (stored_measures (R.catalogue relations.now)))
+        (plan_atom_clash (stored_measures (R.catalogue relations.now))) (plan_forms parts.now.items) ≡ true }
     ensures never_wide { T.decides → IsErrOf result Wide → ⊥ }
 {
     let rows = rows_of_parts::<T>(alloc, parts)?;
@@ -170,8 +183,8 @@ fn joined<T: OfTuples, R: Relations>(
     Ok(whole(alloc, list)?)
 }
 
-/// The join of the parts so far with one more, within the rows across both. What is looked up is looked up for each conjunction of
-/// the parts so far.
+/// The join of the parts so far with one more, within the rows across both. What is looked up is looked up for each
+/// conjunction of the parts so far.
 #[cycle(evaluate)]
 fn joined_with<T: OfTuples, R: Relations>(
     alloc: Global,
@@ -183,8 +196,10 @@ fn joined_with<T: OfTuples, R: Relations>(
 ) -> Result<GenRel<T>, Refused>
     requires part { IsEvaluable T.reads (R.catalogue relations.now) (plan_form part.now) }
     requires step { IsJoinStep T.normal T.holds step.now.within.now step.now.slots.now step.now.across.now }
-    ensures is { IfOk result (λ r. IsJoinedWith T.holds T.mentions T.lines (R.catalogue relations.now) (conj_holds T.holds step.now.within.now) (plan_form part.now) (begun before) r) }
-    ensures wide { IsErrOf result Wide → plan_clashes (stored_measures (R.catalogue relations.now)) (plan_form part.now) ≡ true }
+    ensures is { IfOk result (λ r. IsJoinedWith T.holds T.mentions T.lines (R.catalogue relations.now)
+        (conj_holds T.holds step.now.within.now) (plan_form part.now) (begun before) r) }
+    ensures wide { IsErrOf result Wide → plan_clashes (stored_measures (R.catalogue relations.now))
+        (plan_form part.now) ≡ true }
     ensures never_wide { T.decides → IsErrOf result Wide → ⊥ }
 {
     match before {
@@ -207,8 +222,10 @@ fn met_with<T: OfTuples, R: Relations>(
 ) -> Result<GenRel<T>, Refused>
     requires part { IsEvaluable T.reads (R.catalogue relations.now) (plan_form part.now) }
     requires step { IsJoinStep T.normal T.holds step.now.within.now step.now.slots.now step.now.across.now }
-    ensures is { IfOk result (λ r. IsJoinedWith T.holds T.mentions T.lines (R.catalogue relations.now) (conj_holds T.holds step.now.within.now) (plan_form part.now) (begun before) r) }
-    ensures wide { IsErrOf result Wide → plan_clashes (stored_measures (R.catalogue relations.now)) (plan_form part.now) ≡ true }
+    ensures is { IfOk result (λ r. IsJoinedWith T.holds T.mentions T.lines (R.catalogue relations.now)
+        (conj_holds T.holds step.now.within.now) (plan_form part.now) (begun before) r) }
+    ensures wide { IsErrOf result Wide → plan_clashes (stored_measures (R.catalogue relations.now))
+        (plan_form part.now) ≡ true }
     ensures never_wide { T.decides → IsErrOf result Wide → ⊥ }
 {
     let inner = narrowed(alloc, step.within, &before)?;
@@ -231,8 +248,10 @@ fn probed<T: OfTuples, R: Relations>(
 ) -> Result<GenRel<T>, Refused>
     requires part { IsEvaluable T.reads (R.catalogue relations.now) (plan_form part.now) }
     requires step { IsJoinStep T.normal T.holds step.now.within.now step.now.slots.now step.now.across.now }
-    ensures is { IfOk result (λ r. IsJoinedWith T.holds T.mentions T.lines (R.catalogue relations.now) (conj_holds T.holds step.now.within.now) (plan_form part.now) list.now r) }
-    ensures wide { IsErrOf result Wide → plan_clashes (stored_measures (R.catalogue relations.now)) (plan_form part.now) ≡ true }
+    ensures is { IfOk result (λ r. IsJoinedWith T.holds T.mentions T.lines (R.catalogue relations.now)
+        (conj_holds T.holds step.now.within.now) (plan_form part.now) list.now r) }
+    ensures wide { IsErrOf result Wide → plan_clashes (stored_measures (R.catalogue relations.now))
+        (plan_form part.now) ≡ true }
     ensures never_wide { T.decides → IsErrOf result Wide → ⊥ }
 {
     let each = JoinStep {
@@ -260,8 +279,10 @@ fn united<T: OfTuples, R: Relations>(
 ) -> Result<GenRel<T>, Refused>
     requires parts { AllAtomsOf (IsScannable T.reads (R.catalogue relations.now)) (plan_forms parts.now.items) }
     requires window { AllByRecursion T.normal window.now }
-    ensures is { IfOk result (λ r. IsEvaluationWithin (R.catalogue relations.now) (some_of (plan_forms parts.now.items)) (conj_holds T.holds window.now) (conjs_hold T.holds r) (conjs_mention T.mentions r) (conjs_lines T.lines r)) }
-    ensures wide { IsErrOf result Wide → any_clashes (plan_atom_lines (stored_measures (R.catalogue relations.now))) (plan_atom_clash (stored_measures (R.catalogue relations.now))) (plan_forms parts.now.items) ≡ true }
+    ensures is { IfOk result (λ r. IsEvaluationWithin (R.catalogue relations.now) (some_of (plan_forms parts.now.items))
+        (conj_holds T.holds window.now) (conjs_hold T.holds r) (conjs_mention T.mentions r) (conjs_lines T.lines r)) }
+    ensures wide { IsErrOf result Wide → any_clashes (plan_atom_lines (stored_measures (R.catalogue relations.now)))
+        (plan_atom_clash (stored_measures (R.catalogue relations.now))) (plan_forms parts.now.items) ≡ true }
     ensures never_wide { T.decides → IsErrOf result Wide → ⊥ }
 {
     let mut list = GenRel::new(alloc);
@@ -291,7 +312,8 @@ fn whole<T: Theory>(alloc: Global, list: Option<GenRel<T>>) -> Result<GenRel<T>,
 /// Out of memory.
 pub(crate) fn rows<T: OfTuples>(alloc: Global, tuple: &Tuple) -> Result<GenRel<T>, NoMemory>
     requires { AllByRecursion T.reads tuple.now }
-    ensures { IfOk result (λ r. (c : Catalogue) → IsEvaluation c (atom (rows tuple.now)) (conjs_hold T.holds r) (conjs_mention T.mentions r) (conjs_lines T.lines r)) }
+    ensures { IfOk result (λ r. (c : Catalogue) → IsEvaluation c (atom (rows tuple.now)) (conjs_hold T.holds r)
+        (conjs_mention T.mentions r) (conjs_lines T.lines r)) }
 {
     let mut list = GenRel::new(alloc);
     list.push(conjunction::<T>(alloc, tuple)?)?;

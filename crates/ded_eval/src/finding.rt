@@ -27,8 +27,8 @@ use ded_model::slot::{Slot, Slots, stands_in};
 use ded_theory::{Theory, Verdict};
 use std::alloc::{AllocError, Global};
 
-/// How many conjunctions of a part are tried: where one of a few shows that the plan holds, no slot is eliminated, and where none does,
-/// they were tried for nothing.
+/// How many conjunctions of a part are tried: where one of a few shows that the plan holds, no slot is eliminated, and
+/// where none does, they were tried for nothing.
 const TRIED_OF_A_PART: usize = 4;
 
 /// How many tuples near a window are tried where one relation is looked up.
@@ -37,8 +37,8 @@ const NEAR: usize = 16;
 /// How many plans are looked at in all.
 const LOOKS: u32 = 32;
 
-/// What is found of the plan: that it holds everywhere (`Inhabited`), or nowhere (`Empty`). Only closed plans that project slots or join
-/// parts are tried, and of each part a few conjunctions alone, so that `Unknown` says nothing.
+/// What is found of the plan: that it holds everywhere (`Inhabited`), or nowhere (`Empty`). Only closed plans that
+/// project slots or join parts are tried, and of each part a few conjunctions alone, so that `Unknown` says nothing.
 ///
 /// # Errors
 /// Out of memory.
@@ -87,9 +87,10 @@ fn found_by_few<T: OfTuples, R: Relations>(
     }
 }
 
-/// What is found of the plan at points at which the atoms hold: `Empty` where it holds at none of them, and `Inhabited` where it holds
-/// wherever a point has the values, at the slots, of some point at which the atoms hold. For that one of a few conjunctions, over these
-/// slots and those that the plan projects first, has to hold somewhere together with the atoms. So no slot has to be eliminated.
+/// What is found of the plan at points at which the atoms hold: `Empty` where it holds at none of them, and `Inhabited`
+/// where it holds wherever a point has the values, at the slots, of some point at which the atoms hold. For that one of
+/// a few conjunctions, over these slots and those that the plan projects first, has to hold somewhere together with the
+/// atoms. So no slot has to be eliminated.
 ///
 /// # Errors
 /// Out of memory.
@@ -140,7 +141,8 @@ fn join_attained<T: OfTuples, R: Relations>(
     requires parts { AllAtomsOf (IsScannable T.reads (R.catalogue relations.now)) (plan_forms parts.now.items) }
     requires atoms { AllByRecursion T.normal atoms.now }
     requires alike { AreAlike T.holds slots.now atoms.now }
-    ensures { IfOk result (IsPlanVerdict T.holds atoms.now (R.catalogue relations.now) slots.now (every_of (plan_forms parts.now.items))) }
+    ensures { IfOk result (IsPlanVerdict T.holds atoms.now (R.catalogue relations.now) slots.now
+        (every_of (plan_forms parts.now.items))) }
 {
     let own = rows_of_parts::<T>(alloc, parts)?;
     if !are_over::<T>(&own, slots) {
@@ -183,7 +185,8 @@ fn scan_attained<T: OfTuples, R: Relations>(
     requires scan { IsScannedFrom T.reads (entry_of (R.catalogue relations.now).entries name.now) columns.now }
     requires atoms { AllByRecursion T.normal atoms.now }
     requires alike { AreAlike T.holds slots.now atoms.now }
-    ensures { IfOk result (IsPlanVerdict T.holds atoms.now (R.catalogue relations.now) slots.now (atom (scan name.now columns.now))) }
+    ensures { IfOk result (IsPlanVerdict T.holds atoms.now (R.catalogue relations.now) slots.now
+        (atom (scan name.now columns.now))) }
 {
     let FirstTuples { list, is_whole } = first_scanned::<T, R>(
         alloc, name, columns, relations, atoms, NEAR,
@@ -222,8 +225,8 @@ fn few_attained<T: OfTuples, R: Relations>(
     }
 }
 
-/// A few conjunctions, which hold only where the plan does at points at which all atoms of the window hold. `looks` falls by one
-/// for each plan inside that is looked at, and when it is 0 there are none.
+/// A few conjunctions, which hold only where the plan does at points at which all atoms of the window hold. `looks`
+/// falls by one for each plan inside that is looked at, and when it is 0 there are none.
 ///
 /// # Errors
 /// `Wide` where an elimination gives up; otherwise out of memory.
@@ -237,7 +240,8 @@ fn few<T: OfTuples, R: Relations>(
 ) -> Result<GenRel<T>, Refused>
     requires plan { IsEvaluable T.reads (R.catalogue relations.now) (plan_form plan.now) }
     requires window { AllByRecursion T.normal window.now }
-    ensures { IfOk result (IsFoundIn T.holds (R.catalogue relations.now) (conj_holds T.holds window.now) (plan_form plan.now)) }
+    ensures { IfOk result (IsFoundIn T.holds (R.catalogue relations.now)
+        (conj_holds T.holds window.now) (plan_form plan.now)) }
 {
     if is_spent(looks) {
         return Ok(GenRel::new(alloc));
@@ -258,8 +262,8 @@ fn few<T: OfTuples, R: Relations>(
     }
 }
 
-/// A few conjunctions of the join of the parts: its rows and text atoms together with a few of one part after another, each
-/// looked up within those before it.
+/// A few conjunctions of the join of the parts: its rows and text atoms together with a few of one part after another,
+/// each looked up within those before it.
 #[cycle(few)]
 fn few_joined<T: OfTuples, R: Relations>(
     alloc: Global,
@@ -270,7 +274,8 @@ fn few_joined<T: OfTuples, R: Relations>(
 ) -> Result<GenRel<T>, Refused>
     requires parts { AllAtomsOf (IsScannable T.reads (R.catalogue relations.now)) (plan_forms parts.now.items) }
     requires window { AllByRecursion T.normal window.now }
-    ensures { IfOk result (IsFoundIn T.holds (R.catalogue relations.now) (conj_holds T.holds window.now) (every_of (plan_forms parts.now.items))) }
+    ensures { IfOk result (IsFoundIn T.holds (R.catalogue relations.now) (conj_holds T.holds window.now)
+        (every_of (plan_forms parts.now.items))) }
 {
     let rows = rows_of_parts::<T>(alloc, parts)?;
     let mut list = alone::<T>(alloc, &rows)?;
@@ -295,7 +300,8 @@ fn few_with<T: OfTuples, R: Relations>(
 ) -> Result<GenRel<T>, Refused>
     requires plan { IsEvaluable T.reads (R.catalogue relations.now) (plan_form plan.now) }
     requires window { AllByRecursion T.normal window.now }
-    ensures { IfOk result (IsFoundWith T.holds (R.catalogue relations.now) (conj_holds T.holds window.now) (plan_form plan.now) list.now) }
+    ensures { IfOk result (IsFoundWith T.holds (R.catalogue relations.now) (conj_holds T.holds window.now)
+        (plan_form plan.now) list.now) }
 {
     let mut joined = GenRel::new(alloc);
     for conj in list.list() {
@@ -319,7 +325,9 @@ fn pairs_of<T: Theory>(
     next: &GenRel<T>,
 ) -> Result<GenRel<T>, NoMemory>
     requires { AllByRecursion T.normal conj.now }
-    ensures { IfOk result (λ r. (both : List (List T.Atom)) × IsMeet T.holds T.mentions T.lines (conj.now ∷ []) next.now both × IsInhabitedPart T.holds T.mentions T.lines both r) }
+    ensures { IfOk result (λ r. (both : List (List T.Atom))
+        × IsMeet T.holds T.mentions T.lines (conj.now ∷ []) next.now both
+        × IsInhabitedPart T.holds T.mentions T.lines both r) }
 {
     let one = alone(alloc, conj)?;
     let both = one.meet(next)?;
@@ -337,7 +345,8 @@ fn few_united<T: OfTuples, R: Relations>(
 ) -> Result<GenRel<T>, Refused>
     requires parts { AllAtomsOf (IsScannable T.reads (R.catalogue relations.now)) (plan_forms parts.now.items) }
     requires window { AllByRecursion T.normal window.now }
-    ensures { IfOk result (IsFoundIn T.holds (R.catalogue relations.now) (conj_holds T.holds window.now) (some_of (plan_forms parts.now.items))) }
+    ensures { IfOk result (IsFoundIn T.holds (R.catalogue relations.now) (conj_holds T.holds window.now)
+        (some_of (plan_forms parts.now.items))) }
 {
     let mut list = GenRel::new(alloc);
     for part in parts {
@@ -360,7 +369,8 @@ fn with_atoms<T: Theory>(
 ) -> Result<Vec<T::Atom>, NoMemory>
     requires window { AllByRecursion T.normal window.now }
     requires conj { AllByRecursion T.normal conj.now }
-    ensures holds { IfOk result (λ v. (p : Point) → conj_holds T.holds window.now p ≡ true → conj_holds T.holds conj.now p ≡ true → conj_holds T.holds v.items p ≡ true) }
+    ensures holds { IfOk result (λ v. (p : Point) → conj_holds T.holds window.now p ≡ true
+        → conj_holds T.holds conj.now p ≡ true → conj_holds T.holds v.items p ≡ true) }
     ensures normal { IfOk result (λ v. AllByRecursion T.normal v.items) }
 {
     both_conjs::<T>(alloc, window, conj)

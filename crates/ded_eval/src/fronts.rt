@@ -10,15 +10,15 @@ use ded_model::memory::NoMemory;
 use ded_model::plan::Plan;
 use std::alloc::Global;
 
-/// A join begins with the second part where that has at most one of so many tuples that the first one has: then the first one may be
-/// looked up for few.
+/// A join begins with the second part where that has at most one of so many tuples that the first one has: then the
+/// first one may be looked up for few.
 const SECOND_FIRST_AT_ONE_OF: usize = 4;
 
 /// From how many tuples of the first part on a join may begin with the second: with fewer the order matters little.
 const SECOND_FIRST_FROM: usize = 64;
 
-/// The place of the part that the join of the parts begins with. It is that of the second one that isn't rows, where it has far fewer
-/// tuples in the window than the first one, each of them being of one relation; and else the first place.
+/// The place of the part that the join of the parts begins with. It is that of the second one that isn't rows, where it
+/// has far fewer tuples in the window than the first one, each of them being of one relation; and else the first place.
 ///
 /// # Errors
 /// Out of memory.

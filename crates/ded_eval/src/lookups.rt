@@ -13,13 +13,13 @@ use ded_packed::Lent;
 use ded_ranges::Window;
 use std::alloc::Global;
 
-/// A plan is looked up for each conjunction where at most one of so many tuples may hold where one of these does: where the index passes
-/// over fewer tuples, reading the plan whole is likely to be cheaper.
+/// A plan is looked up for each conjunction where at most one of so many tuples may hold where one of these does: where
+/// the index passes over fewer tuples, reading the plan whole is likely to be cheaper.
 const LOOKED_UP_AT_ONE_OF: usize = 4;
 
-/// Whether looking the plan up for each conjunction of the list is likely to be cheaper than reading it whole: it scans one relation
-/// that has an index, with rows and projections alone around it, and few of the tuples may hold where a conjunction of the list does.
-/// Where the list has one conjunction alone, the plan is read within that in any case.
+/// Whether looking the plan up for each conjunction of the list is likely to be cheaper than reading it whole: it scans
+/// one relation that has an index, with rows and projections alone around it, and few of the tuples may hold where a
+/// conjunction of the list does. Where the list has one conjunction alone, the plan is read within that in any case.
 pub(crate) fn is_lookup<T: OfTuples, R: Relations>(
     alloc: Global,
     list: &GenRel<T>,
@@ -66,7 +66,8 @@ fn only_scan_in(parts: &Vec<Plan>) -> Option<(&Name, &Slots)> {
     found
 }
 
-/// How many tuples may hold where the conjunction does, of the relation that is the plan's only scan; none where it has no such scan.
+/// How many tuples may hold where the conjunction does, of the relation that is the plan's only scan; none where it has
+/// no such scan.
 ///
 /// # Errors
 /// Out of memory.

@@ -34,7 +34,8 @@ pub(crate) fn scanned<T: OfTuples, R: Relations>(
     window: &[T::Atom],
 ) -> Result<GenRel<T>, NoMemory>
     requires { IsScannedFrom T.reads (entry_of (R.catalogue relations.now).entries name.now) slots.now }
-    ensures { IfOk result (λ r. IsEvaluationWithin (R.catalogue relations.now) (atom (scan name.now slots.now)) (conj_holds T.holds window.now) (conjs_hold T.holds r) (conjs_mention T.mentions r) (conjs_lines T.lines r)) }
+    ensures { IfOk result (λ r. IsEvaluationWithin (R.catalogue relations.now) (atom (scan name.now slots.now))
+        (conj_holds T.holds window.now) (conjs_hold T.holds r) (conjs_mention T.mentions r) (conjs_lines T.lines r)) }
 {
     relations.formed();
     let columns = columns_window::<T>(alloc, window, &slots.list)?;
@@ -51,8 +52,8 @@ pub(crate) struct FirstTuples<T: Theory> {
     pub(crate) is_whole: bool,
 }
 
-/// The first tuples of a name that hold somewhere in the window, or are lent as such, up to `count` of them, with their columns read
-/// into the slots.
+/// The first tuples of a name that hold somewhere in the window, or are lent as such, up to `count` of them, with their
+/// columns read into the slots.
 ///
 /// # Errors
 /// Out of memory.
@@ -65,8 +66,11 @@ pub(crate) fn first_scanned<T: OfTuples, R: Relations>(
     count: usize,
 ) -> Result<FirstTuples<T>, NoMemory>
     requires { IsScannedFrom T.reads (entry_of (R.catalogue relations.now).entries name.now) slots.now }
-    ensures found { IfOk result (λ s. IsFoundIn T.holds (R.catalogue relations.now) (conj_holds T.holds window.now) (atom (scan name.now slots.now)) s.list) }
-    ensures whole { IfOk result (λ s. s.is_whole ≡ true → IsWholeIn T.holds (R.catalogue relations.now) (conj_holds T.holds window.now) (atom (scan name.now slots.now)) s.list) }
+    ensures found { IfOk result (λ s. IsFoundIn T.holds (R.catalogue relations.now) (conj_holds T.holds window.now)
+        (atom (scan name.now slots.now)) s.list) }
+    ensures whole { IfOk result (λ s. s.is_whole ≡ true
+        → IsWholeIn T.holds (R.catalogue relations.now) (conj_holds T.holds window.now)
+        (atom (scan name.now slots.now)) s.list) }
 {
     relations.formed();
     let columns = columns_window::<T>(alloc, window, &slots.list)?;
@@ -79,15 +83,19 @@ pub(crate) fn first_scanned<T: OfTuples, R: Relations>(
     Ok(FirstTuples { list, is_whole })
 }
 
-/// The list with its columns read into the slots, as [`GenRel::rename`] gives it. It stays as it is where each column is its slot.
+/// The list with its columns read into the slots, as [`GenRel::rename`] gives it. It stays as it is where each column
+/// is its slot.
 ///
 /// # Errors
 /// Out of memory.
 fn in_slots<T: Theory>(alloc: Global, list: GenRel<T>, slots: &Slots) -> Result<GenRel<T>, NoMemory>
     requires one { IsOneToOne (column_pairs 0 slots.now) (conjs_mention T.mentions list) }
     requires sorts { KeepsSorts (column_pairs 0 slots.now) (conjs_mention T.mentions list) }
-    requires stays { IsRenaming [] (conjs_hold T.holds list) (conjs_hold T.holds list) (conjs_mention T.mentions list) (conjs_mention T.mentions list) (conjs_lines T.lines list) (conjs_lines T.lines list) }
-    ensures { IfOk result (λ r. IsRenaming (column_pairs 0 slots.now) (conjs_hold T.holds list) (conjs_hold T.holds r) (conjs_mention T.mentions list) (conjs_mention T.mentions r) (conjs_lines T.lines list) (conjs_lines T.lines r)) }
+    requires stays { IsRenaming [] (conjs_hold T.holds list) (conjs_hold T.holds list) (conjs_mention T.mentions list)
+        (conjs_mention T.mentions list) (conjs_lines T.lines list) (conjs_lines T.lines list) }
+    ensures { IfOk result (λ r. IsRenaming (column_pairs 0 slots.now) (conjs_hold T.holds list) (conjs_hold T.holds r)
+        (conjs_mention T.mentions list) (conjs_mention T.mentions r) (conjs_lines T.lines list)
+        (conjs_lines T.lines r)) }
 {
     if are_columns(&slots.list) {
         return Ok(list);

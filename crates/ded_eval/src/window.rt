@@ -49,7 +49,8 @@ fn ask(
     atom: AtomRef<'_>,
     slots: &[Slot],
 ) -> Result<(), NoMemory>
-    ensures { IfOk result (λ _. (inside : Point → Bool) → ((p : Point) → inside p ≡ true → atom_holds (atom_of atom.entry) p ≡ true)
+    ensures { IfOk result (λ _. (inside : Point → Bool)
+        → ((p : Point) → inside p ≡ true → atom_holds (atom_of atom.entry) p ≡ true)
         → IsWindowOf slots.now inside window.old → IsWindowOf slots.now inside window.new) }
 {
     match atom {
@@ -63,7 +64,8 @@ fn ask(
 /// # Errors
 /// Out of memory.
 fn ask_theme(window: &mut Window, atom: &ThemeAtom, slots: &[Slot]) -> Result<(), NoMemory>
-    ensures { IfOk result (λ _. (inside : Point → Bool) → ((p : Point) → inside p ≡ true → theme_holds atom.now p ≡ true)
+    ensures { IfOk result (λ _. (inside : Point → Bool)
+        → ((p : Point) → inside p ≡ true → theme_holds atom.now p ≡ true)
         → IsWindowOf slots.now inside window.old → IsWindowOf slots.now inside window.new) }
 {
     match atom {
@@ -77,7 +79,8 @@ fn ask_theme(window: &mut Window, atom: &ThemeAtom, slots: &[Slot]) -> Result<()
 /// # Errors
 /// Out of memory.
 fn ask_text(window: &mut Window, slot: Slot, text: &Name, slots: &[Slot]) -> Result<(), NoMemory>
-    ensures { IfOk result (λ _. (inside : Point → Bool) → ((p : Point) → inside p ≡ true → text_at p (point.slot slot) ≡ text.now)
+    ensures { IfOk result (λ _. (inside : Point → Bool)
+        → ((p : Point) → inside p ≡ true → text_at p (point.slot slot) ≡ text.now)
         → IsWindowOf slots.now inside window.old → IsWindowOf slots.now inside window.new) }
 {
     if slot.sort == Sort::Text {
@@ -153,7 +156,8 @@ pub(crate) fn without_slot<T: OfTuples>(
     slot: Slot,
 ) -> Result<Vec<T::Atom>, NoMemory>
     requires { AllByRecursion T.normal window.now }
-    ensures weaker { IfOk result (λ v. (p : Point) → conj_holds T.holds window.now p ≡ true → conj_holds T.holds v.items p ≡ true) }
+    ensures weaker { IfOk result (λ v. (p : Point) → conj_holds T.holds window.now p ≡ true
+        → conj_holds T.holds v.items p ≡ true) }
     ensures slot { IfOk result (λ v. conj_mentions T.mentions v.items slot ≡ false) }
     ensures normal { IfOk result (λ v. AllByRecursion T.normal v.items) }
 {

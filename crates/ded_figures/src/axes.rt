@@ -8,7 +8,8 @@ use ded_model::name::{Column, Heading, Name};
 use ded_model::slot::{Slot, Sort};
 use std::marker::Model;
 
-/// Which two rational columns of a heading a picture is drawn over. The first one runs to the right, the second one upwards.
+/// Which two rational columns of a heading a picture is drawn over. The first one runs to the right, the second one
+/// upwards.
 #[derive(Drop)]
 pub enum Look {
     /// The first two.

@@ -9,7 +9,8 @@ use std::marker::Model;
 #[derive(Drop)]
 pub struct Figure {
     pub axes: Axes,
-    /// Rows over the two columns, which hold at a point exactly where the tuple does with some values of all other columns.
+    /// Rows over the two columns, which hold at a point exactly where the tuple does with some values of all other
+    /// columns.
     pub rows: Vec<Row>,
     /// The first text that the tuple gives to a column, empty where it gives none.
     pub label: Name,

@@ -10,8 +10,8 @@ use ded_model::slot::Slot;
 use ded_theory::{Span, Theory};
 use std::alloc::Global;
 
-/// The box of the bounds that the atoms give the slots. Its intervals are empty where they hold nowhere, and those of atoms that
-/// aren't wide are exact.
+/// The box of the bounds that the atoms give the slots. Its intervals are empty where they hold nowhere, and those of
+/// atoms that aren't wide are exact.
 ///
 /// # Errors
 /// Out of memory.

@@ -61,7 +61,9 @@ pub fn renamed_conj<T: Theory>(
     requires normal { AllByRecursion T.normal atoms.now }
     requires one { IsOneToOne map.now (conj_mentions T.mentions atoms.now) }
     requires sorts { KeepsSorts map.now (conj_mentions T.mentions atoms.now) }
-    ensures is { IfOk result (λ v. IsRenaming map.now (conj_holds T.holds atoms.now) (conj_holds T.holds v.items) (conj_mentions T.mentions atoms.now) (conj_mentions T.mentions v.items) (conj_lines T.lines atoms.now) (conj_lines T.lines v.items)) }
+    ensures is { IfOk result (λ v. IsRenaming map.now (conj_holds T.holds atoms.now) (conj_holds T.holds v.items)
+        (conj_mentions T.mentions atoms.now) (conj_mentions T.mentions v.items) (conj_lines T.lines atoms.now)
+        (conj_lines T.lines v.items)) }
     ensures normal { IfOk result (λ v. AllByRecursion T.normal v.items) }
 {
     let mut renamed = Vec::with_capacity(alloc, atoms.len())?;

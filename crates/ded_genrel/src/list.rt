@@ -4,7 +4,8 @@ ghost use Rattle.std.specs.List.{AllByRecursion};
 ghost use Rattle.ded_model.specs.declared.memory.Refused.TheVariants.{Wide};
 ghost use Rattle.ded_model.specs.Renaming.{IsOneToOne, KeepsSorts};
 ghost use Rattle.ded_theory.specs.declared.answers.Verdict.TheVariants.{Unknown};
-ghost use Rattle.ded_genrel.specs.Lists.{conjs_of, AreNormal, conjs_hold, conjs_mention, conjs_lines, conjs_clash, pairs_with, pairs};
+ghost use Rattle.ded_genrel.specs.Lists.{conjs_of, AreNormal, conjs_hold, conjs_mention, conjs_lines, conjs_clash};
+ghost use Rattle.ded_genrel.specs.Lists.{pairs_with, pairs};
 ghost use Rattle.ded_genrel.specs.Operations.{IsUnion, IsMeet, IsProjection, IsRenaming, IsInhabitedPart, IsVerdictOn};
 
 use crate::conjunction::{both_conjs, copy_conj, renamed_conj};
@@ -14,8 +15,8 @@ use ded_theory::{Eliminated, Theory, Verdict};
 use std::alloc::Global;
 use std::marker::Model;
 
-/// A list of conjunctions of atoms in normal form; it holds at a point where one of them does. Contracts see the list of the
-/// lists of atoms.
+/// A list of conjunctions of atoms in normal form; it holds at a point where one of them does. Contracts see the list
+/// of the lists of atoms.
 #[derive(Drop)]
 pub struct GenRel<T: Theory> {
     pub conjs: Vec<Vec<T::Atom>>,
@@ -100,13 +101,13 @@ impl<T: Theory> GenRel<T> {
         Ok(out)
     }
 
-    /// A list that holds at a point exactly where this one holds at some extension of the point at the slot. It doesn't mention
-    /// the slot and mentions no new one. The lines of each conjunction are among those that the elimination makes of the lines of
-    /// one of this list.
+    /// A list that holds at a point exactly where this one holds at some extension of the point at the slot. It doesn't
+    /// mention the slot and mentions no new one. The lines of each conjunction are among those that the elimination
+    /// makes of the lines of one of this list.
     ///
     /// # Errors
-    /// `Wide` only where two lines of one conjunction clash at the slot, and never over a theory that decides; otherwise out of
-    /// memory.
+    /// `Wide` only where two lines of one conjunction clash at the slot, and never over a theory that decides;
+    /// otherwise out of memory.
     pub fn project(&self, slot: Slot) -> Result<Self, Refused>
         ensures is { IfOk result (λ r. IsProjection T.holds T.mentions T.lines self.now slot r) }
         ensures wide { IsErrOf result Wide → conjs_clash T.lines slot self.now ≡ true }
@@ -122,16 +123,18 @@ impl<T: Theory> GenRel<T> {
         Ok(out)
     }
 
-    /// The list with each slot replaced as the pairs say; a slot that no pair names stays. The pairs are one to one on the slots
-    /// that the list mentions and keep their sorts. The result holds at a point exactly where the list does at a point that has
-    /// the same values at the slots before, and has the list's lines over the new slots.
+    /// The list with each slot replaced as the pairs say; a slot that no pair names stays. The pairs are one to one on
+    /// the slots that the list mentions and keep their sorts. The result holds at a point exactly where the list does
+    /// at a point that has the same values at the slots before, and has the list's lines over the new slots.
     ///
     /// # Errors
     /// Out of memory.
     pub fn rename(&self, map: &[(Slot, Slot)]) -> Result<Self, NoMemory>
         requires one { IsOneToOne map.now (conjs_mention T.mentions self.now) }
         requires sorts { KeepsSorts map.now (conjs_mention T.mentions self.now) }
-        ensures { IfOk result (λ r. IsRenaming map.now (conjs_hold T.holds self.now) (conjs_hold T.holds r) (conjs_mention T.mentions self.now) (conjs_mention T.mentions r) (conjs_lines T.lines self.now) (conjs_lines T.lines r)) }
+        ensures { IfOk result (λ r. IsRenaming map.now (conjs_hold T.holds self.now) (conjs_hold T.holds r)
+            (conjs_mention T.mentions self.now) (conjs_mention T.mentions r) (conjs_lines T.lines self.now)
+            (conjs_lines T.lines r)) }
     {
         let alloc = *self.conjs.allocator();
         let mut out = GenRel::new(alloc);
@@ -141,7 +144,8 @@ impl<T: Theory> GenRel<T> {
         Ok(out)
     }
 
-    /// Whether the list holds somewhere. `Unknown` only where some conjunction is wide, and never over a theory that decides.
+    /// Whether the list holds somewhere. `Unknown` only where some conjunction is wide, and never over a theory that
+    /// decides.
     ///
     /// # Errors
     /// Out of memory.
@@ -190,7 +194,9 @@ impl<T: Theory> GenRel<T> {
     /// Sets the conjunction at the end, unless no point satisfies it.
     fn push_inhabited(&mut self, conj: Vec<T::Atom>) -> Result<(), NoMemory>
         requires { AllByRecursion T.normal conj.items }
-        ensures { IfOk result (λ _. (conjs : List (List T.Atom)) → IsInhabitedPart T.holds T.mentions T.lines conjs self.old → IsInhabitedPart T.holds T.mentions T.lines (conjs ++ conj.items ∷ []) self.new) }
+        ensures { IfOk result (λ _. (conjs : List (List T.Atom))
+            → IsInhabitedPart T.holds T.mentions T.lines conjs self.old
+            → IsInhabitedPart T.holds T.mentions T.lines (conjs ++ conj.items ∷ []) self.new) }
     {
         match T::refute(*self.conjs.allocator(), &conj)? {
             Verdict::Empty => Ok(()),

@@ -5,7 +5,8 @@ ghost use Rattle.ded_model.specs.Form.{form};
 ghost use Rattle.ded_model.specs.Logic.{negation, implies};
 ghost use Rattle.ded_grammar.specs.Forms.{terminal_form, terminal_forms};
 ghost use Rattle.ded_grammar.specs.Trees.{all_of, any_of, quantified};
-ghost use Rattle.ded_grammar.specs.Building.{after_closing, after_conjunct, after_disjunct, after_arrow, closed, both_by, either_by, read_one, read_body, read_whole};
+ghost use Rattle.ded_grammar.specs.Building.{after_closing, after_conjunct, after_disjunct, after_arrow, closed};
+ghost use Rattle.ded_grammar.specs.Building.{both_by, either_by, read_one, read_body, read_whole};
 ghost use Rattle.ded_grammar.specs.Gives.{Gives, GivesAfter};
 
 use crate::fault::ReadFault;
@@ -62,14 +63,15 @@ fn after_arrow(terminals: &[Terminal]) -> Option<&[Terminal]>
     }
 }
 
-/// The formula in parentheses and its nesting, as given, and the terminals behind the closing parenthesis. `NotRead` where
-/// the rest begins with no such terminal.
+/// The formula in parentheses and its nesting, as given, and the terminals behind the closing parenthesis. `NotRead`
+/// where the rest begins with no such terminal.
 fn closed(
     part: Formula,
     nesting: u32,
     rest: &[Terminal],
 ) -> Result<(Formula, u32, &[Terminal]), ReadFault>
-    ensures read { Gives (λ x. (form x.0, x.1, terminal_forms x.2.now)) result (closed (form part, nesting, terminal_forms rest.now)) }
+    ensures read { Gives (λ x. (form x.0, x.1, terminal_forms x.2.now)) result
+        (closed (form part, nesting, terminal_forms rest.now)) }
     ensures same { IfOk result (λ x. x.1 ≡ nesting) }
 {
     match after_closing(rest) {
@@ -149,7 +151,8 @@ fn one(
     terminals: &[Terminal],
     room: u32,
 ) -> Result<(Formula, u32, &[Terminal]), ReadFault>
-    ensures read { Gives (λ x. (form x.0, x.1, terminal_forms x.2.now)) result (read_one room (terminal_forms terminals.now)) }
+    ensures read { Gives (λ x. (form x.0, x.1, terminal_forms x.2.now)) result
+        (read_one room (terminal_forms terminals.now)) }
     ensures low { IfOk result (λ x. x.1 < room) }
 {
     if room == 0 {
@@ -190,7 +193,8 @@ fn body(
     terminals: &[Terminal],
     room: u32,
 ) -> Result<(Formula, u32, &[Terminal]), ReadFault>
-    ensures read { Gives (λ x. (form x.0, x.1, terminal_forms x.2.now)) result (read_body room (terminal_forms terminals.now)) }
+    ensures read { Gives (λ x. (form x.0, x.1, terminal_forms x.2.now)) result
+        (read_body room (terminal_forms terminals.now)) }
     ensures low { IfOk result (λ x. x.1 < room) }
 {
     if room == 0 {
@@ -229,7 +233,8 @@ fn both(
     terminals: &[Terminal],
     room: u32,
 ) -> Result<(Formula, u32, &[Terminal]), ReadFault>
-    ensures read { Gives (λ x. (form x.0, x.1, terminal_forms x.2.now)) result (both_by (read_one room) (terminal_forms terminals.now)) }
+    ensures read { Gives (λ x. (form x.0, x.1, terminal_forms x.2.now)) result
+        (both_by (read_one room) (terminal_forms terminals.now)) }
     ensures low { IfOk result (λ x. x.1 < room) }
 {
     let mut parts = Vec::new(alloc);
@@ -256,7 +261,8 @@ fn either(
     terminals: &[Terminal],
     room: u32,
 ) -> Result<(Formula, u32, &[Terminal]), ReadFault>
-    ensures read { Gives (λ x. (form x.0, x.1, terminal_forms x.2.now)) result (either_by (read_one room) (terminal_forms terminals.now)) }
+    ensures read { Gives (λ x. (form x.0, x.1, terminal_forms x.2.now)) result
+        (either_by (read_one room) (terminal_forms terminals.now)) }
     ensures low { IfOk result (λ x. x.1 < room) }
 {
     let mut parts = Vec::new(alloc);
@@ -285,7 +291,8 @@ pub fn whole(
     terminals: &[Terminal],
     room: u32,
 ) -> Result<(Formula, u32, &[Terminal]), ReadFault>
-    ensures read { Gives (λ x. (form x.0, x.1, terminal_forms x.2.now)) result (read_whole room (terminal_forms terminals.now)) }
+    ensures read { Gives (λ x. (form x.0, x.1, terminal_forms x.2.now)) result
+        (read_whole room (terminal_forms terminals.now)) }
     ensures low { IfOk result (λ x. x.1 < room) }
 {
     if room == 0 {

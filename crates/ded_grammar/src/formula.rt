@@ -19,8 +19,10 @@ use std::alloc::Global;
 /// `Deep` where its nesting is above 64; `Memory` where there is no memory.
 pub fn formula_of(alloc: Global, terminals: &[Terminal]) -> Result<Formula, Refusal>
     requires { (tree : Whole) × (spell tree ≡ terminal_forms terminals.now) }
-    ensures built { IfOk result (λ f. (depth : ℕ) × Spells (terminal_forms terminals.now) (form f) depth × (depth ≤ 64)) }
-    ensures refused { IfErr result (λ r. r ≢ refusal.Memory → (r ≡ refusal.Deep) × SpellsDeep (terminal_forms terminals.now)) }
+    ensures built { IfOk result (λ f. (depth : ℕ)
+        × Spells (terminal_forms terminals.now) (form f) depth × (depth ≤ 64)) }
+    ensures refused { IfErr result (λ r. r ≢ refusal.Memory
+        → (r ≡ refusal.Deep) × SpellsDeep (terminal_forms terminals.now)) }
 {
     match whole(alloc, terminals, 65) {
         Ok((formula, _, _)) => Ok(formula),

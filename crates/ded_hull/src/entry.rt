@@ -52,7 +52,8 @@ fn first_reach(alloc: Global, entries: &[Entry]) -> Result<Reach, NoMemory>
 /// Widens the hull to one of the entries too.
 fn cover(hull: &mut Reach, entries: &[Entry])
     ensures covers { Covers hull.new entries.now }
-    ensures hull { (xs : List Entry) → IsHull hull.old xs → AreSegments entries.now → IsHull hull.new (xs ++ entries.now) }
+    ensures hull { (xs : List Entry) → IsHull hull.old xs → AreSegments entries.now
+        → IsHull hull.new (xs ++ entries.now) }
 {
     for i in 0..entries.len() {
         hull.widen(&entries[i].reach);
@@ -106,8 +107,8 @@ pub(crate) fn copy_all(from: &[Entry], to: &mut Vec<Entry>) -> Result<(), NoMemo
     Ok(())
 }
 
-/// On every second level, sorts the entries by their middles in the column in which these lie farthest apart. So each sort is good for
-/// four parts.
+/// On every second level, sorts the entries by their middles in the column in which these lie farthest apart. So each
+/// sort is good for four parts.
 pub(crate) fn arrange(entries: &mut [Entry], level: u32)
     ensures entries { IsPermutation entries.old entries.new }
     ensures order { AreSegments entries.old → (0 < level % 2 → InOrder entries.old) → InOrder entries.new }

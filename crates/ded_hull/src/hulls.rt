@@ -1,8 +1,10 @@
 //! The index: a few trees, and a list of what is new.
 //!
-//! Entries are moved and never copied. The trees that become one give their entries to the list, which takes over the memory of the
-//! largest, and the new tree takes over the list. Where memory for a tree is wanting, its entries stay in the list, and none is lost.
-ghost use Rattle.std.specs.Prelude.{◌≡◌, ◌<◌, ◌≤◌, ◌+◌, ◌-◌, ◌^◌, ◌++◌, ◌∷◌, [], min, length, take, drop, IfOk, OnOk, OnErr};
+//! Entries are moved and never copied. The trees that become one give their entries to the list, which takes over the
+//! memory of the largest, and the new tree takes over the list. Where memory for a tree is wanting, its entries stay in
+//! the list, and none is lost.
+ghost use Rattle.std.specs.Prelude.{◌≡◌, ◌<◌, ◌≤◌, ◌+◌, ◌-◌, ◌^◌, ◌++◌, ◌∷◌, [], min, length, take, drop, IfOk, OnOk};
+ghost use Rattle.std.specs.Prelude.{OnErr};
 ghost use Rattle.std.specs.List.Sorted.{IsPermutation};
 ghost use Rattle.ded_hull.specs.Entries.{ids_in, of_keys, AreFound, IsComplete, most_steps};
 ghost use Rattle.ded_hull.specs.Segments.{AreSegments};
@@ -18,15 +20,15 @@ use std::collections::BTreeMap;
 use std::marker::Model;
 use std::sync::ledger::Ledger;
 
-/// With how many new entries the list beside the trees is full, and a tree is made of it. A look-up asks each entry of the list by itself,
-/// so a longer one makes look-ups slower; a shorter one makes trees more often, so that entries move more often. It is the number of which
-/// [`Hulls::insert`] promises that no more stand in no tree.
+/// With how many new entries the list beside the trees is full, and a tree is made of it. A look-up asks each entry of
+/// the list by itself, so a longer one makes look-ups slower; a shorter one makes trees more often, so that entries
+/// move more often. It is the number of which [`Hulls::insert`] promises that no more stand in no tree.
 const FULL_LIST: usize = 32;
 
 /// Reaches under numbers. Contracts see the list of the entries, and how many of them stand in no tree.
 ///
-/// New entries stand in a list. When it is full, they and those of all last trees that have less than twice as many become one tree. So
-/// each entry moves few times, and each tree has at least twice as many entries as the next one.
+/// New entries stand in a list. When it is full, they and those of all last trees that have less than twice as many
+/// become one tree. So each entry moves few times, and each tree has at least twice as many entries as the next one.
 #[derive(Drop)]
 pub struct Hulls {
     trees: Vec<Tree>,
@@ -66,10 +68,11 @@ impl Hulls {
     /// Adds an entry. At most 32 entries stand in no tree then.
     ///
     /// # Errors
-    /// Out of memory; the entries are the same then, maybe in another order, and any number of them may stand in no tree until one is
-    /// inserted.
+    /// Out of memory; the entries are the same then, maybe in another order, and any number of them may stand in no
+    /// tree until one is inserted.
     pub fn insert(&mut self, id: u32, reach: Reach) -> Result<(), NoMemory>
-        ensures inserted { IfOk result (λ _. IsPermutation (record { id = id; reach = reach } ∷ self.old.entries) self.new.entries) }
+        ensures inserted { IfOk result (λ _. IsPermutation
+            (record { id = id; reach = reach } ∷ self.old.entries) self.new.entries) }
         ensures settled { IfOk result (λ _. self.new.loose ≤ 32) }
         ensures kept { OnErr result (IsPermutation self.old.entries self.new.entries) }
     {
@@ -78,8 +81,8 @@ impl Hulls {
         Ok(())
     }
 
-    /// Keeps the entries whose numbers are keys of the map, in another order. Where there is no memory for a tree of them, all stand in
-    /// none until one is inserted.
+    /// Keeps the entries whose numbers are keys of the map, in another order. Where there is no memory for a tree of
+    /// them, all stand in none until one is inserted.
     ///
     /// # Errors
     /// Out of memory; the entries are the same then, and any number of them may stand in no tree.
@@ -111,10 +114,10 @@ impl Hulls {
         Ok(Hulls { trees, tail })
     }
 
-    /// The numbers of the entries in whose reaches the limits may hold, ascending. Each node of a tree and each entry that is looked at
-    /// is a step. With k entries found of n that have one range each, with ends in order, and limits of one term at most that some values
-    /// meet, these are at most 9 (2k + 2d + 1) d, where d is the count of binary digits of n, and as many more as entries stand in no
-    /// tree.
+    /// The numbers of the entries in whose reaches the limits may hold, ascending. Each node of a tree and each entry
+    /// that is looked at is a step. With k entries found of n that have one range each, with ends in order, and limits
+    /// of one term at most that some values meet, these are at most 9 (2k + 2d + 1) d, where d is the count of binary
+    /// digits of n, and as many more as entries stand in no tree.
     ///
     /// # Errors
     /// Out of memory.
@@ -127,7 +130,8 @@ impl Hulls {
         ensures found { IfOk result (λ ids. AreFound limits.now self.now.entries ids.items) }
         ensures complete { IfOk result (λ ids. IsComplete limits.now self.now.entries ids.items) }
         ensures count { IfOk result (λ ids. length ids.items ≤ length (ids_in limits.now self.now.entries)) }
-        ensures steps { AreAlong limits.now → AreSegments self.now.entries → steps.new ≤ steps.old + most_steps limits.now self.now }
+        ensures steps { AreAlong limits.now → AreSegments self.now.entries
+            → steps.new ≤ steps.old + most_steps limits.now self.now }
         ensures forward { steps.old ≤ steps.new }
     {
         let probe = Probe::new(alloc, limits)?;
@@ -189,7 +193,8 @@ fn copy_trees(trees: &[Tree], to: &mut Vec<Entry>) -> Result<(), NoMemory>
 /// # Errors
 /// Out of memory; the entries stay then too, some of them in the list.
 fn settle(trees: &mut Vec<Tree>, tail: &mut Vec<Entry>) -> Result<(), NoMemory>
-    ensures entries { IsPermutation (all_of trees.old.items ++ tail.old.items) (all_of trees.new.items ++ tail.new.items) }
+    ensures entries { IsPermutation (all_of trees.old.items ++ tail.old.items)
+        (all_of trees.new.items ++ tail.new.items) }
     ensures room { OnOk result (length tail.new.items < 32) }
     ensures falling { AreFalling trees.old.items → AreFalling trees.new.items }
 {
@@ -201,8 +206,8 @@ fn settle(trees: &mut Vec<Tree>, tail: &mut Vec<Entry>) -> Result<(), NoMemory>
     plant(trees, tail)
 }
 
-/// How many of the first trees stay as they are: those before the last that have less than twice as many entries as stand behind them,
-/// where so many stand behind all trees.
+/// How many of the first trees stay as they are: those before the last that have less than twice as many entries as
+/// stand behind them, where so many stand behind all trees.
 fn kept(trees: &[Tree], mut behind: usize) -> usize
     ensures inside { result ≤ length trees.now }
     ensures room { IsRoomFor (length (all_of (drop result trees.now)) + behind) (take result trees.now) }
@@ -237,9 +242,11 @@ fn gather(trees: &mut Vec<Tree>, keep: usize, tail: &mut Vec<Entry>) -> Result<(
 /// # Errors
 /// Out of memory; the entries stay in the list then, in another order.
 fn plant(trees: &mut Vec<Tree>, tail: &mut Vec<Entry>) -> Result<(), NoMemory>
-    ensures entries { IsPermutation (all_of trees.old.items ++ tail.old.items) (all_of trees.new.items ++ tail.new.items) }
+    ensures entries { IsPermutation (all_of trees.old.items ++ tail.old.items)
+        (all_of trees.new.items ++ tail.new.items) }
     ensures planted { OnOk result (tail.new.items ≡ []) }
-    ensures falling { AreFalling trees.old.items → IsRoomFor (length tail.old.items) trees.old.items → AreFalling trees.new.items }
+    ensures falling { AreFalling trees.old.items → IsRoomFor (length tail.old.items) trees.old.items
+        → AreFalling trees.new.items }
 {
     if tail.is_empty() {
         return Ok(());

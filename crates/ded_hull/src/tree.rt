@@ -1,15 +1,18 @@
 //! Trees of hulls over a list of entries.
 //!
-//! The nodes of a tree stand in a list, and behind each node those below it. A node with none below it owns a few entries. All entries
-//! stand in another list in the order of their nodes, so those under a node stand side by side. A look-up is one pass over both lists,
-//! in which a node where the limits cannot hold is passed over with all that is below it.
+//! The nodes of a tree stand in a list, and behind each node those below it. A node with none below it owns a few
+//! entries. All entries stand in another list in the order of their nodes, so those under a node stand side by side. A
+//! look-up is one pass over both lists, in which a node where the limits cannot hold is passed over with all that is
+//! below it.
 //!
-//! Where each reach has one range, the two halves of a list are those with earlier and with later middles. A node whose hull passes then
-//! has an entry that is found below it, but for one node on each level at most. That bounds how many nodes are looked at.
+//! Where each reach has one range, the two halves of a list are those with earlier and with later middles. A node whose
+//! hull passes then has an entry that is found below it, but for one node on each level at most. That bounds how many
+//! nodes are looked at.
 //!
-//! A tree never changes. It is built over a list of entries, which are put in its order where they stand, and gives the list back for
-//! a larger tree.
-ghost use Rattle.std.specs.Prelude.{◌≡◌, ◌<◌, ◌≤◌, ◌+◌, ◌*◌, ◌%◌, ◌^◌, ◌++◌, ◌∷◌, [], ℕ, List, length, IfOk, OnOk, OnErr};
+//! A tree never changes. It is built over a list of entries, which are put in its order where they stand, and gives the
+//! list back for a larger tree.
+ghost use Rattle.std.specs.Prelude.{◌≡◌, ◌<◌, ◌≤◌, ◌+◌, ◌*◌, ◌%◌, ◌^◌, ◌++◌, ◌∷◌, [], ℕ, List, length, IfOk, OnOk};
+ghost use Rattle.std.specs.Prelude.{OnErr};
 ghost use Rattle.std.specs.List.Sorted.{IsPermutation};
 ghost use Rattle.ded_hull.specs.declared.entry.Entry.{Entry};
 ghost use Rattle.ded_hull.specs.Entries.{ids_in, Covers};
@@ -28,7 +31,8 @@ use std::sync::ledger::Ledger;
 /// How many entries a node without others below it has at most.
 const LEAF: usize = 8;
 
-/// A hull of the entries under a node, how many of the nodes behind it stand below it, and how many entries are under it.
+/// A hull of the entries under a node, how many of the nodes behind it stand below it, and how many entries are under
+/// it.
 #[derive(Drop)]
 pub(crate) struct Node {
     pub hull: Reach,
@@ -80,7 +84,8 @@ impl Tree {
         self.entries.len()
     }
 
-    /// Adds the numbers of the entries in whose reaches the limits may hold. Each node and each entry that is looked at is a step.
+    /// Adds the numbers of the entries in whose reaches the limits may hold. Each node and each entry that is looked at
+    /// is a step.
     ///
     /// # Errors
     /// Out of memory.
@@ -107,7 +112,8 @@ impl Tree {
         copy_all(&self.entries, to)
     }
 
-    /// Gives its entries to the list, before those that stand there, and has none left. The list takes over the memory of the tree's.
+    /// Gives its entries to the list, before those that stand there, and has none left. The list takes over the memory
+    /// of the tree's.
     ///
     /// # Errors
     /// Out of memory; nothing has changed then.
@@ -125,8 +131,8 @@ impl Tree {
     }
 }
 
-/// The nodes of a tree of the entries, which are put in its order: they are halved until few are left. The level counts how many times
-/// they have been halved already.
+/// The nodes of a tree of the entries, which are put in its order: they are halved until few are left. The level counts
+/// how many times they have been halved already.
 ///
 /// # Errors
 /// Out of memory; the entries are in another order then.
@@ -134,7 +140,8 @@ pub(crate) fn build(alloc: Global, entries: &mut [Entry], level: u32) -> Result<
     ensures tree { IfOk result (λ ns. IsTree ns.items entries.new) }
     ensures over { IfOk result (λ ns. IsOver ns.items entries.new) }
     ensures entries { IsPermutation entries.old entries.new }
-    ensures halved { IfOk result (λ ns. AreSegments entries.old → (0 < level % 2 → InOrder entries.old) → 0 < length entries.old → (h : ℕ) → length entries.old ≤ 2 ^ h → IsHalved h ns.items entries.new) }
+    ensures halved { IfOk result (λ ns. AreSegments entries.old → (0 < level % 2 → InOrder entries.old)
+        → 0 < length entries.old → (h : ℕ) → length entries.old ≤ 2 ^ h → IsHalved h ns.items entries.new) }
 {
     let count = entries.len();
     if count <= LEAF {
@@ -154,7 +161,8 @@ pub(crate) fn build(alloc: Global, entries: &mut [Entry], level: u32) -> Result<
 /// # Errors
 /// Out of memory.
 fn hull_over(alloc: Global, first: &[Node], second: &[Node]) -> Result<Reach, NoMemory>
-    ensures covers { IfOk result (λ h. (xs ys : List Entry) → IsOver first.now xs → IsOver second.now ys → Covers h (xs ++ ys)) }
+    ensures covers { IfOk result (λ h. (xs ys : List Entry) → IsOver first.now xs → IsOver second.now ys
+        → Covers h (xs ++ ys)) }
     ensures value { IfOk result (λ h. HullsJoined first.now second.now h) }
 {
     match (first.first(), second.first()) {
@@ -193,7 +201,8 @@ fn joined(
     first: Vec<Node>,
     mut second: Vec<Node>,
 ) -> Result<Vec<Node>, NoMemory>
-    ensures { IfOk result (λ ns. ns.items ≡ record { hull = hull; below = length first.items + length second.items; count = count } ∷ (first.items ++ second.items)) }
+    ensures { IfOk result (λ ns. ns.items ≡ record { hull = hull; below = length first.items
+        + length second.items; count = count } ∷ (first.items ++ second.items)) }
 {
     let below = first.len() + second.len();
     let mut nodes = first;
@@ -203,7 +212,8 @@ fn joined(
     Ok(nodes)
 }
 
-/// Adds the numbers of the entries of a tree in whose reaches the limits may hold. Each node and each entry that is looked at is a step.
+/// Adds the numbers of the entries of a tree in whose reaches the limits may hold. Each node and each entry that is
+/// looked at is a step.
 ///
 /// # Errors
 /// Out of memory.
@@ -228,8 +238,9 @@ pub(crate) fn visit_all<L: Ledger>(
     Ok(())
 }
 
-/// Adds the numbers of a node's own entries in whose reaches the limits may hold, and gives the nodes that come next with the entries
-/// from their first on. Behind the node stand the others of the tree, and its entries come first. Each entry that is looked at is a step.
+/// Adds the numbers of a node's own entries in whose reaches the limits may hold, and gives the nodes that come next
+/// with the entries from their first on. Behind the node stand the others of the tree, and its entries come first. Each
+/// entry that is looked at is a step.
 ///
 /// # Errors
 /// Out of memory.
@@ -242,7 +253,8 @@ fn visit<'a, L: Ledger>(
     steps: &mut Steps<L>,
 ) -> Result<(&'a [Node], &'a [Entry]), NoMemory>
     requires { IsTree (node.now ∷ behind.now) entries.now }
-    ensures next { IfOk result (λ next. IsStep probe.now node.now behind.now entries.now next.0.now next.1.now found.old.items found.new.items) }
+    ensures next { IfOk result (λ next. IsStep probe.now node.now behind.now entries.now next.0.now next.1.now
+        found.old.items found.new.items) }
     ensures steps { steps.new ≤ steps.old + 8 }
     ensures forward { steps.old ≤ steps.new }
 {

@@ -63,7 +63,8 @@ impl BoxIndex {
     /// # Errors
     /// Out of memory; the index is as it was then.
     pub fn insert(&mut self, id: u32, bounds: &BoundBox) -> Result<(), NoMemory>
-        ensures inserted { IfOk result (λ _. IsPermutation (record { id = id; bounds = bounds.now } ∷ self.old) self.new) }
+        ensures inserted { IfOk result (λ _. IsPermutation
+            (record { id = id; bounds = bounds.now } ∷ self.old) self.new) }
         ensures unchanged { OnErr result (self.new ≡ self.old) }
     {
         let entry = Entry {
@@ -146,7 +147,8 @@ fn add(tree: &mut Vec<Node>, apart: &mut Vec<Entry>, entry: Entry) -> Result<(),
     ensures full { AreFull (entries_of tree.new.items) }
     ensures sound { AreSound (entries_of tree.new.items) }
     ensures apart { AreApart apart.new.items }
-    ensures added { IfOk result (λ _. IsPermutation (entry ∷ (entries_of tree.old.items ++ apart.old.items)) (entries_of tree.new.items ++ apart.new.items)) }
+    ensures added { IfOk result (λ _. IsPermutation (entry ∷ (entries_of tree.old.items ++ apart.old.items))
+        (entries_of tree.new.items ++ apart.new.items)) }
     ensures tree_unchanged { OnErr result (tree.new.items ≡ tree.old.items) }
     ensures apart_unchanged { OnErr result (apart.new.items ≡ apart.old.items) }
 {

@@ -39,7 +39,8 @@ pub(crate) fn fill(nodes: &mut [Node]) -> Option<Bound>
     requires sound { AreSound (entries_of nodes.old) }
     ensures entries { entries_of nodes.new ≡ entries_of nodes.old }
     ensures ends { (h : ℕ) → AreEnds h nodes.new }
-    ensures greatest { MatchOption result (length (entries_of nodes.old) ≡ 0) (λ b. IsGreatest (entries_of nodes.old) b) }
+    ensures greatest { MatchOption result (length (entries_of nodes.old) ≡ 0)
+        (λ b. IsGreatest (entries_of nodes.old) b) }
 {
     if nodes.is_empty() {
         return None;
@@ -54,7 +55,9 @@ pub(crate) fn fill(nodes: &mut [Node]) -> Option<Bound>
 fn close(node: &mut Node, left: Option<Bound>, right: Option<Bound>) -> Bound
     ensures entry { node.new.entry ≡ node.old.entry }
     ensures end { node.new.end ≡ result }
-    ensures latest { (first : Bound) × MatchOption left (first ≡ high node.old.entry) (λ b. first ≡ wider upper (high node.old.entry) b) × MatchOption right (result ≡ first) (λ b. result ≡ wider upper first b) }
+    ensures latest { (first : Bound) × MatchOption left (first ≡ high node.old.entry) (λ b. first
+        ≡ wider upper (high node.old.entry) b) × MatchOption right (result ≡ first) (λ b. result
+        ≡ wider upper first b) }
 {
     let own = first_interval(&node.entry.bounds).1;
     node.end = later(later(own, left), right);
@@ -71,7 +74,8 @@ fn later(bound: Bound, other: Option<Bound>) -> Bound
     }
 }
 
-/// Adds the numbers of the entries whose boxes meet the window, in order. A window whose first interval is empty takes no step.
+/// Adds the numbers of the entries whose boxes meet the window, in order. A window whose first interval is empty takes
+/// no step.
 ///
 /// # Errors
 /// Out of memory.
@@ -93,8 +97,9 @@ pub(crate) fn visit_all<L: Ledger>(
     }
 }
 
-/// Adds the numbers of the entries whose boxes meet the window, in order. The first interval of the window isn't empty. A range
-/// in which all intervals end before the window begins is passed over, and so is what begins after the window ends.
+/// Adds the numbers of the entries whose boxes meet the window, in order. The first interval of the window isn't empty.
+/// A range in which all intervals end before the window begins is passed over, and so is what begins after the window
+/// ends.
 ///
 /// # Errors
 /// Out of memory.

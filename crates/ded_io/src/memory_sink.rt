@@ -1,5 +1,6 @@
 //! Sinks in memory.
-ghost use Rattle.std.specs.Prelude.{◌≡◌, ◌↔◌, ◌-◌, ◌<◌, max, [], ◌++◌, length, take, Some, None, Ok, IfOk, IsErr, IsTrue};
+ghost use Rattle.std.specs.Prelude.{◌≡◌, ◌↔◌, ◌-◌, ◌<◌, max, [], ◌++◌, length, take, Some, None, Ok, IfOk, IsErr};
+ghost use Rattle.std.specs.Prelude.{IsTrue};
 ghost use Rattle.std.specs.Io.KnownBytes.{WriteAppends};
 ghost use Rattle.ded_io.specs.Causes.{HasCause};
 ghost use Rattle.ded_io.specs.Devices.{TakesSome};

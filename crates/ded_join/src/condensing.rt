@@ -9,8 +9,8 @@ use ded_model::memory::NoMemory;
 use ded_theory::Theory;
 use std::alloc::Global;
 
-/// A list that holds at the same points, and is no longer: of each conjunction without atoms that another one of it plainly implies,
-/// and without conjunctions that plainly lie within another one.
+/// A list that holds at the same points, and is no longer: of each conjunction without atoms that another one of it
+/// plainly implies, and without conjunctions that plainly lie within another one.
 ///
 /// # Errors
 /// Out of memory.
@@ -25,7 +25,8 @@ pub(crate) fn condensed<T: Theory>(alloc: Global, list: GenRel<T>) -> Result<Gen
     Ok(out)
 }
 
-/// The list with one more conjunction, unless that plainly lies within one of the list, and without those that plainly lie within it.
+/// The list with one more conjunction, unless that plainly lies within one of the list, and without those that plainly
+/// lie within it.
 ///
 /// # Errors
 /// Out of memory.

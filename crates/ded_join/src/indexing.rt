@@ -21,8 +21,8 @@ pub(crate) struct IndexedList<'a, T: Theory> {
     pub(crate) index: &'a BoxIndex,
 }
 
-/// The index over the list by which [`crate::join_over`] finds pairs. There is none where no slots are given, or the list has 2^32
-/// conjunctions or more.
+/// The index over the list by which [`crate::join_over`] finds pairs. There is none where no slots are given, or the
+/// list has 2^32 conjunctions or more.
 ///
 /// # Errors
 /// Out of memory.

@@ -21,10 +21,10 @@ use ded_model::slot::Slot;
 use ded_theory::Theory;
 use std::alloc::Global;
 
-/// The join without pairs that no point satisfies: each that is kept is wide or holds somewhere. Where no slots are given, or the
-/// second list has 2^32 conjunctions or more, it is `GenRel::meet` without these. It keeps no more in memory than what is left
-/// and, while it looks at one conjunction of the first list, the places of those that are near. `met` grows by the count of pairs
-/// that are met, those that are left out among them, up to the greatest `u64`.
+/// The join without pairs that no point satisfies: each that is kept is wide or holds somewhere. Where no slots are
+/// given, or the second list has 2^32 conjunctions or more, it is `GenRel::meet` without these. It keeps no more in
+/// memory than what is left and, while it looks at one conjunction of the first list, the places of those that are
+/// near. `met` grows by the count of pairs that are met, those that are left out among them, up to the greatest `u64`.
 ///
 /// # Errors
 /// Out of memory.
@@ -37,8 +37,10 @@ pub fn join_inhabited<T: Theory>(
 ) -> Result<GenRel<T>, NoMemory>
     requires { AreRational slots.now }
     ensures is { IfOk result (λ r. IsMeet T.holds T.mentions T.lines a.now b.now r) }
-    ensures near { IfOk result (λ r. 0 < length slots.now → length b.now < 2 ^ 32 → AreNearPairs T.holds T.mentions T.lines slots.now a.now b.now r) }
-    ensures inhabited { IfOk result (λ r. AllByRecursion (λ c. (IsWide T.mentions T.lines c → ⊥) → HoldsSomewhere (conj_holds T.holds c)) r) }
+    ensures near { IfOk result (λ r. 0 < length slots.now → length b.now < 2 ^ 32
+        → AreNearPairs T.holds T.mentions T.lines slots.now a.now b.now r) }
+    ensures inhabited { IfOk result (λ r. AllByRecursion (λ c. (IsWide T.mentions T.lines c → ⊥)
+        → HoldsSomewhere (conj_holds T.holds c)) r) }
     ensures met { IfOk result (λ r. IsKeptMeet T.holds T.mentions T.lines slots.now a.now b.now r met.old met.new) }
 {
     let index = index_over(alloc, b, slots)?;
@@ -60,8 +62,10 @@ fn inhabited_over<T: Theory>(
     requires rational { AreRational slots.now }
     requires index { IsIndexOver T.holds T.mentions T.lines slots.now b.now index.now }
     ensures is { IfOk result (λ r. IsMeet T.holds T.mentions T.lines a.now b.now r) }
-    ensures near { IfOk result (λ r. 0 < length slots.now → length b.now < 2 ^ 32 → AreNearPairs T.holds T.mentions T.lines slots.now a.now b.now r) }
-    ensures inhabited { IfOk result (λ r. AllByRecursion (λ c. (IsWide T.mentions T.lines c → ⊥) → HoldsSomewhere (conj_holds T.holds c)) r) }
+    ensures near { IfOk result (λ r. 0 < length slots.now → length b.now < 2 ^ 32
+        → AreNearPairs T.holds T.mentions T.lines slots.now a.now b.now r) }
+    ensures inhabited { IfOk result (λ r. AllByRecursion (λ c. (IsWide T.mentions T.lines c → ⊥)
+        → HoldsSomewhere (conj_holds T.holds c)) r) }
     ensures met { IfOk result (λ r. IsKeptMeet T.holds T.mentions T.lines slots.now a.now b.now r met.old met.new) }
 {
     match index {
@@ -84,7 +88,8 @@ fn meet_inhabited<T: Theory>(
     b: &GenRel<T>,
     met: &mut u64,
 ) -> Result<GenRel<T>, NoMemory>
-    ensures { IfOk result (λ r. AreKept T.holds T.mentions T.lines (pairs a.now b.now) r × IsCount (pairs a.now b.now) met.old met.new) }
+    ensures { IfOk result (λ r. AreKept T.holds T.mentions T.lines (pairs a.now b.now) r
+        × IsCount (pairs a.now b.now) met.old met.new) }
 {
     let mut out = GenRel::new(alloc);
     let mut count = *met;
@@ -104,7 +109,8 @@ fn push_met<T: Theory>(
     list: &GenRel<T>,
 ) -> Result<(), NoMemory>
     requires normal { AllByRecursion T.normal conj.now }
-    ensures { IfOk result (λ _. AreTakenAfter taken_pairs.Inhabited T.holds T.mentions T.lines (pairs_with conj.now list.now) out.old out.new) }
+    ensures { IfOk result (λ _. AreTakenAfter taken_pairs.Inhabited T.holds T.mentions T.lines
+        (pairs_with conj.now list.now) out.old out.new) }
 {
     for more in list.list() {
         push_both(alloc, out, conj, more, Taken::Inhabited)?;

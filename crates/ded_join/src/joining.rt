@@ -15,8 +15,9 @@ use ded_theory::Theory;
 use std::alloc::Global;
 
 /// A list that holds where both do. It pairs conjunctions whose bounds on the slots share values, in the order of
-/// `GenRel::meet`; where no slots are given, or the second list has 2^32 conjunctions or more, it is `meet`. Else, of conjunctions
-/// that aren't wide, it pairs only those that hold somewhere and whose exact bounds at each slot share a value.
+/// `GenRel::meet`; where no slots are given, or the second list has 2^32 conjunctions or more, it is `meet`. Else, of
+/// conjunctions that aren't wide, it pairs only those that hold somewhere and whose exact bounds at each slot share a
+/// value.
 ///
 /// # Errors
 /// Out of memory.
@@ -28,7 +29,8 @@ pub fn join<T: Theory>(
 ) -> Result<GenRel<T>, NoMemory>
     requires { AreRational slots.now }
     ensures is { IfOk result (λ r. IsMeet T.holds T.mentions T.lines a.now b.now r) }
-    ensures near { IfOk result (λ r. 0 < length slots.now → length b.now < 2 ^ 32 → AreNearPairs T.holds T.mentions T.lines slots.now a.now b.now r) }
+    ensures near { IfOk result (λ r. 0 < length slots.now → length b.now < 2 ^ 32
+        → AreNearPairs T.holds T.mentions T.lines slots.now a.now b.now r) }
     ensures whole { IfOk result (λ r. AreAllPairs slots.now a.now b.now r) }
 {
     let mut met = 0;
@@ -49,7 +51,8 @@ pub fn join_counted<T: Theory>(
 ) -> Result<GenRel<T>, NoMemory>
     requires { AreRational slots.now }
     ensures is { IfOk result (λ r. IsMeet T.holds T.mentions T.lines a.now b.now r) }
-    ensures near { IfOk result (λ r. 0 < length slots.now → length b.now < 2 ^ 32 → AreNearPairs T.holds T.mentions T.lines slots.now a.now b.now r) }
+    ensures near { IfOk result (λ r. 0 < length slots.now → length b.now < 2 ^ 32
+        → AreNearPairs T.holds T.mentions T.lines slots.now a.now b.now r) }
     ensures whole { IfOk result (λ r. AreAllPairs slots.now a.now b.now r) }
     ensures met { IfOk result (λ r. met.new ≡ min (met.old + length r) (2 ^ 64 - 1)) }
 {
@@ -57,7 +60,8 @@ pub fn join_counted<T: Theory>(
     join_over(alloc, a, b, slots, &index, met)
 }
 
-/// The list of [`join`], by an index over the second list, which is made once for many first lists. `met` grows as in [`join_counted`].
+/// The list of [`join`], by an index over the second list, which is made once for many first lists. `met` grows as in
+/// [`join_counted`].
 ///
 /// # Errors
 /// Out of memory.
@@ -72,7 +76,8 @@ pub fn join_over<T: Theory>(
     requires rational { AreRational slots.now }
     requires index { IsIndexOver T.holds T.mentions T.lines slots.now b.now index.now }
     ensures is { IfOk result (λ r. IsMeet T.holds T.mentions T.lines a.now b.now r) }
-    ensures near { IfOk result (λ r. 0 < length slots.now → length b.now < 2 ^ 32 → AreNearPairs T.holds T.mentions T.lines slots.now a.now b.now r) }
+    ensures near { IfOk result (λ r. 0 < length slots.now → length b.now < 2 ^ 32
+        → AreNearPairs T.holds T.mentions T.lines slots.now a.now b.now r) }
     ensures whole { IfOk result (λ r. AreAllPairs slots.now a.now b.now r) }
     ensures met { IfOk result (λ r. met.new ≡ min (met.old + length r) (2 ^ 64 - 1)) }
 {

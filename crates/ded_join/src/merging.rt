@@ -9,7 +9,8 @@ use ded_model::memory::NoMemory;
 use ded_theory::Theory;
 use std::alloc::Global;
 
-/// The conjunction without atoms that another one of it plainly implies: of rows with the same coefficients the strongest is left.
+/// The conjunction without atoms that another one of it plainly implies: of rows with the same coefficients the
+/// strongest is left.
 ///
 /// # Errors
 /// Out of memory.
@@ -25,7 +26,8 @@ pub(crate) fn merged<T: Theory>(alloc: Global, conj: Vec<T::Atom>) -> Result<Vec
     Ok(kept)
 }
 
-/// The conjunction with one more atom, unless it plainly implies that one, and without those that this one plainly implies.
+/// The conjunction with one more atom, unless it plainly implies that one, and without those that this one plainly
+/// implies.
 ///
 /// # Errors
 /// Out of memory.

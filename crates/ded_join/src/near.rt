@@ -20,8 +20,8 @@ pub(crate) enum Taken {
     Inhabited,
 }
 
-/// What is taken of the pairs of conjunctions that are near, in the order of `GenRel::meet`. `met` grows by the count of pairs that
-/// are near, up to the greatest `u64`.
+/// What is taken of the pairs of conjunctions that are near, in the order of `GenRel::meet`. `met` grows by the count
+/// of pairs that are near, up to the greatest `u64`.
 ///
 /// # Errors
 /// Out of memory.
@@ -35,7 +35,8 @@ pub(crate) fn near_by<T: Theory>(
     requires some { 0 < length b.now.slots.now }
     requires rational { AreRational b.now.slots.now }
     requires index { IsIndexOf T.holds T.mentions T.lines b.now.slots.now b.now.list.now b.now.index.now }
-    ensures { IfOk result (λ r. IsTakenMeet taken T.holds T.mentions T.lines b.now.slots.now a.now b.now.list.now r met.old met.new) }
+    ensures { IfOk result (λ r. IsTakenMeet taken T.holds T.mentions T.lines b.now.slots.now a.now
+        b.now.list.now r met.old met.new) }
 {
     let mut out = GenRel::new(alloc);
     let mut count = *met;
@@ -59,7 +60,8 @@ fn push_near<T: Theory>(
 ) -> Result<(), NoMemory>
     requires normal { AllByRecursion T.normal conj.now }
     requires places { AllByRecursion (λ j. j < length list.now) places.now }
-    ensures { IfOk result (λ _. AreTakenAfter taken T.holds T.mentions T.lines (picked conj.now list.now places.now) out.old out.new) }
+    ensures { IfOk result (λ _. AreTakenAfter taken T.holds T.mentions T.lines
+        (picked conj.now list.now places.now) out.old out.new) }
 {
     let conjs = list.list();
     for place in places {
@@ -78,7 +80,8 @@ pub(crate) fn push_both<T: Theory>(
 ) -> Result<(), NoMemory>
     requires first { AllByRecursion T.normal first.now }
     requires second { AllByRecursion T.normal second.now }
-    ensures { IfOk result (λ _. AreTakenAfter taken T.holds T.mentions T.lines ((first.now ++ second.now) ∷ []) out.old out.new) }
+    ensures { IfOk result (λ _. AreTakenAfter taken T.holds T.mentions T.lines
+        ((first.now ++ second.now) ∷ []) out.old out.new) }
 {
     let both = both_conjs::<T>(alloc, first, second)?;
     match taken {
@@ -94,7 +97,8 @@ fn push_inhabited<T: Theory>(
     conj: Vec<T::Atom>,
 ) -> Result<(), NoMemory>
     requires normal { AllByRecursion T.normal conj.items }
-    ensures { IfOk result (λ _. AreTakenAfter taken_pairs.Inhabited T.holds T.mentions T.lines (conj.items ∷ []) out.old out.new) }
+    ensures { IfOk result (λ _. AreTakenAfter taken_pairs.Inhabited T.holds T.mentions T.lines
+        (conj.items ∷ []) out.old out.new) }
 {
     match T::refute(alloc, &conj)? {
         Verdict::Empty => Ok(()),

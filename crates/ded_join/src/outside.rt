@@ -1,8 +1,9 @@
 //! Joins with a small list, by what is outside of it.
 //!
-//! The pairs of two lists may say the same many times over: of n lists of two half planes each, joined one after another, there are
-//! 2^n, and they may make up n + 1 regions alone. What is left of a conjunction when the complement of the small list is taken away
-//! from it is made of disjoint pieces, which are never more than the cells of the atoms.
+//! The pairs of two lists may say the same many times over: of n lists of two half planes each, joined one after
+//! another, there are 2^n, and they may make up n + 1 regions alone. What is left of a conjunction when the complement
+//! of the small list is taken away from it is made of disjoint pieces, which are never more than the cells of the
+//! atoms.
 ghost use Rattle.std.specs.Prelude.{◌≡◌, ◌<◌, ◌≤◌, true, false, leb, ◌++◌, length, IfOk};
 ghost use Rattle.std.specs.List.{AllByRecursion};
 ghost use Rattle.ded_model.specs.Cell.{conj_holds, HoldsSomewhere, HasCells};
@@ -29,16 +30,19 @@ const FEW_PAIRS: usize = 32;
 /// Of more pairs it isn't asked which lie within others, which takes time in proportion to their square.
 const MANY_PAIRS: usize = 128;
 
-/// A list with more atoms isn't small: the complement of a list may have as many conjunctions as there are cells of its atoms.
+/// A list with more atoms isn't small: the complement of a list may have as many conjunctions as there are cells of its
+/// atoms.
 const FEW_ATOMS: usize = 32;
 
-/// A list that holds where both do, no longer than that of [`join_inhabited`]. It is that one where the second list has more than 32
-/// atoms, or there are no more pairs than one of the lists has. Otherwise it is the pairs, condensed where they are at most 128, or, where
-/// these are still more than both lists have, the first list without what is outside of the second one, if that is shorter. `met` grows
-/// as in `join_inhabited`. Where the atoms of both lists aren't wide, each conjunction holds somewhere.
+/// A list that holds where both do, no longer than that of [`join_inhabited`]. It is that one where the second list has
+/// more than 32 atoms, or there are no more pairs than one of the lists has. Otherwise it is the pairs, condensed where
+/// they are at most 128, or, where these are still more than both lists have, the first list without what is outside of
+/// the second one, if that is shorter. `met` grows as in `join_inhabited`. Where the atoms of both lists aren't wide,
+/// each conjunction holds somewhere.
 ///
-/// Where the second list has at most 32 atoms, and the atoms of both lists aren't wide, the join has at most 32 conjunctions, or at
-/// most as many as one of the lists, or for each conjunction of the first list at most as many as the cells that these atoms realise.
+/// Where the second list has at most 32 atoms, and the atoms of both lists aren't wide, the join has at most 32
+/// conjunctions, or at most as many as one of the lists, or for each conjunction of the first list at most as many as
+/// the cells that these atoms realise.
 ///
 /// # Errors
 /// Out of memory.
@@ -51,7 +55,8 @@ pub fn join_shorter<T: Theory>(
 ) -> Result<GenRel<T>, NoMemory>
     requires { AreRational slots.now }
     ensures is { IfOk result (λ r. IsMeet T.holds T.mentions T.lines a.now b.now r) }
-    ensures few { IfOk result (λ r. length (all_atoms b.now) ≤ 32 → (IsWide T.mentions T.lines (all_atoms a.now ++ all_atoms b.now) → ⊥) → IsFew T.cell a.now b.now r) }
+    ensures few { IfOk result (λ r. length (all_atoms b.now) ≤ 32
+        → (IsWide T.mentions T.lines (all_atoms a.now ++ all_atoms b.now) → ⊥) → IsFew T.cell a.now b.now r) }
     ensures met { IfOk result (λ r. IsShorter T.holds T.mentions T.lines slots.now a.now b.now r met.old met.new) }
 {
     let pairs = join_inhabited(alloc, a, b, slots, met)?;
@@ -91,8 +96,8 @@ fn condensed_few<T: Theory>(
     }
 }
 
-/// The first list without what is outside of the second one. Where the atoms of both aren't wide, it has for each conjunction of the
-/// first list at most as many as the cells that the atoms realise, and each of them holds somewhere.
+/// The first list without what is outside of the second one. Where the atoms of both aren't wide, it has for each
+/// conjunction of the first list at most as many as the cells that the atoms realise, and each of them holds somewhere.
 ///
 /// # Errors
 /// Out of memory.
@@ -102,7 +107,9 @@ fn without_outside<T: Theory>(
     b: &GenRel<T>,
 ) -> Result<GenRel<T>, NoMemory>
     ensures is { IfOk result (λ r. IsMeet T.holds T.mentions T.lines a.now b.now r) }
-    ensures cells { IfOk result (λ r. (IsWide T.mentions T.lines (all_atoms a.now ++ all_atoms b.now) → ⊥) → IsListForEach (λ pieces. HasCells T.cell (all_atoms a.now ++ all_atoms b.now) (length pieces) × AllByRecursion (λ c. HoldsSomewhere (conj_holds T.holds c)) pieces) a.now r) }
+    ensures cells { IfOk result (λ r. (IsWide T.mentions T.lines (all_atoms a.now ++ all_atoms b.now) → ⊥)
+        → IsListForEach (λ pieces. HasCells T.cell (all_atoms a.now ++ all_atoms b.now) (length pieces)
+        × AllByRecursion (λ c. HoldsSomewhere (conj_holds T.holds c)) pieces) a.now r) }
 {
     let outside = complement(alloc, b)?;
     minus(alloc, a, &outside)
@@ -111,7 +118,8 @@ fn without_outside<T: Theory>(
 /// Whether the pairs are many, and more than the conjunctions of either list.
 fn has_grown<T: Theory>(a: &GenRel<T>, b: &GenRel<T>, pairs: &GenRel<T>) -> bool
     ensures grown { result ≡ true → (length a.now < length pairs.now) × (length b.now < length pairs.now) }
-    ensures few { result ≡ false → 32 < length pairs.now → length a.now < length pairs.now → length b.now < length pairs.now → ⊥ }
+    ensures few { result ≡ false → 32 < length pairs.now → length a.now < length pairs.now
+        → length b.now < length pairs.now → ⊥ }
 {
     let count = pairs.list().len();
     count > FEW_PAIRS && count > a.list().len() && count > b.list().len()

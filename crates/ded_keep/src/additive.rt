@@ -18,7 +18,8 @@ pub(crate) enum Scans {
     Often,
 }
 
-/// Whether the plan scans the name exactly once, under no complement and not in what a difference takes away. It does not allocate.
+/// Whether the plan scans the name exactly once, under no complement and not in what a difference takes away. It does
+/// not allocate.
 pub fn is_additive(plan: &Plan, name: &Name) -> bool
     ensures { result ≡ is_additive name.now (plan_form plan.now) }
 {

@@ -46,7 +46,8 @@ impl<'a, R: Relations> Relations for Alone<'a, R> {
 
     ghost indexed = { λ a n. not (bytes_eq n a.name.now) && R.indexed a.others.now n };
 
-    ghost reads = { λ a n w before after. AreStepsBeside (bytes_eq n a.name.now) a.tuples.now (R.reads a.others.now n w) before after };
+    ghost reads = { λ a n w before after. AreStepsBeside (bytes_eq n a.name.now) a.tuples.now
+        (R.reads a.others.now n w) before after };
 
     fn formed(&self) {
         self.others.formed();
@@ -90,9 +91,14 @@ pub(crate) fn tuples_alone<E: Evaluate, R: Relations>(
     others: &R,
 ) -> Result<Tuples, Refused>
     requires apart { entry_of (R.catalogue others.now).entries one.now.name.now ≡ None }
-    requires evaluable { IsEvaluable IsAnyAtom (with_alone (R.catalogue others.now) one.now.name.now one.now.heading.now one.now.tuple.now) (plan_form plan.now) }
-    ensures is { IfOk result (λ ts. IsEvaluation (with_alone (R.catalogue others.now) one.now.name.now one.now.heading.now one.now.tuple.now) (plan_form plan.now) (tuples_hold ts) (tuples_mention ts) (tuples_lines ts)) }
-    ensures wide { IsErrOf result Wide → plan_clashes (stored_measures (with_alone (R.catalogue others.now) one.now.name.now one.now.heading.now one.now.tuple.now)) (plan_form plan.now) ≡ true }
+    requires evaluable { IsEvaluable IsAnyAtom (with_alone
+        (R.catalogue others.now) one.now.name.now one.now.heading.now one.now.tuple.now) (plan_form plan.now) }
+    ensures is { IfOk result (λ ts. IsEvaluation
+        (with_alone (R.catalogue others.now) one.now.name.now one.now.heading.now one.now.tuple.now)
+        (plan_form plan.now) (tuples_hold ts) (tuples_mention ts) (tuples_lines ts)) }
+    ensures wide { IsErrOf result Wide → plan_clashes
+        (stored_measures (with_alone (R.catalogue others.now) one.now.name.now one.now.heading.now one.now.tuple.now))
+        (plan_form plan.now) ≡ true }
 {
     let mut tuples = Vec::with_capacity(alloc, 1)?;
     tuples.push(one.tuple.copy()?)?;

@@ -9,8 +9,8 @@ use ded_model::row::{Row, RowOp};
 use ded_model::tuple::{Atom, BothAtom, Tuple, Tuples};
 use std::alloc::Global;
 
-/// Puts the tuples behind the list, in the same order, but for those that are found to be covered: equal to one of the list, or
-/// within one. Of a long list those at its ends are compared.
+/// Puts the tuples behind the list, in the same order, but for those that are found to be covered: equal to one of the
+/// list, or within one. Of a long list those at its ends are compared.
 ///
 /// # Errors
 /// Out of memory.
@@ -32,8 +32,8 @@ pub fn put_behind<E: Evaluate>(
 /// How many tuples are compared at each end of a list.
 const ENDS: usize = 64;
 
-/// Whether the tuple is found to be within one of the list. Of a long list those at its ends are looked at, so the cost doesn't grow
-/// with the list.
+/// Whether the tuple is found to be within one of the list. Of a long list those at its ends are looked at, so the cost
+/// doesn't grow with the list.
 fn is_covered<E: Evaluate>(alloc: Global, tuple: &Tuple, list: &[Tuple]) -> Result<bool, NoMemory>
     ensures { IfOk result (λ b. b ≡ true → IsCovered tuple.now list.now) }
 {
@@ -58,7 +58,8 @@ fn is_among<E: Evaluate>(alloc: Global, tuple: &Tuple, list: &[Tuple]) -> Result
     Ok(false)
 }
 
-/// Whether the first tuple is found to hold where the second one does: they are equal, or the tuple of both is the second one.
+/// Whether the first tuple is found to hold where the second one does: they are equal, or the tuple of both is the
+/// second one.
 fn covers<E: Evaluate>(alloc: Global, other: &Tuple, tuple: &Tuple) -> Result<bool, NoMemory>
     ensures { IfOk result (λ b. b ≡ true → IsPartOf tuple.now other.now) }
 {
@@ -85,8 +86,8 @@ fn may_cover(other: &Tuple, tuple: &Tuple) -> bool {
     true
 }
 
-/// Whether the atom may follow from the others: it is one of them, or an inequality beside an equality or one of the same
-/// coefficients that is as strong. Others follow rarely.
+/// Whether the atom may follow from the others: it is one of them, or an inequality beside an equality or one of the
+/// same coefficients that is as strong. Others follow rarely.
 fn may_follow(atom: &Atom, atoms: &[Atom]) -> bool {
     match atom {
         BothAtom::First(row) if row.op != RowOp::Zero => {

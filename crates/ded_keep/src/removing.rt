@@ -10,7 +10,8 @@ ghost use Rattle.ded_model.specs.Row.{tuple_holds, tuples_hold};
 ghost use Rattle.ded_algebra.specs.Evaluation.{IsAnyAtom, IsEvaluable};
 ghost use Rattle.ded_keep.specs.Additive.{is_additive};
 ghost use Rattle.ded_keep.specs.Adding.{with_alone, IsAddition};
-ghost use Rattle.ded_keep.specs.Remaining.{IsApart, AreApart, IsParted, AreOfBoth, AddsPiece, IsWithin, AddsWithin, AreLeft, IsRemaining};
+ghost use Rattle.ded_keep.specs.Remaining.{IsApart, AreApart, IsParted, AreOfBoth, AddsPiece, IsWithin, AddsWithin};
+ghost use Rattle.ded_keep.specs.Remaining.{AreLeft, IsRemaining};
 
 use crate::alone::{OneTuple, tuples_alone};
 use crate::behind::put_behind;
@@ -22,16 +23,17 @@ use ded_model::plan::Plan;
 use ded_model::tuple::{Tuple, Tuples};
 use std::alloc::Global;
 
-/// Tuples that are left of `kept` where a relation loses the tuple `gone`: those at whose points the plan with `gone` alone as the
-/// tuples of that relation doesn't hold, as they are, and of each other one what the plan gives within it over what is given after.
-/// So where `kept` held exactly where the plan did, they hold exactly where the plan does after, if each other name that the plan
-/// scans means what is given of it before and after. The closure and the interior of the relation are such names.
-/// The plan is additive in the relation's name. The other relations don't give that name, and give each other one that the plan scans,
-/// with tuples over columns of the sorts of the scan's slots; and so do those after, which give that name too.
+/// Tuples that are left of `kept` where a relation loses the tuple `gone`: those at whose points the plan with `gone`
+/// alone as the tuples of that relation doesn't hold, as they are, and of each other one what the plan gives within it
+/// over what is given after. So where `kept` held exactly where the plan did, they hold exactly where the plan does
+/// after, if each other name that the plan scans means what is given of it before and after. The closure and the
+/// interior of the relation are such names. The plan is additive in the relation's name. The other relations don't give
+/// that name, and give each other one that the plan scans, with tuples over columns of the sorts of the scan's slots;
+/// and so do those after, which give that name too.
 ///
 /// # Errors
-/// `Wide` only where the plan clashes with `gone` alone as the tuples of its relation, or over what is given after; otherwise out of
-/// memory. `kept` is lost then.
+/// `Wide` only where the plan clashes with `gone` alone as the tuples of its relation, or over what is given after;
+/// otherwise out of memory. `kept` is lost then.
 pub fn remove_tuple<E: Evaluate, R: Relations, A: Relations>(
     alloc: Global,
     plan: &Plan,
@@ -42,14 +44,23 @@ pub fn remove_tuple<E: Evaluate, R: Relations, A: Relations>(
 ) -> Result<Tuples, Refused>
     requires additive { is_additive gone.now.name.now (plan_form plan.now) ≡ true }
     requires apart { entry_of (R.catalogue others.now).entries gone.now.name.now ≡ None }
-    requires evaluable { IsEvaluable IsAnyAtom (with_alone (R.catalogue others.now) gone.now.name.now gone.now.heading.now gone.now.tuple.now) (plan_form plan.now) }
+    requires evaluable { IsEvaluable IsAnyAtom (with_alone
+        (R.catalogue others.now) gone.now.name.now gone.now.heading.now gone.now.tuple.now) (plan_form plan.now) }
     requires after { IsEvaluable IsAnyAtom (A.catalogue after.now) (plan_form plan.now) }
-    ensures is { IfOk result (IsRemaining (with_alone (R.catalogue others.now) gone.now.name.now gone.now.heading.now gone.now.tuple.now) (A.catalogue after.now) (plan_form plan.now) kept) }
-    ensures removes { IfOk result (λ ts. (b d : Catalogue) → IsAddition (R.catalogue others.now) d b gone.now.name.now gone.now.heading.now gone.now.tuple.now (plan_form plan.now)
-        → ((p : Point) → IsPoint p → GivenHolds (A.catalogue after.now) (plan_form plan.now) p ↔ PlanHolds d (plan_form plan.now) p)
+    ensures is { IfOk result (IsRemaining (with_alone
+        (R.catalogue others.now) gone.now.name.now gone.now.heading.now gone.now.tuple.now) (A.catalogue after.now)
+        (plan_form plan.now) kept) }
+    ensures removes { IfOk result (λ ts. (b d : Catalogue)
+        → IsAddition (R.catalogue others.now) d b gone.now.name.now gone.now.heading.now
+        gone.now.tuple.now (plan_form plan.now)
+        → ((p : Point) → IsPoint p → GivenHolds (A.catalogue after.now) (plan_form plan.now) p
+        ↔ PlanHolds d (plan_form plan.now) p)
         → ((p : Point) → IsPoint p → IsTrue (tuples_hold kept p) ↔ PlanHolds b (plan_form plan.now) p)
         → (p : Point) → IsPoint p → IsTrue (tuples_hold ts p) ↔ PlanHolds d (plan_form plan.now) p) }
-    ensures wide { IsErrOf result Wide → (plan_clashes (stored_measures (with_alone (R.catalogue others.now) gone.now.name.now gone.now.heading.now gone.now.tuple.now)) (plan_form plan.now) ≡ true)
+    ensures wide { IsErrOf result Wide
+        → (plan_clashes (stored_measures (with_alone
+        (R.catalogue others.now) gone.now.name.now gone.now.heading.now gone.now.tuple.now))
+        (plan_form plan.now) ≡ true)
         ⊎ (plan_clashes (stored_measures (A.catalogue after.now)) (plan_form plan.now) ≡ true) }
 {
     others.formed();
@@ -102,8 +113,8 @@ fn is_apart<E: Evaluate>(alloc: Global, tuple: &Tuple, lost: &[Tuple]) -> Result
     Ok(true)
 }
 
-/// What is left of the kept tuples: those apart as they are, and of the others what the plan gives within them. Those that are left as they
-/// are stand before the pieces, of which many are covered by one of them.
+/// What is left of the kept tuples: those apart as they are, and of the others what the plan gives within them. Those
+/// that are left as they are stand before the pieces, of which many are covered by one of them.
 ///
 /// # Errors
 /// `Wide` only where the plan clashes over the given relations, otherwise out of memory.
@@ -116,8 +127,10 @@ fn left_of<E: Evaluate, A: Relations>(
 ) -> Result<Tuples, Refused>
     requires evaluable { IsEvaluable IsAnyAtom (A.catalogue after.now) (plan_form plan.now) }
     requires apart { AreApart parted.apart lost.now }
-    ensures is { IfOk result (AreLeft (A.catalogue after.now) (plan_form plan.now) lost.now (parted.apart ++ parted.near)) }
-    ensures wide { IsErrOf result Wide → plan_clashes (stored_measures (A.catalogue after.now)) (plan_form plan.now) ≡ true }
+    ensures is { IfOk result (AreLeft (A.catalogue after.now) (plan_form plan.now) lost.now
+        (parted.apart ++ parted.near)) }
+    ensures wide { IsErrOf result Wide → plan_clashes (stored_measures (A.catalogue after.now))
+        (plan_form plan.now) ≡ true }
 {
     let mut list = parted.apart.list;
     let mut cut = Vec::new(alloc);
@@ -141,8 +154,10 @@ fn add_within<E: Evaluate, A: Relations>(
     cut: &mut Vec<Tuple>,
 ) -> Result<(), Refused>
     requires { IsEvaluable IsAnyAtom (A.catalogue after.now) (plan_form plan.now) }
-    ensures is { OnOk result (AddsWithin (A.catalogue after.now) (plan_form plan.now) tuple list.old.items cut.old.items list.new.items cut.new.items) }
-    ensures wide { IsErrOf result Wide → plan_clashes (stored_measures (A.catalogue after.now)) (plan_form plan.now) ≡ true }
+    ensures is { OnOk result (AddsWithin (A.catalogue after.now)
+        (plan_form plan.now) tuple list.old.items cut.old.items list.new.items cut.new.items) }
+    ensures wide { IsErrOf result Wide → plan_clashes (stored_measures (A.catalogue after.now))
+        (plan_form plan.now) ≡ true }
 {
     let within = plan_within::<E, A>(alloc, plan, tuple, after)?;
     if within.is_whole {
@@ -171,7 +186,8 @@ fn plan_within<E: Evaluate, A: Relations>(
 ) -> Result<Within, Refused>
     requires { IsEvaluable IsAnyAtom (A.catalogue after.now) (plan_form plan.now) }
     ensures is { IfOk result (λ w. IsWithin (A.catalogue after.now) (plan_form plan.now) tuple w.tuples) }
-    ensures wide { IsErrOf result Wide → plan_clashes (stored_measures (A.catalogue after.now)) (plan_form plan.now) ≡ true }
+    ensures wide { IsErrOf result Wide → plan_clashes (stored_measures (A.catalogue after.now))
+        (plan_form plan.now) ≡ true }
 {
     let found = E::evaluate_within(alloc, plan, after, &tuple)?;
     let pieces = pieces_of::<E>(alloc, &tuple, &found.list)?;

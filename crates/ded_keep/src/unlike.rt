@@ -5,7 +5,8 @@ ghost use Rattle.ded_model.specs.Row.{atom_holds, tuple_holds};
 
 use ded_model::tuple::{Atom, BothAtom, ThemeAtom};
 
-/// Whether the atoms of the two tuples fix different texts at one slot: then no point satisfies both. It does not allocate.
+/// Whether the atoms of the two tuples fix different texts at one slot: then no point satisfies both. It does not
+/// allocate.
 pub(crate) fn fix_other_texts(first: &[Atom], second: &[Atom]) -> bool
     ensures { result ≡ true → (p : Point) → (tuple_holds first.now p && tuple_holds second.now p) ≡ false }
 {

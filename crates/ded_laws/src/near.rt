@@ -5,7 +5,8 @@ ghost use Rattle.ded_model.specs.Point.{Point, IsPoint};
 ghost use Rattle.ded_model.specs.Row.{Atom, tuple_holds, tuples_hold};
 ghost use Rattle.ded_model.specs.Value.{Argument};
 ghost use Rattle.ded_model.specs.Made.{closure_name, interior_name, reading, closure_of, interior_of, base, is_made};
-ghost use Rattle.ded_model.specs.Near.{IsNearPoint, IsCloseAt, IsInsideAt, weak_tuple, weak_tuples, AreSortedAtoms, AreSortedTuples, AreInhabited};
+ghost use Rattle.ded_model.specs.Near.{IsNearPoint, IsCloseAt, IsInsideAt, weak_tuple, weak_tuples, AreSortedAtoms};
+ghost use Rattle.ded_model.specs.Near.{AreSortedTuples, AreInhabited};
 ghost use Rattle.ded_model.specs.Catalogue.{Catalogue, stored};
 ghost use Rattle.ded_model.specs.Uses.{MeansAlike};
 
@@ -31,7 +32,8 @@ pub fn mixes()
 /// Around each point there is a distance within which no weak tuple of a list holds, if none does at the point itself.
 pub fn apart()
     ensures { (ts : List (List Atom)) (p : Point) → IsPoint p → AreSortedTuples ts
-        → (k : ℕ) × (0 < k) × ((q : Point) → IsPoint q → IsNearPoint 1 k p q → tuples_hold (weak_tuples ts) q ≡ true → tuples_hold (weak_tuples ts) p ≡ true) }
+        → (k : ℕ) × (0 < k) × ((q : Point) → IsPoint q → IsNearPoint 1 k p q → tuples_hold (weak_tuples ts) q ≡ true
+        → tuples_hold (weak_tuples ts) p ≡ true) }
 {}
 
 /// The closure of tuples that each hold somewhere: the tuples with their strict rows made weak.

@@ -6,13 +6,15 @@ ghost use Rattle.ded_model.specs.declared.slot.Sort.{Sort};
 ghost use Rattle.ded_model.specs.declared.tuple.ThemeAtom.{ThemeAtom};
 ghost use Rattle.ded_model.specs.Constraint.{LinearConstraint};
 ghost use Rattle.ded_model.specs.Point.{Key, slot, Point, IsSameAt, IsSamePoint, IsExtension};
-ghost use Rattle.ded_model.specs.Row.{Atom, row_holds, theme_holds, atom_holds, tuple_holds, tuples_hold, row_mentions, theme_mentions, atom_mentions, tuple_mentions, tuples_mention};
+ghost use Rattle.ded_model.specs.Row.{Atom, row_holds, theme_holds, atom_holds, tuple_holds, tuples_hold, row_mentions};
+ghost use Rattle.ded_model.specs.Row.{theme_mentions, atom_mentions, tuple_mentions, tuples_mention};
 ghost use Rattle.ded_model.specs.Logic.{exists, forall};
 ghost use Rattle.ded_model.specs.Form.{Form, uses};
 ghost use Rattle.ded_model.specs.Goal.{GoalForm, goal_mentions};
 ghost use Rattle.ded_model.specs.PlanForm.{PlanForm, plan_mentions};
 ghost use Rattle.ded_model.specs.Value.{Argument};
-ghost use Rattle.ded_model.specs.Catalogue.{Entry, Catalogue, entry_name, entry_meaning, stored, meaning, Holds, GoalHolds, PlanHolds, GivenHolds, form_mentions, AreAlike};
+ghost use Rattle.ded_model.specs.Catalogue.{Entry, Catalogue, entry_name, entry_meaning, stored, meaning, Holds};
+ghost use Rattle.ded_model.specs.Catalogue.{GoalHolds, PlanHolds, GivenHolds, form_mentions, AreAlike};
 ghost use Rattle.ded_model.specs.Made.{base, is_made};
 ghost use Rattle.ded_model.specs.Measure.{stored_measures, measures, entry_measure};
 ghost use Rattle.ded_model.specs.Known.{known_of, entry_known};
@@ -42,8 +44,8 @@ pub fn formulas()
         → IsSamePoint p q → Holds c f p → Holds c f q }
 {}
 
-/// A goal that holds at a point holds at each point with the same values at the slots that it mentions freely, so at the
-/// same point in other terms.
+/// A goal that holds at a point holds at each point with the same values at the slots that it mentions freely, so at
+/// the same point in other terms.
 pub fn goals()
     ensures values { (c : Catalogue) (g : GoalForm) (p q : Point) → 0 < p.den → 0 < q.den
         → ((k : Key) → goal_mentions g k ≡ true → IsSameAt p q k) → GoalHolds c g p → GoalHolds c g q }
@@ -51,8 +53,8 @@ pub fn goals()
         → IsSamePoint p q → GoalHolds c g p → GoalHolds c g q }
 {}
 
-/// A plan that holds at a point holds at each point with the same values at the slots that it mentions freely, so at the
-/// same point in other terms.
+/// A plan that holds at a point holds at each point with the same values at the slots that it mentions freely, so at
+/// the same point in other terms.
 pub fn plans()
     ensures values { (c : Catalogue) (f : PlanForm) (p q : Point) → 0 < p.den → 0 < q.den
         → ((k : Key) → plan_mentions f k ≡ true → IsSameAt p q k) → PlanHolds c f p → PlanHolds c f q }
@@ -71,7 +73,8 @@ pub fn given_plans()
 /// Where a formula does not mention a key freely, it holds alike at a point and at each extension of it at the key. A
 /// quantifier over the key changes nothing.
 pub fn unmentioned_in_formulas()
-    ensures extension { (c : Catalogue) (f : Form) (s : Sort) (k : Key) (p q : Point) → 0 < p.den → form_mentions f k ≡ false
+    ensures extension { (c : Catalogue) (f : Form) (s : Sort) (k : Key) (p q : Point) → 0 < p.den
+        → form_mentions f k ≡ false
         → IsExtension s p k q → Holds c f p ↔ Holds c f q }
     ensures exists { (c : Catalogue) (f : Form) (s : Sort) (k : Key) (p : Point) → 0 < p.den → form_mentions f k ≡ false
         → Holds c (exists s k f) p ↔ Holds c f p }
@@ -82,31 +85,38 @@ pub fn unmentioned_in_formulas()
 /// Where a goal does not mention a key freely, it holds alike at a point and at each extension of it at the key. A
 /// quantifier over the key changes nothing.
 pub fn unmentioned_in_goals()
-    ensures extension { (c : Catalogue) (g : GoalForm) (s : Sort) (k : Key) (p q : Point) → 0 < p.den → goal_mentions g k ≡ false
+    ensures extension { (c : Catalogue) (g : GoalForm) (s : Sort) (k : Key) (p q : Point) → 0 < p.den
+        → goal_mentions g k ≡ false
         → IsExtension s p k q → GoalHolds c g p ↔ GoalHolds c g q }
-    ensures exists { (c : Catalogue) (g : GoalForm) (s : Sort) (k : Key) (p : Point) → 0 < p.den → goal_mentions g k ≡ false
+    ensures exists { (c : Catalogue) (g : GoalForm) (s : Sort) (k : Key) (p : Point) → 0 < p.den
+        → goal_mentions g k ≡ false
         → GoalHolds c (exists s k g) p ↔ GoalHolds c g p }
-    ensures forall { (c : Catalogue) (g : GoalForm) (s : Sort) (k : Key) (p : Point) → 0 < p.den → goal_mentions g k ≡ false
+    ensures forall { (c : Catalogue) (g : GoalForm) (s : Sort) (k : Key) (p : Point) → 0 < p.den
+        → goal_mentions g k ≡ false
         → GoalHolds c (forall s k g) p ↔ GoalHolds c g p }
 {}
 
 /// Where a plan does not mention a key freely, it holds alike at a point and at each extension of it at the key. A
 /// projection of the key changes nothing.
 pub fn unmentioned_in_plans()
-    ensures extension { (c : Catalogue) (f : PlanForm) (s : Sort) (k : Key) (p q : Point) → 0 < p.den → plan_mentions f k ≡ false
+    ensures extension { (c : Catalogue) (f : PlanForm) (s : Sort) (k : Key) (p q : Point) → 0 < p.den
+        → plan_mentions f k ≡ false
         → IsExtension s p k q → PlanHolds c f p ↔ PlanHolds c f q }
-    ensures exists { (c : Catalogue) (f : PlanForm) (s : Sort) (k : Key) (p : Point) → 0 < p.den → plan_mentions f k ≡ false
+    ensures exists { (c : Catalogue) (f : PlanForm) (s : Sort) (k : Key) (p : Point) → 0 < p.den
+        → plan_mentions f k ≡ false
         → PlanHolds c (exists s k f) p ↔ PlanHolds c f p }
 {}
 
 /// A new entry at the end of a catalogue leaves what the other entries mean and what is measured of them. Under its own
 /// name it means, and measures, what it does over the entries before it.
 pub fn new_stored()
-    ensures meaning_other { (c d : Catalogue) (e : Entry) (n : List ℕ) (den : ℕ) (xs : List Argument) → d.entries ≡ c.entries ++ e ∷ []
+    ensures meaning_other { (c d : Catalogue) (e : Entry) (n : List ℕ) (den : ℕ) (xs : List Argument)
+        → d.entries ≡ c.entries ++ e ∷ []
         → bytes_eq n (entry_name e) ≡ false → stored d n den xs ↔ stored c n den xs }
     ensures meaning_own { (c d : Catalogue) (e : Entry) (den : ℕ) (xs : List Argument) → d.entries ≡ c.entries ++ e ∷ []
         → stored d (entry_name e) den xs ↔ entry_meaning (stored c) e den xs }
-    ensures measure_other { (c d : Catalogue) (e : Entry) (n : List ℕ) → d.entries ≡ c.entries ++ e ∷ [] → bytes_eq n (entry_name e) ≡ false
+    ensures measure_other { (c d : Catalogue) (e : Entry) (n : List ℕ) → d.entries ≡ c.entries ++ e ∷ []
+        → bytes_eq n (entry_name e) ≡ false
         → stored_measures d n ≡ stored_measures c n }
     ensures measure_own { (c d : Catalogue) (e : Entry) → d.entries ≡ c.entries ++ e ∷ []
         → stored_measures d (entry_name e) ≡ entry_measure (stored_measures c) e }
@@ -114,34 +124,43 @@ pub fn new_stored()
 
 /// A name that is not made of another means, and measures, what is stored under it.
 pub fn plain_names()
-    ensures meaning { (c : Catalogue) (n : List ℕ) (den : ℕ) (xs : List Argument) → is_made n ≡ false → meaning c n den xs ↔ stored c n den xs }
+    ensures meaning { (c : Catalogue) (n : List ℕ) (den : ℕ) (xs : List Argument) → is_made n ≡ false
+        → meaning c n den xs ↔ stored c n den xs }
     ensures measure { (c : Catalogue) (n : List ℕ) → is_made n ≡ false → measures c n ≡ stored_measures c n }
 {}
 
-/// A new entry at the end of a catalogue leaves what the other names mean, what is measured of them and what is known of
-/// them, but for its own closure and interior. Of its own name, if it is not a made one, all this is read over the entries
-/// before it.
+/// A new entry at the end of a catalogue leaves what the other names mean, what is measured of them and what is known
+/// of them, but for its own closure and interior. Of its own name, if it is not a made one, all this is read over the
+/// entries before it.
 pub fn new_entry()
-    ensures meaning_other { (c d : Catalogue) (e : Entry) (n : List ℕ) → d.entries ≡ c.entries ++ e ∷ [] → bytes_eq (base n) (entry_name e) ≡ false
+    ensures meaning_other { (c d : Catalogue) (e : Entry) (n : List ℕ) → d.entries ≡ c.entries ++ e ∷ []
+        → bytes_eq (base n) (entry_name e) ≡ false
         → MeansAlike d c n }
-    ensures meaning_own { (c d : Catalogue) (e : Entry) (den : ℕ) (xs : List Argument) → d.entries ≡ c.entries ++ e ∷ [] → is_made (entry_name e) ≡ false
+    ensures meaning_own { (c d : Catalogue) (e : Entry) (den : ℕ) (xs : List Argument) → d.entries ≡ c.entries ++ e ∷ []
+        → is_made (entry_name e) ≡ false
         → meaning d (entry_name e) den xs ↔ entry_meaning (stored c) e den xs }
-    ensures measure_other { (c d : Catalogue) (e : Entry) (n : List ℕ) → d.entries ≡ c.entries ++ e ∷ [] → bytes_eq (base n) (entry_name e) ≡ false
+    ensures measure_other { (c d : Catalogue) (e : Entry) (n : List ℕ) → d.entries ≡ c.entries ++ e ∷ []
+        → bytes_eq (base n) (entry_name e) ≡ false
         → measures d n ≡ measures c n }
-    ensures measure_own { (c d : Catalogue) (e : Entry) → d.entries ≡ c.entries ++ e ∷ [] → is_made (entry_name e) ≡ false
+    ensures measure_own { (c d : Catalogue) (e : Entry) → d.entries ≡ c.entries ++ e ∷ []
+        → is_made (entry_name e) ≡ false
         → measures d (entry_name e) ≡ entry_measure (stored_measures c) e }
     ensures known_other { (es : List Entry) (e : Entry) (n : List ℕ) → bytes_eq n (entry_name e) ≡ false
         → known_of (es ++ e ∷ []) n ≡ known_of es n }
-    ensures known_own { (es : List Entry) (e : Entry) → known_of (es ++ e ∷ []) (entry_name e) ≡ Some (entry_known (known_of es) e) }
+    ensures known_own { (es : List Entry) (e : Entry)
+        → known_of (es ++ e ∷ []) (entry_name e) ≡ Some (entry_known (known_of es) e) }
 {}
 
-/// Over two catalogues in which the names that a formula, a goal or a plan uses mean the same, it holds at the same points.
+/// Over two catalogues in which the names that a formula, a goal or a plan uses mean the same, it holds at the same
+/// points.
 pub fn used_names()
     ensures formula { (c d : Catalogue) (f : Form) (p : Point) → ((n : List ℕ) → uses n f ≡ true → MeansAlike c d n)
         → Holds c f p ↔ Holds d f p }
-    ensures goal { (c d : Catalogue) (g : GoalForm) (p : Point) → ((n : List ℕ) → goal_uses n g ≡ true → MeansAlike c d n)
+    ensures goal { (c d : Catalogue) (g : GoalForm) (p : Point)
+        → ((n : List ℕ) → goal_uses n g ≡ true → MeansAlike c d n)
         → GoalHolds c g p ↔ GoalHolds d g p }
-    ensures plan { (c d : Catalogue) (f : PlanForm) (p : Point) → ((n : List ℕ) → plan_uses n f ≡ true → MeansAlike c d n)
+    ensures plan { (c d : Catalogue) (f : PlanForm) (p : Point)
+        → ((n : List ℕ) → plan_uses n f ≡ true → MeansAlike c d n)
         → PlanHolds c f p ↔ PlanHolds d f p }
 {}
 

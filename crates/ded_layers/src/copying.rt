@@ -30,7 +30,8 @@ pub(crate) fn near_pieces(
     index: &Hulls,
     corners: &[Corner],
 ) -> Result<Vec<Piece>, NoMemory>
-    ensures { (w : Frame) → AreCornersWithin w corners.now → IsIndex w parts.now index.now.entries → IfOk result (λ near. AreAllEnough corners.now near.items (pieces_of parts.now)) }
+    ensures { (w : Frame) → AreCornersWithin w corners.now → IsIndex w parts.now index.now.entries
+        → IfOk result (λ near. AreAllEnough corners.now near.items (pieces_of parts.now)) }
 {
     let limits = query(alloc, corners)?;
     let ids = find(alloc, index, &limits)?;

@@ -4,7 +4,8 @@ ghost use Rattle.ded_polygon.specs.Lists.{after};
 ghost use Rattle.ded_polygon.specs.Windows.{Frame};
 ghost use Rattle.ded_strokes.specs.Bounds.{Limit};
 ghost use Rattle.ded_strokes.specs.Stretches.{AreEnough};
-ghost use Rattle.ded_layers.specs.Layers.{pieces_of, ArePartsWithin, AreCornersWithin, AreLines, ArePartLines, AreFirstLines, RunsThrough, IsBorder, AreSideLines, Adds, AreAllEnough};
+ghost use Rattle.ded_layers.specs.Layers.{pieces_of, ArePartsWithin, AreCornersWithin, AreLines, ArePartLines};
+ghost use Rattle.ded_layers.specs.Layers.{AreFirstLines, RunsThrough, IsBorder, AreSideLines, Adds, AreAllEnough};
 ghost use Rattle.ded_layers.specs.Indexed.{IsIndex};
 
 use crate::copying::near_pieces;
@@ -16,9 +17,9 @@ use ded_polygon::{Corner, Window};
 use ded_strokes::{Limit, Piece, Stretch, add_lines, stretches};
 use std::alloc::Global;
 
-/// The lines of the parts in order, side after side: those of the side from each corner to the next, and from the last one to the first.
-/// A side that no border of its own piece runs along has none, as it is one of the window alone; else its lines are those of
-/// stretches into which it is cut, each of which is drawn alike among all pieces of the parts.
+/// The lines of the parts in order, side after side: those of the side from each corner to the next, and from the last
+/// one to the first. A side that no border of its own piece runs along has none, as it is one of the window alone; else
+/// its lines are those of stretches into which it is cut, each of which is drawn alike among all pieces of the parts.
 ///
 /// Parts with less than three corners have no sides.
 ///
@@ -46,7 +47,8 @@ fn add_part(
     part: &Part,
     lines: &mut Vec<Stretch>,
 ) -> Result<(), NoMemory>
-    ensures { (w : Frame) → AreCornersWithin w part.now.corners.items → IsIndex w parts.now index.now.entries → OnOk result (Adds (ArePartLines (pieces_of parts.now) part.now) lines.old.items lines.new.items) }
+    ensures { (w : Frame) → AreCornersWithin w part.now.corners.items → IsIndex w parts.now index.now.entries
+        → OnOk result (Adds (ArePartLines (pieces_of parts.now) part.now) lines.old.items lines.new.items) }
 {
     if part.corners.len() < 3 {
         return Ok(());
@@ -67,7 +69,8 @@ fn add_sides(
     lines: &mut Vec<Stretch>,
 ) -> Result<(), NoMemory>
     ensures { (pieces : List (List Limit)) → AreAllEnough corners.now near.now pieces
-        → OnOk result (Adds (AreFirstLines pieces own.now corners.now (length corners.now)) lines.old.items lines.new.items) }
+        → OnOk result (Adds (AreFirstLines pieces own.now corners.now (length corners.now))
+        lines.old.items lines.new.items) }
 {
     for k in 0..corners.len() {
         add_side(
@@ -101,7 +104,8 @@ fn add_side(
     to: Corner,
     lines: &mut Vec<Stretch>,
 ) -> Result<(), NoMemory>
-    ensures { (pieces : List (List Limit)) → AreEnough from to near.now pieces → OnOk result (Adds (AreSideLines pieces own.now from to) lines.old.items lines.new.items) }
+    ensures { (pieces : List (List Limit)) → AreEnough from to near.now pieces
+        → OnOk result (Adds (AreSideLines pieces own.now from to) lines.old.items lines.new.items) }
 {
     let Some(side) = border(own, from, to) else {
         return Ok(());
@@ -121,7 +125,8 @@ fn border(own: &Piece, from: Corner, to: Corner) -> Option<Limit>
 
 /// A limit of the list whose border is a line through both corners.
 fn find_border(limits: &[Limit], from: Corner, to: Corner) -> Option<Limit>
-    ensures { MatchOption result ((b : Limit) → IsBorder limits.now from to b → ⊥) (λ b. IsBorder limits.now from to b) }
+    ensures { MatchOption result ((b : Limit) → IsBorder limits.now from to b
+        → ⊥) (λ b. IsBorder limits.now from to b) }
 {
     for limit in limits {
         if runs_through(*limit, from, to) {

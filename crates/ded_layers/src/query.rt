@@ -33,7 +33,8 @@ pub(crate) fn query(alloc: Global, corners: &[Corner]) -> Result<Vec<Limit>, NoM
 /// # Errors
 /// Out of memory.
 fn add_limits(limits: &mut Vec<Limit>, place: usize, range: Range) -> Result<(), NoMemory>
-    ensures { (v : ℕ → ℤ) (den : ℕ) → IsIn range (v place) den → are_met v den limits.old.items ≡ true → OnOk result (are_met v den limits.new.items ≡ true) }
+    ensures { (v : ℕ → ℤ) (den : ℕ) → IsIn range (v place) den → are_met v den limits.old.items ≡ true
+        → OnOk result (are_met v den limits.new.items ≡ true) }
 {
     add_low(limits, place, range.low)?;
     add_high(limits, place, range.high)
@@ -44,7 +45,8 @@ fn add_limits(limits: &mut Vec<Limit>, place: usize, range: Range) -> Result<(),
 /// # Errors
 /// Out of memory.
 fn add_low(limits: &mut Vec<Limit>, place: usize, end: End) -> Result<(), NoMemory>
-    ensures { (v : ℕ → ℤ) (den : ℕ) → IsAbove end (v place) den → are_met v den limits.old.items ≡ true → OnOk result (are_met v den limits.new.items ≡ true) }
+    ensures { (v : ℕ → ℤ) (den : ℕ) → IsAbove end (v place) den → are_met v den limits.old.items ≡ true
+        → OnOk result (are_met v den limits.new.items ≡ true) }
 {
     if let Some(units) = end.units() {
         add_limit(limits, place, -FINE, units)?;
@@ -57,7 +59,8 @@ fn add_low(limits: &mut Vec<Limit>, place: usize, end: End) -> Result<(), NoMemo
 /// # Errors
 /// Out of memory.
 fn add_high(limits: &mut Vec<Limit>, place: usize, end: End) -> Result<(), NoMemory>
-    ensures { (v : ℕ → ℤ) (den : ℕ) → IsBelow end (v place) den → are_met v den limits.old.items ≡ true → OnOk result (are_met v den limits.new.items ≡ true) }
+    ensures { (v : ℕ → ℤ) (den : ℕ) → IsBelow end (v place) den → are_met v den limits.old.items ≡ true
+        → OnOk result (are_met v den limits.new.items ≡ true) }
 {
     if let Some(units) = end.units() {
         add_limit(limits, place, FINE, -units)?;
@@ -70,7 +73,8 @@ fn add_high(limits: &mut Vec<Limit>, place: usize, end: End) -> Result<(), NoMem
 /// # Errors
 /// Out of memory.
 fn add_limit(limits: &mut Vec<Limit>, place: usize, a: i128, constant: i128) -> Result<(), NoMemory>
-    ensures { (v : ℕ → ℤ) (den : ℕ) → (a *ℤ v place +ℤ constant *ℤ pos den) ≤ℤ pos 0 → are_met v den limits.old.items ≡ true → OnOk result (are_met v den limits.new.items ≡ true) }
+    ensures { (v : ℕ → ℤ) (den : ℕ) → (a *ℤ v place +ℤ constant *ℤ pos den) ≤ℤ pos 0
+        → are_met v den limits.old.items ≡ true → OnOk result (are_met v den limits.new.items ≡ true) }
 {
     let mut terms = Vec::new(*limits.allocator());
     terms.push((place, a))?;

@@ -6,7 +6,8 @@ ghost use Rattle.ded_layers.specs.Indexed.{IsUtmost, Spans};
 use ded_polygon::Corner;
 use ded_strokes::Limit;
 
-/// A corner of which it is known that no point of the half planes is farther out of another one. None where none is known.
+/// A corner of which it is known that no point of the half planes is farther out of another one. None where none is
+/// known.
 pub(crate) fn support(planes: &[Limit], corners: &[Corner], out: Limit) -> Option<Corner>
     ensures { IfSome result (λ c. IsUtmost planes.now out.plane c) }
 {
@@ -33,7 +34,8 @@ fn is_utmost(planes: &[Limit], corner: Corner, out: Limit) -> bool
     false
 }
 
-/// Whether the half plane's way out lies between that of the first one and that of another one whose border goes through the corner.
+/// Whether the half plane's way out lies between that of the first one and that of another one whose border goes
+/// through the corner.
 fn is_between(planes: &[Limit], first: Limit, corner: Corner, out: Limit) -> bool
     requires among { In first planes.now }
     requires turned { pos 0 ≤ℤ bend first.plane out.plane }
@@ -49,8 +51,8 @@ fn is_between(planes: &[Limit], first: Limit, corner: Corner, out: Limit) -> boo
     false
 }
 
-/// Whether the border of the second half plane goes through the corner, and the way out of another one lies between those out of the
-/// first one and out of it.
+/// Whether the border of the second half plane goes through the corner, and the way out of another one lies between
+/// those out of the first one and out of it.
 fn spans(first: Limit, second: Limit, corner: Corner, out: Limit) -> bool
     ensures { IsTrue result → Spans first.plane second.plane corner out.plane }
 {

@@ -1,6 +1,7 @@
 //! The gap or token with which bytes begin.
 ghost use Rattle.std.specs.Prelude.{◌≡◌, ◌≤◌, ◌<◌, ◌+◌, length, IfSome, false};
-ghost use Rattle.ded_lex.specs.Fronts.{word_rest, number_rest, fraction_rest, decimal_rest, quoted_rest, line_length, begins_with, sign_rest, front_with, numeral_front, front_of};
+ghost use Rattle.ded_lex.specs.Fronts.{word_rest, number_rest, fraction_rest, decimal_rest, quoted_rest, line_length};
+ghost use Rattle.ded_lex.specs.Fronts.{begins_with, sign_rest, front_with, numeral_front, front_of};
 
 use crate::byte::{is_blank_byte, is_digit, is_letter, is_text_byte, is_word_byte};
 use crate::token::TokenKind;

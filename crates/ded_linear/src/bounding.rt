@@ -19,15 +19,16 @@ use ded_simplex::extent;
 use ded_theory::{Eliminated, Span};
 use std::alloc::{AllocError, Global};
 
-/// From how many rows on the ends of the slot are looked for before anything is eliminated, where a row mentions three slots or more:
-/// of fewer rows they are found sooner by eliminations.
+/// From how many rows on the ends of the slot are looked for before anything is eliminated, where a row mentions three
+/// slots or more: of fewer rows they are found sooner by eliminations.
 const ENDS_SEARCHED_FROM: usize = 8;
 
 /// The same where no row mentions more than two slots: of such rows an elimination makes none that mentions more.
 const ENDS_OF_PAIRS_SEARCHED_FROM: usize = 16;
 
-/// The exact bounds of the slot, `Nothing` where no point satisfies the rows, and no bounds at all where a number on the way
-/// got too long, which a mixing that decides never lets happen. Of many rows what shows the bounds is looked for first.
+/// The exact bounds of the slot, `Nothing` where no point satisfies the rows, and no bounds at all where a number on
+/// the way got too long, which a mixing that decides never lets happen. Of many rows what shows the bounds is looked
+/// for first.
 ///
 /// # Errors
 /// Out of memory.
@@ -57,7 +58,8 @@ fn are_many(rows: &[Row]) -> bool {
         || (rows.len() >= ENDS_SEARCHED_FROM && rows.iter().any(|row| row.coefs.list().len() > 2))
 }
 
-/// The bounds as [`bounds`] gives them, by eliminations alone: of other slots, that with the fewest pairs of rows first, until each row mentions at most one.
+/// The bounds as [`bounds`] gives them, by eliminations alone: of other slots, that with the fewest pairs of rows
+/// first, until each row mentions at most one.
 ///
 /// # Errors
 /// Out of memory.

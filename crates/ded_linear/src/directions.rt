@@ -1,8 +1,9 @@
 //! Rows over two slots, in the order of the directions of their coefficients.
 //!
-//! In the plane, a row that others imply follows from the two that are next to it, one on either side, as long as none of these is
-//! superfluous itself. So they are the first to be asked, and found by halving. A row that the two beside it make superfluous isn't
-//! among them, though it may be kept elsewhere. Nothing is promised of which rows are found: what they show is checked.
+//! In the plane, a row that others imply follows from the two that are next to it, one on either side, as long as none
+//! of these is superfluous itself. So they are the first to be asked, and found by halving. A row that the two beside
+//! it make superfluous isn't among them, though it may be kept elsewhere. Nothing is promised of which rows are found:
+//! what they show is checked.
 ghost use Rattle.std.specs.Prelude.{◌<◌, ◌≤◌, length, IfSome};
 
 use ded_model::memory::NoMemory;
@@ -11,8 +12,8 @@ use ded_model::slot::Slot;
 use ded_num::gcd;
 use std::alloc::Global;
 
-/// From where on weights are divided by what divides them all: smaller ones seldom make products that are too long, and a divisor takes
-/// time to find.
+/// From where on weights are divided by what divides them all: smaller ones seldom make products that are too long, and
+/// a divisor takes time to find.
 const SHORTENED_FROM: i128 = 1 << 63;
 
 /// The coefficients of two slots. Products of two of these numbers always fit.
@@ -23,7 +24,8 @@ struct Direction {
 }
 
 impl Direction {
-    /// The direction of a row that mentions no other slots than these two. None of another row, or where a coefficient is too long.
+    /// The direction of a row that mentions no other slots than these two. None of another row, or where a coefficient
+    /// is too long.
     fn of(row: &Row, slots: (Slot, Slot)) -> Option<Direction> {
         let (x, y) = match row.coefs.list() {
             [(slot, a)] if slot.is_same(slots.0) => (*a, 0),
@@ -54,7 +56,8 @@ impl Direction {
         left.wrapping_sub(right)
     }
 
-    /// Whether it lies in the second half of the turn that goes from the first slot's direction to that of the second one, and on.
+    /// Whether it lies in the second half of the turn that goes from the first slot's direction to that of the second
+    /// one, and on.
     fn is_late(self) -> bool {
         self.y < 0 || (self.y == 0 && self.x < 0)
     }
@@ -115,8 +118,8 @@ impl Directions {
         }
     }
 
-    /// Enters a row that stands at the place, in place of one of the same direction, and leaves out those that it makes superfluous.
-    /// It doesn't enter a row over other slots or with long coefficients.
+    /// Enters a row that stands at the place, in place of one of the same direction, and leaves out those that it makes
+    /// superfluous. It doesn't enter a row over other slots or with long coefficients.
     ///
     /// # Errors
     /// Out of memory.
@@ -135,13 +138,14 @@ impl Directions {
         Ok(())
     }
 
-    /// Whether all rows were entered, so that no others than the two beside a row can imply it, as long as there is a point where they hold.
+    /// Whether all rows were entered, so that no others than the two beside a row can imply it, as long as there is a
+    /// point where they hold.
     pub fn is_whole(&self) -> bool {
         self.is_whole
     }
 
-    /// The rows on the two sides of the direction opposite to that of the row, where they and the row span the plane. They are found among
-    /// so many.
+    /// The rows on the two sides of the direction opposite to that of the row, where they and the row span the plane.
+    /// They are found among so many.
     pub fn around(&self, row: &Row, count: usize) -> Option<Neighbours>
         ensures { IfSome result (λ n. (n.first < count) × (n.second < count)) }
     {
@@ -253,8 +257,8 @@ fn two_slots(rows: &[Row]) -> Option<(Slot, Slot)> {
     None
 }
 
-/// The numbers by which the three directions come to nothing, where none is below 0. The second one counts for nothing where the first
-/// and the third one are opposite.
+/// The numbers by which the three directions come to nothing, where none is below 0. The second one counts for nothing
+/// where the first and the third one are opposite.
 fn weights(first: Direction, second: Direction, third: Direction) -> Option<[i128; 3]> {
     if first.is_same(third.opposite()) {
         return Some([third.length(), 0, first.length()]);
@@ -284,8 +288,8 @@ fn shortened(numbers: [i128; 3]) -> [i128; 3] {
     }
 }
 
-/// Whether the border lies beyond the point where the others meet, on the two sides of its direction. None where it isn't between
-/// them, or a number gets too long.
+/// Whether the border lies beyond the point where the others meet, on the two sides of its direction. None where it
+/// isn't between them, or a number gets too long.
 fn lies_beyond(border: &Border, first: &Border, second: &Border) -> Option<bool> {
     let numbers = weights(
         first.direction,

@@ -1,7 +1,8 @@
 //! Whether a row holds wherever others do, as far as what shows it is found.
 //!
-//! It does where the others hold nowhere together with its negation. So numbers are looked for that refute these: of the two neighbours of
-//! a row over two slots they are known without a search, and of all others they are searched from where the last search ended.
+//! It does where the others hold nowhere together with its negation. So numbers are looked for that refute these: of
+//! the two neighbours of a row over two slots they are known without a search, and of all others they are searched from
+//! where the last search ended.
 ghost use Rattle.std.specs.Prelude.{◌≡◌, true, IfOk, List, [], ◌∷◌, ◌++◌};
 ghost use Rattle.std.specs.List.{AllByRecursion};
 ghost use Rattle.ded_model.specs.Cell.{conj_holds, HoldsNowhere};
@@ -22,7 +23,8 @@ use ded_theory::Verdict;
 use ded_weighing::are_refuted;
 use std::alloc::Global;
 
-/// How often it may be left open whether a row is implied before no more is looked for: where numbers get too long, looking takes long.
+/// How often it may be left open whether a row is implied before no more is looked for: where numbers get too long,
+/// looking takes long.
 const MISSES: u32 = 3;
 
 /// What one question after another goes on with.
@@ -64,8 +66,8 @@ pub(crate) fn imply(
     }
 }
 
-/// Whether the others are found to hold nowhere together with the row: two of those kept, or else all. In the plane no others than
-/// the two are asked, unless rows behind are asked too.
+/// Whether the others are found to hold nowhere together with the row: two of those kept, or else all. In the plane no
+/// others than the two are asked, unless rows behind are asked too.
 fn are_apart(
     alloc: Global,
     kept: &Kept,
@@ -75,7 +77,8 @@ fn are_apart(
 ) -> Result<bool, NoMemory>
     requires kept { AllByRecursion IsLinearAtom kept.now.rows.items }
     requires behind { AllByRecursion IsLinearAtom behind.now }
-    ensures { IfOk result (λ b. b ≡ true → HoldsNowhere (conj_holds row_holds ((kept.now.rows.items ++ behind.now) ++ row.now ∷ []))) }
+    ensures { IfOk result (λ b. b ≡ true → HoldsNowhere
+        (conj_holds row_holds ((kept.now.rows.items ++ behind.now) ++ row.now ∷ []))) }
 {
     if are_two_apart(alloc, kept, row)? {
         return Ok(true);
@@ -88,7 +91,8 @@ fn are_apart(
 
 /// Whether the two of the kept rows on the sides of what is opposite to the row hold nowhere together with it.
 fn are_two_apart(alloc: Global, kept: &Kept, row: &Row) -> Result<bool, NoMemory>
-    ensures { IfOk result (λ b. b ≡ true → (behind : List LinearConstraint) → HoldsNowhere (conj_holds row_holds ((kept.now.rows.items ++ behind) ++ row.now ∷ []))) }
+    ensures { IfOk result (λ b. b ≡ true → (behind : List LinearConstraint)
+        → HoldsNowhere (conj_holds row_holds ((kept.now.rows.items ++ behind) ++ row.now ∷ []))) }
 {
     match kept.directions.around(row, kept.rows.len()) {
         Some(two) => are_three_apart(
@@ -110,7 +114,8 @@ fn are_three_apart<'a>(
     second: &'a Row,
     third: &'a Row,
 ) -> Result<bool, NoMemory>
-    ensures { IfOk result (λ b. b ≡ true → HoldsNowhere (conj_holds row_holds (first.now ∷ second.now ∷ third.now ∷ []))) }
+    ensures { IfOk result (λ b. b ≡ true → HoldsNowhere
+        (conj_holds row_holds (first.now ∷ second.now ∷ third.now ∷ []))) }
 {
     let _ = first.coefs.list(); // for its invariant
     let _ = second.coefs.list(); // for its invariant
@@ -119,8 +124,8 @@ fn are_three_apart<'a>(
     are_refuted(alloc, numbers, &rows)
 }
 
-/// Whether the others are found to hold nowhere together with the row. The misses fall by one where it is left open, and once there are
-/// none left, nothing is looked for.
+/// Whether the others are found to hold nowhere together with the row. The misses fall by one where it is left open,
+/// and once there are none left, nothing is looked for.
 fn are_all_apart(
     alloc: Global,
     kept: &[Row],
@@ -130,7 +135,8 @@ fn are_all_apart(
 ) -> Result<bool, NoMemory>
     requires kept { AllByRecursion IsLinearAtom kept.now }
     requires behind { AllByRecursion IsLinearAtom behind.now }
-    ensures { IfOk result (λ b. b ≡ true → HoldsNowhere (conj_holds row_holds ((kept.now ++ behind.now) ++ row.now ∷ []))) }
+    ensures { IfOk result (λ b. b ≡ true → HoldsNowhere
+        (conj_holds row_holds ((kept.now ++ behind.now) ++ row.now ∷ []))) }
 {
     if search.misses == 0 {
         return Ok(false);

@@ -68,7 +68,8 @@ fn cheapest(rows: &[Row], slots: &[Slot]) -> usize
     best
 }
 
-/// The slot whose elimination pairs the most rows, to be kept to the end: one that the rows mention, where they mention any.
+/// The slot whose elimination pairs the most rows, to be kept to the end: one that the rows mention, where they mention
+/// any.
 ///
 /// # Errors
 /// Out of memory.

@@ -14,17 +14,19 @@ use ded_model::memory::NoMemory;
 use ded_model::row::Row;
 use std::alloc::Global;
 
-/// From how many rows on those that the others imply are looked for: fewer take longer to look through than they cost later.
+/// From how many rows on those that the others imply are looked for: fewer take longer to look through than they cost
+/// later.
 const PRUNED_FROM: usize = 12;
 
-/// The rows that an elimination has made of so many, without those that the others are found to imply, in the same order: they hold
-/// at the same points. Few rows stay as they are, and so do rows that have not become more.
+/// The rows that an elimination has made of so many, without those that the others are found to imply, in the same
+/// order: they hold at the same points. Few rows stay as they are, and so do rows that have not become more.
 ///
 /// # Errors
 /// Out of memory.
 pub fn pruned(alloc: Global, rows: Vec<Row>, before: usize) -> Result<Vec<Row>, NoMemory>
     requires normal { AllByRecursion IsLinearAtom rows.items }
-    ensures same { IfOk result (λ kept. (p : Point) → IsPoint p → conj_holds row_holds kept.items p ≡ conj_holds row_holds rows.items p) }
+    ensures same { IfOk result (λ kept. (p : Point) → IsPoint p
+        → conj_holds row_holds kept.items p ≡ conj_holds row_holds rows.items p) }
     ensures part { IfOk result (λ kept. IsSublist kept.items rows.items) }
 {
     if rows.len() < PRUNED_FROM || rows.len() <= before {
@@ -36,8 +38,8 @@ pub fn pruned(alloc: Global, rows: Vec<Row>, before: usize) -> Result<Vec<Row>, 
     Ok(kept.rows)
 }
 
-/// The rows without those that the rows kept before them are found to imply. Whenever twice as many are kept as were needed of them,
-/// those that the others imply are left out, so that few rows have to be asked.
+/// The rows without those that the rows kept before them are found to imply. Whenever twice as many are kept as were
+/// needed of them, those that the others imply are left out, so that few rows have to be asked.
 ///
 /// # Errors
 /// Out of memory.
@@ -88,7 +90,8 @@ fn needed(alloc: Global, rows: &[Row], search: &mut Search) -> Result<Kept, NoMe
     Ok(kept)
 }
 
-/// Adds the row at the place to those kept before it, unless these, or with `ahead` these and the rows behind, are found to imply it.
+/// Adds the row at the place to those kept before it, unless these, or with `ahead` these and the rows behind, are
+/// found to imply it.
 fn keep_needed(
     alloc: Global,
     kept: &mut Kept,

@@ -19,12 +19,12 @@ use ded_simplex::told;
 use ded_theory::{Span, Verdict};
 use std::alloc::Global;
 
-/// From how many rows on a point, or numbers that refute the rows, are looked for before anything is eliminated: fewer rows are told
-/// sooner by eliminations.
+/// From how many rows on a point, or numbers that refute the rows, are looked for before anything is eliminated: fewer
+/// rows are told sooner by eliminations.
 const VERDICT_SEARCHED_FROM: usize = 6;
 
-/// Whether some point satisfies all the rows. `Unknown` only where a number on the way got too long, which a mixing that
-/// decides never lets happen.
+/// Whether some point satisfies all the rows. `Unknown` only where a number on the way got too long, which a mixing
+/// that decides never lets happen.
 ///
 /// # Errors
 /// Out of memory.

@@ -3,8 +3,8 @@ use crate::certificate::Entry;
 use crate::formula::Formula;
 use crate::name::{Heading, Name};
 
-/// The language in which a statement is read. `One` is the plain one, `Two` is to have fractions and decimals. The first statement
-/// of a script is read in `Opening`, which is `One` with the header besides.
+/// The language in which a statement is read. `One` is the plain one, `Two` is to have fractions and decimals. The
+/// first statement of a script is read in `Opening`, which is `One` with the header besides.
 #[derive(Clone, Copy, PartialEq, Eq, Debug)]
 pub enum Language {
     Opening,

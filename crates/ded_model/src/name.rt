@@ -48,7 +48,8 @@ impl Name {
         self.bytes.as_slice() == other.bytes.as_slice()
     }
 
-    /// The bytes of the name that this one is made of: of N where it is the closure or the interior of N, and else of itself.
+    /// The bytes of the name that this one is made of: of N where it is the closure or the interior of N, and else of
+    /// itself.
     pub fn base(&self) -> &[u8]
         ensures { result.now ≡ base self.now }
     {
@@ -84,7 +85,8 @@ impl Name {
 
 /// The bytes between a front and a last `)`, none where they do not stand so.
 fn between<'a>(front: &[u8], bytes: &'a [u8]) -> Option<&'a [u8]>
-    ensures { MatchOption result (between front.now bytes.now ≡ None) (λ inner. between front.now bytes.now ≡ Some inner.now) }
+    ensures { MatchOption result (between front.now bytes.now ≡ None)
+        (λ inner. between front.now bytes.now ≡ Some inner.now) }
 {
     match bytes.strip_prefix(front) {
         Some(rest) => rest.strip_suffix(b")"),

@@ -33,7 +33,8 @@ impl OrderAtom {
     /// Out of memory.
     pub fn new(row: &Row) -> Result<Option<OrderAtom>, NoMemory>
         requires normal { IsLinearAtom row.now }
-        ensures { IfOk result (λ o. MatchOption o (is_order_row row.now ≡ false) (λ a. (a ≡ row.now) × (is_order_row row.now ≡ true))) }
+        ensures { IfOk result (λ o. MatchOption o (is_order_row row.now ≡ false) (λ a. (a ≡ row.now)
+            × (is_order_row row.now ≡ true))) }
     {
         if is_order(row) {
             Ok(Some(OrderAtom { row: row.copy()? }))

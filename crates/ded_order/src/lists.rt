@@ -37,7 +37,8 @@ pub fn rows_of(alloc: Global, atoms: &[OrderAtom]) -> Result<Vec<Row>, NoMemory>
 pub fn eliminated(alloc: Global, left: Eliminated<Row>) -> Result<Eliminated<OrderAtom>, NoMemory>
     requires order { AllByRecursion IsOrderAtom (eliminated_atoms left) }
     ensures atoms { IfOk result (λ e. eliminated_atoms e ≡ eliminated_atoms left) }
-    ensures holds { IfOk result (λ e. (p : Point) → eliminated_holds row_holds e p ≡ eliminated_holds row_holds left p) }
+    ensures holds { IfOk result (λ e. (p : Point)
+        → eliminated_holds row_holds e p ≡ eliminated_holds row_holds left p) }
 {
     match left {
         Eliminated::Never => Ok(Eliminated::Never),

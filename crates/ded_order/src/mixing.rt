@@ -1,8 +1,8 @@
 //! How two order rows are combined so that a slot falls out.
 //!
-//! Two rows of one slot leave no slot, and what is left says how their two bounds compare, which is told exactly for numbers of
-//! any length. In every other combination one of the rows has two slots, with the coefficients 1 and -1, so each product is one
-//! with 1, -1 or 0, and nothing gets longer.
+//! Two rows of one slot leave no slot, and what is left says how their two bounds compare, which is told exactly for
+//! numbers of any length. In every other combination one of the rows has two slots, with the coefficients 1 and -1, so
+//! each product is one with 1, -1 or 0, and nothing gets longer.
 ghost use Rattle.std.specs.Prelude.{◌≡◌, ◌≢◌, ◌&&◌, pos, true};
 ghost use Rattle.ded_num.specs.Length.{IsShort};
 ghost use Rattle.ded_model.specs.Coefs.{coef_at};
@@ -44,8 +44,8 @@ fn are_alone(r1: &Row, r2: &Row) -> bool
     r1.coefs.list().len() < 2 && r2.coefs.list().len() < 2
 }
 
-/// What two rows that have the slot alone say together of their constants: the order of the two bounds, compared with zero. It
-/// does not allocate.
+/// What two rows that have the slot alone say together of their constants: the order of the two bounds, compared with
+/// zero. It does not allocate.
 fn compared(r1: &Row, r2: &Row, slot: Slot) -> Row
     requires nonzero_1 { coef_at r1.now.coefs slot ≢ pos 0 }
     requires nonzero_2 { coef_at r2.now.coefs slot ≢ pos 0 }

@@ -3,8 +3,11 @@ ghost use Rattle.std.specs.Prelude.{◌≡◌, ◌<◌, ◌≤◌, ◌^◌, leng
 ghost use Rattle.ded_model.specs.declared.slot.Slot.{Slot};
 ghost use Rattle.ded_model.specs.Coefs.{AreCoefs};
 ghost use Rattle.ded_model.specs.Normal.{IsNormalAtom, IsNormalTuple};
-ghost use Rattle.ded_packed.specs.Numbers.{byte_in, natural_in, after_natural, whole_of, whole_in, text_in, after_text, TextFits};
-ghost use Rattle.ded_packed.specs.Atoms.{coef_in, coefs_in, after_coefs, CoefsFit, row_in, after_row, RowFits, slot_in, parts_in, after_parts, PartsFit, atom_in, after_atom, AtomFits, atoms_in, AtomsFit, tuple_in, IsPacked};
+ghost use Rattle.ded_packed.specs.Numbers.{byte_in, natural_in, after_natural, whole_of, whole_in, text_in, after_text};
+ghost use Rattle.ded_packed.specs.Numbers.{TextFits};
+ghost use Rattle.ded_packed.specs.Atoms.{coef_in, coefs_in, after_coefs, CoefsFit, row_in, after_row, RowFits, slot_in};
+ghost use Rattle.ded_packed.specs.Atoms.{parts_in, after_parts, PartsFit, atom_in, after_atom, AtomFits, atoms_in};
+ghost use Rattle.ded_packed.specs.Atoms.{AtomsFit, tuple_in, IsPacked};
 
 use crate::kind::Kind;
 use ded_model::memory::NoMemory;
@@ -15,7 +18,8 @@ use ded_model::tuple::{Atom, BothAtom, ThemeAtom, Tuple};
 use std::alloc::Global;
 use std::marker::Model;
 
-/// Bytes that are read from the last one to the first. Contracts see the list of those that are left, the next one first.
+/// Bytes that are read from the last one to the first. Contracts see the list of those that are left, the next one
+/// first.
 #[derive(Drop)]
 pub(crate) struct Reader<'a> {
     left: &'a [u8],

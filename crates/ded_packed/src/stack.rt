@@ -4,7 +4,8 @@ ghost use Rattle.ded_num.specs.Length.{IsShort};
 ghost use Rattle.ded_model.specs.declared.tuple.BothAtom.TheVariants.{Second};
 ghost use Rattle.ded_model.specs.Coefs.{AreCoefs};
 ghost use Rattle.ded_model.specs.Normal.{IsNormalAtom, IsNormalTheme, IsNormalTuple};
-ghost use Rattle.ded_packed.specs.Numbers.{natural_in, after_natural, whole_of, whole_in, text_in, after_text, TextFits};
+ghost use Rattle.ded_packed.specs.Numbers.{natural_in, after_natural, whole_of, whole_in, text_in, after_text};
+ghost use Rattle.ded_packed.specs.Numbers.{TextFits};
 ghost use Rattle.ded_packed.specs.Atoms.{row_in, after_row, RowFits, tuple_in, IsPacked};
 ghost use Rattle.ded_packed.specs.Putting.{IsPutCoef, CoefsPut, IsPutAs, IsPut, AtomsPut};
 
@@ -126,7 +127,8 @@ impl Stack {
 
     /// Puts a text slot, as its number, and the text under it.
     fn put_slot_and_text(&mut self, slot: Slot, text: &Name) -> Result<(), NoMemory>
-        ensures value { OnOk result ((natural_in self.new ≡ slot.number) × (text_in (after_natural self.new) ≡ text.now)) }
+        ensures value { OnOk result ((natural_in self.new ≡ slot.number)
+            × (text_in (after_natural self.new) ≡ text.now)) }
         ensures left { OnOk result (after_text (after_natural self.new) ≡ self.old) }
         ensures fits { OnOk result ((natural_in self.new < 2 ^ 32) × TextFits (after_natural self.new)) }
     {
@@ -136,7 +138,8 @@ impl Stack {
 
     /// Puts two text slots, as their numbers, the first on top.
     fn put_slots(&mut self, first: Slot, second: Slot) -> Result<(), NoMemory>
-        ensures value { OnOk result ((natural_in self.new ≡ first.number) × (natural_in (after_natural self.new) ≡ second.number)) }
+        ensures value { OnOk result ((natural_in self.new ≡ first.number)
+            × (natural_in (after_natural self.new) ≡ second.number)) }
         ensures left { OnOk result (after_natural (after_natural self.new) ≡ self.old) }
         ensures fits { OnOk result ((natural_in self.new < 2 ^ 32) × (natural_in (after_natural self.new) < 2 ^ 32)) }
     {

@@ -13,7 +13,8 @@ use std::alloc::{AllocError, Global};
 /// What stands in the legend for tuples without a text.
 const NO_TEXT: &[u8] = b"(no text)";
 
-/// The first texts of the figures, each once, in the order in which they come. The place of a text is the number of its colour.
+/// The first texts of the figures, each once, in the order in which they come. The place of a text is the number of its
+/// colour.
 ///
 /// # Errors
 /// Out of memory.

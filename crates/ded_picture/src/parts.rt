@@ -18,7 +18,8 @@ use ded_strokes::Piece;
 use indexmap::IndexSet;
 use std::alloc::{AllocError, Global};
 
-/// What is shown of a tuple: its piece with its corners within the window, in the colour of this number, with its title.
+/// What is shown of a tuple: its piece with its corners within the window, in the colour of this number, with its
+/// title.
 #[derive(Drop)]
 pub struct Shown {
     pub colour: u32,
@@ -64,7 +65,8 @@ fn add_part(
     labels: &IndexSet<Name>,
     window: Window,
 ) -> Result<(), NoMemory>
-    ensures { OnOk result (AddsShown window labels.now.keys sight.now parts.old.list.items parts.old.wide parts.new.list.items parts.new.wide) }
+    ensures { OnOk result (AddsShown window labels.now.keys sight.now parts.old.list.items parts.old.wide
+        parts.new.list.items parts.new.wide) }
 {
     match sight {
         Sight::Nowhere => Ok(()),
@@ -159,8 +161,10 @@ fn piece_of(alloc: Global, figure: &Figure) -> Result<Piece, Refused>
 /// # Errors
 /// As [`part_of`].
 fn corners_within(alloc: Global, figure: &Figure, window: Window) -> Result<Vec<Corner>, Refused>
-    ensures corners { IfOk result (λ cs. AreCorners figure.now.axes.x figure.now.axes.y (figure.now.rows ++ window_rows figure.now.axes.x figure.now.axes.y window) cs.items) }
-    ensures around { IfOk result (λ cs. GoAround figure.now.axes.x figure.now.axes.y (figure.now.rows ++ window_rows figure.now.axes.x figure.now.axes.y window) cs.items) }
+    ensures corners { IfOk result (λ cs. AreCorners figure.now.axes.x figure.now.axes.y
+        (figure.now.rows ++ window_rows figure.now.axes.x figure.now.axes.y window) cs.items) }
+    ensures around { IfOk result (λ cs. GoAround figure.now.axes.x figure.now.axes.y
+        (figure.now.rows ++ window_rows figure.now.axes.x figure.now.axes.y window) cs.items) }
     ensures within { IfOk result (λ cs. AreCornersWithin window cs.items) }
     ensures wide { IsErrOf result Wide → IsTooLong figure.now }
 {

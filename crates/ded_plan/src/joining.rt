@@ -3,7 +3,8 @@ ghost use Rattle.std.specs.Prelude.{◌≡◌, ◌++◌, IfOk};
 ghost use Rattle.ded_model.specs.Logic.{minus};
 ghost use Rattle.ded_model.specs.PlanForm.{plan_form, plan_forms};
 ghost use Rattle.ded_model.specs.Pushed.{some_member};
-ghost use Rattle.ded_plan.specs.Rewrite.{join_of, union_of, negated, comes_apart, flattened, kept, taken, difference_of, joined};
+ghost use Rattle.ded_plan.specs.Rewrite.{join_of, union_of, negated, comes_apart, flattened, kept, taken};
+ghost use Rattle.ded_plan.specs.Rewrite.{difference_of, joined};
 
 use crate::distributing::distributed;
 use ded_model::memory::NoMemory;

@@ -5,7 +5,8 @@ ghost use Rattle.std.specs.List.{list_any};
 ghost use Rattle.ded_model.specs.Goal.{goal_form, goal_forms};
 ghost use Rattle.ded_model.specs.PlanForm.{plan_form, plan_forms};
 ghost use Rattle.ded_model.specs.Uses.{goal_uses, plan_uses};
-ghost use Rattle.ded_plan.specs.ScannedNames.{with_name, with_names, with_all_names, scanned_name, used_name, AreDistinctNames};
+ghost use Rattle.ded_plan.specs.ScannedNames.{with_name, with_names, with_all_names, scanned_name, used_name};
+ghost use Rattle.ded_plan.specs.ScannedNames.{AreDistinctNames};
 
 use ded_model::goal::Goal;
 use ded_model::memory::NoMemory;

@@ -35,7 +35,8 @@ pub fn projected(alloc: Global, at: Slot, plan: Plan) -> Result<Plan, NoMemory>
 /// A plan that mentions the slot and is no join, without it.
 #[cycle(projected)]
 fn projected_down(alloc: Global, at: Slot, plan: Plan) -> Result<Plan, NoMemory>
-    ensures { is_join (plan_form plan) ≡ false → IfOk result (λ p. plan_form p ≡ projected_down at.sort (slot at) (plan_form plan)) }
+    ensures { is_join (plan_form plan) ≡ false → IfOk result (λ p. plan_form p
+        ≡ projected_down at.sort (slot at) (plan_form plan)) }
 {
     match plan {
         Plan::Union(parts) => Ok(Plan::Union(each_projected(alloc, at, parts)?)),

@@ -16,13 +16,14 @@ use ded_model::slot::Slots;
 use ded_model::tuple::Tuple;
 use std::alloc::Global;
 
-/// The plan in the form in which each projection stands as deep as it can: over no union, over nothing that doesn't mention its
-/// slot and over no member of a join that doesn't; with no join in a join, no rows beside a union, no complement in a complement
-/// or beside another member, and no join or union of one part. Over every catalogue it holds exactly where the plan does. It
-/// mentions freely only slots that the plan does, has lengths and a rank of at most the plan's, lines among the plan's, and
-/// clashes only where the plan does. It has the same scans, each as often, and atoms of the plan alone, and is conjunctive where
-/// the plan is. Its projections are of slots, its scans at distinct ones, and its rows are normal. Where two slots of one number
-/// that a part of the plan mentions freely have one sort, so it is in each of its parts.
+/// The plan in the form in which each projection stands as deep as it can: over no union, over nothing that doesn't
+/// mention its slot and over no member of a join that doesn't; with no join in a join, no rows beside a union, no
+/// complement in a complement or beside another member, and no join or union of one part. Over every catalogue it holds
+/// exactly where the plan does. It mentions freely only slots that the plan does, has lengths and a rank of at most the
+/// plan's, lines among the plan's, and clashes only where the plan does. It has the same scans, each as often, and
+/// atoms of the plan alone, and is conjunctive where the plan is. Its projections are of slots, its scans at distinct
+/// ones, and its rows are normal. Where two slots of one number that a part of the plan mentions freely have one sort,
+/// so it is in each of its parts.
 ///
 /// # Errors
 /// Out of memory; the plan is lost.

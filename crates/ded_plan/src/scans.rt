@@ -24,10 +24,11 @@ pub struct ScanWithin {
     pub within: Tuple,
 }
 
-/// The scans of a plan in order, each with a tuple of atoms that mention only its slots: those of the given tuple, and those of
-/// the rows beside the scan or beside a part of the plan that the scan stands in. Where such a part is a projection, atoms from
-/// outside it that mention its slot are left out, since inside the slot is another one. Of two readings of the names that agree
-/// on each scan at all points at which its tuple holds, the plan holds alike at all points at which the given tuple does.
+/// The scans of a plan in order, each with a tuple of atoms that mention only its slots: those of the given tuple, and
+/// those of the rows beside the scan or beside a part of the plan that the scan stands in. Where such a part is a
+/// projection, atoms from outside it that mention its slot are left out, since inside the slot is another one. Of two
+/// readings of the names that agree on each scan at all points at which its tuple holds, the plan holds alike at all
+/// points at which the given tuple does.
 ///
 /// # Errors
 /// Out of memory.
@@ -133,7 +134,8 @@ fn without_slot(alloc: Global, tuple: &Tuple, slot: Slot) -> Result<Tuple, NoMem
 
 /// The atoms of the tuple and of the plans that are rows.
 fn with_rows_among(alloc: Global, plans: &Vec<Plan>, tuple: &Tuple) -> Result<Tuple, NoMemory>
-    ensures { IfOk result (λ t. (p : Point) → IsTrue (tuple_holds tuple.now p) → RowsHold (plan_forms plans.now.items) p → IsTrue (tuple_holds t p)) }
+    ensures { IfOk result (λ t. (p : Point) → IsTrue (tuple_holds tuple.now p) → RowsHold (plan_forms plans.now.items) p
+        → IsTrue (tuple_holds t p)) }
 {
     let mut atoms = Vec::new(alloc);
     add_atoms(&mut atoms, tuple)?;

@@ -25,8 +25,10 @@ fn next_of(corners: &[Corner], place: usize, sides: &[Side]) -> Option<usize>
     requires before { 0 < place }
     requires inside { place < length corners.now }
     ensures { MatchOption result
-        ((k : ℕ) → place ≤ k → k < length corners.now → IsEdge sides.now (spot_in corners.now (place - 1)) (spot_in corners.now k) → ⊥)
-        (λ next. (place ≤ next) × (next < length corners.now) × IsEdge sides.now (spot_in corners.now (place - 1)) (spot_in corners.now next)) }
+        ((k : ℕ) → place ≤ k → k < length corners.now
+        → IsEdge sides.now (spot_in corners.now (place - 1)) (spot_in corners.now k) → ⊥)
+        (λ next. (place ≤ next) × (next < length corners.now)
+        × IsEdge sides.now (spot_in corners.now (place - 1)) (spot_in corners.now next)) }
 {
     let last = corners[place - 1];
     for next in place..corners.len() {
@@ -50,7 +52,8 @@ fn is_edge(sides: &[Side], from: Corner, to: Corner) -> bool
     false
 }
 
-/// Whether the way along the border of a half plane, through both corners, leads out of another one at the second corner, and not before.
+/// Whether the way along the border of a half plane, through both corners, leads out of another one at the second
+/// corner, and not before.
 fn stops(sides: &[Side], side: Side, from: Corner, to: Corner) -> bool
     ensures { IsTrue result ↔ IsStop sides.now side from to }
 {

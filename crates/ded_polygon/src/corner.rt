@@ -1,7 +1,8 @@
 //! Corners, as points with a common denominator.
 use std::marker::Model;
 
-/// The point `(x / den, y / den)`. The denominator is above 0 and has at most 63 binary digits, the other two have at most 94.
+/// The point `(x / den, y / den)`. The denominator is above 0 and has at most 63 binary digits, the other two have at
+/// most 94.
 #[derive(Clone, Copy, Debug)]
 pub struct Corner {
     pub x: i128,

@@ -19,11 +19,12 @@ use ded_model::row::Row;
 use ded_model::slot::Slot;
 use std::alloc::Global;
 
-/// The corners of the rows: the points of their closure, that is, of each row with `<` read as `<=`, at which two rows that are not
-/// parallel are equalities, each once. Where the rows are bounded they go around counterclockwise; else their order is not told.
+/// The corners of the rows: the points of their closure, that is, of each row with `<` read as `<=`, at which two rows
+/// that are not parallel are equalities, each once. Where the rows are bounded they go around counterclockwise; else
+/// their order is not told.
 ///
-/// A row without coefficients is read as it stands, so that `0 < 0` is true and `1 <= 0` is false: rows that hold nowhere may have
-/// corners, if their closure has some.
+/// A row without coefficients is read as it stands, so that `0 < 0` is true and `1 <= 0` is false: rows that hold
+/// nowhere may have corners, if their closure has some.
 ///
 /// # Errors
 /// `Wide` only where a number of a row is beyond the exact range; otherwise out of memory.

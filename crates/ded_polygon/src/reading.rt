@@ -68,7 +68,8 @@ fn side_of(row: &Row, x: Slot, y: Slot) -> Option<Side>
 
 /// The half plane of these numbers. None where one is beyond the exact range.
 fn short_side(a: i128, b: i128, c: i128) -> Option<Side>
-    ensures { MatchOption result (IsShortSide (record { a = a; b = b; c = c }) → ⊥) (λ s. s ≡ record { a = a; b = b; c = c }) }
+    ensures { MatchOption result (IsShortSide (record { a = a; b = b; c = c })
+        → ⊥) (λ s. s ≡ record { a = a; b = b; c = c }) }
 {
     if !is_coefficient(a) {
         return None;

@@ -77,7 +77,8 @@ impl Side {
 
     /// Where the borders cross, if the way along the first one leads out of the other half plane there.
     pub fn crossing(self, other: Side) -> Option<Corner>
-        ensures { MatchOption result (bend self other ≤ℤ pos 0) (λ c. (c ≡ crossing self other) × (pos 0 <ℤ bend self other)) }
+        ensures { MatchOption result (bend self other ≤ℤ pos 0) (λ c. (c ≡ crossing self other)
+            × (pos 0 <ℤ bend self other)) }
     {
         let den = self.bend(other);
         if den <= 0 {

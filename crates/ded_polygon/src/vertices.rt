@@ -28,7 +28,8 @@ fn add_on(found: &mut Vec<Corner>, side: Side, sides: &[Side]) -> Result<(), NoM
     requires vertices { AreVertices sides.now found.old.items }
     requires inside { In side sides.now }
     ensures grows { OnOk result (Grows sides.now found.old.items found.new.items) }
-    ensures has { OnOk result ((k : ℕ) → k < length sides.now → HasCrossing sides.now found.new.items side (side_in sides.now k)) }
+    ensures has { OnOk result ((k : ℕ) → k < length sides.now
+        → HasCrossing sides.now found.new.items side (side_in sides.now k)) }
 {
     for other in sides {
         add_crossing(found, side, *other, sides)?;
@@ -76,7 +77,8 @@ fn lies_in(sides: &[Side], corner: Corner) -> bool
 
 /// Whether one of the corners is on both borders.
 fn has_on_both(found: &[Corner], side: Side, other: Side) -> bool
-    ensures { IsTrue result ↔ ((k : ℕ) × (k < length found.now) × (level side (spot_in found.now k) ≡ pos 0) × (level other (spot_in found.now k) ≡ pos 0)) }
+    ensures { IsTrue result ↔ ((k : ℕ) × (k < length found.now) × (level side (spot_in found.now k) ≡ pos 0)
+        × (level other (spot_in found.now k) ≡ pos 0)) }
 {
     for corner in found {
         if side.touches(*corner) && other.touches(*corner) {

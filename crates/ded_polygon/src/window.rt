@@ -6,8 +6,8 @@ ghost use Rattle.ded_polygon.specs.Windows.{Frame, IsFrame, window_planes};
 use crate::side::Side;
 use std::marker::Model;
 
-/// The points with x from `left / den` to `right / den` and y from `bottom / den` to `top / den`. The denominator is above 0 and
-/// below 2 ^ 31, the other numbers are below 2 ^ 62 in size, and each first one is less than the second.
+/// The points with x from `left / den` to `right / den` and y from `bottom / den` to `top / den`. The denominator is
+/// above 0 and below 2 ^ 31, the other numbers are below 2 ^ 62 in size, and each first one is less than the second.
 #[derive(Clone, Copy, Debug)]
 pub struct Window {
     pub left: i128,
@@ -26,7 +26,8 @@ impl Model for Window {
 
     ghost inverse = { λ w. record { left = w.left; right = w.right; bottom = w.bottom; top = w.top; den = w.den } };
 
-    ghost invariant = { λ w. IsFrame (record { left = w.left; right = w.right; bottom = w.bottom; top = w.top; den = w.den }) };
+    ghost invariant = { λ w.
+        IsFrame (record { left = w.left; right = w.right; bottom = w.bottom; top = w.top; den = w.den }) };
 }
 
 impl Window {

@@ -47,7 +47,8 @@ fn put_answer<N: SlotNames, K: Sink>(
     ensures { Puts
         (output (K.contents sink.old) (K.faults sink.old) gathered.old)
         (output (K.contents sink.new) (K.faults sink.new) gathered.new)
-        (counted_text (codes "answer") (number_text (length tuples.now)) (map (tuple_text (N.names names.now)) tuples.now)) }
+        (counted_text (codes "answer") (number_text (length tuples.now))
+        (map (tuple_text (N.names names.now)) tuples.now)) }
 {
     gathered.put(sink, b"answer ");
     put_natural(tuples.len() as u64, gathered, sink);

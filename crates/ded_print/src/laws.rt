@@ -10,15 +10,16 @@ ghost use Rattle.ded_model.specs.PlanForm.{PlanForm};
 ghost use Rattle.ded_model.specs.Row.{Atom};
 ghost use Rattle.ded_print.specs.Boxes.{rational_names, spans_text};
 ghost use Rattle.ded_print.specs.Certificates.{apart_text};
-ghost use Rattle.ded_print.specs.Lines.{LineReply, line_text, meeting_text, refusal_text, reply_line, reply_text, is_one_line};
+ghost use Rattle.ded_print.specs.Lines.{LineReply, line_text, meeting_text, refusal_text, reply_line, reply_text};
+ghost use Rattle.ded_print.specs.Lines.{is_one_line};
 ghost use Rattle.ded_print.specs.Numbers.{count_text, number_text};
 ghost use Rattle.ded_print.specs.Plans.{node_lines, plan_text};
 ghost use Rattle.ded_print.specs.Quiet.{AreQuiet, IsQuietPlan};
 ghost use Rattle.ded_print.specs.Told.{IsToldPlan};
 ghost use Rattle.ded_print.specs.Tuples.{answer_text, stored_text};
 
-/// The text of a number is its digits, without leading zeros: read in decimal it is the number, however great. A count of
-/// at most 64 digits has the same text.
+/// The text of a number is its digits, without leading zeros: read in decimal it is the number, however great. A count
+/// of at most 64 digits has the same text.
 pub fn one_number()
     ensures value { (n : ℕ) → digits_value 10 (number_text n) ≡ n }
     ensures digits { (n : ℕ) → IsNumeral 10 (number_text n) }
@@ -60,8 +61,8 @@ pub fn one_plan()
         plan_text f ++ xs ≡ plan_text g ++ ys → (plan_text f ≡ plan_text g) × (xs ≡ ys) }
 {}
 
-/// The lines of a plan tell the plan, and so does its text before any bytes, where no name has a blank, a line feed or a quote,
-/// the slots of each scan have the sorts of its columns, and tuples are in normal form.
+/// The lines of a plan tell the plan, and so does its text before any bytes, where no name has a blank, a line feed or
+/// a quote, the slots of each scan have the sorts of its columns, and tuples are in normal form.
 pub fn plans_told()
     ensures lines { (sorts : List ℕ → List Sort) (f g : PlanForm) → IsToldPlan sorts f → IsToldPlan sorts g →
         node_lines 0 f ≡ node_lines 0 g → f ≡ g }
@@ -69,8 +70,8 @@ pub fn plans_told()
         IsToldPlan sorts g → plan_text f ++ xs ≡ plan_text g ++ ys → (f ≡ g) × (xs ≡ ys) }
 {}
 
-/// Of two lists of certificates no text is a proper front of the other's, and no bytes begin with the text of such a list and with
-/// that of a meeting.
+/// Of two lists of certificates no text is a proper front of the other's, and no bytes begin with the text of such a
+/// list and with that of a meeting.
 pub fn one_list_of_certificates()
     ensures texts { (es fs : List Entry) (xs ys : List ℕ) → apart_text es ++ xs ≡ apart_text fs ++ ys →
         (apart_text es ≡ apart_text fs) × (xs ≡ ys) }
@@ -90,10 +91,12 @@ pub fn refusals_apart()
     ensures answers { (columns : List Column) (ts : List (List Atom)) (r : Refusal) (xs ys : List ℕ) →
         answer_text columns ts ++ xs ≡ refusal_text r ++ ys → ⊥ }
     ensures plans { (f : PlanForm) (r : Refusal) (xs ys : List ℕ) → plan_text f ++ xs ≡ refusal_text r ++ ys → ⊥ }
-    ensures certificates { (es : List Entry) (r : Refusal) (xs ys : List ℕ) → apart_text es ++ xs ≡ refusal_text r ++ ys → ⊥ }
+    ensures certificates { (es : List Entry) (r : Refusal) (xs ys : List ℕ)
+        → apart_text es ++ xs ≡ refusal_text r ++ ys → ⊥ }
     ensures nowhere { (r : Refusal) (xs ys : List ℕ) → line_text (codes "empty") ++ xs ≡ refusal_text r ++ ys → ⊥ }
     ensures no_rational { (r : Refusal) (xs ys : List ℕ) →
         line_text (codes "no rational column") ++ xs ≡ refusal_text r ++ ys → ⊥ }
-    ensures boxes { (columns : List Column) (bs : List (Bound × Bound)) (r : Refusal) (xs ys : List ℕ) → AreQuiet columns →
+    ensures boxes { (columns : List Column) (bs : List (Bound × Bound)) (r : Refusal)
+        (xs ys : List ℕ) → AreQuiet columns →
         0 < length (rational_names columns) → 0 < length bs → spans_text columns bs ++ xs ≡ refusal_text r ++ ys → ⊥ }
 {}

@@ -1,8 +1,8 @@
 //! The texts of replies.
 //!
-//! `specs/` says what the text of each reply is: numbers, rows, tuples, answers, stored tuples, boxes, plans, scripts, certificates,
-//! and the replies of one line. The calls here print a reply to a sink: its contents are then exactly that text more, and where it
-//! failed a front of the text. No call allocates.
+//! `specs/` says what the text of each reply is: numbers, rows, tuples, answers, stored tuples, boxes, plans, scripts,
+//! certificates, and the replies of one line. The calls here print a reply to a sink: its contents are then exactly
+//! that text more, and where it failed a front of the text. No call allocates.
 //!
 //! It stands on `ded_model` for the data and on `ded_io` for the sink.
 #![tactic(auto)]

@@ -9,7 +9,8 @@ ghost use Rattle.ded_print.specs.Gathering.{output, Puts};
 ghost use Rattle.ded_print.specs.Lines.{lines_text};
 ghost use Rattle.ded_print.specs.Numbers.{count_text};
 ghost use Rattle.ded_print.specs.Nodes.{node_text, nodes, nodes_of};
-ghost use Rattle.ded_print.specs.Plans.{later_slots_text, node_lines, part_lines, plan_atom_text, plan_text, slots_text, sort_text};
+ghost use Rattle.ded_print.specs.Plans.{later_slots_text, node_lines, part_lines, plan_atom_text, plan_text};
+ghost use Rattle.ded_print.specs.Plans.{slots_text, sort_text};
 
 use crate::count::Count;
 use crate::depth::{Depth, put_indent};

@@ -3,7 +3,8 @@ ghost use Rattle.std.specs.Prelude.{◌≡◌};
 ghost use Rattle.ded_num.specs.Length.{IsShort};
 ghost use Rattle.ded_model.specs.Coefs.{AreCoefs};
 ghost use Rattle.ded_print.specs.Gathering.{output, Puts};
-ghost use Rattle.ded_print.specs.Tuples.{signed, term_text, sign_text, later_term_text, later_terms_text, op_text, row_with_text, row_text, unlike_with_text, unlike_text};
+ghost use Rattle.ded_print.specs.Tuples.{signed, term_text, sign_text, later_term_text, later_terms_text, op_text};
+ghost use Rattle.ded_print.specs.Tuples.{row_with_text, row_text, unlike_with_text, unlike_text};
 
 use crate::gathered::Gathered;
 use crate::naming::SlotNames;

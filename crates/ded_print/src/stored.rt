@@ -43,7 +43,8 @@ fn put_stored<N: SlotNames, K: Sink>(
     ensures { Puts
         (output (K.contents sink.old) (K.faults sink.old) gathered.old)
         (output (K.contents sink.new) (K.faults sink.new) gathered.new)
-        (counted_text (codes "tuples") (number_text (length stored.now)) (map (stored_line (N.names names.now)) stored.now)) }
+        (counted_text (codes "tuples") (number_text (length stored.now))
+        (map (stored_line (N.names names.now)) stored.now)) }
 {
     gathered.put(sink, b"tuples ");
     put_natural(stored.len() as u64, gathered, sink);

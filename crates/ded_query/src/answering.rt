@@ -15,7 +15,8 @@ ghost use Rattle.ded_model.specs.Width.{IsNarrowList};
 ghost use Rattle.ded_algebra.specs.Given.{has_name};
 ghost use Rattle.ded_catalog.specs.Snapshots.{snapshot_of};
 ghost use Rattle.ded_plan.specs.Planned.{IsPlanned};
-ghost use Rattle.ded_query.specs.Gathering.{IsGivenOf, IsGathered, IsFront, IsPosed, IsPosedPlan, IsEvaluated, IsViewOf, IsViewPlan};
+ghost use Rattle.ded_query.specs.Gathering.{IsGivenOf, IsGathered, IsFront, IsPosed, IsPosedPlan, IsEvaluated};
+ghost use Rattle.ded_query.specs.Gathering.{IsViewOf, IsViewPlan};
 ghost use Rattle.ded_query.specs.Over.{over_relations};
 ghost use Rattle.ded_query.specs.Questions.{IsQuestion, IsAnswer};
 
@@ -37,8 +38,8 @@ use ded_resolve::laws;
 use ded_width::laws::orderly_rows;
 use std::alloc::Global;
 
-/// Whether a closed formula, given as its goal, is true over the catalogue. What is held of views is read in their place, and is
-/// the same after it.
+/// Whether a closed formula, given as its goal, is true over the catalogue. What is held of views is read in their
+/// place, and is the same after it.
 ///
 /// # Errors
 /// `Wide` only where the formula isn't tight, otherwise out of memory.
@@ -61,9 +62,10 @@ pub fn is_true<E: Evaluate>(
     Ok(holds_everywhere(&tuples.list))
 }
 
-/// Normal tuples over the heading that hold exactly where a formula does, given as its goal. Each narrow one has nothing
-/// superfluous, and none stands twice. Where the formula is orderly, each one has nothing superfluous, and its rows are order rows
-/// between the points that the formula reaches. What is held of views is read in their place, and is the same after it.
+/// Normal tuples over the heading that hold exactly where a formula does, given as its goal. Each narrow one has
+/// nothing superfluous, and none stands twice. Where the formula is orderly, each one has nothing superfluous, and its
+/// rows are order rows between the points that the formula reaches. What is held of views is read in their place, and
+/// is the same after it.
 ///
 /// # Errors
 /// `Wide` only where the formula isn't tight, otherwise out of memory.
@@ -79,7 +81,8 @@ pub fn answer<E: Evaluate>(
     ensures is { (f : Form) → IsQuestion (snapshot_of snapshot.now) heading.now (goal_form goal.now) f
         → IfOk result (λ ts. IsAnswer (snapshot_of snapshot.now) heading.now f ts) }
     ensures held { held.new ≡ held.old }
-    ensures wide { IsErrOf result Wide → (f : Form) → IsQuestion (snapshot_of snapshot.now) heading.now (goal_form goal.now) f
+    ensures wide { IsErrOf result Wide → (f : Form)
+        → IsQuestion (snapshot_of snapshot.now) heading.now (goal_form goal.now) f
         → IsTight (snapshot_of snapshot.now) heading.now f → ⊥ }
 {
     snapshot.formed();
@@ -89,8 +92,8 @@ pub fn answer<E: Evaluate>(
     Ok(reduced(alloc, tuples)?)
 }
 
-/// The answer to a view's formula, as normal tuples in which narrow ones have nothing superfluous. What is held of views is read in
-/// their place, and is the same after it.
+/// The answer to a view's formula, as normal tuples in which narrow ones have nothing superfluous. What is held of
+/// views is read in their place, and is the same after it.
 ///
 /// # Errors
 /// `Wide` only where the view clashes, otherwise out of memory.
@@ -151,9 +154,11 @@ pub fn give_names<E: Evaluate>(
     requires defined { AllByRecursion (λ n. is_some (known (snapshot_of snapshot.now) (base n)) ≡ true) names.now }
     requires held { AllByRecursion (IsGivenOf (snapshot_of snapshot.now)) held.old }
     ensures gathered { OnOk result (IsGathered (snapshot_of snapshot.now) held.old held.new) }
-    ensures all { OnOk result (AllByRecursion (λ n. has_name n (over_relations (snapshot_of snapshot.now) None held.new) ≡ true) names.now) }
+    ensures all { OnOk result (AllByRecursion (λ n.
+        has_name n (over_relations (snapshot_of snapshot.now) None held.new) ≡ true) names.now) }
     ensures front { IsFront held.old held.new }
-    ensures wide { IsErrOf result Wide → list_any (λ n. (measures (snapshot_of snapshot.now) n).clash) names.now ≡ true }
+    ensures wide { IsErrOf result Wide → list_any
+        (λ n. (measures (snapshot_of snapshot.now) n).clash) names.now ≡ true }
 {
     snapshot.formed();
     let strata = Strata {
@@ -179,7 +184,8 @@ fn evaluated_over<E: Evaluate>(
     requires held { AllByRecursion (IsGivenOf (snapshot_of snapshot.now)) held.old }
     ensures is { IfOk result (λ ts. IsEvaluated (snapshot_of snapshot.now) (goal_form goal.now) ts) }
     ensures held { held.new ≡ held.old }
-    ensures wide { IsErrOf result Wide → goal_clashes (measures (snapshot_of snapshot.now)) (goal_form goal.now) ≡ true }
+    ensures wide { IsErrOf result Wide → goal_clashes (measures (snapshot_of snapshot.now))
+        (goal_form goal.now) ≡ true }
 {
     laws::normal_goals();
     let plan = plan(alloc, goal)?;
@@ -201,7 +207,8 @@ fn planned_over<E: Evaluate>(
     ensures is { (g : GoalForm) → IsPosed (snapshot_of snapshot.now) g 16 → IsPlanned g (plan_form plan.now)
         → IfOk result (λ ts. IsEvaluated (snapshot_of snapshot.now) g ts) }
     ensures held { held.new ≡ held.old }
-    ensures wide { IsErrOf result Wide → (g : GoalForm) → IsPosed (snapshot_of snapshot.now) g 16 → IsPlanned g (plan_form plan.now)
+    ensures wide { IsErrOf result Wide → (g : GoalForm) → IsPosed (snapshot_of snapshot.now) g 16
+        → IsPlanned g (plan_form plan.now)
         → goal_clashes (measures (snapshot_of snapshot.now)) g ≡ true }
 {
     let strata = Strata {

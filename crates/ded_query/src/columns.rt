@@ -11,8 +11,8 @@ use ded_model::tuple::Tuple;
 use ded_tuple::normal_tuple;
 use std::alloc::{AllocError, Global};
 
-/// A tuple over slots as one over columns: the slot at place `i` of the list is read as column `i`. It holds at the values of columns
-/// exactly where the tuple does at those of the slots that they are read into.
+/// A tuple over slots as one over columns: the slot at place `i` of the list is read as column `i`. It holds at the
+/// values of columns exactly where the tuple does at those of the slots that they are read into.
 ///
 /// # Errors
 /// Out of memory, also where a column would have no number.

@@ -1,4 +1,5 @@
-//! What a plan is evaluated to, over the views that it scans, which are gathered first. Relations are read where they stand.
+//! What a plan is evaluated to, over the views that it scans, which are gathered first. Relations are read where they
+//! stand.
 ghost use Rattle.std.specs.Prelude.{◌≡◌, true, None, IfOk, IsErrOf, OnOk};
 ghost use Rattle.std.specs.List.{AllByRecursion};
 ghost use Rattle.ded_model.specs.declared.memory.Refused.TheVariants.{Wide};
@@ -26,9 +27,9 @@ use ded_model::tuple::Tuples;
 use ded_plan::{plan, scanned_names};
 use ded_resolve::laws;
 
-/// Tuples that hold exactly where the goal of an accepted formula does over the catalogue, whose names have at most the level.
-/// They mention only slots that the goal mentions freely. The views that it reaches are given first, each name once. What was given
-/// stays at the front.
+/// Tuples that hold exactly where the goal of an accepted formula does over the catalogue, whose names have at most the
+/// level. They mention only slots that the goal mentions freely. The views that it reaches are given first, each name
+/// once. What was given stays at the front.
 ///
 /// # Errors
 /// `Wide` only where the goal clashes, otherwise out of memory. More may be given then.

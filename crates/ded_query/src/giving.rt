@@ -1,5 +1,5 @@
-//! Views given as a whole, by what their goals are evaluated to, and closures and interiors of them. Each view is tried once a question:
-//! one that was too wide is remembered.
+//! Views given as a whole, by what their goals are evaluated to, and closures and interiors of them. Each view is tried
+//! once a question: one that was too wide is remembered.
 ghost use Rattle.std.specs.Prelude.{◌≡◌, ◌≤◌, true, false, is_some, is_none, None, IsErrOf, OnOk};
 ghost use Rattle.std.specs.List.{AllByRecursion, list_any};
 ghost use Rattle.std.specs.Str.{bytes_eq};
@@ -63,8 +63,8 @@ pub(crate) fn give_all<E: Evaluate>(
     Ok(())
 }
 
-/// Gives the name, which is made of a defined one that has at most the level, unless it is a relation or is given already. A view that
-/// was tried and isn't given was too wide.
+/// Gives the name, which is made of a defined one that has at most the level, unless it is a relation or is given
+/// already. A view that was tried and isn't given was too wide.
 ///
 /// # Errors
 /// `Wide` only where the name clashes, otherwise out of memory. More may be given then.
@@ -107,8 +107,8 @@ pub(crate) fn give<E: Evaluate>(
     give_view::<E>(strata, name, goal, given, tried)
 }
 
-/// Gives the closure or the interior of what has at most the level, by the tuples of that, which are given first where it is a view. A
-/// relation is read where it stands, so nothing is given of it.
+/// Gives the closure or the interior of what has at most the level, by the tuples of that, which are given first where
+/// it is a view. A relation is read where it stands, so nothing is given of it.
 ///
 /// # Errors
 /// `Wide` only where the name clashes, otherwise out of memory. More may be given then.
@@ -147,7 +147,8 @@ fn give_other<E: Evaluate>(
     Ok(add(strata.snapshot, given, near)?)
 }
 
-/// Gives a view, which has at most the level, by its goal. It wasn't tried in this question, and nothing is given under its name.
+/// Gives a view, which has at most the level, by its goal. It wasn't tried in this question, and nothing is given under
+/// its name.
 ///
 /// # Errors
 /// `Wide` only where the view clashes, otherwise out of memory. More may be given then.

@@ -23,8 +23,8 @@ use ded_ranges::Window;
 use ded_topology::{closed_tuples, inner_tuples, laws};
 use std::alloc::Global;
 
-/// The closure or the interior of a relation, or of a view that is given, as a relation under its name. `inner` is the name that
-/// it is made of.
+/// The closure or the interior of a relation, or of a view that is given, as a relation under its name. `inner` is the
+/// name that it is made of.
 ///
 /// # Errors
 /// `Wide` only where the name clashes, otherwise out of memory.
@@ -61,7 +61,8 @@ pub(crate) fn made(
 /// The closure of the tuples, or their interior, as the name says.
 ///
 /// # Errors
-/// `Wide` only where one of the tuples isn't narrow, or of an interior the list of all their atoms; otherwise out of memory.
+/// `Wide` only where one of the tuples isn't narrow, or of an interior the list of all their atoms; otherwise out of
+/// memory.
 fn made_tuples(alloc: Global, name: &Name, tuples: &[Tuple]) -> Result<Tuples, Refused>
     requires { is_made name.now ≡ true }
     ensures is { IfOk result (IsMadeBy (reading name.now) tuples.now) }

@@ -28,8 +28,9 @@ pub(crate) fn some_view(snapshot: &Snapshot<'_>, names: &[Name]) -> bool {
     false
 }
 
-/// The goal of the view that the scan is of, where it is worth while to evaluate it near the scan alone: its tuple says something, no
-/// other scan is of the name, nothing is given under it, and fewer views than there may be were evaluated so; one more is counted then.
+/// The goal of the view that the scan is of, where it is worth while to evaluate it near the scan alone: its tuple says
+/// something, no other scan is of the name, nothing is given under it, and fewer views than there may be were evaluated
+/// so; one more is counted then.
 pub(crate) fn near_goal<'a>(
     snapshot: &'a Snapshot<'_>,
     scan: &ScanWithin,

@@ -40,7 +40,8 @@ impl<'a, 'b, 'c> Relations for Over<'a, 'b, 'c> {
     ghost use Rattle.ded_algebra.specs.Given.{given_catalogue, has_name};
     ghost use Rattle.ded_query.specs.Over.{over_relations, is_hidden, AreStepsOver};
 
-    ghost catalogue = { λ o. given_catalogue (over_relations (snapshot_of o.snapshot.now) (option_map (λ n. n.now) o.hidden) o.given.now) };
+    ghost catalogue = { λ o. given_catalogue (over_relations (snapshot_of o.snapshot.now)
+        (option_map (λ n. n.now) o.hidden) o.given.now) };
 
     ghost indexed = { λ o n. not (has_name n o.given.now) && not (is_hidden (option_map (λ n. n.now) o.hidden) n) };
 

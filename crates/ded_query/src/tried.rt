@@ -8,7 +8,8 @@ use ded_model::name::Name;
 use std::alloc::Global;
 use std::marker::Model;
 
-/// The views whose evaluation as a whole was begun in a question, each once, in the order in which it was. Contracts see their names.
+/// The views whose evaluation as a whole was begun in a question, each once, in the order in which it was. Contracts
+/// see their names.
 #[derive(Drop)]
 pub(crate) struct Tried {
     names: Vec<Name>,

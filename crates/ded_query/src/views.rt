@@ -37,7 +37,9 @@ pub(crate) fn view_relation(
     tuples: Tuples,
 ) -> Result<GivenRelation, NoMemory>
     requires { is_some (known (snapshot_of snapshot.now) name.now) ≡ true }
-    ensures { IfOk result (λ r. (r.name ≡ name.now) × (Some r.heading ≡ option_map (λ k. k.columns) (known (snapshot_of snapshot.now) name.now)) × (r.tuples ≡ tuples)) }
+    ensures { IfOk result (λ r. (r.name ≡ name.now)
+        × (Some r.heading ≡ option_map (λ k. k.columns) (known (snapshot_of snapshot.now) name.now))
+        × (r.tuples ≡ tuples)) }
 {
     let Some(heading) = snapshot.heading(name) else {
         unreachable!()

@@ -80,8 +80,8 @@ pub(crate) fn evaluated_near<E: Evaluate>(
     tuples
 }
 
-/// Tuples that hold, of the points at which the tuple `within` does, exactly where the goals do of which the plan is one. They mention
-/// only slots that the goal mentions freely.
+/// Tuples that hold, of the points at which the tuple `within` does, exactly where the goals do of which the plan is
+/// one. They mention only slots that the goal mentions freely.
 ///
 /// # Errors
 /// As `evaluated_whole`.
@@ -127,8 +127,8 @@ fn evaluated_within<E: Evaluate>(
     tuples
 }
 
-/// What the scans are of: views that one of them alone is of as relations that are right where its tuple holds, which are handed back,
-/// and other views as a whole, which are given.
+/// What the scans are of: views that one of them alone is of as relations that are right where its tuple holds, which
+/// are handed back, and other views as a whole, which are given.
 ///
 /// # Errors
 /// `Wide` only where one of the scanned names clashes, otherwise out of memory. More may be given then.
@@ -169,7 +169,8 @@ fn gathered<E: Evaluate>(
     Ok(near)
 }
 
-/// The view of the scan, by its goal, as a relation that is right where the scan's tuple holds. It has at most the level.
+/// The view of the scan, by its goal, as a relation that is right where the scan's tuple holds. It has at most the
+/// level.
 ///
 /// # Errors
 /// `Wide` only where the view clashes, otherwise out of memory. More may be given then.

@@ -1,5 +1,5 @@
-//! Plans that ask only whether a view has a point, and the closed goal that says it: that of the view's formula, with a quantifier for
-//! each column.
+//! Plans that ask only whether a view has a point, and the closed goal that says it: that of the view's formula, with a
+//! quantifier for each column.
 ghost use Rattle.std.specs.Prelude.{◌≡◌, ◌≤◌, true, is_some, IfOk, IsErrOf, OnOk};
 ghost use Rattle.std.specs.List.{AllByRecursion};
 ghost use Rattle.std.specs.Option.{IfSome};
@@ -10,7 +10,8 @@ ghost use Rattle.ded_model.specs.Known.{heading_slots, level_with};
 ghost use Rattle.ded_model.specs.Made.{base};
 ghost use Rattle.ded_model.specs.PlanForm.{plan_form};
 ghost use Rattle.ded_catalog.specs.Snapshots.{snapshot_of};
-ghost use Rattle.ded_query.specs.Asking.{projects, IsRoundScan, IsAsking, IsAskedView, IsClosedView, IsClosedPlan, IsWitness, IsTruthOf};
+ghost use Rattle.ded_query.specs.Asking.{projects, IsRoundScan, IsAsking, IsAskedView, IsClosedView, IsClosedPlan};
+ghost use Rattle.ded_query.specs.Asking.{IsWitness, IsTruthOf};
 ghost use Rattle.ded_query.specs.Closing.{closing};
 ghost use Rattle.ded_query.specs.Gathering.{IsGivenOf, IsFront};
 ghost use Rattle.ded_query.specs.Tried.{TriesMore, IsBelowTried, IsGatheredBy};
@@ -31,8 +32,8 @@ use ded_plan::plan;
 use ded_resolve::laws;
 use std::alloc::{AllocError, Global};
 
-/// The view of which the plan asks only whether it has a point, where nothing is given under its name. None says nothing: whether it is
-/// told decides speed alone.
+/// The view of which the plan asks only whether it has a point, where nothing is given under its name. None says
+/// nothing: whether it is told decides speed alone.
 pub(crate) fn asked_view<'a>(
     snapshot: &Snapshot<'_>,
     plan: &'a Plan,
@@ -169,7 +170,8 @@ fn closed_view(alloc: Global, snapshot: &Snapshot<'_>, name: &Name) -> Result<Go
     closed_goal(alloc, goal, &heading.columns, 0)
 }
 
-/// The goal with a quantifier for each of the columns, whose slots have the numbers from `number` on. The first is outermost.
+/// The goal with a quantifier for each of the columns, whose slots have the numbers from `number` on. The first is
+/// outermost.
 ///
 /// # Errors
 /// Out of memory, also where a column would have no number.

@@ -1,7 +1,8 @@
 //! Ends of ranges in 64 bits.
 //!
-//! A number of units up to 2 to the power of 62 is its own code. Codes beyond stand for whole numbers, and the least one for no end. So
-//! ends stand in the order of their codes, those near 0 are fine, and those far away are whole numbers up to about 2 to the power of 62.
+//! A number of units up to 2 to the power of 62 is its own code. Codes beyond stand for whole numbers, and the least
+//! one for no end. So ends stand in the order of their codes, those near 0 are fine, and those far away are whole
+//! numbers up to about 2 to the power of 62.
 ghost use Rattle.std.specs.Prelude.{◌≡◌, Option, Some, None, IfSome};
 ghost use Rattle.ded_ranges.specs.Codes.{units_of, code_of, turned, is_none, is_lower, is_up_to, IsShortEnd};
 ghost use Rattle.ded_ranges.specs.Reaches.{NotAbove, NotBelow};
@@ -64,8 +65,8 @@ impl End {
         }
     }
 
-    /// The highest end that is at most so many units: as a low end it lets through no less. There is none where the number is
-    /// too low or too high, or there is no number.
+    /// The highest end that is at most so many units: as a low end it lets through no less. There is none where the
+    /// number is too low or too high, or there is no number.
     pub fn at_most(units: Option<i128>) -> End
         ensures { NotAbove result units }
     {
@@ -75,8 +76,8 @@ impl End {
         }
     }
 
-    /// The lowest end that is at least so many units: as a high end it lets through no less. There is none where the number is
-    /// too low or too high, or there is no number.
+    /// The lowest end that is at least so many units: as a high end it lets through no less. There is none where the
+    /// number is too low or too high, or there is no number.
     pub fn at_least(units: Option<i128>) -> End
         ensures { NotBelow result units }
     {

@@ -2,7 +2,8 @@
 ghost use Rattle.std.specs.Prelude.{◌≡◌, false, true};
 ghost use Rattle.std.specs.List.{list_all};
 ghost use Rattle.ded_ranges.specs.Boxes.{may_pass};
-ghost use Rattle.ded_ranges.specs.Limits.{plus, times, turned, least_end, least_of, at_most_zero, below_zero, may_be, may_meet, may_hold, IsSound};
+ghost use Rattle.ded_ranges.specs.Limits.{plus, times, turned, least_end, least_of, at_most_zero, below_zero, may_be};
+ghost use Rattle.ded_ranges.specs.Limits.{may_meet, may_hold, IsSound};
 ghost use Rattle.ded_ranges.specs.Tuples.{terms_of};
 
 use crate::end::{End, FINE};
@@ -11,8 +12,8 @@ use crate::reach::{Range, Reach};
 use ded_model::row::{Row, RowOp};
 use ded_model::slot::Slot;
 
-/// A row over columns by their places: the sum of the terms, which are places and coefficients, and the constant stands to 0 as
-/// the op says.
+/// A row over columns by their places: the sum of the terms, which are places and coefficients, and the constant stands
+/// to 0 as the op says.
 #[derive(Drop)]
 pub struct Limit {
     pub terms: Vec<(usize, i128)>,
@@ -97,7 +98,8 @@ fn below_zero(least: Option<i128>) -> bool
     }
 }
 
-/// A number at most the sum of the terms and the constant, or its negative, in units, at all values of the reach, if one is known.
+/// A number at most the sum of the terms and the constant, or its negative, in units, at all values of the reach, if
+/// one is known.
 fn least(reach: &Reach, terms: &[(usize, i128)], constant: i128, flipped: bool) -> Option<i128>
     ensures { result ≡ least_of reach.now terms.now constant flipped }
 {

@@ -1,5 +1,5 @@
-//! Sums and products as far as 127 binary digits go, for lower ends: nothing is known of what is too low, and what is too high
-//! counts as the highest.
+//! Sums and products as far as 127 binary digits go, for lower ends: nothing is known of what is too low, and what is
+//! too high counts as the highest.
 ghost use Rattle.std.specs.Prelude.{◌≡◌, ◌+ℤ◌, ◌*ℤ◌};
 ghost use Rattle.ded_num.specs.Length.{IsShort};
 ghost use Rattle.ded_ranges.specs.Limits.{kept, turned, is_same_sign, beyond};

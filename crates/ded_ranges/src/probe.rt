@@ -1,7 +1,7 @@
 //! Probes: limits that are asked of many reaches.
 //!
-//! Most reaches that a look-up meets don't overlap the box of the limits of one term. They are told apart by codes of ends alone, and
-//! only for the others sums of products are made.
+//! Most reaches that a look-up meets don't overlap the box of the limits of one term. They are told apart by codes of
+//! ends alone, and only for the others sums of products are made.
 ghost use Rattle.std.specs.Prelude.{◌≡◌, true, length, IfOk};
 ghost use Rattle.ded_ranges.specs.Boxes.{overlap, overlaps};
 ghost use Rattle.ded_ranges.specs.Limits.{may_hold};
@@ -51,8 +51,8 @@ impl<'a> Probe<'a> {
         overlaps(self.around.ranges(), reach.ranges()) && may_hold(reach, self.limits)
     }
 
-    /// Whether all limits may hold in the reach: as far as the box and the limits of several terms tell, and for certain where it has
-    /// one range.
+    /// Whether all limits may hold in the reach: as far as the box and the limits of several terms tell, and for
+    /// certain where it has one range.
     pub fn may_pass(&self, reach: &Reach) -> bool
         ensures sound { may_hold reach.now self.now ≡ true → result ≡ true }
         ensures exact { length reach.now ≡ 1 → result ≡ may_hold reach.now self.now }

@@ -1,9 +1,12 @@
 //! Reaches, and their ends from exact bounds.
-ghost use Rattle.std.specs.Prelude.{◌≡◌, ℕ, ℤ, ◌<◌, ◌<ℤ◌, ◌≤ℤ◌, ◌*ℤ◌, pos, neg_ℤ, true, [], ◌++◌, ◌∷◌, length, IfOk, OnErr, IfSome};
+ghost use Rattle.std.specs.Prelude.{◌≡◌, ℕ, ℤ, ◌<◌, ◌<ℤ◌, ◌≤ℤ◌, ◌*ℤ◌, pos, neg_ℤ, true, [], ◌++◌, ◌∷◌, length, IfOk};
+ghost use Rattle.std.specs.Prelude.{OnErr, IfSome};
 ghost use Rattle.ded_num.specs.Length.{IsShort};
 ghost use Rattle.ded_model.specs.declared.bound.Bound.TheVariants.{Included};
 ghost use Rattle.ded_ranges.specs.Codes.{fine, is_up_to};
-ghost use Rattle.ded_ranges.specs.Reaches.{IsFloor, IsCeil, IsWithin, lower_of, higher_of, joined, range_at, hull, IsIn, Lies, both_low, both_high, everywhere, met, narrowed, all_values, AreOrdered};
+ghost use Rattle.ded_ranges.specs.Reaches.{IsFloor, IsCeil, IsWithin, lower_of, higher_of, joined, range_at, hull};
+ghost use Rattle.ded_ranges.specs.Reaches.{IsIn, Lies, both_low, both_high, everywhere, met, narrowed, all_values};
+ghost use Rattle.ded_ranges.specs.Reaches.{AreOrdered};
 
 use crate::end::{End, FINE};
 use crate::number::directed;
@@ -106,8 +109,8 @@ impl Reach {
         narrow(self.ranges.as_mut_slice(), place, range);
     }
 
-    /// The reach of so many columns with the same values in which no range ends before it begins: one that does, in which no value lies,
-    /// ends where it begins.
+    /// The reach of so many columns with the same values in which no range ends before it begins: one that does, in
+    /// which no value lies, ends where it begins.
     ///
     /// # Errors
     /// Out of memory.

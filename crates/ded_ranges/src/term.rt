@@ -15,14 +15,15 @@ use ded_model::row::RowOp;
 
 /// Narrows the reach to the values at a place of which the multiple and the constant stand to 0 as the op says.
 pub(crate) fn narrow_to_term(reach: &mut Reach, place: usize, a: i128, constant: i128, op: RowOp)
-    ensures lies { (v : ℕ → ℤ) (den : ℕ) → Lies reach.old v den → sign_meets op (a *ℤ v place +ℤ constant *ℤ pos den) ≡ true → Lies reach.new v den }
+    ensures lies { (v : ℕ → ℤ) (den : ℕ) → Lies reach.old v den
+        → sign_meets op (a *ℤ v place +ℤ constant *ℤ pos den) ≡ true → Lies reach.new v den }
     ensures around { StaysAround (λ rs. may_be rs ((place, a) ∷ []) constant op) reach.old reach.new }
 {
     reach.narrow(place, range_of(a, constant, op));
 }
 
-/// The values of a column of which the multiple and the constant stand to 0 as the op says, rounded outward. Ends that would
-/// be too long are left out.
+/// The values of a column of which the multiple and the constant stand to 0 as the op says, rounded outward. Ends that
+/// would be too long are left out.
 fn range_of(a: i128, constant: i128, op: RowOp) -> Range
     ensures values { IsRangeOf result a constant op }
     ensures around { IsRangeAround result a constant op }
@@ -37,7 +38,8 @@ fn range_of(a: i128, constant: i128, op: RowOp) -> Range
 /// The values of which the multiple and the constant are at least 0 together.
 fn at_least(a: i128, constant: i128) -> Range
     ensures values { (num : ℤ) (den : ℕ) → pos 0 ≤ℤ (a *ℤ num +ℤ constant *ℤ pos den) → IsIn result num den }
-    ensures around { (r : Range) → at_most_zero (least_with (neg_ℤ a) (neg_ℤ constant) r) ≡ true → overlap result r ≡ true }
+    ensures around { (r : Range) → at_most_zero (least_with (neg_ℤ a) (neg_ℤ constant) r) ≡ true
+        → overlap result r ≡ true }
 {
     match (a.checked_neg(), constant.checked_neg()) {
         (Some(a), Some(constant)) => at_most(a, constant),

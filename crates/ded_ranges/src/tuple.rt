@@ -27,7 +27,8 @@ pub fn reach_of(alloc: Global, tuple: &Tuple, width: usize) -> Result<Reach, NoM
 
 /// Narrows the reach to the values at which each row on one column holds.
 fn narrow_to(reach: &mut Reach, atoms: &[Atom])
-    ensures { (p : Point) → Lies reach.old (column_value p) p.den → tuple_holds atoms.now p ≡ true → Lies reach.new (column_value p) p.den }
+    ensures { (p : Point) → Lies reach.old (column_value p) p.den → tuple_holds atoms.now p ≡ true
+        → Lies reach.new (column_value p) p.den }
 {
     for i in 0..atoms.len() {
         narrow_to_atom(reach, &atoms[i]);
@@ -36,7 +37,8 @@ fn narrow_to(reach: &mut Reach, atoms: &[Atom])
 
 /// Narrows the reach to the values at which the atom holds, if it is a row on one column.
 fn narrow_to_atom(reach: &mut Reach, atom: &Atom)
-    ensures { (p : Point) → Lies reach.old (column_value p) p.den → atom_holds atom.now p ≡ true → Lies reach.new (column_value p) p.den }
+    ensures { (p : Point) → Lies reach.old (column_value p) p.den → atom_holds atom.now p ≡ true
+        → Lies reach.new (column_value p) p.den }
 {
     match atom {
         BothAtom::First(row) => narrow_to_row(reach, row),
@@ -46,7 +48,8 @@ fn narrow_to_atom(reach: &mut Reach, atom: &Atom)
 
 /// Narrows the reach to the values at which the row holds, if it is on one column.
 fn narrow_to_row(reach: &mut Reach, row: &Row)
-    ensures { (p : Point) → Lies reach.old (column_value p) p.den → row_holds row.now p ≡ true → Lies reach.new (column_value p) p.den }
+    ensures { (p : Point) → Lies reach.old (column_value p) p.den → row_holds row.now p ≡ true
+        → Lies reach.new (column_value p) p.den }
 {
     let coefs = row.coefs.list();
     if coefs.len() == 1 {

@@ -44,8 +44,8 @@ impl Window {
     }
 }
 
-/// A reach that contains all values at which the limits are met, and overlaps each reach in which they may hold. Limits of one term
-/// give its ends.
+/// A reach that contains all values at which the limits are met, and overlaps each reach in which they may hold. Limits
+/// of one term give its ends.
 ///
 /// # Errors
 /// Out of memory.
@@ -71,7 +71,8 @@ fn width_of(limits: &[Limit]) -> usize {
 
 /// Narrows the reach to the values at which each limit of one term is met.
 fn narrow_by(reach: &mut Reach, limits: &[Limit])
-    ensures lies { (v : ℕ → ℤ) (den : ℕ) → Lies reach.old v den → are_met v den limits.now ≡ true → Lies reach.new v den }
+    ensures lies { (v : ℕ → ℤ) (den : ℕ) → Lies reach.old v den → are_met v den limits.now ≡ true
+        → Lies reach.new v den }
     ensures around { StaysAround (λ rs. may_hold rs limits.now) reach.old reach.new }
 {
     for i in 0..limits.len() {

@@ -17,6 +17,7 @@ pub fn one_answer()
 pub fn printed_answers()
     ensures spelled { (h : List Column) (ts : List (List Atom)) → AllByRecursion (IsShortTuple h) ts →
         SpellsAnswer (answer_text h ts) h ts }
-    ensures only { (h : List Column) (ts us : List (List Atom)) → IsPlainHeading h → AllByRecursion (IsShortTuple h) ts →
+    ensures only { (h : List Column) (ts us : List (List Atom)) → IsPlainHeading h
+        → AllByRecursion (IsShortTuple h) ts →
         SpellsAnswer (answer_text h ts) h us → us ≡ ts }
 {}

@@ -85,7 +85,8 @@ pub(crate) fn terms<'a>(
     first: Summand,
     bytes: &'a [u8],
 ) -> Result<(Vec<Summand>, &'a [u8]), NoMemory>
-    ensures { IfOk result (λ x. (x.0.items, x.1.now) ≡ terms_from columns.now (length bytes.now) (first ∷ []) bytes.now) }
+    ensures { IfOk result (λ x. (x.0.items, x.1.now)
+        ≡ terms_from columns.now (length bytes.now) (first ∷ []) bytes.now) }
 {
     let mut terms = Vec::new(alloc);
     terms.push(first)?;

@@ -5,7 +5,8 @@ ghost use Rattle.ded_model.specs.declared.tuple.BothAtom.TheVariants.{First};
 ghost use Rattle.ded_model.specs.Normal.{constant_row};
 ghost use Rattle.ded_tuple.specs.TrueRows.{IsNormalOrTrue};
 ghost use Rattle.ded_readback.specs.declared.fault.AnswerFault.TheVariants.{NoAnswer};
-ghost use Rattle.ded_readback.specs.Reading.{behind, false_at, atom_at, separated, next_atom, atoms_from, tuple_at, tuples_at, answer_at};
+ghost use Rattle.ded_readback.specs.Reading.{behind, false_at, atom_at, separated, next_atom, atoms_from, tuple_at};
+ghost use Rattle.ded_readback.specs.Reading.{tuples_at, answer_at};
 
 use crate::bytes::{behind, behind_line};
 use crate::fault::AnswerFault;
@@ -99,7 +100,8 @@ fn atoms<'a>(
     columns: &[Column],
     bytes: &'a [u8],
 ) -> Result<(Vec<Atom>, &'a [u8]), AnswerFault>
-    ensures read { IfOk result (λ x. atoms_from columns.now (length bytes.now) [] bytes.now ≡ Some (x.0.items, x.1.now)) }
+    ensures read { IfOk result (λ x. atoms_from columns.now (length bytes.now) [] bytes.now
+        ≡ Some (x.0.items, x.1.now)) }
     ensures unread { IfErr result (λ e. e ≡ NoAnswer → atoms_from columns.now (length bytes.now) [] bytes.now ≡ None) }
     ensures normal { IfOk result (λ x. AllByRecursion IsNormalOrTrue x.0.items) }
 {

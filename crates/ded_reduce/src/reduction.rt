@@ -24,21 +24,25 @@ pub enum Reduced<A> {
     Kept(Vec<A>),
 }
 
-/// The atoms without those that the others imply, in the same order: they hold at the same points. `Gone` where they are found
-/// to hold nowhere. Where the atoms that are kept aren't wide, or the theory decides, they hold somewhere, and each is needed:
-/// without it the others hold at a point at which it doesn't.
+/// The atoms without those that the others imply, in the same order: they hold at the same points. `Gone` where they
+/// are found to hold nowhere. Where the atoms that are kept aren't wide, or the theory decides, they hold somewhere,
+/// and each is needed: without it the others hold at a point at which it doesn't.
 ///
 /// # Errors
 /// Out of memory.
 pub fn reduce<T: Theory>(alloc: Global, conj: &[T::Atom]) -> Result<Reduced<T::Atom>, NoMemory>
     requires normal { AllByRecursion T.normal conj.now }
     ensures gone { IfOk result (λ r. IfGone (HoldsNowhere (conj_holds T.holds conj.now)) r) }
-    ensures holds { IfOk result (λ r. IfKept (λ atoms. (p : Point) → IsPoint p → conj_holds T.holds atoms p ≡ conj_holds T.holds conj.now p) r) }
+    ensures holds { IfOk result (λ r. IfKept (λ atoms. (p : Point) → IsPoint p
+        → conj_holds T.holds atoms p ≡ conj_holds T.holds conj.now p) r) }
     ensures kept { IfOk result (λ r. IfKept (λ atoms. IsSublist atoms conj.now) r) }
-    ensures slots { IfOk result (λ r. IfKept (λ atoms. (s : Slot) → conj_mentions T.mentions atoms s ≡ true → conj_mentions T.mentions conj.now s ≡ true) r) }
-    ensures lines { IfOk result (λ r. IfKept (λ atoms. IsSubset (conj_lines T.lines atoms) (conj_lines T.lines conj.now)) r) }
+    ensures slots { IfOk result (λ r. IfKept (λ atoms. (s : Slot) → conj_mentions T.mentions atoms s ≡ true
+        → conj_mentions T.mentions conj.now s ≡ true) r) }
+    ensures lines { IfOk result (λ r. IfKept (λ atoms.
+        IsSubset (conj_lines T.lines atoms) (conj_lines T.lines conj.now)) r) }
     ensures normal { IfOk result (λ r. IfKept (λ atoms. AllByRecursion T.normal atoms) r) }
-    ensures reduced { IfOk result (λ r. IfKept (λ atoms. (IsWide T.mentions T.lines atoms → ⊥) → IsReduced T.holds atoms) r) }
+    ensures reduced { IfOk result (λ r. IfKept (λ atoms. (IsWide T.mentions T.lines atoms → ⊥)
+        → IsReduced T.holds atoms) r) }
     ensures decided { T.decides → IfOk result (λ r. IfKept (λ atoms. IsReduced T.holds atoms) r) }
 {
     let mut left = copy_conj::<T>(alloc, conj)?;

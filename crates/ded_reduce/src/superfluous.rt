@@ -17,7 +17,8 @@ use std::alloc::Global;
 /// Out of memory.
 pub(crate) fn sift<T: Theory>(alloc: Global, conj: &mut Vec<T::Atom>) -> Result<bool, NoMemory>
     requires normal { AllByRecursion T.normal conj.old.items }
-    ensures { IfOk result (λ removed. IsSifted T.decides T.holds T.mentions T.lines T.normal conj.old.items conj.new.items removed) }
+    ensures { IfOk result (λ removed. IsSifted T.decides T.holds T.mentions T.lines T.normal conj.old.items
+        conj.new.items removed) }
 {
     let mut removed = false;
     let mut index = 0;
@@ -41,7 +42,8 @@ fn is_superfluous<T: Theory>(
     requires within { index < length conj.now }
     requires normal { AllByRecursion T.normal conj.now }
     ensures implied { IfOk result (λ b. b ≡ true → IsImplied T.holds conj.now index) }
-    ensures needed { IfOk result (λ b. b ≡ false → (MayBeOpen T.decides T.mentions T.lines conj.now → ⊥) → IsNeeded T.holds conj.now index) }
+    ensures needed { IfOk result (λ b. b ≡ false → (MayBeOpen T.decides T.mentions T.lines conj.now → ⊥)
+        → IsNeeded T.holds conj.now index) }
 {
     let others = both_conjs::<T>(alloc, &conj[..index], &conj[index + 1..])?;
     imply::<T>(alloc, others, &conj[index])
@@ -51,8 +53,11 @@ fn is_superfluous<T: Theory>(
 fn imply<T: Theory>(alloc: Global, others: Vec<T::Atom>, atom: &T::Atom) -> Result<bool, NoMemory>
     requires normal { AllByRecursion T.normal others.items }
     requires normal_atom { T.normal atom.now }
-    ensures implied { IfOk result (λ b. b ≡ true → HoldsNowhere (λ p. conj_holds T.holds others.items p && not (T.holds atom.now p))) }
-    ensures needed { IfOk result (λ b. b ≡ false → (MayBeOpen T.decides T.mentions T.lines (others.items ++ atom.now ∷ []) → ⊥) → HoldsSomewhere (λ p. conj_holds T.holds others.items p && not (T.holds atom.now p))) }
+    ensures implied { IfOk result (λ b. b ≡ true
+        → HoldsNowhere (λ p. conj_holds T.holds others.items p && not (T.holds atom.now p))) }
+    ensures needed { IfOk result (λ b. b ≡ false
+        → (MayBeOpen T.decides T.mentions T.lines (others.items ++ atom.now ∷ []) → ⊥)
+        → HoldsSomewhere (λ p. conj_holds T.holds others.items p && not (T.holds atom.now p))) }
 {
     match T::negate(atom)? {
         Negated::One(only) => is_empty_with::<T>(alloc, others, only),
@@ -74,8 +79,11 @@ fn is_empty_with<T: Theory>(
 ) -> Result<bool, NoMemory>
     requires normal { AllByRecursion T.normal others.items }
     requires normal_atom { T.normal atom }
-    ensures implied { IfOk result (λ b. b ≡ true → HoldsNowhere (λ p. conj_holds T.holds others.items p && T.holds atom p)) }
-    ensures needed { IfOk result (λ b. b ≡ false → (MayBeOpen T.decides T.mentions T.lines (others.items ++ atom ∷ []) → ⊥) → HoldsSomewhere (λ p. conj_holds T.holds others.items p && T.holds atom p)) }
+    ensures implied { IfOk result (λ b. b ≡ true
+        → HoldsNowhere (λ p. conj_holds T.holds others.items p && T.holds atom p)) }
+    ensures needed { IfOk result (λ b. b ≡ false
+        → (MayBeOpen T.decides T.mentions T.lines (others.items ++ atom ∷ []) → ⊥)
+        → HoldsSomewhere (λ p. conj_holds T.holds others.items p && T.holds atom p)) }
 {
     others.push(atom)?;
     match T::refute(alloc, &others)? {

@@ -1,8 +1,8 @@
 //! Reaches of tuples, with the exact bounds of columns that rows only bind together.
 //!
-//! A row on one column gives an end of that column. Where a column has no end on one side after these, and a row binds it to other
-//! columns, its exact bounds over all rows of the tuple are taken, rounded outward. So a slanted region has ends too, and boxes cost
-//! no more than before.
+//! A row on one column gives an end of that column. Where a column has no end on one side after these, and a row binds
+//! it to other columns, its exact bounds over all rows of the tuple are taken, rounded outward. So a slanted region has
+//! ends too, and boxes cost no more than before.
 ghost use Rattle.std.specs.Prelude.{◌≡◌, length, IfOk};
 ghost use Rattle.ded_model.specs.declared.slot.Sort.TheVariants.{Rat};
 ghost use Rattle.ded_model.specs.Row.{tuple_holds};
@@ -19,7 +19,8 @@ use ded_ranges::{Range, Reach, ceil_of, floor_of};
 use ded_theme::Theme;
 use ded_theory::{Both, Span, Theory};
 
-/// A reach of so many first columns that contains the values of each point of the tuple. No range in it ends before it begins.
+/// A reach of so many first columns that contains the values of each point of the tuple. No range in it ends before it
+/// begins.
 ///
 /// # Errors
 /// Out of memory.
@@ -48,7 +49,8 @@ fn tighten_all(reach: &mut Reach, tuple: &Tuple, width: usize) -> Result<(), NoM
     Ok(())
 }
 
-/// Narrows the range of the column to the values at points of the tuple, where an end of it is open and a row binds it to others.
+/// Narrows the range of the column to the values at points of the tuple, where an end of it is open and a row binds it
+/// to others.
 ///
 /// # Errors
 /// Out of memory.

@@ -1,5 +1,5 @@
-//! The tuples of a relation that may hold in a window, and all of them. Each that is looked at is a step, and so is each number that
-//! is looked up.
+//! The tuples of a relation that may hold in a window, and all of them. Each that is looked at is a step, and so is
+//! each number that is looked up.
 ghost use Rattle.std.specs.Prelude.{◌≡◌, ◌≤◌, ◌+◌, ◌<◌, ◌++◌, ◌∷◌, [], length, IfOk};
 ghost use Rattle.std.specs.Option.{option_map};
 ghost use Rattle.ded_relation.specs.Nearby.{numbered, AreNear, AddsNear, with_number, picked};
@@ -115,7 +115,8 @@ fn push_there<'a>(
     tuple: Option<&'a Packed>,
     found: &mut Vec<(u32, &'a Packed)>,
 ) -> Result<(), NoMemory>
-    ensures there { IfOk result (λ _. numbered found.new.items ≡ numbered found.old.items ++ with_number number (option_map (λ t. t.now) tuple.entry)) }
+    ensures there { IfOk result (λ _. numbered found.new.items
+        ≡ numbered found.old.items ++ with_number number (option_map (λ t. t.now) tuple.entry)) }
     ensures count { IfOk result (λ _. length found.new.items ≤ length found.old.items + 1) }
 {
     match tuple {
@@ -135,7 +136,8 @@ pub(crate) fn looked_up<'a, L: Ledger>(
     sieve: &Sieve,
     steps: &mut Steps<L>,
 ) -> Result<Vec<(u32, &'a Packed)>, NoMemory>
-    ensures found { IfOk result (λ found. AreNear sieve.now (numbered found.items) (picked numbers.now tuples.now.entries)) }
+    ensures found { IfOk result (λ found. AreNear sieve.now (numbered found.items)
+        (picked numbers.now tuples.now.entries)) }
     ensures steps { steps.new ≤ steps.old + length numbers.now }
     ensures read { IfOk result (λ found. steps.old + length found.items ≤ steps.new) }
 {
@@ -158,7 +160,8 @@ fn push_if_there<'a>(
     tuple: Option<&'a Packed>,
     found: &mut Vec<(u32, &'a Packed)>,
 ) -> Result<(), NoMemory>
-    ensures near { IfOk result (λ _. AddsNear sieve.now (with_number number (option_map (λ t. t.now) tuple.entry)) (numbered found.old.items) (numbered found.new.items)) }
+    ensures near { IfOk result (λ _. AddsNear sieve.now (with_number number (option_map (λ t. t.now) tuple.entry))
+        (numbered found.old.items) (numbered found.new.items)) }
     ensures count { IfOk result (λ _. length found.new.items ≤ length found.old.items + 1) }
 {
     match tuple {
@@ -178,7 +181,8 @@ fn push_if_near<'a>(
     tuple: &'a Packed,
     found: &mut Vec<(u32, &'a Packed)>,
 ) -> Result<(), NoMemory>
-    ensures near { IfOk result (λ _. AddsNear sieve.now ((number, tuple.now) ∷ []) (numbered found.old.items) (numbered found.new.items)) }
+    ensures near { IfOk result (λ _. AddsNear sieve.now ((number, tuple.now) ∷ []) (numbered found.old.items)
+        (numbered found.new.items)) }
     ensures count { IfOk result (λ _. length found.new.items ≤ length found.old.items + 1) }
 {
     if sieve.may_hold(&tuple.unpack(alloc)?) {

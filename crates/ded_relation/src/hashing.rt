@@ -4,8 +4,8 @@ ghost use Rattle.ded_relation.specs.Hashing.{keyed};
 
 use std::hash::{BuildHasher, DefaultHasher, Hasher};
 
-/// The state of a hasher that two keys were written to, from which each name is hashed. Whoever doesn't know the keys can't choose
-/// names that collide.
+/// The state of a hasher that two keys were written to, from which each name is hashed. Whoever doesn't know the keys
+/// can't choose names that collide.
 #[derive(Clone, Copy)]
 pub struct NameHashing {
     pub(crate) state: DefaultHasher,

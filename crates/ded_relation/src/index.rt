@@ -19,17 +19,18 @@ use std::alloc::Global;
 use std::collections::BTreeMap;
 use std::sync::ledger::Ledger;
 
-/// Up to how many tuples a text of a window may leave for these to be read at once, without asking the reaches by the window's limits.
-/// Where it has no limits all tuples are read else, so a quarter of them may be left besides. So many are sifted soon, but the number is a
-/// guess: no measurement of it is kept.
+/// Up to how many tuples a text of a window may leave for these to be read at once, without asking the reaches by the
+/// window's limits. Where it has no limits all tuples are read else, so a quarter of them may be left besides. So many
+/// are sifted soon, but the number is a guess: no measurement of it is kept.
 const MOST_BY_TEXT: usize = 64;
 
-/// What is added to the number of tuples before half of the reaches is compared with it. To take out reaches makes the trees anew, which
-/// costs as much as all that are left, and in a small relation a few deletes aren't worth that. No measurement of it is kept either.
+/// What is added to the number of tuples before half of the reaches is compared with it. To take out reaches makes the
+/// trees anew, which costs as much as all that are left, and in a small relation a few deletes aren't worth that. No
+/// measurement of it is kept either.
 const UNPRUNED: usize = 64;
 
-/// The tuples of a relation by their reaches, and by the texts that they fix. Reaches of deleted tuples stay until they are more than
-/// the others: no tuple has their numbers, so what is found of them is passed over.
+/// The tuples of a relation by their reaches, and by the texts that they fix. Reaches of deleted tuples stay until they
+/// are more than the others: no tuple has their numbers, so what is found of them is passed over.
 #[derive(Drop)]
 pub(crate) struct Index {
     pub hulls: Hulls,
@@ -101,7 +102,8 @@ impl Index {
         self.texts.remove(heading, number, tuple);
     }
 
-    /// Takes out the reaches under numbers that no tuple has, if they are more than the others and there is memory for it.
+    /// Takes out the reaches under numbers that no tuple has, if they are more than the others and there is memory for
+    /// it.
     pub(crate) fn prune(&mut self, tuples: &BTreeMap<u32, Packed>)
         ensures { IsPruned tuples.now.entries self.old self.new }
     {
@@ -110,8 +112,9 @@ impl Index {
         }
     }
 
-    /// The numbers of the tuples over the columns that may hold in the window, ascending. None where the index doesn't tell them
-    /// apart from the others. Each node of a tree of reaches and each entry that is looked at is a step. Keys of texts aren't counted.
+    /// The numbers of the tuples over the columns that may hold in the window, ascending. None where the index doesn't
+    /// tell them apart from the others. Each node of a tree of reaches and each entry that is looked at is a step. Keys
+    /// of texts aren't counted.
     ///
     /// # Errors
     /// Out of memory.
@@ -125,8 +128,11 @@ impl Index {
     ) -> Result<Option<Vec<u32>>, NoMemory>
         ensures found { IfOk result (λ found. IfSome found (λ ids. Finds window.now heading.now self.now ids.items)) }
         ensures some { IsAlong window.now → IfOk result (λ found. is_some found ≡ true) }
-        ensures count { IsAlong window.now → IfOk result (λ found. IfSome found (λ ids. length ids.items ≤ length (ids_in window.now.limits.items self.now.hulls.entries))) }
-        ensures steps { IsAlong window.now → AreSegments self.now.hulls.entries → steps.new ≤ steps.old + most_steps window.now.limits.items self.now.hulls }
+        ensures count { IsAlong window.now → IfOk result
+            (λ found. IfSome found (λ ids. length ids.items
+            ≤ length (ids_in window.now.limits.items self.now.hulls.entries))) }
+        ensures steps { IsAlong window.now → AreSegments self.now.hulls.entries
+            → steps.new ≤ steps.old + most_steps window.now.limits.items self.now.hulls }
         ensures forward { steps.old ≤ steps.new }
     {
         let most = if window.limits.is_empty() {

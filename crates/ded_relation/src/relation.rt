@@ -1,5 +1,6 @@
 //! Relations: their tuples, found by number.
-ghost use Rattle.std.specs.Prelude.{◌≡◌, ◌==◌, ◌+◌, ◌<◌, ◌≤◌, ◌^◌, ◌++◌, ◌∷◌, [], length, true, Some, None, IfOk, IfErr, OnOk, OnErr};
+ghost use Rattle.std.specs.Prelude.{◌≡◌, ◌==◌, ◌+◌, ◌<◌, ◌≤◌, ◌^◌, ◌++◌, ◌∷◌, [], length, true, Some, None, IfOk};
+ghost use Rattle.std.specs.Prelude.{IfErr, OnOk, OnErr};
 ghost use Rattle.std.specs.BTreeMap.{is_at};
 ghost use Rattle.std.specs.List.{list_any};
 ghost use Rattle.std.specs.Map.{lookup};
@@ -27,9 +28,9 @@ use std::collections::BTreeMap;
 use std::marker::Model;
 use std::sync::ledger::Ledger;
 
-/// A relation: its heading, how many inserts it has accepted, its tuples by their numbers, packed, and an index of these, in which each
-/// tuple has its reach under its number, and the keys of its texts. Contracts see all but the keys. Of the reaches they see the entries,
-/// and how many of them stand in no tree.
+/// A relation: its heading, how many inserts it has accepted, its tuples by their numbers, packed, and an index of
+/// these, in which each tuple has its reach under its number, and the keys of its texts. Contracts see all but the
+/// keys. Of the reaches they see the entries, and how many of them stand in no tree.
 #[derive(Drop)]
 pub struct Relation {
     pub(crate) heading: Heading,
@@ -43,16 +44,19 @@ impl Model for Relation {
 
     ghost Value = { Relation };
 
-    ghost view = { λ r. record { heading = r.heading; inserts = r.inserts; tuples = record { entries = r.tuples.entries }; reaches = r.index.hulls } };
+    ghost view = { λ r. record { heading = r.heading; inserts = r.inserts; tuples = record
+        { entries = r.tuples.entries }; reaches = r.index.hulls } };
 
     ghost invariant = { λ r. IsIndexOf r.heading r.index r.tuples.entries };
 }
 
 impl Relation {
-    /// A relation without tuples, which counts as one that has accepted so many inserts; `hashing` is how the texts of its tuples will be
-    /// hashed.
+    /// A relation without tuples, which counts as one that has accepted so many inserts; `hashing` is how the texts of
+    /// its tuples will be hashed.
     pub fn new(alloc: Global, heading: Heading, inserts: u32, hashing: NameHashing) -> Relation
-        ensures { result ≡ record { heading = heading; inserts = inserts; tuples = record { entries = [] }; reaches = record { entries = []; loose = 0 } } }
+        ensures { result
+            ≡ record { heading = heading; inserts = inserts; tuples = record { entries = [] }; reaches = record
+            { entries = []; loose = 0 } } }
     {
         Relation {
             heading,
@@ -158,16 +162,17 @@ impl Relation {
         packed.unpack(*self.heading.columns.allocator())
     }
 
-    /// Each tuple has its reach in the index under its number, and where there is one column, all reaches there are segments. It does
-    /// nothing.
+    /// Each tuple has its reach in the index under its number, and where there is one column, all reaches there are
+    /// segments. It does nothing.
     pub fn indexed(&self)
         ensures { HasReaches self.now }
     {
         let _ = &self.index; // for the invariant
     }
 
-    /// The tuples that may hold in the window, with their numbers, in ascending order of these. Each node of a tree of reaches, each entry
-    /// and each tuple that is looked at is a step, and so is each number that is found of no tuple. Keys of texts aren't counted.
+    /// The tuples that may hold in the window, with their numbers, in ascending order of these. Each node of a tree of
+    /// reaches, each entry and each tuple that is looked at is a step, and so is each number that is found of no tuple.
+    /// Keys of texts aren't counted.
     ///
     /// # Errors
     /// Out of memory.

@@ -1,9 +1,9 @@
 //! The tuples of a relation by the texts that they fix in its columns.
 //!
-//! It is a set of keys: behind the code of a column and of a text in it, which is a hash, stand the numbers of the tuples that fix this
-//! text there, and behind the code of the column alone those of the tuples that fix none. So the numbers of all tuples that may have
-//! a text in a column stand in two runs of keys. Nothing rests on the hash but that it is a function: texts that have one code are
-//! slow to find, and nothing is lost.
+//! It is a set of keys: behind the code of a column and of a text in it, which is a hash, stand the numbers of the
+//! tuples that fix this text there, and behind the code of the column alone those of the tuples that fix none. So the
+//! numbers of all tuples that may have a text in a column stand in two runs of keys. Nothing rests on the hash but that
+//! it is a function: texts that have one code are slow to find, and nothing is lost.
 ghost use Rattle.std.specs.Prelude.{◌≡◌, ◌%◌, ◌^◌, true, false, IfOk, IfSome, is_none, [], ◌∷◌};
 ghost use Rattle.std.specs.BTreeSet.{contains};
 ghost use Rattle.std.specs.Ordering.{nat_cmp};
@@ -87,8 +87,8 @@ impl Texts {
         );
     }
 
-    /// The numbers of the tuples over the columns that may have the texts in their columns, ascending. None where these are too many,
-    /// or no text stands in a column of texts.
+    /// The numbers of the tuples over the columns that may have the texts in their columns, ascending. None where these
+    /// are too many, or no text stands in a column of texts.
     ///
     /// # Errors
     /// Out of memory.
@@ -99,7 +99,8 @@ impl Texts {
         asked: &[(usize, Name)],
         most: usize,
     ) -> Result<Option<Vec<u32>>, NoMemory>
-        ensures found { IfOk result (λ found. IfSome found (λ ids. AreWith self.now.hashing heading.now self.now.set asked.now ids.items)) }
+        ensures found { IfOk result (λ found. IfSome found
+            (λ ids. AreWith self.now.hashing heading.now self.now.set asked.now ids.items)) }
         ensures none { asked.now ≡ [] → IfOk result (λ found. is_none found ≡ true) }
     {
         for i in 0..asked.len() {
@@ -110,8 +111,8 @@ impl Texts {
         Ok(None)
     }
 
-    /// The numbers of the tuples over the columns that may have the text in its column, ascending. None where these are too many, or
-    /// the column isn't one of texts.
+    /// The numbers of the tuples over the columns that may have the text in its column, ascending. None where these are
+    /// too many, or the column isn't one of texts.
     fn find_one(
         &self,
         alloc: Global,
@@ -119,7 +120,8 @@ impl Texts {
         asked: &(usize, Name),
         most: usize,
     ) -> Result<Option<Vec<u32>>, NoMemory>
-        ensures { IfOk result (λ found. IfSome found (λ ids. AreWith self.now.hashing heading.now self.now.set (asked.now ∷ []) ids.items)) }
+        ensures { IfOk result (λ found. IfSome found
+            (λ ids. AreWith self.now.hashing heading.now self.now.set (asked.now ∷ []) ids.items)) }
     {
         let mut found = Vec::new(alloc);
         if is_text_at(&heading.columns, asked.0)
@@ -178,7 +180,8 @@ fn put_at(
     atoms: &[Atom],
 ) -> Result<(), NoMemory>
     ensures grows { Grows set.old set.new }
-    ensures there { IfOk result (λ _. is_text column.now.sort ≡ true → contains nat_cmp set.new (key (code hashing place (text_in place atoms.now)) number) ≡ true) }
+    ensures there { IfOk result (λ _. is_text column.now.sort ≡ true
+        → contains nat_cmp set.new (key (code hashing place (text_in place atoms.now)) number) ≡ true) }
 {
     if is_text(column.sort) {
         set.insert(key(text_code(hashing, place, text_in(atoms, place)), number))?;
@@ -213,7 +216,8 @@ fn take_at(
 )
     ensures fewer { Grows set.new set.old }
     ensures keeps { Keeps number set.old set.new }
-    ensures gone { is_text column.now.sort ≡ true → contains nat_cmp set.new (key (code hashing place (text_in place atoms.now)) number) ≡ false }
+    ensures gone { is_text column.now.sort ≡ true
+        → contains nat_cmp set.new (key (code hashing place (text_in place atoms.now)) number) ≡ false }
 {
     if is_text(column.sort) {
         set.remove(&key(text_code(hashing, place, text_in(atoms, place)), number));

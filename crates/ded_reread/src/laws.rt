@@ -5,7 +5,8 @@ ghost use Rattle.std.specs.Prelude.{◌≡◌, ◌↔◌, ◌≤◌, ◌<◌, �
 ghost use Rattle.ded_model.specs.declared.name.Column.{Column};
 ghost use Rattle.ded_model.specs.Catalogue.{Catalogue, at_names, Holds};
 ghost use Rattle.ded_model.specs.Form.{Form, speaks_of, FormAtom};
-ghost use Rattle.ded_model.specs.Known.{KnownNames, IsAccepted, IsTupleOver, level_of, has_twice, has_unbound, has_missorted, scope_of};
+ghost use Rattle.ded_model.specs.Known.{KnownNames, IsAccepted, IsTupleOver, level_of, has_twice, has_unbound};
+ghost use Rattle.ded_model.specs.Known.{has_missorted, scope_of};
 ghost use Rattle.ded_model.specs.Logic.{AllAtomsOf, every_of, some_atom, some_atom_of, some_below, Logics};
 ghost use Rattle.ded_model.specs.LongRows.{is_long_atom};
 ghost use Rattle.ded_model.specs.Measure.{measures, goal_b, goal_rank};
@@ -25,50 +26,64 @@ ghost use Rattle.ded_syntax.specs.Spelling.{IsHeader, IsRead};
 ghost use Rattle.ded_reread.specs.Lines.{header_text, relation_text, insert_text, view_text, IsLine};
 ghost use Rattle.ded_reread.specs.ScriptWords.{IsName, IsMember, IsText, IsHeading};
 
-/// What is read back of a view's formula is accepted where that was, with the same level, speaks of the same names, has its words
-/// and its shape, and no long rows.
+/// What is read back of a view's formula is accepted where that was, with the same level, speaks of the same names, has
+/// its words and its shape, and no long rows.
 pub fn read_formulas()
-    ensures accepted { (K : KnownNames) (h : List Column) (f : Form) → IsAccepted K h f → IsPlain f → IsAccepted K h (restored h f) }
+    ensures accepted { (K : KnownNames) (h : List Column) (f : Form) → IsAccepted K h f → IsPlain f
+        → IsAccepted K h (restored h f) }
     ensures level { (K : KnownNames) (h : List Column) (f : Form) → level_of K (restored h f) ≡ level_of K f }
     ensures speaks { (n : List ℕ) (h : List Column) (f : Form) → speaks_of n (restored h f) ≡ speaks_of n f }
-    ensures written { (N M T : List ℕ → Bool) (K : KnownNames) (h : List Column) (f : Form) → IsAccepted K h f → AreNamed (Passes N) h
+    ensures written { (N M T : List ℕ → Bool) (K : KnownNames) (h : List Column) (f : Form)
+        → IsAccepted K h f → AreNamed (Passes N) h
         → IsWritten (Passes N) (Passes M) (Passes T) f → IsWritten (Passes N) (Passes M) (Passes T) (restored h f) }
-    ensures plain { (K : KnownNames) (h : List Column) (f : Form) → IsAccepted K h f → IsPlain f → IsPlain (restored h f) }
-    ensures short { (K : KnownNames) (h : List Column) (f : Form) → IsAccepted K h f → IsPlain f → some_atom is_long_atom f ≡ false
+    ensures plain { (K : KnownNames) (h : List Column) (f : Form) → IsAccepted K h f → IsPlain f
+        → IsPlain (restored h f) }
+    ensures short { (K : KnownNames) (h : List Column) (f : Form) → IsAccepted K h f → IsPlain f
+        → some_atom is_long_atom f ≡ false
         → some_atom is_long_atom (restored h f) ≡ false }
 {}
 
 /// It holds of the same values, each column of its sort, and has the same b and rank.
 pub fn alike_formulas()
-    ensures holds { (c : Catalogue) (K : KnownNames) (h : List Column) (f : Form) → IsAccepted K h f → IsPlain f → (d : ℕ) (xs : List Argument) → 0 < d
-        → Holds c (restored h f) (record { den = d; coords = at_names h xs }) ↔ Holds c f (record { den = d; coords = at_names h xs }) }
+    ensures holds { (c : Catalogue) (K : KnownNames) (h : List Column) (f : Form) → IsAccepted K h f → IsPlain f
+        → (d : ℕ) (xs : List Argument) → 0 < d
+        → Holds c (restored h f) (record { den = d; coords = at_names h xs })
+        ↔ Holds c f (record { den = d; coords = at_names h xs }) }
     ensures b { (c : Catalogue) (K : KnownNames) (h : List Column) (f : Form) → IsAccepted K h f → IsPlain f
         → goal_b (measures c) (goal_of h (restored h f)) ≡ goal_b (measures c) (goal_of h f) }
     ensures rank { (c : Catalogue) (K : KnownNames) (h : List Column) (f : Form) → IsAccepted K h f → IsPlain f
         → goal_rank (measures c) (goal_of h (restored h f)) ≡ goal_rank (measures c) (goal_of h f) }
 {}
 
-/// The comparisons that are read back of a tuple over a heading are those of that tuple, have its words, and are accepted over it.
+/// The comparisons that are read back of a tuple over a heading are those of that tuple, have its words, and are
+/// accepted over it.
 pub fn read_tuples()
-    ensures same { (h : List Column) (t : List Atom) → has_twice h ≡ false → IsTupleOver h t → tuple_of h (forms_of (restored_tuple h t)) ≡ t }
-    ensures bound { (h : List Column) (t : List Atom) → has_twice h ≡ false → IsTupleOver h t → has_unbound h (every_of (restored_tuple h t)) ≡ false }
+    ensures same { (h : List Column) (t : List Atom) → has_twice h ≡ false → IsTupleOver h t
+        → tuple_of h (forms_of (restored_tuple h t)) ≡ t }
+    ensures bound { (h : List Column) (t : List Atom) → has_twice h ≡ false → IsTupleOver h t
+        → has_unbound h (every_of (restored_tuple h t)) ≡ false }
     ensures sorted { (K : KnownNames) (h : List Column) (t : List Atom) → has_twice h ≡ false → IsTupleOver h t
         → has_missorted K h (every_of (restored_tuple h t)) ≡ false }
     ensures equalities { (h : List Column) (t : List Atom) → has_twice h ≡ false → IsTupleOver h t
         → some_below is_rational_inequality (scope_of h) (every_of (restored_tuple h t)) ≡ false }
-    ensures written { (N M T : List ℕ → Bool) (h : List Column) (t : List Atom) → has_twice h ≡ false → IsTupleOver h t → AreNamed (Passes N) h → TupleHasTexts (Passes T) t
+    ensures written { (N M T : List ℕ → Bool) (h : List Column) (t : List Atom) → has_twice h ≡ false → IsTupleOver h t
+        → AreNamed (Passes N) h → TupleHasTexts (Passes T) t
         → AllAtomsOf (AtomHasWords (Passes N) (Passes M) (Passes T)) (restored_tuple h t) }
-    ensures plain { (h : List Column) (t : List Atom) → has_twice h ≡ false → IsTupleOver h t → AllAtomsOf IsPlainAtom (restored_tuple h t) }
+    ensures plain { (h : List Column) (t : List Atom) → has_twice h ≡ false → IsTupleOver h t
+        → AllAtomsOf IsPlainAtom (restored_tuple h t) }
     ensures short { (h : List Column) (t : List Atom) → has_twice h ≡ false → IsTupleOver h t → tuple_length t ≤ 63
         → some_atom_of is_long_atom (restored_tuple h t) ≡ false }
 {}
 
 /// What is read has names, headings and texts that can be written again; members may be closures and interiors.
 pub fn read_words()
-    ensures relations { (language : Language) (bytes n : List ℕ) (h : List Column) → IsRead language bytes (relation n h) → IsName n × IsHeading h }
-    ensures inserts { (language : Language) (bytes n : List ℕ) (fs : Logics FormAtom) → IsRead language bytes (insert n fs)
+    ensures relations { (language : Language) (bytes n : List ℕ) (h : List Column)
+        → IsRead language bytes (relation n h) → IsName n × IsHeading h }
+    ensures inserts { (language : Language) (bytes n : List ℕ) (fs : Logics FormAtom)
+        → IsRead language bytes (insert n fs)
         → AllAtomsOf (AtomHasWords IsName IsMember IsText) fs }
-    ensures views { (language : Language) (bytes n : List ℕ) (h : List Column) (f : Form) → IsRead language bytes (view n h f)
+    ensures views { (language : Language) (bytes n : List ℕ) (h : List Column) (f : Form)
+        → IsRead language bytes (view n h f)
         → IsName n × IsHeading h × IsWritten IsName IsMember IsText f }
 {}
 
@@ -76,10 +91,13 @@ pub fn read_words()
 pub fn read_lines()
     ensures header { IsHeader header_text }
     ensures whole_header { (after : List ℕ) → IsWhole header_text (59 ∷ after) }
-    ensures relations { (n : List ℕ) (h : List Column) → IsName n → IsHeading h → IsLine (relation_text n h) (relation n h) }
-    ensures inserts { (n : List ℕ) (h : List Column) (t : List Atom) → IsName n → IsHeading h → has_twice h ≡ false → IsTupleOver h t
+    ensures relations { (n : List ℕ) (h : List Column) → IsName n → IsHeading h
+        → IsLine (relation_text n h) (relation n h) }
+    ensures inserts { (n : List ℕ) (h : List Column) (t : List Atom) → IsName n → IsHeading h
+        → has_twice h ≡ false → IsTupleOver h t
         → tuple_length t ≤ 63 → TupleHasTexts IsText t → IsLine (insert_text n h t) (insert n (restored_tuple h t)) }
-    ensures views { (K : KnownNames) (language : Language) (bytes n : List ℕ) (h : List Column) (f : Form) → IsRead language bytes (view n h f)
+    ensures views { (K : KnownNames) (language : Language) (bytes n : List ℕ) (h : List Column) (f : Form)
+        → IsRead language bytes (view n h f)
         → IsAccepted K h f → IsLine (view_text n h f) (view n h (restored h f)) }
 {
     crate::laws::read_formulas();

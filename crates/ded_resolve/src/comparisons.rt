@@ -36,7 +36,8 @@ pub fn comparison(
     requires bound { is_unbound_atom (sorts_of scope.now) (compare left.now op right.now) ≡ false }
     requires sorted { has_text_sum (sorts_of scope.now) (compare left.now op right.now) ≡ false }
     ensures goal { IfOk result (λ g. goal_form g ≡ compare_goal scope.now left.now op right.now) }
-    ensures normal { is_missorted_comparison (sorts_of scope.now) (compare left.now op right.now) ≡ false → IfOk result (λ g. IsNormalComparison (goal_form g)) }
+    ensures normal { is_missorted_comparison (sorts_of scope.now) (compare left.now op right.now) ≡ false
+        → IfOk result (λ g. IsNormalComparison (goal_form g)) }
 {
     if is_text(scope, left) || is_text(scope, right) {
         return texts(alloc, text_side(scope, left), op, text_side(scope, right));

@@ -26,8 +26,8 @@ use ded_model::tuple::Tuple;
 use ded_sorts::{Known, Names, check};
 use std::alloc::Global;
 
-/// The command by slots, over the names. Each sum of the command has each name once and a denominator above 0, the sums of a comparison are over one
-/// denominator, and no row of its formula has a number above 2^63 - 1 in magnitude.
+/// The command by slots, over the names. Each sum of the command has each name once and a denominator above 0, the sums
+/// of a comparison are over one denominator, and no row of its formula has a number above 2^63 - 1 in magnitude.
 ///
 /// # Errors
 /// The least of the refusals that the command and the names decide; or else `Memory`, where an allocation failed.
@@ -37,7 +37,8 @@ pub fn resolve<N: Names>(alloc: Global, command: Command, names: &N) -> Result<C
     ensures resolved { IfOk result (λ k. IsResolved (N.catalogue names.now) (command_form command) k) }
     ensures accepted { IfOk result (λ k. HasNoCause (N.catalogue names.now) (command_form command)) }
     ensures stored { IfOk result (λ k. IsStorable (N.catalogue names.now) k) }
-    ensures refused { IfErr result (λ r. r ≢ Refusal.Memory → IsLeastCause r (N.catalogue names.now) (command_form command)) }
+    ensures refused { IfErr result (λ r. r ≢ Refusal.Memory
+        → IsLeastCause r (N.catalogue names.now) (command_form command)) }
 {
     if let Err(refusal) = check(&command, names) {
         drop(command);
@@ -88,8 +89,8 @@ fn insertion<N: Names>(
     Ok(Checked::Insert(name, tuple))
 }
 
-/// The normal tuple of comparisons over the columns of what is known of a name, none where it isn't defined. It has numbers of at most 63
-/// digits.
+/// The normal tuple of comparisons over the columns of what is known of a name, none where it isn't defined. It has
+/// numbers of at most 63 digits.
 fn tuple_over(
     alloc: Global,
     entry: Option<Known<'_>>,

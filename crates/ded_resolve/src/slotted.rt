@@ -19,9 +19,9 @@ use ded_model::name::{Column, Heading};
 use ded_model::slot::Slot;
 use std::alloc::Global;
 
-/// The goal of a formula over a heading, none for a closed one. Each variable of the formula is a column of the heading or
-/// bound by a quantifier, each sum has each name once, the sums of a comparison are over one denominator, and no sum has a
-/// text variable.
+/// The goal of a formula over a heading, none for a closed one. Each variable of the formula is a column of the heading
+/// or bound by a quantifier, each sum has each name once, the sums of a comparison are over one denominator, and no sum
+/// has a text variable.
 ///
 /// # Errors
 /// Out of memory.
@@ -37,8 +37,8 @@ pub fn goal(alloc: Global, heading: &Heading, formula: &Formula) -> Result<Goal,
     read(alloc, &mut scope, &mut next, formula)
 }
 
-/// The goal of a formula in a scope. Its quantifiers have the numbers from the next one on, which is moved past them. The
-/// scope stays as it is.
+/// The goal of a formula in a scope. Its quantifiers have the numbers from the next one on, which is moved past them.
+/// The scope stays as it is.
 #[cycle(read)]
 fn read<'a>(
     alloc: Global,
@@ -109,7 +109,8 @@ fn quantify<'a>(scope: &mut Scope<'a>, next: &mut u32, column: &'a Column) -> Re
     requires { next.old + 1 < 2 ^ 32 }
     ensures slot { IfOk result (λ s. s ≡ record { number = next.old; sort = column.now.sort }) }
     ensures next { OnOk result (next.new ≡ next.old + 1) }
-    ensures scope { OnOk result (scope.new ≡ (name column.now.name, record { number = next.old; sort = column.now.sort }) ∷ scope.old) }
+    ensures scope { OnOk result (scope.new ≡ (name column.now.name,
+        record { number = next.old; sort = column.now.sort }) ∷ scope.old) }
 {
     let slot = Slot {
         number: *next,

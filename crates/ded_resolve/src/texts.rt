@@ -3,7 +3,8 @@ ghost use Rattle.std.specs.Prelude.{◌≡◌, IfOk};
 ghost use Rattle.ded_model.specs.declared.slot.Sort.TheVariants.{Text};
 ghost use Rattle.ded_model.specs.Point.{AllBytes};
 ghost use Rattle.ded_model.specs.Goal.{goal_form};
-ghost use Rattle.ded_model.specs.Slotted.{text_side, texts_goal, same_text_goal, other_text_goal, same_slots_goal, other_slots_goal, truth_goal};
+ghost use Rattle.ded_model.specs.Slotted.{text_side, texts_goal, same_text_goal, other_text_goal, same_slots_goal};
+ghost use Rattle.ded_model.specs.Slotted.{other_slots_goal, truth_goal};
 ghost use Rattle.ded_resolve.specs.Sides.{side_form};
 ghost use Rattle.ded_resolve.specs.Tuples.{IsTextSide, IsNormalComparison};
 
@@ -40,7 +41,8 @@ pub fn text_side<'a>(scope: &Scope, operand: &'a Operand) -> Side<'a>
 /// Out of memory.
 pub fn texts(alloc: Global, left: Side, op: CompareOp, right: Side) -> Result<Goal, NoMemory>
     ensures goal { IfOk result (λ g. goal_form g ≡ texts_goal (side_form left.entry) op (side_form right.entry)) }
-    ensures normal { IsTextSide (side_form left.entry) → IsTextSide (side_form right.entry) → IfOk result (λ g. IsNormalComparison (goal_form g)) }
+    ensures normal { IsTextSide (side_form left.entry) → IsTextSide (side_form right.entry)
+        → IfOk result (λ g. IsNormalComparison (goal_form g)) }
 {
     match op {
         CompareOp::Equal => same_text(alloc, left, right),
@@ -52,7 +54,8 @@ pub fn texts(alloc: Global, left: Side, op: CompareOp, right: Side) -> Result<Go
 /// The goal that both sides are the same text.
 fn same_text(alloc: Global, left: Side, right: Side) -> Result<Goal, NoMemory>
     ensures goal { IfOk result (λ g. goal_form g ≡ same_text_goal (side_form left.entry) (side_form right.entry)) }
-    ensures normal { IsTextSide (side_form left.entry) → IsTextSide (side_form right.entry) → IfOk result (λ g. IsNormalComparison (goal_form g)) }
+    ensures normal { IsTextSide (side_form left.entry) → IsTextSide (side_form right.entry)
+        → IfOk result (λ g. IsNormalComparison (goal_form g)) }
 {
     match (left, right) {
         (Side::At(s), Side::At(t)) => Ok(same_slots(s, t)),
@@ -65,7 +68,8 @@ fn same_text(alloc: Global, left: Side, right: Side) -> Result<Goal, NoMemory>
 /// The goal that the sides are different texts.
 fn other_text(alloc: Global, left: Side, right: Side) -> Result<Goal, NoMemory>
     ensures goal { IfOk result (λ g. goal_form g ≡ other_text_goal (side_form left.entry) (side_form right.entry)) }
-    ensures normal { IsTextSide (side_form left.entry) → IsTextSide (side_form right.entry) → IfOk result (λ g. IsNormalComparison (goal_form g)) }
+    ensures normal { IsTextSide (side_form left.entry) → IsTextSide (side_form right.entry)
+        → IfOk result (λ g. IsNormalComparison (goal_form g)) }
 {
     match (left, right) {
         (Side::At(s), Side::At(t)) => Ok(other_slots(s, t)),

@@ -7,7 +7,8 @@ ghost use Rattle.ded_model.specs.Normal.{IsNormalTuple, constant_row, ordered_at
 ghost use Rattle.ded_model.specs.Known.{has_unbound, scope_of, IsTupleOver};
 ghost use Rattle.ded_model.specs.Slotted.{goal_atoms, goal_below, comparison_atoms, tuple_of};
 ghost use Rattle.ded_model.specs.Plain.{IsPlain};
-ghost use Rattle.ded_resolve.specs.Tuples.{is_missorted_comparison, IsNormalComparison, found, AreNormalAtoms, IsFitting, AreFitting};
+ghost use Rattle.ded_resolve.specs.Tuples.{is_missorted_comparison, IsNormalComparison, found, AreNormalAtoms};
+ghost use Rattle.ded_resolve.specs.Tuples.{IsFitting, AreFitting};
 ghost use Rattle.ded_tuple.specs.Places.{placed};
 
 use crate::comparisons::comparison;
@@ -21,9 +22,9 @@ use ded_model::tuple::{Atom, BothAtom, Tuple};
 use ded_tuple::{is_true, put};
 use std::alloc::Global;
 
-/// The normal tuple of comparisons over a heading. Each variable is a column of the heading, each sum has each name once, the
-/// sums of a comparison are over one denominator, and no text stands where a number has to, or a number where a text has to.
-/// What has no atom, as `!=` between numbers, is left out.
+/// The normal tuple of comparisons over a heading. Each variable is a column of the heading, each sum has each name
+/// once, the sums of a comparison are over one denominator, and no text stands where a number has to, or a number where
+/// a text has to. What has no atom, as `!=` between numbers, is left out.
 ///
 /// # Errors
 /// Out of memory.
@@ -31,7 +32,8 @@ pub fn tuple(alloc: Global, heading: &Heading, comparisons: &[Formula]) -> Resul
     requires few { length heading.now < 2 ^ 32 }
     requires plain { IsPlain (every_of (forms comparisons.now)) }
     requires bound { has_unbound heading.now (every_of (forms comparisons.now)) ≡ false }
-    requires sorted { some_below is_missorted_comparison (scope_of heading.now) (every_of (forms comparisons.now)) ≡ false }
+    requires sorted { some_below is_missorted_comparison (scope_of heading.now)
+        (every_of (forms comparisons.now)) ≡ false }
     ensures value { IfOk result (λ t. t ≡ tuple_of heading.now (map form comparisons.now)) }
     ensures over { IfOk result (λ t. IsTupleOver heading.now t) }
 {
@@ -65,7 +67,8 @@ fn add(
 ) -> Result<(), NoMemory>
     requires fitting { IsFitting scope.now (form comparison.now) }
     requires normal { IsNormalTuple tuple.old }
-    ensures place { OnOk result (tuple.new ≡ placed (goal_atoms (goal_below scope.now 0 (form comparison.now))) tuple.old) }
+    ensures place { OnOk result (tuple.new ≡ placed
+        (goal_atoms (goal_below scope.now 0 (form comparison.now))) tuple.old) }
     ensures normal { OnOk result (IsNormalTuple tuple.new) }
 {
     match atom(alloc, scope, comparison)? {

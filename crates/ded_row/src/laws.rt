@@ -10,8 +10,8 @@ ghost use Rattle.ded_model.specs.Lines.{Line, In, row_lines, combination, lines_
 ghost use Rattle.ded_row.specs.Mixing.{BoundsAbove, BoundsBelow, mix_of};
 ghost use Rattle.ded_row.specs.Multiples.{row_times};
 
-/// A row and its normal row hold at the same points, mention the same slots and have the same lines, and the normal row is
-/// in normal form.
+/// A row and its normal row hold at the same points, mention the same slots and have the same lines, and the normal row
+/// is in normal form.
 pub fn normal_rows()
     ensures alike { (r : LinearConstraint) (p : Point) → 0 < p.den → row_holds (normal_row r) p ≡ row_holds r p }
     ensures mentions { (r : LinearConstraint) (s : Slot) → row_mentions (normal_row r) s ≡ row_mentions r s }
@@ -26,7 +26,8 @@ pub fn multiples()
 
 /// A combination of two rows holds wherever both rows do.
 pub fn combinations()
-    ensures { (s : Slot) (q r : LinearConstraint) (p : Point) → BoundsAbove q.op (coef_at q.coefs s) → BoundsBelow r.op (coef_at r.coefs s)
+    ensures { (s : Slot) (q r : LinearConstraint) (p : Point) → BoundsAbove q.op (coef_at q.coefs s)
+        → BoundsBelow r.op (coef_at r.coefs s)
         → 0 < p.den → row_holds q p ≡ true → row_holds r p ≡ true → row_holds (mix_of s q r) p ≡ true }
 {}
 
@@ -34,6 +35,7 @@ pub fn combinations()
 pub fn lines()
     ensures combination { (s : Slot) (q r : LinearConstraint) (l m : Line) → AreCoefs q.coefs → AreCoefs r.coefs
         → In l (row_lines q) → In m (row_lines r) → combination s q r ≡ combination s l m }
-    ensures clash { (s : Slot) (q r : LinearConstraint) (l m : Line) → AreCoefs q.coefs → AreCoefs r.coefs → IsNormalRow q → IsNormalRow r
+    ensures clash { (s : Slot) (q r : LinearConstraint) (l m : Line) → AreCoefs q.coefs → AreCoefs r.coefs
+        → IsNormalRow q → IsNormalRow r
         → In l (row_lines q) → In m (row_lines r) → lines_clash s q r ≡ lines_clash s l m }
 {}

@@ -22,7 +22,8 @@ pub fn next_slot(xs: &[(Slot, i128)], i: usize, ys: &[(Slot, i128)], j: usize) -
     requires place_i { i ≤ length xs.now }
     requires place_j { j ≤ length ys.now }
     requires more { (i < length xs.now) ⊎ (j < length ys.now) }
-    ensures first { IsFirst (drop i xs.now) (drop j ys.now) result.slot result.a result.b (drop result.i xs.now) (drop result.j ys.now) }
+    ensures first { IsFirst (drop i xs.now) (drop j ys.now) result.slot result.a result.b (drop result.i xs.now)
+        (drop result.j ys.now) }
     ensures place_i { (i ≤ result.i) × (result.i ≤ length xs.now) }
     ensures place_j { (j ≤ result.j) × (result.j ≤ length ys.now) }
     ensures more { i + j < result.i + result.j }

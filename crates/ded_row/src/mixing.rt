@@ -1,5 +1,6 @@
 //! Combinations of two rows in which a slot falls out.
-ghost use Rattle.std.specs.Prelude.{◌≡◌, ◌<◌, ◌++◌, ◌∷◌, [], ◌⊎◌, ◌+ℤ◌, ◌*ℤ◌, ◌||◌, neg_ℤ, true, false, IfOk, OnOk, IsErrOf};
+ghost use Rattle.std.specs.Prelude.{◌≡◌, ◌<◌, ◌++◌, ◌∷◌, [], ◌⊎◌, ◌+ℤ◌, ◌*ℤ◌, ◌||◌, neg_ℤ, true, false, IfOk, OnOk};
+ghost use Rattle.std.specs.Prelude.{IsErrOf};
 ghost use Rattle.ded_num.specs.Length.{IsShort};
 ghost use Rattle.ded_model.specs.declared.slot.Slot.{Slot};
 ghost use Rattle.ded_model.specs.declared.slot.Sort.TheVariants.{Rat};
@@ -8,7 +9,8 @@ ghost use Rattle.ded_model.specs.Coefs.{AllBelow, AreCoefs, coef_at, nonzero};
 ghost use Rattle.ded_model.specs.Row.{row_holds, row_mentions};
 ghost use Rattle.ded_model.specs.Normal.{IsNormalRow};
 ghost use Rattle.ded_model.specs.Lines.{row_lines, combination, lines_clash};
-ghost use Rattle.ded_row.specs.Mixing.{BoundsAbove, BoundsBelow, factor, join_op, mixed_coefs, mixed_row, mix_of, sum_is_long, coefs_are_long};
+ghost use Rattle.ded_row.specs.Mixing.{BoundsAbove, BoundsBelow, factor, join_op, mixed_coefs, mixed_row, mix_of};
+ghost use Rattle.ded_row.specs.Mixing.{sum_is_long, coefs_are_long};
 
 use crate::lowest::normal;
 use crate::merging::{Next, next_slot};
@@ -29,9 +31,11 @@ pub fn mix(r1: &Row, r2: &Row, slot: Slot) -> Result<Row, Refused>
     requires below { BoundsBelow r2.now.op (coef_at r2.now.coefs slot) }
     ensures value { IfOk result (λ r. r ≡ mix_of slot r1.now r2.now) }
     ensures normal { IfOk result (λ r. IsNormalRow r) }
-    ensures holds { IfOk result (λ r. (p : Point) → 0 < p.den → row_holds r1.now p ≡ true → row_holds r2.now p ≡ true → row_holds r p ≡ true) }
+    ensures holds { IfOk result (λ r. (p : Point) → 0 < p.den → row_holds r1.now p ≡ true → row_holds r2.now p ≡ true
+        → row_holds r p ≡ true) }
     ensures without { IfOk result (λ r. row_mentions r slot ≡ false) }
-    ensures over { IfOk result (λ r. (t : Slot) → row_mentions r t ≡ true → (row_mentions r1.now t ≡ true) ⊎ (row_mentions r2.now t ≡ true)) }
+    ensures over { IfOk result (λ r. (t : Slot) → row_mentions r t ≡ true
+        → (row_mentions r1.now t ≡ true) ⊎ (row_mentions r2.now t ≡ true)) }
     ensures line { IfOk result (λ r. row_lines r ≡ combination slot r1.now r2.now) }
     ensures short { IfOk result (λ r. lines_clash slot r1.now r2.now ≡ false) }
     ensures wide { IsErrOf result Refused.Wide → lines_clash slot r1.now r2.now ≡ true }
@@ -61,8 +65,10 @@ fn turned_factor(b: i128, a: i128) -> i128
 /// The sum of `k` times the first row and `m` times the second, without the slot.
 fn combined(r1: &Row, k: i128, r2: &Row, m: i128, slot: Slot) -> Result<Row, Refused>
     ensures value { IfOk result (λ r. r ≡ mixed_row slot k r1.now m r2.now) }
-    ensures short { IfOk result (λ r. (coefs_are_long slot k r1.now.coefs m r2.now.coefs || sum_is_long k r1.now.constant m r2.now.constant) ≡ false) }
-    ensures wide { IsErrOf result Refused.Wide → (coefs_are_long slot k r1.now.coefs m r2.now.coefs || sum_is_long k r1.now.constant m r2.now.constant) ≡ true }
+    ensures short { IfOk result (λ r. (coefs_are_long slot k r1.now.coefs m r2.now.coefs
+        || sum_is_long k r1.now.constant m r2.now.constant) ≡ false) }
+    ensures wide { IsErrOf result Refused.Wide → (coefs_are_long slot k r1.now.coefs m r2.now.coefs
+        || sum_is_long k r1.now.constant m r2.now.constant) ≡ true }
 {
     let none = Coefs::new(r1.coefs.allocator());
     let coefs = combined_coefs(none, r1.coefs.list(), k, r2.coefs.list(), m, slot)?;

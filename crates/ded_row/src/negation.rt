@@ -16,15 +16,16 @@ use ded_model::memory::NoMemory;
 use ded_model::row::{Coefs, Row, RowOp};
 use ded_model::tuple::Negated;
 
-/// The negation of a normal row: normal rows that exclude each other and hold together exactly where the row doesn't. They
-/// mention its slots and have its lines. An equality gives two rows, each other row gives one.
+/// The negation of a normal row: normal rows that exclude each other and hold together exactly where the row doesn't.
+/// They mention its slots and have its lines. An equality gives two rows, each other row gives one.
 ///
 /// # Errors
 /// Out of memory.
 pub fn negate(row: &Row) -> Result<Negated<Row>, NoMemory>
     requires normal { IsNormalRow row.now }
     ensures value { IfOk result (λ n. n ≡ negated_row row.now) }
-    ensures exact { IfOk result (λ n. (p : Point) → 0 < p.den → some_piece_holds row_holds n p ≡ not (row_holds row.now p)) }
+    ensures exact { IfOk result (λ n. (p : Point) → 0 < p.den
+        → some_piece_holds row_holds n p ≡ not (row_holds row.now p)) }
     ensures disjoint { IfOk result (λ n. (p : Point) → both_pieces_hold row_holds n p ≡ false) }
     ensures normal { IfOk result (λ n. EachPiece IsNormalRow n) }
     ensures mentions { IfOk result (λ n. (s : Slot) → EachPiece (λ r. row_mentions r s ≡ row_mentions row.now s) n) }

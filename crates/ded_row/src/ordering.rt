@@ -8,8 +8,8 @@ use ded_model::row::{Row, RowOp};
 use ded_model::slot::Slot;
 use std::cmp::Ordering;
 
-/// The order of two rows: by coefficients slot by slot from number 0 upwards, an absent one counting as 0, then by constant,
-/// then by op as `=`, `<=`, `<`. It does not allocate.
+/// The order of two rows: by coefficients slot by slot from number 0 upwards, an absent one counting as 0, then by
+/// constant, then by op as `=`, `<=`, `<`. It does not allocate.
 pub fn order(a: &Row, b: &Row) -> Ordering
     ensures { result ≡ row_order a.now b.now }
 {

@@ -3,7 +3,8 @@ ghost use Rattle.std.specs.Prelude.{◌<◌, ◌≤◌, ◌-◌, IfOk, OnErr, ma
 ghost use Rattle.std.specs.List.{flat_map};
 ghost use Rattle.ded_io.specs.Causes.{HasCause};
 ghost use Rattle.ded_dialogue.specs.Streams.{Grows, Breaks};
-ghost use Rattle.ded_run.specs.Made.{below, land_insert, land_row, line, lines, made_questions, made_script, road_insert};
+ghost use Rattle.ded_run.specs.Made.{below, land_insert, land_row, line, lines, made_questions, made_script};
+ghost use Rattle.ded_run.specs.Made.{road_insert};
 ghost use Rattle.ded_run.specs.Parts.{part_bytes, parts_bytes};
 
 use ded_dialogue::{Answering, Dialogue};
@@ -28,8 +29,10 @@ pub fn feed_script<A: Answering, K: Sink>(
 ) -> Result<(), Failed>
     requires low { 1 ≤ size }
     requires high { size ≤ 100 }
-    ensures grows { IfOk result (λ _. Grows A.answers A.state dialogue.old dialogue.new (K.contents sink.old) (K.contents sink.new) (made_script size)) }
-    ensures breaks { OnErr result (Breaks A.answers A.state dialogue.old (K.contents sink.old) (K.contents sink.new) (made_script size)) }
+    ensures grows { IfOk result (λ _. Grows A.answers A.state dialogue.old dialogue.new (K.contents sink.old)
+        (K.contents sink.new) (made_script size)) }
+    ensures breaks { OnErr result (Breaks A.answers A.state dialogue.old (K.contents sink.old)
+        (K.contents sink.new) (made_script size)) }
     ensures cause { HasCause (K.faults sink.old) (K.faults sink.new) result }
 {
     dialogue.feed(
@@ -52,8 +55,10 @@ fn feed_lands<A: Answering, K: Sink>(
     sink: &mut K,
 ) -> Result<(), Failed>
     requires { size ≤ 100 }
-    ensures grows { IfOk result (λ _. Grows A.answers A.state dialogue.old dialogue.new (K.contents sink.old) (K.contents sink.new) (lines (flat_map (land_row size) (below size)))) }
-    ensures breaks { OnErr result (Breaks A.answers A.state dialogue.old (K.contents sink.old) (K.contents sink.new) (lines (flat_map (land_row size) (below size)))) }
+    ensures grows { IfOk result (λ _. Grows A.answers A.state dialogue.old dialogue.new (K.contents sink.old)
+        (K.contents sink.new) (lines (flat_map (land_row size) (below size)))) }
+    ensures breaks { OnErr result (Breaks A.answers A.state dialogue.old (K.contents sink.old) (K.contents sink.new)
+        (lines (flat_map (land_row size) (below size)))) }
     ensures cause { HasCause (K.faults sink.old) (K.faults sink.new) result }
 {
     for row in 0..size {
@@ -71,8 +76,10 @@ fn feed_land_row<A: Answering, K: Sink>(
 ) -> Result<(), Failed>
     requires row { row < 100 }
     requires size { size ≤ 100 }
-    ensures grows { IfOk result (λ _. Grows A.answers A.state dialogue.old dialogue.new (K.contents sink.old) (K.contents sink.new) (lines (land_row size row))) }
-    ensures breaks { OnErr result (Breaks A.answers A.state dialogue.old (K.contents sink.old) (K.contents sink.new) (lines (land_row size row))) }
+    ensures grows { IfOk result (λ _. Grows A.answers A.state dialogue.old dialogue.new (K.contents sink.old)
+        (K.contents sink.new) (lines (land_row size row))) }
+    ensures breaks { OnErr result (Breaks A.answers A.state dialogue.old (K.contents sink.old) (K.contents sink.new)
+        (lines (land_row size row))) }
     ensures cause { HasCause (K.faults sink.old) (K.faults sink.new) result }
 {
     for column in 0..size {
@@ -90,8 +97,10 @@ fn feed_land<A: Answering, K: Sink>(
 ) -> Result<(), Failed>
     requires row { row < 100 }
     requires column { column < 100 }
-    ensures grows { IfOk result (λ _. Grows A.answers A.state dialogue.old dialogue.new (K.contents sink.old) (K.contents sink.new) (line (land_insert row column))) }
-    ensures breaks { OnErr result (Breaks A.answers A.state dialogue.old (K.contents sink.old) (K.contents sink.new) (line (land_insert row column))) }
+    ensures grows { IfOk result (λ _. Grows A.answers A.state dialogue.old dialogue.new (K.contents sink.old)
+        (K.contents sink.new) (line (land_insert row column))) }
+    ensures breaks { OnErr result (Breaks A.answers A.state dialogue.old (K.contents sink.old) (K.contents sink.new)
+        (line (land_insert row column))) }
     ensures cause { HasCause (K.faults sink.old) (K.faults sink.new) result }
 {
     let parts = [
@@ -119,8 +128,10 @@ fn feed_roads<A: Answering, K: Sink>(
     sink: &mut K,
 ) -> Result<(), Failed>
     requires { size ≤ 100 }
-    ensures grows { IfOk result (λ _. Grows A.answers A.state dialogue.old dialogue.new (K.contents sink.old) (K.contents sink.new) (lines (map road_insert (below size)))) }
-    ensures breaks { OnErr result (Breaks A.answers A.state dialogue.old (K.contents sink.old) (K.contents sink.new) (lines (map road_insert (below size)))) }
+    ensures grows { IfOk result (λ _. Grows A.answers A.state dialogue.old dialogue.new (K.contents sink.old)
+        (K.contents sink.new) (lines (map road_insert (below size)))) }
+    ensures breaks { OnErr result (Breaks A.answers A.state dialogue.old (K.contents sink.old) (K.contents sink.new)
+        (lines (map road_insert (below size)))) }
     ensures cause { HasCause (K.faults sink.old) (K.faults sink.new) result }
 {
     for band in 0..size {
@@ -136,8 +147,10 @@ fn feed_road<A: Answering, K: Sink>(
     sink: &mut K,
 ) -> Result<(), Failed>
     requires { band < 100 }
-    ensures grows { IfOk result (λ _. Grows A.answers A.state dialogue.old dialogue.new (K.contents sink.old) (K.contents sink.new) (line (road_insert band))) }
-    ensures breaks { OnErr result (Breaks A.answers A.state dialogue.old (K.contents sink.old) (K.contents sink.new) (line (road_insert band))) }
+    ensures grows { IfOk result (λ _. Grows A.answers A.state dialogue.old dialogue.new (K.contents sink.old)
+        (K.contents sink.new) (line (road_insert band))) }
+    ensures breaks { OnErr result (Breaks A.answers A.state dialogue.old (K.contents sink.old) (K.contents sink.new)
+        (line (road_insert band))) }
     ensures cause { HasCause (K.faults sink.old) (K.faults sink.new) result }
 {
     let parts = [
@@ -160,8 +173,10 @@ fn feed_questions<A: Answering, K: Sink>(
 ) -> Result<(), Failed>
     requires low { 1 ≤ size }
     requires high { size ≤ 100 }
-    ensures grows { IfOk result (λ _. Grows A.answers A.state dialogue.old dialogue.new (K.contents sink.old) (K.contents sink.new) (lines (made_questions size))) }
-    ensures breaks { OnErr result (Breaks A.answers A.state dialogue.old (K.contents sink.old) (K.contents sink.new) (lines (made_questions size))) }
+    ensures grows { IfOk result (λ _. Grows A.answers A.state dialogue.old dialogue.new (K.contents sink.old)
+        (K.contents sink.new) (lines (made_questions size))) }
+    ensures breaks { OnErr result (Breaks A.answers A.state dialogue.old (K.contents sink.old) (K.contents sink.new)
+        (lines (made_questions size))) }
     ensures cause { HasCause (K.faults sink.old) (K.faults sink.new) result }
 {
     let last = Part::Number(size - 1);
@@ -185,8 +200,10 @@ fn feed_statement<A: Answering, K: Sink>(
     parts: &[Part<'_>],
     sink: &mut K,
 ) -> Result<(), Failed>
-    ensures grows { IfOk result (λ _. Grows A.answers A.state dialogue.old dialogue.new (K.contents sink.old) (K.contents sink.new) (line (parts_bytes parts.now))) }
-    ensures breaks { OnErr result (Breaks A.answers A.state dialogue.old (K.contents sink.old) (K.contents sink.new) (line (parts_bytes parts.now))) }
+    ensures grows { IfOk result (λ _. Grows A.answers A.state dialogue.old dialogue.new (K.contents sink.old)
+        (K.contents sink.new) (line (parts_bytes parts.now))) }
+    ensures breaks { OnErr result (Breaks A.answers A.state dialogue.old (K.contents sink.old) (K.contents sink.new)
+        (line (parts_bytes parts.now))) }
     ensures cause { HasCause (K.faults sink.old) (K.faults sink.new) result }
 {
     feed_parts(dialogue, parts, sink)?;
@@ -199,8 +216,10 @@ fn feed_parts<A: Answering, K: Sink>(
     parts: &[Part<'_>],
     sink: &mut K,
 ) -> Result<(), Failed>
-    ensures grows { IfOk result (λ _. Grows A.answers A.state dialogue.old dialogue.new (K.contents sink.old) (K.contents sink.new) (parts_bytes parts.now)) }
-    ensures breaks { OnErr result (Breaks A.answers A.state dialogue.old (K.contents sink.old) (K.contents sink.new) (parts_bytes parts.now)) }
+    ensures grows { IfOk result (λ _. Grows A.answers A.state dialogue.old dialogue.new (K.contents sink.old)
+        (K.contents sink.new) (parts_bytes parts.now)) }
+    ensures breaks { OnErr result (Breaks A.answers A.state dialogue.old (K.contents sink.old) (K.contents sink.new)
+        (parts_bytes parts.now)) }
     ensures cause { HasCause (K.faults sink.old) (K.faults sink.new) result }
 {
     for part in parts {
@@ -215,8 +234,10 @@ fn feed_part<A: Answering, K: Sink>(
     part: Part<'_>,
     sink: &mut K,
 ) -> Result<(), Failed>
-    ensures grows { IfOk result (λ _. Grows A.answers A.state dialogue.old dialogue.new (K.contents sink.old) (K.contents sink.new) (part_bytes part.entry)) }
-    ensures breaks { OnErr result (Breaks A.answers A.state dialogue.old (K.contents sink.old) (K.contents sink.new) (part_bytes part.entry)) }
+    ensures grows { IfOk result (λ _. Grows A.answers A.state dialogue.old dialogue.new (K.contents sink.old)
+        (K.contents sink.new) (part_bytes part.entry)) }
+    ensures breaks { OnErr result (Breaks A.answers A.state dialogue.old (K.contents sink.old) (K.contents sink.new)
+        (part_bytes part.entry)) }
     ensures cause { HasCause (K.faults sink.old) (K.faults sink.new) result }
 {
     match part {

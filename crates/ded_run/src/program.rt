@@ -47,13 +47,16 @@ pub fn serve<S: Source, K: Sink>(
     ensures done_with_refusals { result ≡ Status.DoneWithRefusals →
         Answered (session_protocol setup.now.limit) setup.now.input_limit
         (S.left source.old) (S.left source.new) (K.contents sink.old) (K.contents sink.new) true }
-    ensures faultless { (result ≡ Status.Done) ⊎ (result ≡ Status.DoneWithRefusals) ⊎ (result ≡ Status.TooLong) → (S.faults source.new ≡ S.faults source.old) × (K.faults sink.new ≡ K.faults sink.old) }
+    ensures faultless { (result ≡ Status.Done) ⊎ (result ≡ Status.DoneWithRefusals) ⊎ (result ≡ Status.TooLong)
+        → (S.faults source.new ≡ S.faults source.old) × (K.faults sink.new ≡ K.faults sink.old) }
     ensures bad_words { result ≢ Status.BadWords }
-    ensures read_fault { result ≡ Status.ReadFault → Rose (S.faults source.old) (S.faults source.new) × (K.faults sink.new ≡ K.faults sink.old) }
+    ensures read_fault { result ≡ Status.ReadFault
+        → Rose (S.faults source.old) (S.faults source.new) × (K.faults sink.new ≡ K.faults sink.old) }
     ensures unread { result ≡ Status.ReadFault →
         Unread (session_protocol setup.now.limit) setup.now.input_limit
         (S.left source.old) (S.left source.new) (K.contents sink.old) (K.contents sink.new) }
-    ensures write_fault { result ≡ Status.WriteFault → Rose (K.faults sink.old) (K.faults sink.new) × (S.faults source.new ≡ S.faults source.old) }
+    ensures write_fault { result ≡ Status.WriteFault
+        → Rose (K.faults sink.old) (K.faults sink.new) × (S.faults source.new ≡ S.faults source.old) }
     ensures broken { result ≡ Status.WriteFault →
         Broken (session_protocol setup.now.limit)
         (S.left source.old) (S.left source.new) (S.last source.new) (K.contents sink.old) (K.contents sink.new) }
@@ -61,7 +64,9 @@ pub fn serve<S: Source, K: Sink>(
     ensures overlong { result ≡ Status.TooLong →
         Overlong (session_protocol setup.now.limit) setup.now.input_limit
         (S.left source.old) (S.left source.new) (K.contents sink.old) (K.contents sink.new) }
-    ensures ends { (Rose (S.faults source.old) (S.faults source.new) → ⊥) → (Rose (K.faults sink.old) (K.faults sink.new) → ⊥) → result ≢ Status.NoMemory → result ≢ Status.TooLong → (result ≡ Status.Done) ⊎ (result ≡ Status.DoneWithRefusals) }
+    ensures ends { (Rose (S.faults source.old) (S.faults source.new) → ⊥)
+        → (Rose (K.faults sink.old) (K.faults sink.new) → ⊥) → result ≢ Status.NoMemory → result ≢ Status.TooLong
+        → (result ≡ Status.Done) ⊎ (result ≡ Status.DoneWithRefusals) }
 {
     let session = OneSession::new(alloc, setup.limit, setup.keys);
     ded_dialogue::serve(alloc, session, setup.input_limit, source, sink)
@@ -76,13 +81,17 @@ pub fn make<K: Sink>(alloc: Global, setup: &Setup, size: u32, sink: &mut K) -> S
     requires size_low { 1 ≤ size }
     requires size_high { size ≤ 100 }
     ensures done { result ≡ Status.Done → Made setup.now.limit size (K.contents sink.old) (K.contents sink.new) false }
-    ensures done_with_refusals { result ≡ Status.DoneWithRefusals → Made setup.now.limit size (K.contents sink.old) (K.contents sink.new) true }
+    ensures done_with_refusals { result ≡ Status.DoneWithRefusals
+        → Made setup.now.limit size (K.contents sink.old) (K.contents sink.new) true }
     ensures kinds { (result ≢ Status.ReadFault) × (result ≢ Status.TooLong) × (result ≢ Status.BadWords) }
-    ensures faultless { (result ≡ Status.Done) ⊎ (result ≡ Status.DoneWithRefusals) → K.faults sink.new ≡ K.faults sink.old }
+    ensures faultless { (result ≡ Status.Done) ⊎ (result ≡ Status.DoneWithRefusals)
+        → K.faults sink.new ≡ K.faults sink.old }
     ensures write_fault { result ≡ Status.WriteFault → Rose (K.faults sink.old) (K.faults sink.new) }
-    ensures broken { result ≡ Status.WriteFault → HalfMade setup.now.limit size (K.contents sink.old) (K.contents sink.new) }
+    ensures broken { result ≡ Status.WriteFault → HalfMade setup.now.limit size
+        (K.contents sink.old) (K.contents sink.new) }
     ensures no_memory { result ≡ Status.NoMemory → sink.new ≡ sink.old }
-    ensures ends { (Rose (K.faults sink.old) (K.faults sink.new) → ⊥) → result ≢ Status.NoMemory → (result ≡ Status.Done) ⊎ (result ≡ Status.DoneWithRefusals) }
+    ensures ends { (Rose (K.faults sink.old) (K.faults sink.new) → ⊥) → result ≢ Status.NoMemory
+        → (result ≡ Status.Done) ⊎ (result ≡ Status.DoneWithRefusals) }
 {
     let silent = size * size + size + 3;
     let session = OneSession::new(alloc, setup.limit, setup.keys);
@@ -104,23 +113,31 @@ pub fn run<S: Source, K: Sink>(
     source: &mut S,
     sink: &mut K,
 ) -> Status
-    ensures bad_words { result ≡ Status.BadWords → (options : Options) → AcceptedWords (texts_in words.now) options → ⊥ }
-    ensures no_options { ((options : Options) → AcceptedWords (texts_in words.now) options → ⊥) → (result ≡ Status.BadWords) ⊎ (result ≡ Status.NoMemory) }
+    ensures bad_words { result ≡ Status.BadWords → (options : Options)
+        → AcceptedWords (texts_in words.now) options → ⊥ }
+    ensures no_options { ((options : Options) → AcceptedWords (texts_in words.now) options → ⊥)
+        → (result ≡ Status.BadWords) ⊎ (result ≡ Status.NoMemory) }
     ensures no_words { result ≡ Status.BadWords → (source.new ≡ source.old) × (sink.new ≡ sink.old) }
     ensures done { result ≡ Status.Done → WithOptions (texts_in words.now) (λ options. MatchOption options.size
         (Answered (session_protocol options.limit) (2 ^ 40)
         (S.left source.old) (S.left source.new) (K.contents sink.old) (K.contents sink.new) false)
-        (λ size. Made options.limit size (K.contents sink.old) (K.contents sink.new) false × (source.new ≡ source.old))) }
-    ensures done_with_refusals { result ≡ Status.DoneWithRefusals → WithOptions (texts_in words.now) (λ options. MatchOption options.size
+        (λ size. Made options.limit size (K.contents sink.old) (K.contents sink.new) false
+        × (source.new ≡ source.old))) }
+    ensures done_with_refusals { result ≡ Status.DoneWithRefusals
+        → WithOptions (texts_in words.now) (λ options. MatchOption options.size
         (Answered (session_protocol options.limit) (2 ^ 40)
         (S.left source.old) (S.left source.new) (K.contents sink.old) (K.contents sink.new) true)
-        (λ size. Made options.limit size (K.contents sink.old) (K.contents sink.new) true × (source.new ≡ source.old))) }
-    ensures faultless { (result ≡ Status.Done) ⊎ (result ≡ Status.DoneWithRefusals) ⊎ (result ≡ Status.TooLong) → (S.faults source.new ≡ S.faults source.old) × (K.faults sink.new ≡ K.faults sink.old) }
-    ensures read_fault { result ≡ Status.ReadFault → Rose (S.faults source.old) (S.faults source.new) × (K.faults sink.new ≡ K.faults sink.old) }
+        (λ size. Made options.limit size (K.contents sink.old) (K.contents sink.new) true
+        × (source.new ≡ source.old))) }
+    ensures faultless { (result ≡ Status.Done) ⊎ (result ≡ Status.DoneWithRefusals) ⊎ (result ≡ Status.TooLong)
+        → (S.faults source.new ≡ S.faults source.old) × (K.faults sink.new ≡ K.faults sink.old) }
+    ensures read_fault { result ≡ Status.ReadFault
+        → Rose (S.faults source.old) (S.faults source.new) × (K.faults sink.new ≡ K.faults sink.old) }
     ensures unread { result ≡ Status.ReadFault → WithOptions (texts_in words.now) (λ options.
         (options.size ≡ None) × Unread (session_protocol options.limit) (2 ^ 40)
         (S.left source.old) (S.left source.new) (K.contents sink.old) (K.contents sink.new)) }
-    ensures write_fault { result ≡ Status.WriteFault → Rose (K.faults sink.old) (K.faults sink.new) × (S.faults source.new ≡ S.faults source.old) }
+    ensures write_fault { result ≡ Status.WriteFault
+        → Rose (K.faults sink.old) (K.faults sink.new) × (S.faults source.new ≡ S.faults source.old) }
     ensures broken { result ≡ Status.WriteFault → WithOptions (texts_in words.now) (λ options. MatchOption options.size
         (Broken (session_protocol options.limit)
         (S.left source.old) (S.left source.new) (S.last source.new) (K.contents sink.old) (K.contents sink.new))
@@ -129,7 +146,9 @@ pub fn run<S: Source, K: Sink>(
     ensures overlong { result ≡ Status.TooLong → WithOptions (texts_in words.now) (λ options.
         (options.size ≡ None) × Overlong (session_protocol options.limit) (2 ^ 40)
         (S.left source.old) (S.left source.new) (K.contents sink.old) (K.contents sink.new)) }
-    ensures ends { (Rose (S.faults source.old) (S.faults source.new) → ⊥) → (Rose (K.faults sink.old) (K.faults sink.new) → ⊥) → result ≢ Status.NoMemory → result ≢ Status.TooLong → result ≢ Status.BadWords → (result ≡ Status.Done) ⊎ (result ≡ Status.DoneWithRefusals) }
+    ensures ends { (Rose (S.faults source.old) (S.faults source.new) → ⊥)
+        → (Rose (K.faults sink.old) (K.faults sink.new) → ⊥) → result ≢ Status.NoMemory → result ≢ Status.TooLong
+        → result ≢ Status.BadWords → (result ≡ Status.Done) ⊎ (result ≡ Status.DoneWithRefusals) }
 {
     let options = match options_in(alloc, &words.list) {
         Ok(options) => options,

@@ -28,10 +28,12 @@ use std::collections::BTreeMap;
 /// The heading of a relation, and the exact bounds of its rational columns over all its points.
 ///
 /// # Errors
-/// `Wide` only where the relation isn't narrow for its box and some stored row of it is no order row, otherwise out of memory.
+/// `Wide` only where the relation isn't narrow for its box and some stored row of it is no order row, otherwise out of
+/// memory.
 pub(crate) fn bounds(alloc: Global, catalogue: &Catalogue, name: &Name) -> Result<Reply, Refused>
     requires { is_relation_with (known (catalogue_of catalogue.now) name.now) ≡ true }
-    ensures does { IfOk result (λ r. Does (box_of name.now) (catalogue_of catalogue.now) (reply_form r) (catalogue_of catalogue.now)) }
+    ensures does { IfOk result (λ r. Does (box_of name.now) (catalogue_of catalogue.now) (reply_form r)
+        (catalogue_of catalogue.now)) }
     ensures wide { IsErrOf result Wide → MayBeWide (box_of name.now) (catalogue_of catalogue.now) }
 {
     catalogue.formed();

@@ -42,8 +42,10 @@ pub(crate) fn disjoint(
 ) -> Result<Reply, Refused>
     requires first { is_relation_with (known (catalogue_of catalogue.now) first.now) ≡ true }
     requires second { is_relation_with (known (catalogue_of catalogue.now) second.now) ≡ true }
-    ensures does { IfOk result (λ r. Does (commands.disjoint first.now second.now) (catalogue_of catalogue.now) (reply_form r) (catalogue_of catalogue.now)) }
-    ensures wide { IsErrOf result Wide → MayBeWide (commands.disjoint first.now second.now) (catalogue_of catalogue.now) }
+    ensures does { IfOk result (λ r. Does (commands.disjoint first.now second.now) (catalogue_of catalogue.now)
+        (reply_form r) (catalogue_of catalogue.now)) }
+    ensures wide { IsErrOf result Wide → MayBeWide (commands.disjoint first.now second.now)
+        (catalogue_of catalogue.now) }
 {
     match certify_all(alloc, tuples(catalogue, first), tuples(catalogue, second))? {
         Disjointness::Apart(entries) => Ok(Reply::Apart(entries)),
@@ -54,7 +56,8 @@ pub(crate) fn disjoint(
 /// Whether the entries certify that the two relations have no common point.
 ///
 /// # Errors
-/// `Wide` only where in the check of the first entry of some pair of tuples a number is too long, otherwise out of memory.
+/// `Wide` only where in the check of the first entry of some pair of tuples a number is too long, otherwise out of
+/// memory.
 pub(crate) fn verified(
     alloc: Global,
     catalogue: &Catalogue,
@@ -64,8 +67,10 @@ pub(crate) fn verified(
 ) -> Result<Reply, Refused>
     requires first { is_relation_with (known (catalogue_of catalogue.now) first.now) ≡ true }
     requires second { is_relation_with (known (catalogue_of catalogue.now) second.now) ≡ true }
-    ensures does { IfOk result (λ r. Does (commands.verify first.now second.now entries.now) (catalogue_of catalogue.now) (reply_form r) (catalogue_of catalogue.now)) }
-    ensures wide { IsErrOf result Wide → MayBeWide (commands.verify first.now second.now entries.now) (catalogue_of catalogue.now) }
+    ensures does { IfOk result (λ r. Does (commands.verify first.now second.now entries.now)
+        (catalogue_of catalogue.now) (reply_form r) (catalogue_of catalogue.now)) }
+    ensures wide { IsErrOf result Wide → MayBeWide (commands.verify first.now second.now entries.now)
+        (catalogue_of catalogue.now) }
 {
     let (one, other) = (tuples(catalogue, first), tuples(catalogue, second));
     Ok(Reply::Truth(verify_all(alloc, one, other, entries)?))

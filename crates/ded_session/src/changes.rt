@@ -33,7 +33,8 @@ use ded_model::tuple::Tuple;
 pub(crate) fn define(database: &mut Database, name: Name, heading: Heading) -> Reply
     requires new { IsNewName (known (catalogue_at database.old)) name }
     requires few { length heading ≤ 16 }
-    ensures carries { Carries (relation name heading) (catalogue_at database.old) (reply_form result) (catalogue_at database.new) }
+    ensures carries { Carries (relation name heading) (catalogue_at database.old) (reply_form result)
+        (catalogue_at database.new) }
     ensures upholds { Upholds (relation name heading) (reply_form result) database.old database.new }
 {
     done(database.define(name, heading))
@@ -47,7 +48,8 @@ pub(crate) fn insert(database: &mut Database, name: &Name, tuple: Tuple) -> Repl
     ensures carries { (comparisons : Logics FormAtom) →
         tuple ≡ tuple_of (columns_in (catalogue_at database.old) name.now) (forms_of comparisons) →
         Carries (insert name.now comparisons) (catalogue_at database.old) (reply_form result) (catalogue_at database.new) }
-    ensures upholds { (comparisons : Logics FormAtom) → Upholds (insert name.now comparisons) (reply_form result) database.old database.new }
+    ensures upholds { (comparisons : Logics FormAtom)
+        → Upholds (insert name.now comparisons) (reply_form result) database.old database.new }
 {
     match database.insert::<Engine>(name, tuple) {
         Ok(number) => Reply::Number(number),
@@ -58,7 +60,8 @@ pub(crate) fn insert(database: &mut Database, name: &Name, tuple: Tuple) -> Repl
 /// Deletes the tuple of the number from a relation.
 pub(crate) fn delete(database: &mut Database, name: &Name, number: u64) -> Reply
     requires { list_any (λ t. t.0 == number) (tuples_in (catalogue_at database.old) name.now) ≡ true }
-    ensures carries { Carries (delete name.now number) (catalogue_at database.old) (reply_form result) (catalogue_at database.new) }
+    ensures carries { Carries (delete name.now number) (catalogue_at database.old) (reply_form result)
+        (catalogue_at database.new) }
     ensures upholds { Upholds (delete name.now number) (reply_form result) database.old database.new }
 {
     done(database.delete::<Engine>(name, number))
@@ -68,7 +71,8 @@ pub(crate) fn delete(database: &mut Database, name: &Name, number: u64) -> Reply
 pub(crate) fn drop_name(database: &mut Database, name: &Name) -> Reply
     requires defined { is_some (known (catalogue_at database.old) name.now) ≡ true }
     requires unused { list_any (entry_uses name.now) (catalogue_at database.old).entries ≡ false }
-    ensures carries { Carries (drop name.now) (catalogue_at database.old) (reply_form result) (catalogue_at database.new) }
+    ensures carries { Carries (drop name.now) (catalogue_at database.old) (reply_form result)
+        (catalogue_at database.new) }
     ensures upholds { Upholds (drop name.now) (reply_form result) database.old database.new }
 {
     database.drop_name(name);
@@ -89,7 +93,8 @@ pub(crate) fn define_view(
     requires plain { IsPlain (form formula) }
     requires short { some_atom is_long_atom (form formula) ≡ false }
     requires goal { goal_form goal ≡ goal_of heading (form formula) }
-    ensures carries { Carries (view name heading (form formula)) (catalogue_at database.old) (reply_form result) (catalogue_at database.new) }
+    ensures carries { Carries (view name heading (form formula)) (catalogue_at database.old) (reply_form result)
+        (catalogue_at database.new) }
     ensures upholds { Upholds (view name heading (form formula)) (reply_form result) database.old database.new }
 {
     done(database.define_view(name, heading, formula, goal))
@@ -98,7 +103,8 @@ pub(crate) fn define_view(
 /// Marks a view, whose answer is held as a list from then on.
 pub(crate) fn keep(database: &mut Database, name: &Name) -> Reply
     requires { is_view_with (known (catalogue_at database.old) name.now) ≡ true }
-    ensures carries { Carries (keep name.now) (catalogue_at database.old) (reply_form result) (catalogue_at database.new) }
+    ensures carries { Carries (keep name.now) (catalogue_at database.old) (reply_form result)
+        (catalogue_at database.new) }
     ensures upholds { Upholds (keep name.now) (reply_form result) database.old database.new }
 {
     done(database.keep::<Engine>(name))

@@ -28,7 +28,8 @@ pub(crate) fn answer(alloc: Global, command: Command, database: &mut Database) -
     requires plain { IsPlainCommand (command_form command) }
     requires short { has_long_row (command_form command) ≡ false }
     requires named { NamesPlainly (command_form command) }
-    ensures answers { Answers (command_form command) (catalogue_at database.old) (reply_form result) (catalogue_at database.new) }
+    ensures answers { Answers (command_form command) (catalogue_at database.old) (reply_form result)
+        (catalogue_at database.new) }
     ensures upholds { Upholds (command_form command) (reply_form result) database.old database.new }
 {
     match resolve(alloc, command, database.catalogue()) {
@@ -40,9 +41,11 @@ pub(crate) fn answer(alloc: Global, command: Command, database: &mut Database) -
 /// Answers a command that the names accept.
 fn carry_out(alloc: Global, command: Checked, database: &mut Database) -> Reply
     requires { IsReady (catalogue_at database.old) command }
-    ensures carries { (written : CommandForm) → IsResolved (catalogue_at database.old) written command → HasNoCause (catalogue_at database.old) written →
+    ensures carries { (written : CommandForm) → IsResolved (catalogue_at database.old) written command
+        → HasNoCause (catalogue_at database.old) written →
         Carries written (catalogue_at database.old) (reply_form result) (catalogue_at database.new) }
-    ensures upholds { (written : CommandForm) → IsResolved (catalogue_at database.old) written command → HasNoCause (catalogue_at database.old) written →
+    ensures upholds { (written : CommandForm) → IsResolved (catalogue_at database.old) written command
+        → HasNoCause (catalogue_at database.old) written →
         Upholds written (reply_form result) database.old database.new }
 {
     match command {

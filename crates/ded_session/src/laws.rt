@@ -1,5 +1,5 @@
-//! Laws of the rules and of the texts of replies. Each is the contract of a function that does nothing but call the laws that it
-//! rests on.
+//! Laws of the rules and of the texts of replies. Each is the contract of a function that does nothing but call the
+//! laws that it rests on.
 ghost use Rattle.std.specs.Prelude.{◌≡◌, ◌≤◌, ◌++◌, true, false, None, List, ℕ, length};
 ghost use Rattle.ded_lex.specs.Pieces.{Statement, Whole};
 ghost use Rattle.ded_model.specs.declared.command.Language.{Language};
@@ -27,7 +27,8 @@ ghost use Rattle.ded_session.specs.Widths.{IsNotNarrow};
 
 /// A statement over a catalogue shows one list of tuples at most.
 pub fn one_list()
-    ensures { (language : Language) (c d e : Catalogue) (s : Statement) (h k : List Column) (ts us : List (ℕ × List Atom)) →
+    ensures { (language : Language) (c d e : Catalogue) (s : Statement) (h k : List Column)
+        (ts us : List (ℕ × List Atom)) →
         Step language c s (stored h ts) d → Step language c s (stored k us) e → (h ≡ k) × (ts ≡ us) }
 {}
 
@@ -37,14 +38,19 @@ pub fn spelled_names()
         Spells language bytes command depth → NamesPlainly command }
 {}
 
-/// A command that is read of bytes is plain, has no long row and names words of the grammar; and what it may be answered over a
-/// catalogue, the statement of these bytes may be answered, unless it is the header.
+/// A command that is read of bytes is plain, has no long row and names words of the grammar; and what it may be
+/// answered over a catalogue, the statement of these bytes may be answered, unless it is the header.
 pub fn read_commands()
-    ensures plain { (language : Language) (bytes : List ℕ) (command : CommandForm) → IsRead language bytes command → IsPlainCommand command }
-    ensures short { (language : Language) (bytes : List ℕ) (command : CommandForm) → IsRead language bytes command → has_long_row command ≡ false }
-    ensures named { (language : Language) (bytes : List ℕ) (command : CommandForm) → IsRead language bytes command → NamesPlainly command }
-    ensures step { (language : Language) (bytes : List ℕ) (command : CommandForm) (c d : Catalogue) (reply : ReplyForm) → length bytes ≤ 65536
-        → IsRead language bytes command → (IsHeaderIn language (Whole bytes) → ⊥) → Answers command c reply d → Step language c (Whole bytes) reply d }
+    ensures plain { (language : Language) (bytes : List ℕ) (command : CommandForm) → IsRead language bytes command
+        → IsPlainCommand command }
+    ensures short { (language : Language) (bytes : List ℕ) (command : CommandForm) → IsRead language bytes command
+        → has_long_row command ≡ false }
+    ensures named { (language : Language) (bytes : List ℕ) (command : CommandForm) → IsRead language bytes command
+        → NamesPlainly command }
+    ensures step { (language : Language) (bytes : List ℕ) (command : CommandForm) (c d : Catalogue)
+        (reply : ReplyForm) → length bytes ≤ 65536
+        → IsRead language bytes command → (IsHeaderIn language (Whole bytes) → ⊥) → Answers command c reply d
+        → Step language c (Whole bytes) reply d }
 {}
 
 /// Each catalogue to which a step leads from one whose names are words of the grammar has such names too, and so has
@@ -52,7 +58,8 @@ pub fn read_commands()
 pub fn plain_names()
     ensures step { (language : Language) (c d : Catalogue) (s : Statement) (reply : ReplyForm) → HasPlainNames c →
         Step language c s reply d → HasPlainNames d }
-    ensures steps { (language : Language) (c d : Catalogue) (ss : List Statement) (replies : List ReplyForm) → HasPlainNames c →
+    ensures steps { (language : Language) (c d : Catalogue) (ss : List Statement)
+        (replies : List ReplyForm) → HasPlainNames c →
         Steps language c ss replies d → HasPlainNames d }
     ensures run { (limit : ℕ) (script : List ℕ) (replies : List ReplyForm) (last : Catalogue) →
         Run limit script replies last → HasPlainNames last }
@@ -89,7 +96,8 @@ pub fn formed_catalogues()
 /// A statement over a well formed catalogue, as each is to which a run leads, is refused as too wide only where it is
 /// accepted, and what it asks isn't narrow.
 pub fn wide_questions()
-    ensures step { (language : Language) (c d : Catalogue) (s : Statement) → IsWellFormed c → Step language c s (refused Wide) d
+    ensures step { (language : Language) (c d : Catalogue) (s : Statement) → IsWellFormed c
+        → Step language c s (refused Wide) d
         → Accepts language s c (λ command. IsNotNarrow command c) }
     ensures run { (limit : ℕ) (script : List ℕ) (replies : List ReplyForm) (c : Catalogue) → Run limit script replies c
         → (language : Language) (s : Statement) (d : Catalogue) → Step language c s (refused Wide) d
@@ -102,15 +110,18 @@ pub fn wide_questions()
 pub fn accepted_statements()
     ensures steps { (language : Language) (c d : Catalogue) (ss : List Statement) (replies : List ReplyForm) →
         Steps language c ss replies d → Steps language c (accepted ss replies) (accepted_replies replies) d }
-    ensures run { (limit : ℕ) (script : List ℕ) (replies : List ReplyForm) (last : Catalogue) → (run : Run limit script replies last) →
+    ensures run { (limit : ℕ) (script : List ℕ) (replies : List ReplyForm) (last : Catalogue)
+        → (run : Run limit script replies last) →
         Run limit (script_of (accepted run.statements replies)) (accepted_replies replies) last }
 {}
 
-/// Over pieces one after another, whole, long or cut, no list is held of a kept view only where its formula isn't tight, or where a list may
-/// have been lost: an insert or a delete in a relation that the view reaches was refused as out of memory, and since
-/// then none was accepted there, nor a `keep` of the view.
+/// Over pieces one after another, whole, long or cut, no list is held of a kept view only where its formula isn't
+/// tight, or where a list may have been lost: an insert or a delete in a relation that the view reaches was refused as
+/// out of memory, and since then none was accepted there, nor a `keep` of the view.
 pub fn lost_lists()
-    ensures { (language : Language) (s : State) (turns : List Turn) (v : List ℕ) → IsSound s → AreTurns language s turns → is_kept s v ≡ false
-        → is_kept (last_state s turns) v ≡ true → IsTightView (catalogue_at (last_state s turns)) v → held_under (last_state s turns).held v ≡ None
+    ensures { (language : Language) (s : State) (turns : List Turn) (v : List ℕ) → IsSound s
+        → AreTurns language s turns → is_kept s v ≡ false
+        → is_kept (last_state s turns) v ≡ true → IsTightView (catalogue_at (last_state s turns)) v
+        → held_under (last_state s turns).held v ≡ None
         → IsLost language s turns v }
 {}

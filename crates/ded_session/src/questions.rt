@@ -48,7 +48,8 @@ pub(crate) fn tuples(
 ) -> Result<Reply, Refused>
     requires { (f : Form) × IsQuestion (catalogue_at database.old) heading (goal_form goal.now) f }
     ensures does { (f : Form) → IsQuestion (catalogue_at database.old) heading (goal_form goal.now) f
-        → IfOk result (λ r. Does (query heading f) (catalogue_at database.old) (reply_form r) (catalogue_at database.old)) }
+        → IfOk result (λ r. Does (query heading f) (catalogue_at database.old) (reply_form r)
+        (catalogue_at database.old)) }
     ensures wide { (f : Form) → IsQuestion (catalogue_at database.old) heading (goal_form goal.now) f
         → IsErrOf result Wide → MayBeWide (query heading f) (catalogue_at database.old) }
     ensures same { database.new ≡ database.old }

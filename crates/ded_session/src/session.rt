@@ -41,7 +41,8 @@ impl Session {
     ghost use Rattle.ded_session.specs.PlainNames.{NamesPlainly};
     ghost use Rattle.ded_session.specs.Replies.{refused};
     ghost use Rattle.ded_session.specs.Runs.{next_language, GoesOn};
-    ghost use Rattle.ded_session.specs.State.{catalogue_in, hashing_in, language_in, state_in, IsFreshSession, IsResumed};
+    ghost use Rattle.ded_session.specs.State.{catalogue_in, hashing_in, language_in, state_in, IsFreshSession};
+    ghost use Rattle.ded_session.specs.State.{IsResumed};
     ghost use Rattle.ded_session.specs.Steps.{Step};
 
     /// A session with an empty catalogue whose relations have at most `limit` tuples, 1 to 1,000,000, and no kept view.
@@ -139,9 +140,11 @@ impl Session {
     /// `Long`, of `Cut` and of the header it doesn't allocate.
     pub fn step(&mut self, piece: Piece<'_>) -> Reply
         requires { IsShortPiece piece }
-        ensures step { StepsPiece piece.entry (language_in self.old) (catalogue_in self.old) (reply_form result) (catalogue_in self.new) }
+        ensures step { StepsPiece piece.entry (language_in self.old) (catalogue_in self.old) (reply_form result)
+            (catalogue_in self.new) }
         ensures language { GoesOnPiece (language_in self.old) piece.entry (language_in self.new) }
-        ensures upholds { UpholdsStatement piece.entry (language_in self.old) (reply_form result) (state_in self.old) (state_in self.new) }
+        ensures upholds { UpholdsStatement piece.entry (language_in self.old) (reply_form result)
+            (state_in self.old) (state_in self.new) }
     {
         match piece {
             Piece::Whole(bytes) => self.step_whole(bytes),
@@ -151,13 +154,15 @@ impl Session {
     }
 
     /// Answers the next statement, given by the command that it spells, and changes the catalogue as the rules say. By
-    /// [`laws::read_commands`](crate::laws::read_commands) that is what [`Session::step`] does with the bytes that spell it.
+    /// [`laws::read_commands`](crate::laws::read_commands) that is what [`Session::step`] does with the bytes that
+    /// spell it.
     #[tactic(auto, unfolding(crate::specs::State::catalogue_in, crate::specs::State::language_in, crate::specs::State::state_in))]
     pub fn answer(&mut self, command: Command) -> Reply
         requires plain { IsPlainCommand (command_form command) }
         requires short { has_long_row (command_form command) ≡ false }
         requires named { NamesPlainly (command_form command) }
-        ensures answers { Answers (command_form command) (catalogue_in self.old) (reply_form result) (catalogue_in self.new) }
+        ensures answers { Answers (command_form command) (catalogue_in self.old) (reply_form result)
+            (catalogue_in self.new) }
         ensures language { language_in self.new ≡ next_language (language_in self.old) }
         ensures upholds { Upholds (command_form command) (reply_form result) (state_in self.old) (state_in self.new) }
     {
@@ -182,9 +187,11 @@ impl Session {
     #[tactic(auto, unfolding(crate::specs::State::catalogue_in, crate::specs::State::language_in, crate::specs::State::state_in))]
     fn step_whole(&mut self, bytes: &[u8]) -> Reply
         requires { length bytes.now ≤ 65536 }
-        ensures step { Step (language_in self.old) (catalogue_in self.old) (Whole bytes.now) (reply_form result) (catalogue_in self.new) }
+        ensures step { Step (language_in self.old) (catalogue_in self.old) (Whole bytes.now) (reply_form result)
+            (catalogue_in self.new) }
         ensures language { GoesOn (language_in self.old) (Whole bytes.now) (language_in self.new) }
-        ensures upholds { UpholdsPiece (language_in self.old) bytes.now (reply_form result) (state_in self.old) (state_in self.new) }
+        ensures upholds { UpholdsPiece (language_in self.old) bytes.now (reply_form result)
+            (state_in self.old) (state_in self.new) }
     {
         if is_header_in(self.language, bytes) {
             self.language = Language::Two;

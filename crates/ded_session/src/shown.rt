@@ -28,7 +28,8 @@ pub(crate) fn show(alloc: Global, catalogue: &Catalogue, name: &Name) -> Reply
     }
 }
 
-/// The reply with the lines of a script that makes the catalogue again, or the refusal where there is no memory for them.
+/// The reply with the lines of a script that makes the catalogue again, or the refusal where there is no memory for
+/// them.
 pub(crate) fn dump(alloc: Global, catalogue: &Catalogue) -> Reply
     ensures { Carries dump (catalogue_of catalogue.now) (reply_form result) (catalogue_of catalogue.now) }
 {
@@ -41,7 +42,8 @@ pub(crate) fn dump(alloc: Global, catalogue: &Catalogue) -> Reply
 /// The reply with copies of the heading of a relation and of its tuples.
 fn copied(alloc: Global, catalogue: &Catalogue, name: &Name) -> Result<Reply, NoMemory>
     requires { is_relation_with (known (catalogue_of catalogue.now) name.now) ≡ true }
-    ensures { IfOk result (λ r. reply_form r ≡ stored (columns_in (catalogue_of catalogue.now) name.now) (tuples_in (catalogue_of catalogue.now) name.now)) }
+    ensures { IfOk result (λ r. reply_form r ≡ stored (columns_in (catalogue_of catalogue.now) name.now)
+        (tuples_in (catalogue_of catalogue.now) name.now)) }
 {
     catalogue.formed();
     let Some(heading) = catalogue.heading(name) else {

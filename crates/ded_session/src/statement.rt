@@ -34,7 +34,8 @@ pub(crate) fn reply_to(
 ) -> Reply
     requires short { length bytes.now ≤ 65536 }
     requires other { IsHeaderIn language (Whole bytes.now) → ⊥ }
-    ensures step { Step language (catalogue_at database.old) (Whole bytes.now) (reply_form result) (catalogue_at database.new) }
+    ensures step { Step language (catalogue_at database.old) (Whole bytes.now) (reply_form result)
+        (catalogue_at database.new) }
     ensures upholds { UpholdsPiece language bytes.now (reply_form result) database.old database.new }
 {
     match read_command(alloc, bytes, language) {

@@ -26,8 +26,8 @@ use std::alloc::Global;
 pub enum Projection {
     /// The tuple holds nowhere.
     Nowhere,
-    /// The tuple holds somewhere, and these rows, over the two columns alone, hold at a point exactly where it does with some values of
-    /// all other columns.
+    /// The tuple holds somewhere, and these rows, over the two columns alone, hold at a point exactly where it does
+    /// with some values of all other columns.
     Rows(Vec<Row>),
 }
 

@@ -1,4 +1,5 @@
-//! Shared sessions as one session. Each law is the contract of a function that does nothing, or calls those that it rests on.
+//! Shared sessions as one session. Each law is the contract of a function that does nothing, or calls those that it
+//! rests on.
 //!
 //! Laws of what statements depend on and what they change. Each is the contract of a function that does nothing.
 ghost use Rattle.std.specs.Prelude.{◌≡◌, ◌≢◌, ◌++◌, ℕ, List, ◌&&◌, Bool, true, false, not, Some};
@@ -35,68 +36,86 @@ pub fn tagged_statements()
 /// A statement is one tagged statement alone, and statements one after another are one list of tagged ones.
 pub fn one_tag()
     ensures one { (s : Statement) (x y : Tagged) → IsTagged s x → IsTagged s y → x ≡ y }
-    ensures all { (statements : List Statement) (xs ys : List Tagged) → AreTagged statements xs → AreTagged statements ys → xs ≡ ys }
+    ensures all { (statements : List Statement) (xs ys : List Tagged) → AreTagged statements xs
+        → AreTagged statements ys → xs ≡ ys }
 {}
 
-/// The statements outside of transactions and those of committed ones, in the order of their ends and with the replies that
-/// they got, are steps of one session from the catalogue without entries to the shared one.
+/// The statements outside of transactions and those of committed ones, in the order of their ends and with the replies
+/// that they got, are steps of one session from the catalogue without entries to the shared one.
 pub fn serial()
-    ensures { (limit : ℕ) (statements : List Statement) (xs : List Tagged) (replies : List SharedForm) (t : State) → AreTagged statements xs
+    ensures { (limit : ℕ) (statements : List Statement) (xs : List Tagged) (replies : List SharedForm) (t : State)
+        → AreTagged statements xs
         → SharedSteps (first_state limit) xs replies t → AreSteps (empty_catalogue limit) (serial xs replies) t.shared }
 {
     ded_session::laws::formed_catalogues();
 }
 
-/// The statements of each transaction, also of one that is given up, are with their replies steps of one session from the shared
-/// catalogue at its begin.
+/// The statements of each transaction, also of one that is given up, are with their replies steps of one session from
+/// the shared catalogue at its begin.
 pub fn transactions()
-    ensures { (limit : ℕ) (statements more : List Statement) (before later : List Tagged) (got answers : List SharedForm) (k : ℕ) (s u t : State)
-        → AreTagged statements before → SharedSteps (first_state limit) before got s → SharedStep s (begins k) (plain done) u
-        → AreTagged more later → SharedSteps u later answers t → (end : Catalogue) × AreSteps s.shared (inside k later answers) end }
+    ensures { (limit : ℕ) (statements more : List Statement) (before later : List Tagged)
+        (got answers : List SharedForm) (k : ℕ) (s u t : State)
+        → AreTagged statements before → SharedSteps (first_state limit) before got s
+        → SharedStep s (begins k) (plain done) u
+        → AreTagged more later → SharedSteps u later answers t
+        → (end : Catalogue) × AreSteps s.shared (inside k later answers) end }
 {
     ded_session::laws::formed_catalogues();
 }
 
-/// Where a commit conflicts at a name, the session had begun its transaction, and a statement behind that begin changed the name: another
-/// session's commit, or an accepted command outside of transactions. No lesser name that the transaction touched was changed so; and
-/// where a commit is done, none was.
+/// Where a commit conflicts at a name, the session had begun its transaction, and a statement behind that begin changed
+/// the name: another session's commit, or an accepted command outside of transactions. No lesser name that the
+/// transaction touched was changed so; and where a commit is done, none was.
 pub fn conflicts()
-    ensures culprit { (limit : ℕ) (statements : List Statement) (xs : List Tagged) (replies : List SharedForm) (statement : Statement) (k : ℕ) (s t : State) (n : List ℕ)
-        → AreTagged statements xs → SharedSteps (first_state limit) xs replies s → IsTagged statement (commits k) → SharedStep s (commits k) (conflict n) t
+    ensures culprit { (limit : ℕ) (statements : List Statement) (xs : List Tagged) (replies : List SharedForm)
+        (statement : Statement) (k : ℕ) (s t : State) (n : List ℕ)
+        → AreTagged statements xs → SharedSteps (first_state limit) xs replies s → IsTagged statement (commits k)
+        → SharedStep s (commits k) (conflict n) t
         → HasCulprit (first_state limit) k n xs replies s }
-    ensures least { (limit : ℕ) (statements : List Statement) (xs : List Tagged) (replies : List SharedForm) (statement : Statement) (k : ℕ) (s t : State) (n m : List ℕ) (x : Transaction)
-        → AreTagged statements xs → SharedSteps (first_state limit) xs replies s → IsTagged statement (commits k) → SharedStep s (commits k) (conflict n) t
-        → transaction_of s k ≡ Some x → is_among x.touched m ≡ true → HasCulprit (first_state limit) k m xs replies s → slice_cmp nat_cmp m n ≢ Less }
-    ensures free { (limit : ℕ) (statements : List Statement) (xs : List Tagged) (replies : List SharedForm) (statement : Statement) (k : ℕ) (s t : State) (n : List ℕ) (x : Transaction)
-        → AreTagged statements xs → SharedSteps (first_state limit) xs replies s → IsTagged statement (commits k) → SharedStep s (commits k) (plain done) t
-        → transaction_of s k ≡ Some x → is_among x.touched n ≡ true → HasCulprit (first_state limit) k n xs replies s → ⊥ }
+    ensures least { (limit : ℕ) (statements : List Statement) (xs : List Tagged) (replies : List SharedForm)
+        (statement : Statement) (k : ℕ) (s t : State) (n m : List ℕ) (x : Transaction)
+        → AreTagged statements xs → SharedSteps (first_state limit) xs replies s → IsTagged statement (commits k)
+        → SharedStep s (commits k) (conflict n) t
+        → transaction_of s k ≡ Some x → is_among x.touched m ≡ true → HasCulprit (first_state limit) k m xs replies s
+        → slice_cmp nat_cmp m n ≢ Less }
+    ensures free { (limit : ℕ) (statements : List Statement) (xs : List Tagged) (replies : List SharedForm)
+        (statement : Statement) (k : ℕ) (s t : State) (n : List ℕ) (x : Transaction)
+        → AreTagged statements xs → SharedSteps (first_state limit) xs replies s → IsTagged statement (commits k)
+        → SharedStep s (commits k) (plain done) t
+        → transaction_of s k ≡ Some x → is_among x.touched n ≡ true
+        → HasCulprit (first_state limit) k n xs replies s → ⊥ }
 {}
 
 /// In each state to which tagged statements lead, the names in all catalogues are words of the grammar.
 pub fn plain_names()
     ensures first { (limit : ℕ) → HavePlainNames (first_state limit) }
-    ensures step { (s t : State) (x : Tagged) (reply : SharedForm) → HavePlainNames s → SharedStep s x reply t → HavePlainNames t }
+    ensures step { (s t : State) (x : Tagged) (reply : SharedForm) → HavePlainNames s
+        → SharedStep s x reply t → HavePlainNames t }
 {}
 
-/// The bytes written tell the replies one after another: of two replies that a tagged statement may get in a state whose names are words of
-/// the grammar, no text is a proper front of the other's.
+/// The bytes written tell the replies one after another: of two replies that a tagged statement may get in a state
+/// whose names are words of the grammar, no text is a proper front of the other's.
 pub fn one_text()
-    ensures { (s t u : State) (x : Tagged) (reply other : SharedForm) (xs ys : List ℕ) → HavePlainNames s → SharedStep s x reply t → SharedStep s x other u
+    ensures { (s t u : State) (x : Tagged) (reply other : SharedForm) (xs ys : List ℕ) → HavePlainNames s
+        → SharedStep s x reply t → SharedStep s x other u
         → shared_text reply ++ xs ≡ shared_text other ++ ys → (shared_text reply ≡ shared_text other) × (xs ≡ ys) }
 {}
 
-/// A statement may get its reply over each catalogue that agrees on the names that it touches, where the reply depends on
-/// names; and then it makes alike catalogues, which agree on as many names.
+/// A statement may get its reply over each catalogue that agrees on the names that it touches, where the reply depends
+/// on names; and then it makes alike catalogues, which agree on as many names.
 pub fn same_replies()
-    ensures { (c d e : Catalogue) (bytes : List ℕ) (reply : ReplyForm) (among : List ℕ → Bool) → IsWellFormed c → IsWellFormed d → Agree c d among
+    ensures { (c d e : Catalogue) (bytes : List ℕ) (reply : ReplyForm) (among : List ℕ → Bool) → IsWellFormed c
+        → IsWellFormed d → Agree c d among
         → Step One c (Whole bytes) reply e
-        → ((x : CommandForm) (depth : ℕ) → Spells One bytes x depth → (n : List ℕ) → (depends_on_names reply && touches c x n) ≡ true → among n ≡ true)
+        → ((x : CommandForm) (depth : ℕ) → Spells One bytes x depth → (n : List ℕ)
+        → (depends_on_names reply && touches c x n) ≡ true → among n ≡ true)
         → (f : Catalogue) × Step One d (Whole bytes) reply f × Agree e f among }
 {}
 
 /// A statement changes nothing of the names that its command doesn't change, and where it spells no command, nothing.
 pub fn unchanged_names()
-    ensures spelled { (c e : Catalogue) (bytes : List ℕ) (reply : ReplyForm) (x : CommandForm) (depth : ℕ) → IsWellFormed c
+    ensures spelled { (c e : Catalogue) (bytes : List ℕ) (reply : ReplyForm) (x : CommandForm)
+        (depth : ℕ) → IsWellFormed c
         → Step One c (Whole bytes) reply e → Spells One bytes x depth → Agree c e (λ n. not (changes c x reply n)) }
     ensures other { (c e : Catalogue) (bytes : List ℕ) (reply : ReplyForm) → Step One c (Whole bytes) reply e
         → ((x : CommandForm) (depth : ℕ) → Spells One bytes x depth → false ≡ true) → e ≡ c }
@@ -104,11 +123,13 @@ pub fn unchanged_names()
 
 /// The names that a command changes are among those that it touches.
 pub fn changed_names()
-    ensures { (c : Catalogue) (x : CommandForm) (reply : ReplyForm) (n : List ℕ) → IsWellFormed c → changes c x reply n ≡ true → touches c x n ≡ true }
+    ensures { (c : Catalogue) (x : CommandForm) (reply : ReplyForm) (n : List ℕ) → IsWellFormed c
+        → changes c x reply n ≡ true → touches c x n ≡ true }
 {}
 
 /// A statement that is accepted makes one catalogue of a well formed one, whatever its reply.
 pub fn one_catalogue()
-    ensures { (language : Language) (c d e : Catalogue) (s : Statement) (reply other : ReplyForm) → IsWellFormed c → Step language c s reply d
+    ensures { (language : Language) (c d e : Catalogue) (s : Statement) (reply other : ReplyForm) → IsWellFormed c
+        → Step language c s reply d
         → Step language c s other e → is_refusal reply ≡ false → is_refusal other ≡ false → d ≡ e }
 {}

@@ -16,9 +16,12 @@ pub fn conflict<'a>(touched: &'a [Name], stale: &[Name]) -> Option<&'a Name>
     least
 }
 
-/// The name where it stands in the list and is less than the other one, by bytes, or there is no other one; else the other one.
+/// The name where it stands in the list and is less than the other one, by bytes, or there is no other one; else the
+/// other one.
 fn lesser<'a>(name: &'a Name, stale: &[Name], other: Option<&'a Name>) -> Option<&'a Name>
-    ensures { option_map (λ n. n.now) result ≡ (if is_among stale.now name.now && is_below name.now (option_map (λ n. n.now) other.entry) then Some name.now else option_map (λ n. n.now) other.entry) }
+    ensures { option_map (λ n. n.now) result ≡ (if is_among stale.now name.now
+        && is_below name.now (option_map (λ n. n.now) other.entry) then Some name.now else option_map
+        (λ n. n.now) other.entry) }
 {
     if stale.contains(name) && is_below(name, other) {
         Some(name)

@@ -17,8 +17,8 @@ pub type SharedStatus = Status;
 /// The most tuples that a relation holds.
 const TUPLES: u32 = 100_000;
 
-/// All that the program does, which takes no words: reads an input to its end, and writes a reply to each tagged statement. Names
-/// are hashed by the keys.
+/// All that the program does, which takes no words: reads an input to its end, and writes a reply to each tagged
+/// statement. Names are hashed by the keys.
 pub fn run_shared<S: Source, K: Sink>(
     alloc: Global,
     words: usize,
@@ -34,12 +34,15 @@ pub fn run_shared<S: Source, K: Sink>(
     ensures done_with_refusals { result ≡ Status.DoneWithRefusals →
         Answered (shared_protocol 100000) (2 ^ 40)
         (S.left source.old) (S.left source.new) (K.contents sink.old) (K.contents sink.new) true }
-    ensures faultless { (result ≡ Status.Done) ⊎ (result ≡ Status.DoneWithRefusals) ⊎ (result ≡ Status.TooLong) → (S.faults source.new ≡ S.faults source.old) × (K.faults sink.new ≡ K.faults sink.old) }
-    ensures read_fault { result ≡ Status.ReadFault → Rose (S.faults source.old) (S.faults source.new) × (K.faults sink.new ≡ K.faults sink.old) }
+    ensures faultless { (result ≡ Status.Done) ⊎ (result ≡ Status.DoneWithRefusals) ⊎ (result ≡ Status.TooLong)
+        → (S.faults source.new ≡ S.faults source.old) × (K.faults sink.new ≡ K.faults sink.old) }
+    ensures read_fault { result ≡ Status.ReadFault
+        → Rose (S.faults source.old) (S.faults source.new) × (K.faults sink.new ≡ K.faults sink.old) }
     ensures unread { result ≡ Status.ReadFault →
         Unread (shared_protocol 100000) (2 ^ 40)
         (S.left source.old) (S.left source.new) (K.contents sink.old) (K.contents sink.new) }
-    ensures write_fault { result ≡ Status.WriteFault → Rose (K.faults sink.old) (K.faults sink.new) × (S.faults source.new ≡ S.faults source.old) }
+    ensures write_fault { result ≡ Status.WriteFault
+        → Rose (K.faults sink.old) (K.faults sink.new) × (S.faults source.new ≡ S.faults source.old) }
     ensures broken { result ≡ Status.WriteFault →
         Broken (shared_protocol 100000)
         (S.left source.old) (S.left source.new) (S.last source.new) (K.contents sink.old) (K.contents sink.new) }
@@ -47,7 +50,9 @@ pub fn run_shared<S: Source, K: Sink>(
     ensures overlong { result ≡ Status.TooLong →
         Overlong (shared_protocol 100000) (2 ^ 40)
         (S.left source.old) (S.left source.new) (K.contents sink.old) (K.contents sink.new) }
-    ensures ends { (Rose (S.faults source.old) (S.faults source.new) → ⊥) → (Rose (K.faults sink.old) (K.faults sink.new) → ⊥) → result ≢ Status.NoMemory → result ≢ Status.TooLong → result ≢ Status.BadWords → (result ≡ Status.Done) ⊎ (result ≡ Status.DoneWithRefusals) }
+    ensures ends { (Rose (S.faults source.old) (S.faults source.new) → ⊥)
+        → (Rose (K.faults sink.old) (K.faults sink.new) → ⊥) → result ≢ Status.NoMemory → result ≢ Status.TooLong
+        → result ≢ Status.BadWords → (result ≡ Status.Done) ⊎ (result ≡ Status.DoneWithRefusals) }
 {
     if words != 0 {
         return Status::BadWords;

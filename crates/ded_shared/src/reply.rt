@@ -15,8 +15,8 @@ pub enum SharedReply {
     Begun,
     /// The session has no open transaction.
     NotBegun,
-    /// The transaction is given up: it touched or changed the name, and others have changed it since its begin. It is the
-    /// least of these names.
+    /// The transaction is given up: it touched or changed the name, and others have changed it since its begin. It is
+    /// the least of these names.
     Conflict(Name),
 }
 

@@ -42,7 +42,8 @@ impl Model for Shared {
 
     ghost view = { λ s. record { table = s.catalogue; transactions = s.transactions.items; log = s.log.items } };
 
-    ghost invariant = { λ s. AreKept (record { table = s.catalogue; transactions = s.transactions.items; log = s.log.items }) };
+    ghost invariant = { λ s.
+        AreKept (record { table = s.catalogue; transactions = s.transactions.items; log = s.log.items }) };
 }
 
 impl Shared {
@@ -58,8 +59,8 @@ impl Shared {
     ghost use Rattle.ded_shared.specs.Tags.{HasTag};
     ghost use Rattle.ded_shared.specs.TagTokens.{AreTokensOf};
 
-    /// Sessions without open transactions over a catalogue without entries, whose relations have at most `limit` tuples, 1 to
-    /// 1,000,000. Names are hashed with keys that are known to all.
+    /// Sessions without open transactions over a catalogue without entries, whose relations have at most `limit`
+    /// tuples, 1 to 1,000,000. Names are hashed with keys that are known to all.
     ///
     /// # Errors
     /// Out of memory.
@@ -71,8 +72,8 @@ impl Shared {
         Shared::hashed_with(alloc, limit, (0, 0))
     }
 
-    /// The same, and names are hashed with these keys: where they are drawn at random, nobody can choose names that are slow
-    /// to find.
+    /// The same, and names are hashed with these keys: where they are drawn at random, nobody can choose names that are
+    /// slow to find.
     ///
     /// # Errors
     /// Out of memory.
@@ -97,8 +98,9 @@ impl Shared {
         &self.catalogue
     }
 
-    /// Answers the next tagged statement, and changes the state as the rules say. A statement that is refused changes nothing,
-    /// but that the transaction of a commit that conflicts is given up. Of `Long` and of `Cut` it doesn't allocate.
+    /// Answers the next tagged statement, and changes the state as the rules say. A statement that is refused changes
+    /// nothing, but that the transaction of a commit that conflicts is given up. Of `Long` and of `Cut` it doesn't
+    /// allocate.
     pub fn step(&mut self, piece: Piece<'_>) -> SharedReply
         requires { IsShortPiece piece }
         ensures { StepsSharedPiece piece.entry (state_of self.old) (shared_form result) (state_of self.new) }
@@ -140,7 +142,8 @@ impl Shared {
         requires high { tag.session ≤ 64 }
         requires short { length tag.rest.now ≤ 65536 }
         requires tokens { AreTokensOf tag.rest.now tag.bytes.now tag.tokens.now }
-        ensures { (bytes : List ℕ) → length bytes ≤ 65536 → HasTag bytes tag.entry.session tag.entry.rest.now → StepsTagged bytes (state_of self.old) (shared_form result) (state_of self.new) }
+        ensures { (bytes : List ℕ) → length bytes ≤ 65536 → HasTag bytes tag.entry.session tag.entry.rest.now
+            → StepsTagged bytes (state_of self.old) (shared_form result) (state_of self.new) }
     {
         match verb_of(tag.bytes, tag.tokens) {
             Some(Verb::Begin) => self.begin(tag.session),

@@ -60,7 +60,8 @@ fn text(bytes: &[u8], token: Token) -> &[u8]
 fn session_of(bytes: &[u8], token: Token) -> Option<u32>
     requires order { token.start ≤ token.end }
     requires within { token.end ≤ length bytes.now }
-    ensures { MatchOption result ((k : ℕ) → IsSessionOf k (lexeme bytes.now token) → ⊥) (λ k. IsSessionOf k (lexeme bytes.now token)) }
+    ensures { MatchOption result ((k : ℕ) → IsSessionOf k (lexeme bytes.now token)
+        → ⊥) (λ k. IsSessionOf k (lexeme bytes.now token)) }
 {
     let value = match token.kind {
         TokenKind::Number => value_of(text(bytes, token)),
@@ -88,7 +89,8 @@ pub fn tag_of<'a>(bytes: &'a [u8], list: &'a [Token]) -> Option<Tag<'a>>
     requires short { length bytes.now ≤ 65536 }
     ensures { MatchOption result
         ((k : ℕ) (rest : List ℕ) → HasTag bytes.now k rest → ⊥)
-        (λ tag. HasTag bytes.now tag.session tag.rest.now × (length tag.rest.now ≤ 65536) × AreTokensOf tag.rest.now tag.bytes.now tag.tokens.now) }
+        (λ tag. HasTag bytes.now tag.session tag.rest.now × (length tag.rest.now ≤ 65536)
+        × AreTokensOf tag.rest.now tag.bytes.now tag.tokens.now) }
 {
     let number = *list.get(0)?;
     let colon = *list.get(1)?;
@@ -144,7 +146,8 @@ fn verb_at(bytes: &[u8], token: Token) -> Option<Verb>
 /// The word of transactions that the tokens are, where they are one and nothing else.
 pub fn verb_of(bytes: &[u8], tokens: &[Token]) -> Option<Verb>
     requires { AreTokensIn bytes.now tokens.now }
-    ensures { (rest : List ℕ) → AreTokensOf rest bytes.now tokens.now → (verb : VerbForm) → (result ≡ Some verb) ↔ IsWord (verb_word verb) rest }
+    ensures { (rest : List ℕ) → AreTokensOf rest bytes.now tokens.now → (verb : VerbForm) → (result ≡ Some verb)
+        ↔ IsWord (verb_word verb) rest }
 {
     if tokens.len() != 1 {
         return None;

@@ -29,7 +29,8 @@ pub fn touched(
     catalogue: &Catalogue,
     command: &Command,
 ) -> Result<Vec<Name>, NoMemory>
-    ensures { IfOk result (λ ns. (n : List ℕ) → is_among ns.items n ≡ touches (catalogue_of catalogue.now) (command_form command.now) n) }
+    ensures { IfOk result (λ ns. (n : List ℕ) → is_among ns.items n
+        ≡ touches (catalogue_of catalogue.now) (command_form command.now) n) }
 {
     catalogue.formed();
     let named = named(alloc, catalogue, command)?;
@@ -41,7 +42,8 @@ pub fn touched(
 /// One more than the greatest level.
 const ABOVE_LEVELS: u32 = limits::LEVELS + 1;
 
-/// The names that the command has, in its formula and beside it. A closure or an interior counts by the name that it is made of.
+/// The names that the command has, in its formula and beside it. A closure or an interior counts by the name that it is
+/// made of.
 ///
 /// # Errors
 /// Out of memory.
@@ -76,7 +78,8 @@ fn with_spoken(
     catalogue: &Catalogue,
     formulas: &[Formula],
 ) -> Result<Vec<Name>, NoMemory>
-    ensures { IfOk result (λ ns. (n : List ℕ) → is_among ns.items n ≡ (is_among names.items n || some_atom_of (atom_speaks_of n) (forms formulas.now))) }
+    ensures { IfOk result (λ ns. (n : List ℕ) → is_among ns.items n
+        ≡ (is_among names.items n || some_atom_of (atom_speaks_of n) (forms formulas.now))) }
 {
     for formula in formulas {
         let spoken = catalogue.spoken_names(formula)?;
@@ -162,7 +165,8 @@ pub fn changed(
     catalogue: &Catalogue,
     command: &Command,
 ) -> Result<Vec<Name>, NoMemory>
-    ensures { IfOk result (λ ns. (n : List ℕ) → is_among ns.items n ≡ changed_by (catalogue_of catalogue.now) (command_form command.now) n) }
+    ensures { IfOk result (λ ns. (n : List ℕ) → is_among ns.items n
+        ≡ changed_by (catalogue_of catalogue.now) (command_form command.now) n) }
 {
     match command {
         Command::Relation(name, _) | Command::Insert(name, _) | Command::Delete(name, _) => {
@@ -188,7 +192,8 @@ pub fn changed(
 /// # Errors
 /// Out of memory.
 fn with_mentions(alloc: Global, catalogue: &Catalogue, name: &Name) -> Result<Vec<Name>, NoMemory>
-    ensures { IfOk result (λ ns. (n : List ℕ) → is_among ns.items n ≡ (bytes_eq name.now n || uses_name (entry_of (catalogue_of catalogue.now).entries name.now) n)) }
+    ensures { IfOk result (λ ns. (n : List ℕ) → is_among ns.items n
+        ≡ (bytes_eq name.now n || uses_name (entry_of (catalogue_of catalogue.now).entries name.now) n)) }
 {
     let mut names = one(alloc, name)?;
     if let Some(mentions) = catalogue.mentions(name) {

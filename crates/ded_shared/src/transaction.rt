@@ -63,12 +63,15 @@ impl Transaction {
         }
     }
 
-    /// Answers a command, given by its bytes too, over the transaction's catalogue, and remembers what it touches and changes.
+    /// Answers a command, given by its bytes too, over the transaction's catalogue, and remembers what it touches and
+    /// changes.
     pub fn work(&mut self, alloc: Global, bytes: &[u8], command: Command) -> Reply
         requires read { IsRead One bytes.now (command_form command) }
         requires short { length bytes.now ≤ 65536 }
-        ensures step { Step One (catalogue_of self.old.own) (Whole bytes.now) (reply_form result) (catalogue_of self.new.own) }
-        ensures remembers { (log : List (List ℕ)) → Remembers bytes.now (reply_form result) (command_form command) (transaction_in log self.old) (transaction_in log self.new) }
+        ensures step { Step One (catalogue_of self.old.own) (Whole bytes.now) (reply_form result)
+            (catalogue_of self.new.own) }
+        ensures remembers { (log : List (List ℕ)) → Remembers bytes.now (reply_form result) (command_form command)
+            (transaction_in log self.old) (transaction_in log self.new) }
         ensures since { self.new.since ≡ self.old.since }
         ensures pieces { ArePieces self.old.accepted.items → ArePieces self.new.accepted.items }
     {
@@ -84,14 +87,17 @@ impl Transaction {
         reply
     }
 
-    /// Forgets what doesn't count behind so much, after the reply: what was touched, where it doesn't depend on names, and
-    /// what was accepted and changed, where it is a refusal.
+    /// Forgets what doesn't count behind so much, after the reply: what was touched, where it doesn't depend on names,
+    /// and what was accepted and changed, where it is a refusal.
     fn settle(&mut self, reply: &Reply, extent: Extent)
         ensures own { self.new.own ≡ self.old.own }
         ensures since { self.new.since ≡ self.old.since }
-        ensures accepted { self.new.accepted.items ≡ (if is_refusal (reply_form reply.now) then take extent.accepted self.old.accepted.items else self.old.accepted.items) }
-        ensures touched { self.new.touched.items ≡ (if depends_on_names (reply_form reply.now) then self.old.touched.items else take extent.touched self.old.touched.items) }
-        ensures changed { self.new.changed.items ≡ (if is_refusal (reply_form reply.now) then take extent.changed self.old.changed.items else self.old.changed.items) }
+        ensures accepted { self.new.accepted.items ≡ (if is_refusal
+            (reply_form reply.now) then take extent.accepted self.old.accepted.items else self.old.accepted.items) }
+        ensures touched { self.new.touched.items ≡ (if depends_on_names
+            (reply_form reply.now) then self.old.touched.items else take extent.touched self.old.touched.items) }
+        ensures changed { self.new.changed.items ≡ (if is_refusal
+            (reply_form reply.now) then take extent.changed self.old.changed.items else self.old.changed.items) }
     {
         if !depends_on_names(reply) {
             self.touched.truncate(extent.touched);

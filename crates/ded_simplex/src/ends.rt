@@ -30,7 +30,8 @@ struct Aim {
     side: Side,
 }
 
-/// The exact bound of the slot on the side, of rows that hold at a point inside; none where what is found doesn't show it.
+/// The exact bound of the slot on the side, of rows that hold at a point inside; none where what is found doesn't show
+/// it.
 ///
 /// # Errors
 /// Out of memory.
@@ -44,7 +45,8 @@ pub(crate) fn checked_end(
 ) -> Result<Option<Bound>, NoMemory>
     requires coefs { AllByRecursion (λ r. AreCoefs r.coefs) rows.now }
     requires inside { meets inside.now.values.items inside.now.denominator rows.now ≡ true }
-    ensures { IfOk result (λ o. MatchOption o Unit (λ b. IsExactBound (conj_holds row_holds rows.now) slot (end_of side) b)) }
+    ensures { IfOk result (λ o. MatchOption o Unit
+        (λ b. IsExactBound (conj_holds row_holds rows.now) slot (end_of side) b)) }
 {
     let aim = Aim { slot, side };
     match reach {
@@ -75,7 +77,8 @@ fn attained(
     multipliers: &[i128],
 ) -> Result<Option<Bound>, NoMemory>
     requires coefs { AllByRecursion (λ r. AreCoefs r.coefs) rows.now }
-    ensures { IfOk result (λ o. MatchOption o Unit (λ b. IsExactBound (conj_holds row_holds rows.now) aim.slot (end_of aim.side) b)) }
+    ensures { IfOk result (λ o. MatchOption o Unit
+        (λ b. IsExactBound (conj_holds row_holds rows.now) aim.slot (end_of aim.side) b)) }
 {
     if !meets(&lent(alloc, rows)?, point) {
         return Ok(None);
@@ -90,7 +93,8 @@ fn attained(
     }
 }
 
-/// The slot's value at the corner as the bound, where the rows hold there but for strictness, and nowhere at it or beyond.
+/// The slot's value at the corner as the bound, where the rows hold there but for strictness, and nowhere at it or
+/// beyond.
 ///
 /// # Errors
 /// Out of memory.
@@ -104,7 +108,8 @@ fn approached(
 ) -> Result<Option<Bound>, NoMemory>
     requires coefs { AllByRecursion (λ r. AreCoefs r.coefs) rows.now }
     requires inside { meets inside.now.values.items inside.now.denominator rows.now ≡ true }
-    ensures { IfOk result (λ o. MatchOption o Unit (λ b. IsExactBound (conj_holds row_holds rows.now) aim.slot (end_of aim.side) b)) }
+    ensures { IfOk result (λ o. MatchOption o Unit
+        (λ b. IsExactBound (conj_holds row_holds rows.now) aim.slot (end_of aim.side) b)) }
 {
     if !leans(&lent(alloc, rows)?, corner) {
         return Ok(None);
@@ -131,7 +136,8 @@ fn is_endless(
     aim: Aim,
 ) -> Result<bool, NoMemory>
     requires inside { meets inside.now.values.items inside.now.denominator rows.now ≡ true }
-    ensures { IfOk result (λ b. b ≡ true → IsExactBound (conj_holds row_holds rows.now) aim.slot (end_of aim.side) Infinite) }
+    ensures { IfOk result (λ b. b ≡ true → IsExactBound (conj_holds row_holds rows.now) aim.slot
+        (end_of aim.side) Infinite) }
 {
     if direction.denominator != 0 || !goes(aim.side, number_of(&direction.values, aim.slot)) {
         return Ok(false);
@@ -149,8 +155,8 @@ fn goes(side: Side, number: i128) -> bool
     }
 }
 
-/// Whether the numbers show that the rows hold nowhere together with the row that says that the slot's value is beyond the fraction,
-/// or at it where that row is one by `<=`.
+/// Whether the numbers show that the rows hold nowhere together with the row that says that the slot's value is beyond
+/// the fraction, or at it where that row is one by `<=`.
 ///
 /// # Errors
 /// Out of memory.
@@ -163,7 +169,8 @@ fn are_none(
     multipliers: &[i128],
 ) -> Result<bool, NoMemory>
     requires coefs { AllByRecursion (λ r. AreCoefs r.coefs) rows.now }
-    ensures { IfOk result (λ b. b ≡ true → HoldsNowhere (conj_holds row_holds (beyond_row (end_of aim.side) aim.slot value op ∷ rows.now))) }
+    ensures { IfOk result (λ b. b ≡ true → HoldsNowhere
+        (conj_holds row_holds (beyond_row (end_of aim.side) aim.slot value op ∷ rows.now))) }
 {
     match aim.slot.sort {
         Sort::Text => Ok(false),

@@ -1,8 +1,8 @@
 //! The search for how far a slot reaches where rows hold: the simplex, from a point at which they do.
 //!
-//! The line of the slot is pivoted with the first column whose variable brings the slot further, against the line whose variable is
-//! the first that may go no further, until no column does: then the slot is at its end, and the numbers of its line show it. Where no
-//! line stops the variable of a column, the slot has no end.
+//! The line of the slot is pivoted with the first column whose variable brings the slot further, against the line whose
+//! variable is the first that may go no further, until no column does: then the slot is at its end, and the numbers of
+//! its line show it. Where no line stops the variable of a column, the slot has no end.
 
 use crate::reading::{corner, end_multipliers, multipliers, point, ray};
 use crate::search::{End, helping, solve};
@@ -18,7 +18,8 @@ use std::cmp::Ordering;
 /// How far the values of a slot go to one side.
 #[derive(Drop)]
 pub(crate) enum Reach {
-    /// To the value at the point. Numbers, first that of the row which says that a value is beyond, may show that none is.
+    /// To the value at the point. Numbers, first that of the row which says that a value is beyond, may show that none
+    /// is.
     To(Witness, Vec<i128>),
     /// Up to that value, which isn't attained.
     Near(Witness, Vec<i128>),
@@ -176,7 +177,8 @@ fn towards(line: &Line, column: usize, side: Ordering) -> Ordering {
     }
 }
 
-/// A pivot of the column with the first line that stops its variable on the way to this side, or the end where none does.
+/// A pivot of the column with the first line that stops its variable on the way to this side, or the end where none
+/// does.
 fn stopped(table: &Table, column: usize, towards: Ordering) -> Step {
     match stopping(&table.lines, column, towards) {
         Some(line) => Step::Pivot(line, column),
@@ -197,7 +199,8 @@ fn column_of(columns: &[Variable], slot: Slot) -> Option<usize> {
     columns.iter().position(|variable| variable.is_slot(slot))
 }
 
-/// The place of the line whose variable first gets to where it may go no further, as that of the column goes to this side.
+/// The place of the line whose variable first gets to where it may go no further, as that of the column goes to this
+/// side.
 fn stopping(lines: &[Line], column: usize, towards: Ordering) -> Option<usize> {
     let mut first = None;
     for (at, line) in lines.iter().enumerate() {

@@ -1,7 +1,8 @@
 //! The search over a few of many rows.
 //!
-//! Of many rows most don't matter: a few show that there is no point, or lead to one. So the search begins with a few, those of a hint
-//! if it has some, and those that the point found last breaks most are added, until it breaks none, or the few have no point.
+//! Of many rows most don't matter: a few show that there is no point, or lead to one. So the search begins with a few,
+//! those of a hint if it has some, and those that the point found last breaks most are added, until it breaks none, or
+//! the few have no point.
 
 use crate::hint::Hint;
 use crate::search::{Found, find_at_once};
@@ -10,19 +11,20 @@ use ded_model::row::Row;
 use ded_weighing::{Witness, row_at};
 use std::alloc::Global;
 
-/// How many rows the search begins with, about, where the hint has fewer: some more than there are slots mostly, so that they have a
-/// corner, and few enough that a table of them is made and pivoted at once. It wasn't measured against other numbers.
+/// How many rows the search begins with, about, where the hint has fewer: some more than there are slots mostly, so
+/// that they have a corner, and few enough that a table of them is made and pivoted at once. It wasn't measured against
+/// other numbers.
 const FIRST_ROWS: usize = 8;
 
-/// How many rows are added at a time, about: those that the point breaks most, of as many stretches. It wasn't measured against other
-/// numbers.
+/// How many rows are added at a time, about: those that the point breaks most, of as many stretches. It wasn't measured
+/// against other numbers.
 const ADDED_ROWS: usize = 4;
 
 /// How often rows are added before all are searched at once.
 const ROUNDS: usize = 64;
 
-/// Looks among a few of the rows, those of the hint first, and more of them, as long as that helps. The hint is then those that were
-/// looked among.
+/// Looks among a few of the rows, those of the hint first, and more of them, as long as that helps. The hint is then
+/// those that were looked among.
 ///
 /// # Errors
 /// Out of memory.
@@ -68,7 +70,8 @@ fn add_spaced(places: &mut Vec<usize>, end: usize) -> Result<(), NoMemory> {
     Ok(())
 }
 
-/// Looks among the rows at the places, and where their point breaks others, adds some of these. Gives what is found of all rows.
+/// Looks among the rows at the places, and where their point breaks others, adds some of these. Gives what is found of
+/// all rows.
 ///
 /// # Errors
 /// Out of memory.

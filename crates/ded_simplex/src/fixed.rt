@@ -1,7 +1,8 @@
 //! Points that rows fix slot by slot, and what such a point tells of all rows.
 //!
-//! Who looks up a point asks whether rows hold together with equalities of one slot each. Where these fix every slot, one point is to be
-//! tried; and where a row doesn't hold there, this row and the equalities of its slots show that there is none.
+//! Who looks up a point asks whether rows hold together with equalities of one slot each. Where these fix every slot,
+//! one point is to be tried; and where a row doesn't hold there, this row and the equalities of its slots show that
+//! there is none.
 
 use ded_model::memory::NoMemory;
 use ded_model::row::{Row, RowOp};
@@ -26,7 +27,8 @@ pub(crate) struct Fixed {
 }
 
 impl Fixed {
-    /// The point that the equalities of one slot fix. None where some slot of the rows isn't fixed, or a number gets too long.
+    /// The point that the equalities of one slot fix. None where some slot of the rows isn't fixed, or a number gets
+    /// too long.
     ///
     /// # Errors
     /// Out of memory.
@@ -41,8 +43,8 @@ impl Fixed {
         }
     }
 
-    /// Numbers, one for each row, that may weigh the rows to a false one: of a row that doesn't hold at the point, and of the equalities
-    /// that fix its slots. None where each row holds there, or a number gets too long.
+    /// Numbers, one for each row, that may weigh the rows to a false one: of a row that doesn't hold at the point, and
+    /// of the equalities that fix its slots. None where each row holds there, or a number gets too long.
     ///
     /// # Errors
     /// Out of memory.
@@ -144,7 +146,8 @@ fn scaled(number: i128, dividend: i128, divisor: i128) -> Option<i128> {
         .checked_neg()
 }
 
-/// Sets the numbers of the equalities that fix the slots of the row, so that these come to 0 with the denominator times the row.
+/// Sets the numbers of the equalities that fix the slots of the row, so that these come to 0 with the denominator times
+/// the row.
 fn weigh(numbers: &mut [i128], row: &Row, fixed: &Fixed) -> Option<()> {
     for (slot, a) in row.coefs.list() {
         let fixing = last_of(&fixed.fixings, *slot)?;

@@ -5,7 +5,8 @@ ghost use Rattle.ded_simplex.specs.Ends.{IsValue};
 use ded_model::bound::Frac;
 use ded_num::{gcd, quotient, short_product};
 
-/// The number over the denominator in lowest terms. None where the denominator isn't positive, or one of them has no negative.
+/// The number over the denominator in lowest terms. None where the denominator isn't positive, or one of them has no
+/// negative.
 pub(crate) fn fraction(number: i128, denominator: i128) -> Option<Frac>
     ensures { MatchOption result Unit (λ f. IsValue number denominator f) }
 {
@@ -25,7 +26,8 @@ pub(crate) fn fraction(number: i128, denominator: i128) -> Option<Frac>
     )
 }
 
-/// The fraction of these terms, where they times the divisor are the number and the denominator, and have no common divisor.
+/// The fraction of these terms, where they times the divisor are the number and the denominator, and have no common
+/// divisor.
 fn checked_fraction(number: i128, denominator: i128, num: i128, den: i128, by: i128) -> Option<Frac>
     requires denominator { pos 0 <ℤ denominator }
     ensures { MatchOption result Unit (λ f. IsValue number denominator f) }

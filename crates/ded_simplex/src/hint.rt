@@ -1,7 +1,8 @@
 //! What one search leaves for the next one over nearly the same rows.
 //!
-//! Where rows are searched again and again, each time with a few others among them, mostly the same few matter. So a search begins
-//! with those that the last ones came upon. Nothing is promised of which these are, and a wrong one does no harm.
+//! Where rows are searched again and again, each time with a few others among them, mostly the same few matter. So a
+//! search begins with those that the last ones came upon. Nothing is promised of which these are, and a wrong one does
+//! no harm.
 
 use crate::search::Found;
 use ded_model::memory::NoMemory;
@@ -9,8 +10,8 @@ use ded_model::row::Row;
 use ded_weighing::{Witness, row_at};
 use std::alloc::Global;
 
-/// How many places of a hint a search begins with at most, the last ones: those that mattered stand there, and among more rows a search
-/// takes longer.
+/// How many places of a hint a search begins with at most, the last ones: those that mattered stand there, and among
+/// more rows a search takes longer.
 const BEGUN_WITH_AT_MOST: usize = 16;
 
 /// The places of a few of many rows, those that mattered last behind the others, for the next search to begin with.
@@ -45,7 +46,8 @@ impl Hint {
         Ok(below)
     }
 
-    /// Remembers the places of the few rows among which something was found of all, those of the rows that matter to it at the end.
+    /// Remembers the places of the few rows among which something was found of all, those of the rows that matter to it
+    /// at the end.
     ///
     /// # Errors
     /// Out of memory.

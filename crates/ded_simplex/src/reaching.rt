@@ -18,8 +18,8 @@ use ded_theory::Span;
 use ded_weighing::{Witness, are_refuted, meets};
 use std::alloc::Global;
 
-/// Between which values the slot stands where all the rows hold: `Nothing` and `Exact` are so, as what is found for them is checked.
-/// `Around` without bounds where nothing is found, or it doesn't pass its check.
+/// Between which values the slot stands where all the rows hold: `Nothing` and `Exact` are so, as what is found for
+/// them is checked. `Around` without bounds where nothing is found, or it doesn't pass its check.
 ///
 /// # Errors
 /// Out of memory.

@@ -8,7 +8,8 @@ use ded_weighing::Witness;
 use std::alloc::Global;
 use std::cmp::Ordering;
 
-/// The point at which the variables of the columns are 0, where the arbitrarily small number is small enough for the rows by `<`.
+/// The point at which the variables of the columns are 0, where the arbitrarily small number is small enough for the
+/// rows by `<`.
 ///
 /// # Errors
 /// Out of memory.
@@ -74,8 +75,8 @@ pub(crate) fn ray(
     Ok(witness)
 }
 
-/// The numbers that a line shows whose variable, a slot, can't get beyond its value against this side of it: that of the row which
-/// says that it does, in lowest terms, and behind it those of the rows.
+/// The numbers that a line shows whose variable, a slot, can't get beyond its value against this side of it: that of
+/// the row which says that it does, in lowest terms, and behind it those of the rows.
 ///
 /// # Errors
 /// Out of memory.
@@ -96,7 +97,8 @@ pub(crate) fn end_multipliers(
     Ok(numbers)
 }
 
-/// Into how many parts 1 has to be divided, so that with such a part as the arbitrarily small number no sum of a row gets above 0.
+/// Into how many parts 1 has to be divided, so that with such a part as the arbitrarily small number no sum of a row
+/// gets above 0.
 fn scale(lines: &[Line]) -> i128 {
     let mut scale = 1;
     for line in lines {
@@ -121,8 +123,8 @@ fn shorten_point(witness: &mut Witness) {
     }
 }
 
-/// The numbers of the rows that a line shows whose variable can't come nearer to 0 from this side: its own and those of the columns
-/// weigh them to its value alone.
+/// The numbers of the rows that a line shows whose variable can't come nearer to 0 from this side: its own and those of
+/// the columns weigh them to its value alone.
 ///
 /// # Errors
 /// Out of memory.

@@ -1,8 +1,9 @@
 //! The search for what shows that rows hold somewhere, or nowhere: the dual simplex.
 //!
-//! A line whose variable may not have its value is pivoted with the first column whose variable helps, until all variables may have
-//! their values, and so are a point, or none helps: then the numbers of the line weigh the rows to a false one. At first the line is
-//! the one with the greatest value; later it is, after Bland, the first one, which goes round in no circle.
+//! A line whose variable may not have its value is pivoted with the first column whose variable helps, until all
+//! variables may have their values, and so are a point, or none helps: then the numbers of the line weigh the rows to a
+//! false one. At first the line is the one with the greatest value; later it is, after Bland, the first one, which goes
+//! round in no circle.
 
 use crate::few::find_by_few;
 use crate::hint::Hint;
@@ -46,12 +47,13 @@ enum Step {
     Halt(End),
 }
 
-/// How many rows at most are searched all at once. A pivot goes through the lines of all rows, and of many rows most don't matter, so
-/// that more are searched by few of them: the sum of two polygons of 64 corners took less than half of the time by it. The number
-/// itself wasn't measured against others.
+/// How many rows at most are searched all at once. A pivot goes through the lines of all rows, and of many rows most
+/// don't matter, so that more are searched by few of them: the sum of two polygons of 64 corners took less than half of
+/// the time by it. The number itself wasn't measured against others.
 const MOST_ROWS_AT_ONCE: usize = 64;
 
-/// Looks for a point at which the rows hold, or for numbers that show that there is none. Nothing is promised of either.
+/// Looks for a point at which the rows hold, or for numbers that show that there is none. Nothing is promised of
+/// either.
 ///
 /// # Errors
 /// Out of memory.
@@ -59,7 +61,8 @@ pub fn find(alloc: Global, rows: &[&Row]) -> Result<Found, NoMemory> {
     find_from(alloc, rows, &mut Hint::new(alloc))
 }
 
-/// Looks for what [`find`] does. Among many rows it begins with those of the hint, which is then what the search came upon.
+/// Looks for what [`find`] does. Among many rows it begins with those of the hint, which is then what the search came
+/// upon.
 ///
 /// # Errors
 /// Out of memory.
@@ -154,7 +157,8 @@ fn is_line_before(line: &Line, found: Option<(usize, &Line)>) -> bool {
     }
 }
 
-/// The place of the first variable among those of the columns that may change so that the value of the line comes nearer to 0.
+/// The place of the first variable among those of the columns that may change so that the value of the line comes
+/// nearer to 0.
 pub(crate) fn helping(columns: &[Variable], line: &Line, side: Ordering) -> Option<usize> {
     let mut first = None;
     for (place, (variable, a)) in columns.iter().zip(&line.coefs).enumerate() {

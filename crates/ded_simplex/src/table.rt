@@ -1,13 +1,13 @@
 //! The table of the search: sums of rows, each a combination of variables that are 0.
 //!
-//! Its variables are the slots, of which each may have any value, and the sums of the rows. In a line one variable, times a
-//! denominator, is a sum of the others, of the variables of the columns. These are all 0, so that its value is what stands beside
-//! its coefficients. A pivot lets the variables of a line and of a column change places.
+//! Its variables are the slots, of which each may have any value, and the sums of the rows. In a line one variable,
+//! times a denominator, is a sum of the others, of the variables of the columns. These are all 0, so that its value is
+//! what stands beside its coefficients. A pivot lets the variables of a line and of a column change places.
 //!
-//! All lines share a denominator, which is the number at the last pivot. So, after Bareiss, each number in the table is a minor of
-//! the coefficients that it began with, and quotients are exact. All arithmetic is modulo 2 ^ 128: the numbers are right as long as
-//! they are short themselves, however long the products on the way are. Nothing is proved of that, since what is found by the table
-//! is checked.
+//! All lines share a denominator, which is the number at the last pivot. So, after Bareiss, each number in the table is
+//! a minor of the coefficients that it began with, and quotients are exact. All arithmetic is modulo 2 ^ 128: the
+//! numbers are right as long as they are short themselves, however long the products on the way are. Nothing is proved
+//! of that, since what is found by the table is checked.
 
 use crate::exact::Divisor;
 use crate::variable::{Value, Variable};
@@ -71,8 +71,8 @@ impl Line {
         order.is_gt() || (order.is_eq() && self.variable.is_before(other.variable))
     }
 
-    /// Solves the line for the variable of a column, whose coefficient becomes the denominator, and gives that; none where it would
-    /// be no positive number.
+    /// Solves the line for the variable of a column, whose coefficient becomes the denominator, and gives that; none
+    /// where it would be no positive number.
     fn solve(&mut self, column: usize, denominator: i128) -> Option<i128> {
         let entry = self.coefs.get_mut(column)?;
         let pivot = mem::replace(entry, denominator.wrapping_neg());
@@ -108,7 +108,8 @@ impl Line {
     }
 }
 
-/// How the product of the first two numbers compares with that of the others, as far as they are no longer than a number may be.
+/// How the product of the first two numbers compares with that of the others, as far as they are no longer than a
+/// number may be.
 fn product_order(a: i128, b: i128, c: i128, d: i128) -> Ordering {
     a.saturating_mul(b).cmp(&c.saturating_mul(d))
 }

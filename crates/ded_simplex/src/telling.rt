@@ -14,8 +14,8 @@ use ded_theory::Verdict;
 use ded_weighing::{Witness, are_refuted, meets};
 use std::alloc::Global;
 
-/// Whether some point satisfies all the rows: `Inhabited` and `Empty` are so, as what is found for them is checked. `Unknown` where
-/// nothing is found, or it doesn't pass its check.
+/// Whether some point satisfies all the rows: `Inhabited` and `Empty` are so, as what is found for them is checked.
+/// `Unknown` where nothing is found, or it doesn't pass its check.
 ///
 /// # Errors
 /// Out of memory.
@@ -27,8 +27,8 @@ pub fn told(alloc: Global, rows: &[Row]) -> Result<Verdict, NoMemory>
     told_from(alloc, &lent, &mut Hint::new(alloc))
 }
 
-/// Whether some point satisfies all the rows, as [`told`] says it. The search among many rows begins with those of the hint, which is
-/// then what it came upon, for the next search over nearly the same rows.
+/// Whether some point satisfies all the rows, as [`told`] says it. The search among many rows begins with those of the
+/// hint, which is then what it came upon, for the next search over nearly the same rows.
 ///
 /// # Errors
 /// Out of memory.

@@ -21,7 +21,8 @@ impl Variable {
         }
     }
 
-    /// Whether the variable, which is 0, may change so that a line, where it has the coefficient, comes nearer to 0 from that side.
+    /// Whether the variable, which is 0, may change so that a line, where it has the coefficient, comes nearer to 0
+    /// from that side.
     pub fn may_help(self, coefficient: i128, side: Ordering) -> bool {
         match self {
             Variable::Slot(_) => coefficient != 0,
@@ -38,7 +39,8 @@ impl Variable {
         }
     }
 
-    /// Whether the variable, with a coefficient of this sign, gets to where it may go no further as another one goes to a side of 0.
+    /// Whether the variable, with a coefficient of this sign, gets to where it may go no further as another one goes to
+    /// a side of 0.
     pub fn is_stopped(self, sign: Ordering, towards: Ordering) -> bool {
         match self {
             Variable::Slot(_) => false,
@@ -76,8 +78,8 @@ impl Value {
         self.whole.wrapping_mul(number).wrapping_add(self.small)
     }
 
-    /// Into how many parts 1 has to be divided, so that with such a part as the arbitrarily small number a value below 0 stays at
-    /// most 0.
+    /// Into how many parts 1 has to be divided, so that with such a part as the arbitrarily small number a value below
+    /// 0 stays at most 0.
     pub fn parts(self) -> i128 {
         if self.whole < 0 && self.small > 0 {
             self.small

@@ -81,7 +81,8 @@ pub(crate) fn some_atom_of<T: AtomTest>(
     scope: &Scope<'_>,
     formulas: &Vec<Formula>,
 ) -> Result<bool, NoMemory>
-    ensures { IfOk result (λ b. b ≡ some_below_of (T.passes test.now) (scope_form scope.now) (forms formulas.now.items)) }
+    ensures { IfOk result (λ b. b ≡ some_below_of (T.passes test.now) (scope_form scope.now)
+        (forms formulas.now.items)) }
 {
     for formula in formulas {
         if some_atom(test, scope, formula)? {

@@ -107,7 +107,8 @@ pub(crate) fn names_unknown<N: Names>(
 
 /// Whether a relation or a view is given a name that is defined.
 pub(crate) fn takes_name(command: &Command, facts: Facts<'_>) -> bool
-    ensures { (c : Catalogue) → AreFacts c (command_form command.now) facts.entry → result ≡ cause.takes_name c (command_form command.now) }
+    ensures { (c : Catalogue) → AreFacts c (command_form command.now) facts.entry
+        → result ≡ cause.takes_name c (command_form command.now) }
 {
     match command {
         Command::Relation(_, _) | Command::View(_, _, _) => is_defined(facts.first),
@@ -129,7 +130,8 @@ pub(crate) fn takes_name(command: &Command, facts: Facts<'_>) -> bool
 
 /// Whether a view is named where a relation has to be, or a relation where a view has to be.
 pub(crate) fn names_other_kind(command: &Command, facts: Facts<'_>) -> bool
-    ensures { (c : Catalogue) → AreFacts c (command_form command.now) facts.entry → result ≡ cause.names_other_kind c (command_form command.now) }
+    ensures { (c : Catalogue) → AreFacts c (command_form command.now) facts.entry
+        → result ≡ cause.names_other_kind c (command_form command.now) }
 {
     match command {
         Command::Insert(_, _) | Command::Delete(_, _) | Command::Show(_) | Command::BoxOf(_) =>
@@ -149,8 +151,8 @@ pub(crate) fn names_other_kind(command: &Command, facts: Facts<'_>) -> bool
     }
 }
 
-/// Whether an atom has another number of arguments than its relation or view has columns, or two relations that are set side
-/// by side have different numbers of columns.
+/// Whether an atom has another number of arguments than its relation or view has columns, or two relations that are set
+/// side by side have different numbers of columns.
 ///
 /// # Errors
 /// Out of memory.
@@ -187,7 +189,8 @@ fn has_other_arity<N: Names>(
     names: &N,
 ) -> Result<bool, NoMemory>
     requires { AreFacts (N.catalogue names.now) (command_form command.now) facts }
-    ensures { IfOk result (λ b. b ≡ cause.passes_with (cause.formula_in (command_form command.now)) (has_other_arity (known (N.catalogue names.now)))) }
+    ensures { IfOk result (λ b. b ≡ cause.passes_with (cause.formula_in (command_form command.now))
+        (has_other_arity (known (N.catalogue names.now)))) }
 {
     if facts.is_sound {
         return Ok(false);
@@ -209,8 +212,8 @@ pub(crate) fn has_unbound(command: &Command, facts: Facts<'_>) -> Result<bool, N
     some_in_command(&Unbound, command, columns_of(facts.first))
 }
 
-/// Whether a text stands where a number has to, or a number where a text has to, or `!=` between numbers in an insert, or two
-/// relations that are set side by side have different sorts at one place.
+/// Whether a text stands where a number has to, or a number where a text has to, or `!=` between numbers in an insert,
+/// or two relations that are set side by side have different sorts at one place.
 ///
 /// # Errors
 /// Out of memory.
@@ -245,7 +248,9 @@ pub(crate) fn has_wrong_sort<N: Names>(
 /// Whether a text stands in the command's formula where a number has to, or a number where a text has to.
 fn has_missorted<N: Names>(command: &Command, facts: Facts<'_>, names: &N) -> Result<bool, NoMemory>
     requires { AreFacts (N.catalogue names.now) (command_form command.now) facts }
-    ensures { IfOk result (λ b. b ≡ cause.passes_with (cause.formula_in (command_form command.now)) (has_missorted (known (N.catalogue names.now)) (cause.heading_in (N.catalogue names.now) (command_form command.now)))) }
+    ensures { IfOk result (λ b. b ≡ cause.passes_with (cause.formula_in (command_form command.now))
+        (has_missorted (known (N.catalogue names.now))
+        (cause.heading_in (N.catalogue names.now) (command_form command.now)))) }
 {
     if facts.is_sound {
         return Ok(false);
@@ -361,14 +366,16 @@ fn is_relation(entry: Option<Known<'_>>) -> bool
 
 /// Whether the headings of both names are of different lengths.
 fn do_lengths_differ(facts: Facts<'_>) -> bool
-    ensures { result ≡ cause.lengths_differ (columns_with (known_form facts.entry.first)) (columns_with (known_form facts.entry.second)) }
+    ensures { result ≡ cause.lengths_differ (columns_with (known_form facts.entry.first))
+        (columns_with (known_form facts.entry.second)) }
 {
     columns_of(facts.first).len() != columns_of(facts.second).len()
 }
 
 /// Whether the headings of both names have different sorts at one place.
 fn do_headings_differ(facts: Facts<'_>) -> bool
-    ensures { result ≡ cause.headings_differ (columns_with (known_form facts.entry.first)) (columns_with (known_form facts.entry.second)) }
+    ensures { result ≡ cause.headings_differ (columns_with (known_form facts.entry.first))
+        (columns_with (known_form facts.entry.second)) }
 {
     do_columns_differ(columns_of(facts.first), columns_of(facts.second))
 }
@@ -382,7 +389,8 @@ fn uses_undefined<N: Names>(formula: &Formula, names: &N) -> Result<bool, NoMemo
 
 /// Whether the command is an insert with `!=` between numbers.
 fn has_inequality(command: &Command, facts: Facts<'_>) -> Result<bool, NoMemory>
-    ensures { (c : Catalogue) → AreFacts c (command_form command.now) facts.entry → IfOk result (λ b. b ≡ cause.has_inequality c (command_form command.now)) }
+    ensures { (c : Catalogue) → AreFacts c (command_form command.now) facts.entry
+        → IfOk result (λ b. b ≡ cause.has_inequality c (command_form command.now)) }
 {
     match command {
         Command::Insert(_, formulas) => some_in_insert(formulas, facts),
@@ -405,7 +413,8 @@ fn has_inequality(command: &Command, facts: Facts<'_>) -> Result<bool, NoMemory>
 
 /// Whether some comparison of an insert, below the columns of its relation, is `!=` between numbers.
 fn some_in_insert(formulas: &Vec<Formula>, facts: Facts<'_>) -> Result<bool, NoMemory>
-    ensures { IfOk result (λ b. b ≡ some_below_of cause.is_rational_inequality (scope_of (columns_with (known_form facts.entry.first))) (forms formulas.now.items)) }
+    ensures { IfOk result (λ b. b ≡ some_below_of cause.is_rational_inequality
+        (scope_of (columns_with (known_form facts.entry.first))) (forms formulas.now.items)) }
 {
     some_atom_of(
         &RationalInequality,

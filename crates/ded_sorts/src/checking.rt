@@ -23,7 +23,8 @@ use ded_model::memory::NoMemory;
 /// failed.
 pub fn check<N: Names>(command: &Command, names: &N) -> Result<(), Refusal>
     ensures ok { IfOk result (λ _. HasNoCause (N.catalogue names.now) (command_form command.now)) }
-    ensures refused { IfErr result (λ r. r ≢ Refusal.Memory → IsLeastCause r (N.catalogue names.now) (command_form command.now)) }
+    ensures refused { IfErr result (λ r. r ≢ Refusal.Memory
+        → IsLeastCause r (N.catalogue names.now) (command_form command.now)) }
 {
     let Ok(facts) = Facts::of(command, names) else {
         return Err(Refusal::Memory);
@@ -51,8 +52,10 @@ fn refuse<N: Names>(
     requires facts { AreFacts (N.catalogue names.now) (command_form command.now) facts }
     requires checked { is_checked refusal ≡ true }
     requires past { HasNoneBelow (refusal_number refusal) (N.catalogue names.now) (command_form command.now) }
-    ensures ok { IfOk result (λ _. HasNoneBelow (suc (refusal_number refusal)) (N.catalogue names.now) (command_form command.now)) }
-    ensures refused { IfErr result (λ r. r ≢ Refusal.Memory → IsLeastCause r (N.catalogue names.now) (command_form command.now)) }
+    ensures ok { IfOk result (λ _. HasNoneBelow (suc (refusal_number refusal)) (N.catalogue names.now)
+        (command_form command.now)) }
+    ensures refused { IfErr result (λ r. r ≢ Refusal.Memory
+        → IsLeastCause r (N.catalogue names.now) (command_form command.now)) }
 {
     match applies(refusal, command, facts, names) {
         Err(_) => Err(Refusal::Memory),

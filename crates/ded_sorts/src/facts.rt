@@ -1,5 +1,6 @@
-//! What a command and the names tell at once of all causes of refusals: what is known of the names that the command gives outside of
-//! its formula, each looked up once, and whether no atom of its formula is at fault, found in one pass over it.
+//! What a command and the names tell at once of all causes of refusals: what is known of the names that the command
+//! gives outside of its formula, each looked up once, and whether no atom of its formula is at fault, found in one pass
+//! over it.
 ghost use Rattle.std.specs.Prelude.{◌≡◌, IfOk, true};
 ghost use Rattle.ded_model.specs.Command.{command_form};
 ghost use Rattle.ded_model.specs.Entries.{known};
@@ -24,8 +25,8 @@ pub(crate) struct Facts<'a> {
     pub(crate) first: Option<Known<'a>>,
     /// What is known of the second of two names.
     pub(crate) second: Option<Known<'a>>,
-    /// Whether no atom of its formula uses a name that isn't defined or has another number of columns, an unbound variable, or a text
-    /// in the place of a number or the other way round.
+    /// Whether no atom of its formula uses a name that isn't defined or has another number of columns, an unbound
+    /// variable, or a text in the place of a number or the other way round.
     pub(crate) is_sound: bool,
 }
 
@@ -117,7 +118,8 @@ pub(crate) fn some_in_command<T: AtomTest>(
     command: &Command,
     columns: &[Column],
 ) -> Result<bool, NoMemory>
-    ensures { IfOk result (λ b. b ≡ cause.passes_with (cause.formula_in (command_form command.now)) (some_below (T.passes test.now) (scope_of (heading_with columns.now (command_form command.now))))) }
+    ensures { IfOk result (λ b. b ≡ cause.passes_with (cause.formula_in (command_form command.now))
+        (some_below (T.passes test.now) (scope_of (heading_with columns.now (command_form command.now))))) }
 {
     match command {
         Command::Insert(_, formulas) => some_atom_of(test, &Scope::Heading(columns), formulas),

@@ -56,8 +56,8 @@ pub trait Names {
     /// The catalogue that the value stands for.
     ghost catalogue: { Self → Catalogue };
 
-    /// What is known of the name, none exactly where no entry has it. A heading that is known has at most 16 columns. It does not
-    /// allocate.
+    /// What is known of the name, none exactly where no entry has it. A heading that is known has at most 16 columns.
+    /// It does not allocate.
     fn known(&self, name: &Name) -> Option<Known<'_>>
         ensures value { known_form result ≡ known (catalogue self.now) name.now }
         ensures few { length (columns_with (known_form result)) ≤ 16 };

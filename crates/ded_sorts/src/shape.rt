@@ -40,7 +40,8 @@ fn are_named(columns: &[Column], name: &Name) -> bool
 /// How many places are left of `room` after the formula's quantifiers have one each, none where there are too few.
 #[cycle(places)]
 fn room_after(formula: &Formula, room: usize) -> Option<usize>
-    ensures { MatchOption result (room < quantifiers (form formula.now)) (λ left. left + quantifiers (form formula.now) ≡ room) }
+    ensures { MatchOption result (room < quantifiers (form formula.now))
+        (λ left. left + quantifiers (form formula.now) ≡ room) }
 {
     match formula {
         Formula::True | Formula::False | Formula::Compare(_, _, _) | Formula::Member(_, _) => {
@@ -59,7 +60,8 @@ fn room_after(formula: &Formula, room: usize) -> Option<usize>
 /// few.
 #[cycle(places)]
 fn room_after_all(formulas: &Vec<Formula>, room: usize) -> Option<usize>
-    ensures { MatchOption result (room < quantifiers_of (forms formulas.now.items)) (λ left. left + quantifiers_of (forms formulas.now.items) ≡ room) }
+    ensures { MatchOption result (room < quantifiers_of (forms formulas.now.items))
+        (λ left. left + quantifiers_of (forms formulas.now.items) ≡ room) }
 {
     let mut left = room;
     for formula in formulas {

@@ -76,8 +76,8 @@ impl<N: Names> AtomTest for Missorted<'_, N> {
     }
 }
 
-/// Passes atoms that one of [`Undefined`](crate::uses::Undefined), [`OtherArity`](crate::uses::OtherArity), [`Unbound`] and
-/// [`Missorted`] passes. A name is looked up once.
+/// Passes atoms that one of [`Undefined`](crate::uses::Undefined), [`OtherArity`](crate::uses::OtherArity), [`Unbound`]
+/// and [`Missorted`] passes. A name is looked up once.
 #[derive(Drop)]
 pub(crate) struct Faulty<'a, N> {
     pub(crate) names: &'a N,
@@ -230,17 +230,21 @@ fn have_text_sum(scope: &Scope<'_>, operands: &[Operand]) -> bool
 
 /// Whether the comparison has a text where a number has to stand, or a number where a text has to.
 fn is_missorted(scope: &Scope<'_>, left: &Operand, op: CompareOp, right: &Operand) -> bool
-    ensures { result ≡ (model.is_text_sum (scope_form scope.now) left.now || model.is_text_sum (scope_form scope.now) right.now
-        || model.sorts_differ op (model.operand_sort (scope_form scope.now) left.now) (model.operand_sort (scope_form scope.now) right.now)) }
+    ensures { result ≡ (model.is_text_sum (scope_form scope.now) left.now
+        || model.is_text_sum (scope_form scope.now) right.now
+        || model.sorts_differ op (model.operand_sort (scope_form scope.now) left.now)
+        (model.operand_sort (scope_form scope.now) right.now)) }
 {
     is_text_sum(scope, left)
         || is_text_sum(scope, right)
         || do_sorts_differ(op, sort_of(scope, left), sort_of(scope, right))
 }
 
-/// Whether the operands have a text where a number has to stand for one of the columns, or a number where a text has to.
+/// Whether the operands have a text where a number has to stand for one of the columns, or a number where a text has
+/// to.
 fn are_missorted(scope: &Scope<'_>, columns: &[Column], operands: &[Operand]) -> bool
-    ensures { result ≡ (list_any (model.is_text_sum (scope_form scope.now)) operands.now || model.arguments_differ (scope_form scope.now) columns.now operands.now) }
+    ensures { result ≡ (list_any (model.is_text_sum (scope_form scope.now)) operands.now
+        || model.arguments_differ (scope_form scope.now) columns.now operands.now) }
 {
     have_text_sum(scope, operands) || do_arguments_differ(scope, columns, operands)
 }

@@ -100,7 +100,8 @@ pub(crate) fn greatest_level<N: Names>(formula: &Formula, names: &N) -> Result<u
 /// The greatest level of the names that the formulas use, 0 where they use none.
 #[cycle(levels)]
 fn greatest_level_of<N: Names>(formulas: &Vec<Formula>, names: &N) -> Result<u32, NoMemory>
-    ensures { IfOk result (λ n. n ≡ greatest_of (atom_level (known (N.catalogue names.now))) (forms formulas.now.items)) }
+    ensures { IfOk result (λ n. n ≡ greatest_of (atom_level (known (N.catalogue names.now)))
+        (forms formulas.now.items)) }
 {
     let mut level = 0;
     for formula in formulas {

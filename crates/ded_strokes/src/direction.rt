@@ -27,7 +27,8 @@ impl Model for Direction {
 impl Direction {
     /// The direction of these numbers. None where one is beyond the exact range.
     pub fn new(u: i128, v: i128) -> Option<Direction>
-        ensures { MatchOption result (IsShortDirection (record { u = u; v = v }) → ⊥) (λ d. d ≡ record { u = u; v = v }) }
+        ensures { MatchOption result (IsShortDirection (record { u = u; v = v })
+            → ⊥) (λ d. d ≡ record { u = u; v = v }) }
     {
         if !is_coefficient(u) {
             return None;

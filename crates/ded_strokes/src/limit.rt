@@ -22,8 +22,8 @@ use ded_model::slot::Slot;
 use ded_polygon::{Corner, Window};
 use std::marker::Model;
 
-/// The points at which `a * x + b * y + c` is 0, at most 0, or below 0. The coefficients are below 2 ^ 31 in size, the constant is
-/// below 2 ^ 62.
+/// The points at which `a * x + b * y + c` is 0, at most 0, or below 0. The coefficients are below 2 ^ 31 in size, the
+/// constant is below 2 ^ 62.
 #[derive(Clone, Copy, Debug)]
 pub struct Limit {
     a: i128,
@@ -131,7 +131,8 @@ impl Limit {
         parts_levels(self.level(from), self.level(to))
     }
 
-    /// Above 0 where the way along the border, with the inside to its left, leads out of the other half plane, and 0 where both run alike.
+    /// Above 0 where the way along the border, with the inside to its left, leads out of the other half plane, and 0
+    /// where both run alike.
     pub fn bend(self, other: Limit) -> i128
         ensures { result ≡ bend self.plane other.plane }
     {
@@ -140,7 +141,8 @@ impl Limit {
 
     /// Where the borders cross, if the way along the first one leads out of the other half plane there.
     fn crossing(self, other: Limit) -> Option<Corner>
-        ensures { MatchOption result (bend self.plane other.plane ≤ℤ pos 0) (λ c. (c ≡ crossing self.plane other.plane) × (pos 0 <ℤ bend self.plane other.plane)) }
+        ensures { MatchOption result (bend self.plane other.plane ≤ℤ pos 0) (λ c. (c ≡ crossing self.plane other.plane)
+            × (pos 0 <ℤ bend self.plane other.plane)) }
     {
         let den = self.bend(other);
         if den <= 0 {
@@ -160,9 +162,10 @@ impl Limit {
         self.level(corner) == 0
     }
 
-    /// Where the border of another limit crosses this border between two corners of it: a corner on both, strictly between the two, and a
-    /// border that is not crossed between the two is not crossed between one of them and that corner. None only where the border of the
-    /// other limit is not crossed between the corners, or the two borders are parallel.
+    /// Where the border of another limit crosses this border between two corners of it: a corner on both, strictly
+    /// between the two, and a border that is not crossed between the two is not crossed between one of them and that
+    /// corner. None only where the border of the other limit is not crossed between the corners, or the two borders are
+    /// parallel.
     pub fn cut(self, other: Limit, from: Corner, to: Corner) -> Option<Corner>
         requires from { level self.plane from ≡ pos 0 }
         requires to { level self.plane to ≡ pos 0 }
@@ -243,7 +246,8 @@ fn at_most(a: i128, b: i128, c: i128) -> Limit
 
 /// The limit of these numbers. None where one is beyond the exact range.
 fn short_limit(a: i128, b: i128, c: i128, op: RowOp) -> Option<Limit>
-    ensures { MatchOption result (IsShortSide (record { a = a; b = b; c = c }) → ⊥) (λ s. s ≡ record { plane = record { a = a; b = b; c = c }; op = op }) }
+    ensures { MatchOption result (IsShortSide (record { a = a; b = b; c = c })
+        → ⊥) (λ s. s ≡ record { plane = record { a = a; b = b; c = c }; op = op }) }
 {
     if !is_coefficient(a) {
         return None;

@@ -6,8 +6,8 @@ use crate::parting::Stretch;
 use crate::stretch::Stroke;
 use ded_model::memory::NoMemory;
 
-/// Adds the lines of stretches that follow each other: neighbours that are drawn alike are one line, from where the first one begins to
-/// where the last one ends, and seams are none.
+/// Adds the lines of stretches that follow each other: neighbours that are drawn alike are one line, from where the
+/// first one begins to where the last one ends, and seams are none.
 ///
 /// # Errors
 /// Out of memory.

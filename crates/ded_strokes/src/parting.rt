@@ -22,8 +22,8 @@ pub struct Stretch {
     pub stroke: Stroke,
 }
 
-/// The stretches of a side between two corners on the border of a limit, in order from the one to the other: it is cut where borders
-/// of the pieces cross it, so that each stretch is drawn alike.
+/// The stretches of a side between two corners on the border of a limit, in order from the one to the other: it is cut
+/// where borders of the pieces cross it, so that each stretch is drawn alike.
 ///
 /// # Errors
 /// Out of memory.

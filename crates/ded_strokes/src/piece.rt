@@ -73,8 +73,8 @@ impl Piece {
         self.limits.as_slice()
     }
 
-    /// Whether the points as near as one likes in the direction are in the piece: whether there is a positive number so that each point
-    /// that is a positive number up to that times the direction off the corner is in it.
+    /// Whether the points as near as one likes in the direction are in the piece: whether there is a positive number so
+    /// that each point that is a positive number up to that times the direction off the corner is in it.
     pub fn holds_near(&self, corner: Corner, direction: Direction) -> bool
         ensures { IsTrue result ↔ Near (piece_holds self.now) corner direction }
     {
@@ -127,7 +127,8 @@ impl Piece {
 /// The rows of a piece hold at a point exactly where its limits do at the spot of the point.
 pub fn rows_are_limits(x: Slot, y: Slot)
     requires { same_slot x y ≡ false }
-    ensures { (rows : List LinearConstraint) → MentionOnly x y rows → (p : Point) → rows_hold rows p ≡ piece_holds (limits_of x y rows) (spot_at x y p) }
+    ensures { (rows : List LinearConstraint) → MentionOnly x y rows → (p : Point)
+        → rows_hold rows p ≡ piece_holds (limits_of x y rows) (spot_at x y p) }
 {
     let _ = x.is_same(y);
 }

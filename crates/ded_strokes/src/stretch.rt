@@ -17,9 +17,10 @@ pub enum Stroke {
     Dashed,
 }
 
-/// How each point strictly between the corners is drawn, across which the direction leads: not at all exactly where it is in a piece and
-/// the points as near as one likes in the direction and in the opposite one are in pieces too; else solid exactly where it is in a piece,
-/// and dashed exactly where it is in none. None only where a border of a piece is crossed between the corners.
+/// How each point strictly between the corners is drawn, across which the direction leads: not at all exactly where it
+/// is in a piece and the points as near as one likes in the direction and in the opposite one are in pieces too; else
+/// solid exactly where it is in a piece, and dashed exactly where it is in none. None only where a border of a piece is
+/// crossed between the corners.
 pub fn stroke_between(
     pieces: &[Piece],
     from: Corner,

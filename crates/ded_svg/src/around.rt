@@ -1,7 +1,10 @@
 //! Axes and the legend.
 ghost use Rattle.std.specs.Prelude.{◌≡◌, ◌<◌, ◌++◌, ◌+◌, ◌*◌, IfOk, OnOk};
 ghost use Rattle.ded_svg.specs.Markup.{markup_text};
-ghost use Rattle.ded_svg.specs.Pictures.{around_markup, entry_markup, entry_top, entry_words_markup, filled_markup, frame_data, left_tick_data, left_tick_markup, left_ticks_markup, legend_markup, lower_tick_data, lower_tick_markup, lower_ticks_markup, pattern_markup, patterns_markup, swatch_markup, tile_content, tile_markup};
+ghost use Rattle.ded_svg.specs.Pictures.{around_markup, entry_markup, entry_top, entry_words_markup, filled_markup};
+ghost use Rattle.ded_svg.specs.Pictures.{frame_data, left_tick_data, left_tick_markup, left_ticks_markup};
+ghost use Rattle.ded_svg.specs.Pictures.{legend_markup, lower_tick_data, lower_tick_markup, lower_ticks_markup};
+ghost use Rattle.ded_svg.specs.Pictures.{pattern_markup, patterns_markup, swatch_markup, tile_content, tile_markup};
 
 use crate::coordinate::{Coordinate, put_coordinate, put_number};
 use crate::element::{

@@ -3,7 +3,8 @@ ghost use Rattle.std.specs.Prelude.{◌≡◌, ◌<◌, ◌≤◌, ◌^◌, ◌+
 ghost use Rattle.std.specs.Option.{SomeIff};
 ghost use Rattle.ded_num.specs.Length.{IsShort};
 ghost use Rattle.ded_print.specs.Numbers.{number_text};
-ghost use Rattle.ded_svg.specs.Coordinates.{coordinate_text, hundredths_of, magnitude_text, nearest, nearest_whole, sign_text, with_sign_of};
+ghost use Rattle.ded_svg.specs.Coordinates.{coordinate_text, hundredths_of, magnitude_text, nearest, nearest_whole};
+ghost use Rattle.ded_svg.specs.Coordinates.{sign_text, with_sign_of};
 
 use ded_dump::Text;
 use ded_model::bound::Frac;
@@ -18,8 +19,8 @@ pub struct Coordinate {
 }
 
 impl Coordinate {
-    /// The coordinate nearest to a number, and of two that are as near the one farther from 0. There is none exactly where a hundred
-    /// times the numerator has more than 127 binary digits.
+    /// The coordinate nearest to a number, and of two that are as near the one farther from 0. There is none exactly
+    /// where a hundred times the numerator has more than 127 binary digits.
     pub fn nearest(value: Frac) -> Option<Coordinate>
         ensures { SomeIff result (IsShort (value.num *ℤ pos 100)) (record { hundredths = hundredths_of value }) }
     {

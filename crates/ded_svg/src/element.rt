@@ -65,7 +65,8 @@ pub(crate) fn put_painted(
     outline: &[u8],
     title: &[u8],
 ) -> Result<(), NoMemory>
-    ensures { OnOk result (text.new ≡ text.old ++ markup_text (painted_markup kind.now paint.now outline.now title.now)) }
+    ensures { OnOk result (text.new ≡ text.old ++ markup_text
+        (painted_markup kind.now paint.now outline.now title.now)) }
 {
     text.put(b"<path")?;
     put_attribute(alloc, text, b"class", kind)?;

@@ -7,8 +7,8 @@ use ded_model::memory::NoMemory;
 use std::alloc::Global;
 use std::string::String;
 
-/// Puts any bytes as a text of markup: what a reader sees of it are the characters of the bytes, with U+FFFD for each invalid
-/// sequence, for each control character, and for the two others that XML forbids.
+/// Puts any bytes as a text of markup: what a reader sees of it are the characters of the bytes, with U+FFFD for each
+/// invalid sequence, for each control character, and for the two others that XML forbids.
 ///
 /// # Errors
 /// Out of memory.

@@ -4,8 +4,8 @@ ghost use Rattle.ded_model.specs.Bound.{Fraction, IsFraction};
 ghost use Rattle.ded_svg.specs.Coordinates.{coordinate_text, hundredths_of, hundredths_read, IsNear};
 ghost use Rattle.ded_svg.specs.Escaping.{escape, IsEscaped};
 
-/// An escaped text is UTF-8 whatever the bytes were, and is made of the five entities and of characters of XML that have no byte of
-/// markup in them. So it ends no element and no attribute.
+/// An escaped text is UTF-8 whatever the bytes were, and is made of the five entities and of characters of XML that
+/// have no byte of markup in them. So it ends no element and no attribute.
 pub fn escaping()
     ensures parts { (bytes : List ℕ) → IsEscaped (escape bytes) }
     ensures utf8 { (bytes : List ℕ) → IsUtf8 (escape bytes) }

@@ -2,7 +2,9 @@
 ghost use Rattle.std.specs.Prelude.{◌≡◌, ◌++◌, codes, IfOk, OnOk};
 ghost use Rattle.ded_svg.specs.Markup.{markup_text};
 ghost use Rattle.ded_svg.specs.Palette.{ink};
-ghost use Rattle.ded_svg.specs.Pictures.{corners_text, dashes_text, mark_markup, marks_markup, point_text, segment_data, shape_data, shape_kind, shape_paint, stroke_markup, strokes_markup};
+ghost use Rattle.ded_svg.specs.Pictures.{corners_text, dashes_text, mark_markup, marks_markup, point_text};
+ghost use Rattle.ded_svg.specs.Pictures.{segment_data, shape_data, shape_kind, shape_paint, stroke_markup};
+ghost use Rattle.ded_svg.specs.Pictures.{strokes_markup};
 
 use crate::coordinate::put_coordinate;
 use crate::element::{put_attribute, put_painted};

@@ -1,7 +1,8 @@
 //! Whole pictures.
 ghost use Rattle.std.specs.Prelude.{◌≡◌, ◌++◌, ◌+◌, IfOk, OnOk};
 ghost use Rattle.ded_svg.specs.Markup.{markup_text};
-ghost use Rattle.ded_svg.specs.Pictures.{box_text, boxed_markup, content_markup, definitions_markup, description_markup, drawn_markup, lines_markup, style_text, svg_text};
+ghost use Rattle.ded_svg.specs.Pictures.{box_text, boxed_markup, content_markup, definitions_markup};
+ghost use Rattle.ded_svg.specs.Pictures.{description_markup, drawn_markup, lines_markup, style_text, svg_text};
 
 use crate::around::{put_around, put_patterns};
 use crate::coordinate::put_number;

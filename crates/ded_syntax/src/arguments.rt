@@ -1,7 +1,7 @@
 //! Arguments whose normal rows have a number above 2^63 - 1 in magnitude.
 //!
-//! The row of an argument that is a sum says that a variable has the sum's value. Its numbers are the sum's constant, the
-//! sum's denominator and the sum's coefficients, up to signs.
+//! The row of an argument that is a sum says that a variable has the sum's value. Its numbers are the sum's constant,
+//! the sum's denominator and the sum's coefficients, up to signs.
 ghost use Rattle.std.specs.Prelude.{◌≡◌, ◌∷◌, unsigned_abs};
 ghost use Rattle.std.specs.List.{list_any};
 ghost use Rattle.ded_num.specs.Gcd.{gcd_from, gcd_all};
@@ -79,8 +79,8 @@ pub fn is_marked(operand: &Operand) -> bool
     }
 }
 
-/// Whether one of the operands is a sum over 2^63 or more, or one whose normal row as an argument has a number above 2^63 - 1 in
-/// magnitude.
+/// Whether one of the operands is a sum over 2^63 or more, or one whose normal row as an argument has a number above
+/// 2^63 - 1 in magnitude.
 pub fn some_unfit_argument(operands: &[Operand]) -> bool
     ensures { result ≡ list_any is_unfit_argument operands.now }
 {

@@ -3,7 +3,8 @@ ghost use Rattle.std.specs.Prelude.{◌≡◌, ◌≤◌, ◌<◌, length, Some,
 ghost use Rattle.std.specs.List.{AllByRecursion};
 ghost use Rattle.ded_grammar.specs.declared.fault.ReadFault.TheVariants.{NotRead};
 ghost use Rattle.ded_num.specs.Length.{IsShort};
-ghost use Rattle.ded_syntax.specs.CertificateReading.{integer_at, integers_at, as_proof, proof_at, entry_at, entries_at};
+ghost use Rattle.ded_syntax.specs.CertificateReading.{integer_at, integers_at, as_proof, proof_at, entry_at};
+ghost use Rattle.ded_syntax.specs.CertificateReading.{entries_at};
 ghost use Rattle.ded_syntax.specs.CommandReading.{certificate_at};
 ghost use Rattle.ded_terminals.specs.Items.{capped_of, left};
 ghost use Rattle.ded_terminals.specs.Literals.{capped_reader};

@@ -84,7 +84,8 @@ fn command_of(alloc: Global, draft: Draft) -> Result<Command, Refusal>
 fn long_refusal(items: Rest<'_>, draft: &Draft) -> Option<Refusal>
     requires read { draft_at capped_reader (left items) ≡ Some (seen_draft draft.now) }
     requires scanned { scans (seen_draft draft.now) ≡ true }
-    ensures some { IfSome result (λ r. (language : LanguageForm) (bytes : List ℕ) → AreSymbols language bytes (left items.entry) → IsLeastIn r language bytes) }
+    ensures some { IfSome result (λ r. (language : LanguageForm) (bytes : List ℕ)
+        → AreSymbols language bytes (left items.entry) → IsLeastIn r language bytes) }
     ensures none { IfNone result (IsShort (left items.entry) (seen_draft draft.now)) }
 {
     if has_long_name(items.bytes, items.items) {
@@ -101,8 +102,10 @@ fn long_refusal(items: Rest<'_>, draft: &Draft) -> Option<Refusal>
 /// The command that the items spell, or the least refusal that applies to them.
 fn command_by(alloc: Global, items: Rest<'_>) -> Result<Command, Refusal>
     requires few { length (left items) ≤ 65536 }
-    ensures read { IfOk result (λ c. (language : LanguageForm) (bytes : List ℕ) → AreSymbols language bytes (left items.entry) → IsRead language bytes (command_form c)) }
-    ensures refused { IfErr result (λ r. r ≢ refusal.Memory → (language : LanguageForm) (bytes : List ℕ) → AreSymbols language bytes (left items.entry) → IsLeastIn r language bytes) }
+    ensures read { IfOk result (λ c. (language : LanguageForm) (bytes : List ℕ)
+        → AreSymbols language bytes (left items.entry) → IsRead language bytes (command_form c)) }
+    ensures refused { IfErr result (λ r. r ≢ refusal.Memory → (language : LanguageForm) (bytes : List ℕ)
+        → AreSymbols language bytes (left items.entry) → IsLeastIn r language bytes) }
 {
     let draft = match spelled_draft(alloc, items) {
         Ok(draft) => draft,
@@ -123,10 +126,10 @@ fn command_by(alloc: Global, items: Rest<'_>) -> Result<Command, Refusal>
 /// # Errors
 /// The least refusal that applies to the bytes: `Syntax` where they spell no command, whatever its nesting; `LongName`
 /// where a name has more than 64 bytes; `LongNumber` where a number, or a number of the normal row of a comparison or
-/// an argument, is above 2^63 - 1 in magnitude, and in language 2 besides where a decimal's digits without the point, its
-/// power of ten, or the common denominator of a comparison's or an argument's literals is above 2^63 - 1, or the numerator
-/// of such a literal over their common denominator is above 2^96; `Deep` where the nesting is above 64. `Memory` where
-/// there is no memory.
+/// an argument, is above 2^63 - 1 in magnitude, and in language 2 besides where a decimal's digits without the point,
+/// its power of ten, or the common denominator of a comparison's or an argument's literals is above 2^63 - 1, or the
+/// numerator of such a literal over their common denominator is above 2^96; `Deep` where the nesting is above 64.
+/// `Memory` where there is no memory.
 pub fn read_command(alloc: Global, bytes: &[u8], language: Language) -> Result<Command, Refusal>
     requires { length bytes.now ≤ 65536 }
     ensures read { IfOk result (λ c. IsRead language bytes.now (command_form c)) }
@@ -150,8 +153,10 @@ pub fn read_tokens(
     language: Language,
 ) -> Result<Command, Refusal>
     requires { length tokens.now ≤ 65536 }
-    ensures read { IfOk result (λ c. (piece : List ℕ) → AreLexemes piece (map (lexeme bytes.now) tokens.now) → IsRead language piece (command_form c)) }
-    ensures refused { IfErr result (λ r. r ≢ refusal.Memory → (piece : List ℕ) → AreLexemes piece (map (lexeme bytes.now) tokens.now) → IsLeastIn r language piece) }
+    ensures read { IfOk result (λ c. (piece : List ℕ) → AreLexemes piece (map (lexeme bytes.now) tokens.now)
+        → IsRead language piece (command_form c)) }
+    ensures refused { IfErr result (λ r. r ≢ refusal.Memory → (piece : List ℕ)
+        → AreLexemes piece (map (lexeme bytes.now) tokens.now) → IsLeastIn r language piece) }
 {
     let Ok(items) = items_of(alloc, bytes, tokens, language) else {
         return Err(Refusal::Memory);

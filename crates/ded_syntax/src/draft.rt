@@ -6,7 +6,8 @@ ghost use Rattle.ded_model.specs.Form.{form};
 ghost use Rattle.ded_terminals.specs.Items.{left};
 ghost use Rattle.ded_terminals.specs.Literals.{capped_reader};
 ghost use Rattle.ded_terminals.specs.AtomReading.{brace_at};
-ghost use Rattle.ded_syntax.specs.CommandReading.{plain, ended, open_at, columns_at, heading_at, empty_at, open_brace_at, forms_at, braces_at, colon_at, define_at, formed_at};
+ghost use Rattle.ded_syntax.specs.CommandReading.{plain, ended, open_at, columns_at, heading_at, empty_at};
+ghost use Rattle.ded_syntax.specs.CommandReading.{open_brace_at, forms_at, braces_at, colon_at, define_at, formed_at};
 ghost use Rattle.ded_syntax.specs.DraftViews.{seen_head, seen_draft};
 
 use ded_grammar::{ReadFault, Terminal};
@@ -212,7 +213,8 @@ pub fn ended(command: Command, rest: Rest<'_>) -> Result<Draft, ReadFault>
 pub fn formed(alloc: Global, head: Head, rest: Rest<'_>) -> Result<Draft, ReadFault>
     requires few { length (left rest) ≤ 65536 }
     ensures read { IfOk result (λ d. formed_at capped_reader (seen_head head) (left rest.entry) ≡ Some (seen_draft d)) }
-    ensures unread { IfErr result (λ e. e ≡ NotRead → formed_at capped_reader (seen_head head) (left rest.entry) ≡ None) }
+    ensures unread { IfErr result (λ e. e ≡ NotRead
+        → formed_at capped_reader (seen_head head) (left rest.entry) ≡ None) }
 {
     Ok(Draft::Formed(head, terminals(alloc, rest)?))
 }

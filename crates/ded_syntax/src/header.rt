@@ -53,7 +53,8 @@ fn with_item(progress: Progress, bytes: &[u8], item: Item) -> Option<Progress>
 /// How much of the header is read with the front at this place, or none where that doesn't go on with it.
 fn with_front(progress: Progress, bytes: &[u8], front: Front, at: usize) -> Option<Progress>
     requires { at + front.length < 4294967296 }
-    ensures { result ≡ header_walk (Some progress) (opening_symbols bytes.now (front_tokens front.kind at (at + front.length))) }
+    ensures { result ≡ header_walk (Some progress)
+        (opening_symbols bytes.now (front_tokens front.kind at (at + front.length))) }
 {
     let Some(kind) = front.kind else {
         return Some(progress);

@@ -17,7 +17,8 @@ pub fn one_command()
 /// Bytes spell a command, or `Syntax` applies to them; and where no refusal applies, they are read as a command.
 pub fn some_command()
     ensures decided { (language : Language) (bytes : List ℕ) →
-        ((command : CommandForm) × (depth : ℕ) × Spells language bytes command depth) ⊎ AppliesIn Syntax language bytes }
+        ((command : CommandForm) × (depth : ℕ) × Spells language bytes command depth)
+        ⊎ AppliesIn Syntax language bytes }
     ensures spelled { (language : Language) (bytes : List ℕ) → (AppliesIn Syntax language bytes → ⊥) →
         (command : CommandForm) × (depth : ℕ) × Spells language bytes command depth }
     ensures read { (language : Language) (bytes : List ℕ) →
@@ -25,8 +26,9 @@ pub fn some_command()
         (command : CommandForm) × IsRead language bytes command }
 {}
 
-/// What the plain language spells, the opening one spells as the same command, and it isn't the header; what applies to it in
-/// the opening language applies in the plain one. No refusal applies to the header, and whether bytes spell it is decided.
+/// What the plain language spells, the opening one spells as the same command, and it isn't the header; what applies to
+/// it in the opening language applies in the plain one. No refusal applies to the header, and whether bytes spell it is
+/// decided.
 pub fn opening_language()
     ensures spelled { (bytes : List ℕ) (command : CommandForm) (depth : ℕ) →
         Spells One bytes command depth → Spells Opening bytes command depth }
@@ -38,8 +40,8 @@ pub fn opening_language()
     ensures decided { (bytes : List ℕ) → IsHeader bytes ⊎ (IsHeader bytes → ⊥) }
 {}
 
-/// What the plain language spells, the second one spells as the same command with the same nesting, and the same refusals apply to it in both.
-/// So the second language adds to the plain one, and takes nothing from it.
+/// What the plain language spells, the second one spells as the same command with the same nesting, and the same
+/// refusals apply to it in both. So the second language adds to the plain one, and takes nothing from it.
 pub fn second_language()
     ensures spelled { (bytes : List ℕ) (command : CommandForm) (depth : ℕ) →
         Spells One bytes command depth → Spells Two bytes command depth }

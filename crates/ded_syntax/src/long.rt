@@ -8,7 +8,9 @@ ghost use Rattle.ded_model.specs.Form.{form, forms};
 ghost use Rattle.ded_model.specs.Logic.{some_atom, some_atom_of};
 ghost use Rattle.ded_num.specs.Gcd.{gcd_from, gcd_all};
 ghost use Rattle.ded_num.specs.Length.{IsWithin, IsShort};
-ghost use Rattle.ded_model.specs.LongRows.{coefficient, parts_over, constant_of, difference_over, differences_over, row_coefs_over, row_coefs, row_constant, is_nonzero, is_long_over, is_long_row, is_quoted, is_long_comparison};
+ghost use Rattle.ded_model.specs.LongRows.{coefficient, parts_over, constant_of, difference_over, differences_over};
+ghost use Rattle.ded_model.specs.LongRows.{row_coefs_over, row_coefs, row_constant, is_nonzero, is_long_over};
+ghost use Rattle.ded_model.specs.LongRows.{is_long_row, is_quoted, is_long_comparison};
 ghost use Rattle.ded_syntax.specs.Drafts.{some_in_draft};
 ghost use Rattle.ded_syntax.specs.Marks.{is_marked, is_unfit_atom, some_in};
 ghost use Rattle.ded_syntax.specs.DraftViews.{seen_draft};
@@ -39,8 +41,8 @@ fn coefficient(parts: &Parts, name: &Name) -> i128
     0
 }
 
-/// The coefficient of the name in the operand times the denominator, which is 0 where the operand doesn't have the name. A
-/// sum is over the denominator already.
+/// The coefficient of the name in the operand times the denominator, which is 0 where the operand doesn't have the
+/// name. A sum is over the denominator already.
 fn coefficient_of(over: i128, operand: &Operand, name: &Name) -> i128
     requires within { IsWithin 112 over }
     ensures value { result ≡ coefficient (parts_over over operand.now) name.now }
@@ -99,7 +101,8 @@ fn divisor_of_parts(
 ) -> i128
     requires within { IsWithin 112 over }
     requires short { IsShort first }
-    ensures value { unsigned_abs result ≡ gcd_from (unsigned_abs first) (differences_over over left.now right.now parts.now) }
+    ensures value { unsigned_abs result ≡ gcd_from (unsigned_abs first)
+        (differences_over over left.now right.now parts.now) }
     ensures short { IsShort result }
 {
     let mut by = first;
@@ -114,7 +117,8 @@ fn divisor_of_parts(
 fn divisor(first: i128, operand: &Operand, over: i128, left: &Operand, right: &Operand) -> i128
     requires within { IsWithin 112 over }
     requires short { IsShort first }
-    ensures value { unsigned_abs result ≡ gcd_from (unsigned_abs first) (differences_over over left.now right.now (parts_over over operand.now)) }
+    ensures value { unsigned_abs result ≡ gcd_from (unsigned_abs first)
+        (differences_over over left.now right.now (parts_over over operand.now)) }
     ensures short { IsShort result }
 {
     match operand {
@@ -182,7 +186,8 @@ fn long_coefficient(
     right: &Operand,
 ) -> bool
     requires within { IsWithin 112 over }
-    ensures { result ≡ list_any (is_long_over by) (differences_over over left.now right.now (parts_over over operand.now)) }
+    ensures { result ≡ list_any (is_long_over by)
+        (differences_over over left.now right.now (parts_over over operand.now)) }
 {
     match operand {
         Operand::Single(name) => is_long_over(by, difference(over, left, right, name)),
@@ -338,8 +343,8 @@ fn is_long_command(command: &Command) -> bool
     }
 }
 
-/// Whether a comparison or an argument of the draft has literals that are too long over their common denominator, which the reader
-/// marks by a sum over 2^63, or a row with a number above 2^63 - 1 in magnitude.
+/// Whether a comparison or an argument of the draft has literals that are too long over their common denominator, which
+/// the reader marks by a sum over 2^63, or a row with a number above 2^63 - 1 in magnitude.
 pub fn is_unfit(draft: &Draft) -> bool
     ensures { result ≡ some_in_draft is_unfit_atom (seen_draft draft.now) }
 {

@@ -3,7 +3,9 @@ ghost use Rattle.std.specs.Prelude.{◌≡◌, ◌≤◌, length, Some, None, If
 ghost use Rattle.ded_grammar.specs.declared.fault.ReadFault.TheVariants.{NotRead};
 ghost use Rattle.ded_terminals.specs.Items.{left};
 ghost use Rattle.ded_terminals.specs.Literals.{capped_reader};
-ghost use Rattle.ded_syntax.specs.CommandReading.{query_head, explain_head, last_name, header_draft, relation_draft, insert_draft, delete_draft, disjoint_draft, verify_draft, view_draft, over_draft, draft_behind, draft_at};
+ghost use Rattle.ded_syntax.specs.CommandReading.{query_head, explain_head, last_name, header_draft, relation_draft};
+ghost use Rattle.ded_syntax.specs.CommandReading.{insert_draft, delete_draft, disjoint_draft, verify_draft, view_draft};
+ghost use Rattle.ded_syntax.specs.CommandReading.{over_draft, draft_behind, draft_at};
 ghost use Rattle.ded_syntax.specs.DraftViews.{seen_draft};
 
 use crate::certificate::certificate;

@@ -30,13 +30,16 @@ pub fn serve<S: Source, K: Sink>(
     ensures done_with_refusals { result ≡ Status.DoneWithRefusals →
         Answered (heard_from MayTable (opening setup.now.limit)) setup.now.input_limit
         (S.left source.old) (S.left source.new) (K.contents sink.old) (K.contents sink.new) true }
-    ensures faultless { (result ≡ Status.Done) ⊎ (result ≡ Status.DoneWithRefusals) ⊎ (result ≡ Status.TooLong) → (S.faults source.new ≡ S.faults source.old) × (K.faults sink.new ≡ K.faults sink.old) }
+    ensures faultless { (result ≡ Status.Done) ⊎ (result ≡ Status.DoneWithRefusals) ⊎ (result ≡ Status.TooLong)
+        → (S.faults source.new ≡ S.faults source.old) × (K.faults sink.new ≡ K.faults sink.old) }
     ensures bad_words { result ≢ Status.BadWords }
-    ensures read_fault { result ≡ Status.ReadFault → Rose (S.faults source.old) (S.faults source.new) × (K.faults sink.new ≡ K.faults sink.old) }
+    ensures read_fault { result ≡ Status.ReadFault
+        → Rose (S.faults source.old) (S.faults source.new) × (K.faults sink.new ≡ K.faults sink.old) }
     ensures unread { result ≡ Status.ReadFault →
         Unread (heard_from MayTable (opening setup.now.limit)) setup.now.input_limit
         (S.left source.old) (S.left source.new) (K.contents sink.old) (K.contents sink.new) }
-    ensures write_fault { result ≡ Status.WriteFault → Rose (K.faults sink.old) (K.faults sink.new) × (S.faults source.new ≡ S.faults source.old) }
+    ensures write_fault { result ≡ Status.WriteFault
+        → Rose (K.faults sink.old) (K.faults sink.new) × (S.faults source.new ≡ S.faults source.old) }
     ensures broken { result ≡ Status.WriteFault →
         Broken (heard_from MayTable (opening setup.now.limit))
         (S.left source.old) (S.left source.new) (S.last source.new) (K.contents sink.old) (K.contents sink.new) }
@@ -44,14 +47,16 @@ pub fn serve<S: Source, K: Sink>(
     ensures overlong { result ≡ Status.TooLong →
         Overlong (heard_from MayTable (opening setup.now.limit)) setup.now.input_limit
         (S.left source.old) (S.left source.new) (K.contents sink.old) (K.contents sink.new) }
-    ensures ends { (Rose (S.faults source.old) (S.faults source.new) → ⊥) → (Rose (K.faults sink.old) (K.faults sink.new) → ⊥) → result ≢ Status.NoMemory → result ≢ Status.TooLong → (result ≡ Status.Done) ⊎ (result ≡ Status.DoneWithRefusals) }
+    ensures ends { (Rose (S.faults source.old) (S.faults source.new) → ⊥)
+        → (Rose (K.faults sink.old) (K.faults sink.new) → ⊥) → result ≢ Status.NoMemory → result ≢ Status.TooLong
+        → (result ≡ Status.Done) ⊎ (result ≡ Status.DoneWithRefusals) }
 {
     let session = TableSession::new(alloc, setup.limit, setup.keys);
     ded_dialogue::serve(alloc, session, setup.input_limit, source, sink)
 }
 
-/// All that the program does: reads the words, and then serves. Words that ask for a script that is made aren't accepted. Names are
-/// hashed by the keys.
+/// All that the program does: reads the words, and then serves. Words that ask for a script that is made aren't
+/// accepted. Names are hashed by the keys.
 pub fn run<S: Source, K: Sink>(
     alloc: Global,
     words: &Words,
@@ -67,12 +72,15 @@ pub fn run<S: Source, K: Sink>(
     ensures done_with_refusals { result ≡ Status.DoneWithRefusals → WithLimit (texts_in words.now) (λ limit.
         Answered (heard_from MayTable (opening limit)) (2 ^ 40)
         (S.left source.old) (S.left source.new) (K.contents sink.old) (K.contents sink.new) true) }
-    ensures faultless { (result ≡ Status.Done) ⊎ (result ≡ Status.DoneWithRefusals) ⊎ (result ≡ Status.TooLong) → (S.faults source.new ≡ S.faults source.old) × (K.faults sink.new ≡ K.faults sink.old) }
-    ensures read_fault { result ≡ Status.ReadFault → Rose (S.faults source.old) (S.faults source.new) × (K.faults sink.new ≡ K.faults sink.old) }
+    ensures faultless { (result ≡ Status.Done) ⊎ (result ≡ Status.DoneWithRefusals) ⊎ (result ≡ Status.TooLong)
+        → (S.faults source.new ≡ S.faults source.old) × (K.faults sink.new ≡ K.faults sink.old) }
+    ensures read_fault { result ≡ Status.ReadFault
+        → Rose (S.faults source.old) (S.faults source.new) × (K.faults sink.new ≡ K.faults sink.old) }
     ensures unread { result ≡ Status.ReadFault → WithLimit (texts_in words.now) (λ limit.
         Unread (heard_from MayTable (opening limit)) (2 ^ 40)
         (S.left source.old) (S.left source.new) (K.contents sink.old) (K.contents sink.new)) }
-    ensures write_fault { result ≡ Status.WriteFault → Rose (K.faults sink.old) (K.faults sink.new) × (S.faults source.new ≡ S.faults source.old) }
+    ensures write_fault { result ≡ Status.WriteFault
+        → Rose (K.faults sink.old) (K.faults sink.new) × (S.faults source.new ≡ S.faults source.old) }
     ensures broken { result ≡ Status.WriteFault → WithLimit (texts_in words.now) (λ limit.
         Broken (heard_from MayTable (opening limit))
         (S.left source.old) (S.left source.new) (S.last source.new) (K.contents sink.old) (K.contents sink.new)) }
@@ -80,7 +88,9 @@ pub fn run<S: Source, K: Sink>(
     ensures overlong { result ≡ Status.TooLong → WithLimit (texts_in words.now) (λ limit.
         Overlong (heard_from MayTable (opening limit)) (2 ^ 40)
         (S.left source.old) (S.left source.new) (K.contents sink.old) (K.contents sink.new)) }
-    ensures ends { (Rose (S.faults source.old) (S.faults source.new) → ⊥) → (Rose (K.faults sink.old) (K.faults sink.new) → ⊥) → result ≢ Status.NoMemory → result ≢ Status.TooLong → result ≢ Status.BadWords → (result ≡ Status.Done) ⊎ (result ≡ Status.DoneWithRefusals) }
+    ensures ends { (Rose (S.faults source.old) (S.faults source.new) → ⊥)
+        → (Rose (K.faults sink.old) (K.faults sink.new) → ⊥) → result ≢ Status.NoMemory → result ≢ Status.TooLong
+        → result ≢ Status.BadWords → (result ≡ Status.Done) ⊎ (result ≡ Status.DoneWithRefusals) }
 {
     let options = match options_in(alloc, &words.list) {
         Ok(options) => options,

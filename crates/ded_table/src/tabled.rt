@@ -23,8 +23,8 @@ pub enum TableReply {
     Table(Name),
 }
 
-/// What is written of the reply: its table where it has tuples, and else the reply as it is. Where there is no memory for the table, it
-/// is the refusal that says so.
+/// What is written of the reply: its table where it has tuples, and else the reply as it is. Where there is no memory
+/// for the table, it is the refusal that says so.
 pub(crate) fn tabled(alloc: Global, reply: Reply) -> TableReply
     requires { IsOver (reply_form reply) }
     ensures { IsTabled (reply_form reply) (said_by result) }

@@ -5,7 +5,8 @@ ghost use Rattle.ded_model.specs.Form.{form};
 ghost use Rattle.ded_terminals.specs.Items.{left};
 ghost use Rattle.ded_terminals.specs.Literals.{capped_reader};
 ghost use Rattle.ded_terminals.specs.Atoms.{name_of};
-ghost use Rattle.ded_terminals.specs.AtomReading.{relation_at, compare_at, comma_at, argument_at, operands_at, enclosed_at, named_at, called_at, atom_at, sort_at, column_at};
+ghost use Rattle.ded_terminals.specs.AtomReading.{relation_at, compare_at, comma_at, argument_at, operands_at};
+ghost use Rattle.ded_terminals.specs.AtomReading.{enclosed_at, named_at, called_at, atom_at, sort_at, column_at};
 ghost use Rattle.ded_terminals.specs.Views.{seen_name};
 
 use crate::item::{Item, Keyword, Rest, text};
@@ -106,8 +107,8 @@ pub enum Naming {
     Interior,
 }
 
-/// How a member is named, with the name in parentheses with which the rest begins, and what stands behind these; none where the
-/// rest begins otherwise.
+/// How a member is named, with the name in parentheses with which the rest begins, and what stands behind these; none
+/// where the rest begins otherwise.
 fn enclosed(naming: Naming, rest: Rest<'_>) -> Option<(Naming, &[u8], Rest<'_>)>
     ensures naming { IfSome result (λ x. x.0 ≡ naming) }
     ensures some { IfSome result (λ x. enclosed_at (left rest.entry) ≡ Some (x.1.now, left x.2)) }
@@ -124,8 +125,8 @@ fn enclosed(naming: Naming, rest: Rest<'_>) -> Option<(Naming, &[u8], Rest<'_>)>
     }
 }
 
-/// The name of a member with which the rest begins, by the name in it, and what stands behind it; none where the rest begins
-/// with no such name.
+/// The name of a member with which the rest begins, by the name in it, and what stands behind it; none where the rest
+/// begins with no such name.
 fn named(rest: Rest<'_>) -> Option<(Naming, &[u8], Rest<'_>)>
     ensures some { IfSome result (λ x. named_at (left rest.entry) ≡ Some (seen_name x.0 x.1.now, left x.2)) }
     ensures none { IfNone result (named_at (left rest.entry) ≡ None) }
@@ -147,8 +148,8 @@ fn named(rest: Rest<'_>) -> Option<(Naming, &[u8], Rest<'_>)>
     }
 }
 
-/// The name of a member before an opening parenthesis, by the name in it, and what stands behind both; none where the rest
-/// begins otherwise.
+/// The name of a member before an opening parenthesis, by the name in it, and what stands behind both; none where the
+/// rest begins otherwise.
 fn called(rest: Rest<'_>) -> Option<(Naming, &[u8], Rest<'_>)>
     ensures some { IfSome result (λ x. called_at (left rest.entry) ≡ Some (seen_name x.0 x.1.now, left x.2)) }
     ensures none { IfNone result (called_at (left rest.entry) ≡ None) }

@@ -40,7 +40,8 @@ fn trimmed(digits: &[u8]) -> &[u8]
     &digits[..count]
 }
 
-/// The number with as many times one digit behind it as the slice is long: 0 in the place of each, or 2^63 where that is above it.
+/// The number with as many times one digit behind it as the slice is long: 0 in the place of each, or 2^63 where that
+/// is above it.
 fn power_of_ten(digits: &[u8]) -> u64
     ensures value { result ≡ capped (10 ^ length digits.now) }
     ensures positive { 0 < result }
@@ -52,8 +53,8 @@ fn power_of_ten(digits: &[u8]) -> u64
     power
 }
 
-/// The number that the digits of a decimal stand for without the point and without zeros at the end, and the power of ten below it;
-/// 2^63 in the place of each that is above it.
+/// The number that the digits of a decimal stand for without the point and without zeros at the end, and the power of
+/// ten below it; 2^63 in the place of each that is above it.
 pub fn decimal_of(text: &[u8]) -> (u64, u64)
     ensures number { result.0 ≡ capped (decimal_number text.now) }
     ensures power { result.1 ≡ capped (decimal_power text.now) }

@@ -3,7 +3,8 @@ ghost use Rattle.std.specs.Prelude.{◌≡◌, ◌≤◌, ◌<◌, ◌^◌, ℕ,
 ghost use Rattle.std.specs.List.{list_any};
 ghost use Rattle.ded_lex.specs.Tokens.{lexeme, token_text};
 ghost use Rattle.ded_terminals.specs.Literals.{capped};
-ghost use Rattle.ded_terminals.specs.Symbols.{symbol, sum_sign, other_sign, slash_symbol, sign_symbol, decimal_symbol, number_from};
+ghost use Rattle.ded_terminals.specs.Symbols.{symbol, sum_sign, other_sign, slash_symbol, sign_symbol, decimal_symbol};
+ghost use Rattle.ded_terminals.specs.Symbols.{number_from};
 ghost use Rattle.ded_terminals.specs.Items.{capped_of, seen, symbols, is_long_name, is_long_literal};
 
 use crate::decimal::decimal_of;
@@ -223,7 +224,8 @@ pub fn items_of(
     tokens: &[Token],
     language: Language,
 ) -> Result<Vec<Item>, NoMemory>
-    ensures { IfOk result (λ items. symbols bytes.now items.items ≡ map (symbol language) (map (lexeme bytes.now) tokens.now)) }
+    ensures { IfOk result (λ items. symbols bytes.now items.items
+        ≡ map (symbol language) (map (lexeme bytes.now) tokens.now)) }
 {
     let mut items = Vec::with_capacity(alloc, tokens.len())?;
     for token in tokens {
@@ -254,7 +256,8 @@ pub fn has_long_name(bytes: &[u8], items: &[Item]) -> bool
     false
 }
 
-/// Whether the item is a number above 2^63 - 1, or a decimal whose digits without the point or power of ten is above that.
+/// Whether the item is a number above 2^63 - 1, or a decimal whose digits without the point or power of ten is above
+/// that.
 fn is_long_literal(bytes: &[u8], item: Item) -> bool
     ensures { result ≡ is_long_literal (seen bytes.now item) }
 {

@@ -2,9 +2,12 @@
 ghost use Rattle.std.specs.Prelude.{◌≡◌, ◌≤◌, ◌<◌, ℕ, ◌^◌, ◌++◌, ◌*◌, length, IfOk};
 ghost use Rattle.std.specs.List.{list_any};
 ghost use Rattle.ded_lex.specs.Tokens.{quoted_value};
-ghost use Rattle.ded_terminals.specs.Literals.{capped, capped_reader, lcm, capped_from, is_long_over, are_long_over, marked_numerator};
-ghost use Rattle.ded_terminals.specs.Operands.{literals, literals_of, no_sums, added, total_from, operand_over, denominator_of, argument_of};
-ghost use Rattle.ded_terminals.specs.Views.{seen_literal, seen_part, seen_parts, seen_side, seen_totals, AreSmall, ArePositive, IsFit, IsBounded};
+ghost use Rattle.ded_terminals.specs.Literals.{capped, capped_reader, lcm, capped_from, is_long_over, are_long_over};
+ghost use Rattle.ded_terminals.specs.Literals.{marked_numerator};
+ghost use Rattle.ded_terminals.specs.Operands.{literals, literals_of, no_sums, added, total_from, operand_over};
+ghost use Rattle.ded_terminals.specs.Operands.{denominator_of, argument_of};
+ghost use Rattle.ded_terminals.specs.Views.{seen_literal, seen_part, seen_parts, seen_side, seen_totals, AreSmall};
+ghost use Rattle.ded_terminals.specs.Views.{ArePositive, IsFit, IsBounded};
 
 use crate::scalar::{Literal, divided};
 use crate::side::{Part, Side};
@@ -124,8 +127,8 @@ fn are_long_over(over: u64, first: &[Part<'_>], second: &[Part<'_>]) -> bool
     over >= TOO_GREAT || some_long_over(over, first) || some_long_over(over, second)
 }
 
-/// What sums are over that have the literals of both sides: their common denominator, or 2^63 where that is above 2^63 - 1 or a
-/// literal over it is too long.
+/// What sums are over that have the literals of both sides: their common denominator, or 2^63 where that is above 2^63
+/// - 1 or a literal over it is too long.
 fn denominator_of(left: &Side<'_>, right: &Side<'_>) -> u64
     requires left { IsFit left.now 65536 }
     requires right { IsFit right.now 65536 }
@@ -148,7 +151,8 @@ fn denominator_of(left: &Side<'_>, right: &Side<'_>) -> u64
 fn add_part(alloc: Global, totals: &mut Totals, over: u64, part: &Part<'_>) -> Result<(), NoMemory>
     requires bounded { IsBounded (2 ^ 111) (seen_totals totals.now) }
     requires small { marked_numerator over (seen_literal part.now.factor.literal) ≤ 2 ^ 96 }
-    ensures { IfOk result (λ _. seen_totals totals.new ≡ added marked_numerator over (seen_totals totals.old) (seen_part part.now)) }
+    ensures { IfOk result (λ _. seen_totals totals.new
+        ≡ added marked_numerator over (seen_totals totals.old) (seen_part part.now)) }
 {
     let number = numerator(over, part.factor.literal);
     add(alloc, totals, part.minus, number, part.factor.name)
@@ -196,8 +200,10 @@ pub(crate) fn operands_of(
 ) -> Result<(Operand, Operand), NoMemory>
     requires left { IsFit left.now 65536 }
     requires right { IsFit right.now 65536 }
-    ensures left { IfOk result (λ o. o.0 ≡ operand_over capped_reader (denominator_of capped_reader (seen_side left.now) (seen_side right.now)) (seen_side left.now)) }
-    ensures right { IfOk result (λ o. o.1 ≡ operand_over capped_reader (denominator_of capped_reader (seen_side left.now) (seen_side right.now)) (seen_side right.now)) }
+    ensures left { IfOk result (λ o. o.0 ≡ operand_over capped_reader
+        (denominator_of capped_reader (seen_side left.now) (seen_side right.now)) (seen_side left.now)) }
+    ensures right { IfOk result (λ o. o.1 ≡ operand_over capped_reader
+        (denominator_of capped_reader (seen_side left.now) (seen_side right.now)) (seen_side right.now)) }
 {
     let over = denominator_of(left, right);
     Ok((

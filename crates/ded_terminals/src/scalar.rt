@@ -41,7 +41,8 @@ fn lowest(numerator: u64, denominator: u64) -> Literal
 
 /// The literal of a quotient of digits, with what stands behind it; none where the denominator is 0.
 fn quotient<'a>(numerator: &[u8], denominator: &[u8], rest: Rest<'a>) -> Option<(Literal, Rest<'a>)>
-    ensures some { IfSome result (λ x. quotient_at capped numerator.now denominator.now (left rest.entry) ≡ Some (seen_literal x.0, left x.1)) }
+    ensures some { IfSome result (λ x. quotient_at capped numerator.now denominator.now (left rest.entry)
+        ≡ Some (seen_literal x.0, left x.1)) }
     ensures none { IfNone result (quotient_at capped numerator.now denominator.now (left rest.entry) ≡ None) }
     ensures same { IfSome result (λ x. left x.1 ≡ left rest.entry) }
     ensures positive { IfSome result (λ x. 0 < x.0.denominator) }
@@ -53,8 +54,8 @@ fn quotient<'a>(numerator: &[u8], denominator: &[u8], rest: Rest<'a>) -> Option<
     Some((lowest(value_of(numerator), below), rest))
 }
 
-/// The literal with which the rest begins, and what stands behind it; none where the rest begins with no literal, as where a
-/// denominator is 0.
+/// The literal with which the rest begins, and what stands behind it; none where the rest begins with no literal, as
+/// where a denominator is 0.
 pub fn scalar(rest: Rest<'_>) -> Option<(Literal, Rest<'_>)>
     ensures some { IfSome result (λ x. scalar_at capped (left rest.entry) ≡ Some (seen_literal x.0, left x.1)) }
     ensures none { IfNone result (scalar_at capped (left rest.entry) ≡ None) }

@@ -4,8 +4,11 @@ ghost use Rattle.ded_grammar.specs.declared.fault.ReadFault.TheVariants.{NotRead
 ghost use Rattle.ded_lex.specs.Tokens.{quoted_value};
 ghost use Rattle.ded_terminals.specs.Items.{left};
 ghost use Rattle.ded_terminals.specs.Literals.{capped};
-ghost use Rattle.ded_terminals.specs.OperandReading.{behind_scalar, product_at, sign_at, all_parts, summed_at, number_at, name_at, quoted_at, minus_at, behind_name, side_by_minus, side_at};
-ghost use Rattle.ded_terminals.specs.Views.{seen_literal, seen_factor, seen_parts, seen_side, AddsProduct, ArePositive, IsFit};
+ghost use Rattle.ded_terminals.specs.OperandReading.{behind_scalar, product_at, sign_at, all_parts, summed_at};
+ghost use Rattle.ded_terminals.specs.OperandReading.{number_at, name_at, quoted_at, minus_at, behind_name};
+ghost use Rattle.ded_terminals.specs.OperandReading.{side_by_minus, side_at};
+ghost use Rattle.ded_terminals.specs.Views.{seen_literal, seen_factor, seen_parts, seen_side, AddsProduct, ArePositive};
+ghost use Rattle.ded_terminals.specs.Views.{IsFit};
 
 use crate::item::{Item, Rest, text};
 use crate::scalar::{Literal, scalar};
@@ -102,10 +105,11 @@ fn sign(rest: Rest<'_>) -> Option<(bool, Rest<'_>)>
     }
 }
 
-/// The factor of a literal that stands before, with the name that it multiplies where `*` and a name follow, and what stands
-/// behind it. None where `*` follows without a name.
+/// The factor of a literal that stands before, with the name that it multiplies where `*` and a name follow, and what
+/// stands behind it. None where `*` follows without a name.
 fn behind_scalar(literal: Literal, rest: Rest<'_>) -> Option<(Factor<'_>, Rest<'_>)>
-    ensures some { IfSome result (λ x. behind_scalar (seen_literal literal) (left rest.entry) ≡ Some (seen_factor x.0, left x.1)) }
+    ensures some { IfSome result (λ x. behind_scalar (seen_literal literal) (left rest.entry)
+        ≡ Some (seen_factor x.0, left x.1)) }
     ensures none { IfNone result (behind_scalar (seen_literal literal) (left rest.entry) ≡ None) }
     ensures low { IfSome result (λ x. length (left x.1) ≤ length (left rest.entry)) }
     ensures literal { IfSome result (λ x. x.0.literal ≡ literal) }
@@ -150,7 +154,8 @@ fn product(rest: Rest<'_>) -> Option<(Factor<'_>, Rest<'_>)>
 
 /// Sets the product with which the rest begins at the end of the parts, and gives what stands behind it.
 fn next<'a>(parts: &mut Vec<Part<'a>>, minus: bool, rest: Rest<'a>) -> Result<Rest<'a>, ReadFault>
-    ensures read { IfOk result (λ x. AddsProduct minus (left rest.entry) (seen_parts parts.old.items) (seen_parts parts.new.items) (left x)) }
+    ensures read { IfOk result (λ x. AddsProduct minus (left rest.entry) (seen_parts parts.old.items)
+        (seen_parts parts.new.items) (left x)) }
     ensures unread { IfErr result (λ e. e ≡ NotRead → product_at capped (left rest.entry) ≡ None) }
     ensures low { IfOk result (λ x. length (left x) < length (left rest.entry)) }
     ensures count { IfOk result (λ _. length parts.new.items ≡ length parts.old.items + 1) }
@@ -165,10 +170,13 @@ fn next<'a>(parts: &mut Vec<Part<'a>>, minus: bool, rest: Rest<'a>) -> Result<Re
 
 /// Sets all further products at the end of the parts, and gives what stands behind them.
 fn more<'a>(parts: &mut Vec<Part<'a>>, items: Rest<'a>) -> Result<Rest<'a>, ReadFault>
-    ensures read { IfOk result (λ x. all_parts capped (seen_parts parts.old.items) (left items.entry) ≡ Some (seen_parts parts.new.items, left x)) }
-    ensures unread { IfErr result (λ e. e ≡ NotRead → all_parts capped (seen_parts parts.old.items) (left items.entry) ≡ None) }
+    ensures read { IfOk result (λ x. all_parts capped (seen_parts parts.old.items) (left items.entry)
+        ≡ Some (seen_parts parts.new.items, left x)) }
+    ensures unread { IfErr result (λ e. e ≡ NotRead
+        → all_parts capped (seen_parts parts.old.items) (left items.entry) ≡ None) }
     ensures low { IfOk result (λ x. length (left x) ≤ length (left items.entry)) }
-    ensures few { IfOk result (λ x. length parts.new.items + length parts.new.items + length (left x) ≤ length parts.old.items + length parts.old.items + length (left items.entry)) }
+    ensures few { IfOk result (λ x. length parts.new.items + length parts.new.items + length (left x)
+        ≤ length parts.old.items + length parts.old.items + length (left items.entry)) }
     ensures positive { IfOk result (λ _. ArePositive parts.old.items → ArePositive parts.new.items) }
 {
     let mut rest = items;
@@ -191,8 +199,8 @@ fn summed(alloc: Global, minus: bool, rest: Rest<'_>) -> Result<(Side<'_>, Rest<
     Ok((Side::Sum(parts), rest))
 }
 
-/// The name alone, with which the items begin, where no sign follows it, and otherwise the sum that it begins; then what stands
-/// behind that.
+/// The name alone, with which the items begin, where no sign follows it, and otherwise the sum that it begins; then
+/// what stands behind that.
 fn behind_name<'a>(
     alloc: Global,
     items: Rest<'a>,
@@ -200,8 +208,10 @@ fn behind_name<'a>(
     rest: Rest<'a>,
 ) -> Result<(Side<'a>, Rest<'a>), ReadFault>
     requires low { length (left rest) < length (left items) }
-    ensures read { IfOk result (λ x. behind_name capped (left items.entry) (name.now, left rest.entry) (sign_at (left rest.entry)) ≡ Some (seen_side x.0, left x.1)) }
-    ensures unread { IfErr result (λ e. e ≡ NotRead → behind_name capped (left items.entry) (name.now, left rest.entry) (sign_at (left rest.entry)) ≡ None) }
+    ensures read { IfOk result (λ x. behind_name capped (left items.entry) (name.now,
+        left rest.entry) (sign_at (left rest.entry)) ≡ Some (seen_side x.0, left x.1)) }
+    ensures unread { IfErr result (λ e. e ≡ NotRead
+        → behind_name capped (left items.entry) (name.now, left rest.entry) (sign_at (left rest.entry)) ≡ None) }
     ensures low { IfOk result (λ x. length (left x.1) < length (left items.entry)) }
     ensures fit { IfOk result (λ x. IsFit x.0 (length (left items.entry))) }
 {
@@ -213,8 +223,10 @@ fn behind_name<'a>(
 
 /// The side with which the rest begins, which is no quoted text, and what stands behind it.
 fn unquoted(alloc: Global, rest: Rest<'_>) -> Result<(Side<'_>, Rest<'_>), ReadFault>
-    ensures read { IfOk result (λ x. side_by_minus capped (left rest.entry) (minus_at (left rest.entry)) ≡ Some (seen_side x.0, left x.1)) }
-    ensures unread { IfErr result (λ e. e ≡ NotRead → side_by_minus capped (left rest.entry) (minus_at (left rest.entry)) ≡ None) }
+    ensures read { IfOk result (λ x. side_by_minus capped (left rest.entry) (minus_at (left rest.entry))
+        ≡ Some (seen_side x.0, left x.1)) }
+    ensures unread { IfErr result (λ e. e ≡ NotRead
+        → side_by_minus capped (left rest.entry) (minus_at (left rest.entry)) ≡ None) }
     ensures low { IfOk result (λ x. length (left x.1) < length (left rest.entry)) }
     ensures fit { IfOk result (λ x. IsFit x.0 (length (left rest.entry))) }
 {
@@ -227,7 +239,8 @@ fn unquoted(alloc: Global, rest: Rest<'_>) -> Result<(Side<'_>, Rest<'_>), ReadF
     }
 }
 
-/// The side with which the rest begins, and what stands behind it. It has no more parts than half of the items, rounded up.
+/// The side with which the rest begins, and what stands behind it. It has no more parts than half of the items, rounded
+/// up.
 ///
 /// # Errors
 /// `NotRead` only where the rest begins with no side, otherwise out of memory.

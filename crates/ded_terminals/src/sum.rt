@@ -81,7 +81,8 @@ pub fn add(
 ) -> Result<(), NoMemory>
     requires small { IsBounded (2 ^ 111) (seen_totals totals.now) }
     requires number { number ≤ 2 ^ 96 }
-    ensures { IfOk result (λ _. seen_totals totals.new ≡ put_at (seen_totals totals.old) (option_map (λ n. n.now) name.entry) (signed minus number)) }
+    ensures { IfOk result (λ _. seen_totals totals.new
+        ≡ put_at (seen_totals totals.old) (option_map (λ n. n.now) name.entry) (signed minus number)) }
 {
     let amount = signed(minus, number);
     match name {

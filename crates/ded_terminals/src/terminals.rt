@@ -4,7 +4,9 @@ ghost use Rattle.ded_grammar.specs.declared.fault.ReadFault.TheVariants.{NotRead
 ghost use Rattle.ded_grammar.specs.Forms.{terminal_form, terminal_forms};
 ghost use Rattle.ded_terminals.specs.Items.{left};
 ghost use Rattle.ded_terminals.specs.Literals.{capped_reader};
-ghost use Rattle.ded_terminals.specs.AtomReading.{keyword_at, parenthesis_at, word_terminal, quantifier_of, word_at, begins_member, atom_at, as_leaf, terminal_by_parenthesis, terminal_at, terminals_at};
+ghost use Rattle.ded_terminals.specs.AtomReading.{keyword_at, parenthesis_at, word_terminal, quantifier_of, word_at};
+ghost use Rattle.ded_terminals.specs.AtomReading.{begins_member, atom_at, as_leaf, terminal_by_parenthesis};
+ghost use Rattle.ded_terminals.specs.AtomReading.{terminal_at, terminals_at};
 
 use crate::atom::{atom, column};
 use crate::item::{Item, Keyword, Rest};
@@ -96,7 +98,8 @@ fn begins_member(word: Keyword) -> bool
 /// The comparison or the member with which the rest begins, as a terminal, and what stands behind it.
 fn leaf(alloc: Global, rest: Rest<'_>) -> Result<(Terminal, Rest<'_>), ReadFault>
     requires few { length (left rest) ≤ 65536 }
-    ensures read { IfOk result (λ x. as_leaf (atom_at capped_reader (left rest.entry)) ≡ Some (terminal_form x.0, left x.1)) }
+    ensures read { IfOk result (λ x. as_leaf (atom_at capped_reader (left rest.entry))
+        ≡ Some (terminal_form x.0, left x.1)) }
     ensures unread { IfErr result (λ e. e ≡ NotRead → as_leaf (atom_at capped_reader (left rest.entry)) ≡ None) }
     ensures low { IfOk result (λ x. length (left x.1) < length (left rest.entry)) }
 {
@@ -107,8 +110,10 @@ fn leaf(alloc: Global, rest: Rest<'_>) -> Result<(Terminal, Rest<'_>), ReadFault
 /// The terminal with which the rest begins, where that is no reserved word, and what stands behind it.
 fn other(alloc: Global, rest: Rest<'_>) -> Result<(Terminal, Rest<'_>), ReadFault>
     requires few { length (left rest) ≤ 65536 }
-    ensures read { IfOk result (λ x. terminal_by_parenthesis capped_reader (left rest.entry) (parenthesis_at (left rest.entry)) ≡ Some (terminal_form x.0, left x.1)) }
-    ensures unread { IfErr result (λ e. e ≡ NotRead → terminal_by_parenthesis capped_reader (left rest.entry) (parenthesis_at (left rest.entry)) ≡ None) }
+    ensures read { IfOk result (λ x. terminal_by_parenthesis capped_reader (left rest.entry)
+        (parenthesis_at (left rest.entry)) ≡ Some (terminal_form x.0, left x.1)) }
+    ensures unread { IfErr result (λ e. e ≡ NotRead
+        → terminal_by_parenthesis capped_reader (left rest.entry) (parenthesis_at (left rest.entry)) ≡ None) }
     ensures low { IfOk result (λ x. length (left x.1) < length (left rest.entry)) }
 {
     if let Some(found) = parenthesis(rest) {
@@ -142,7 +147,8 @@ fn terminal(alloc: Global, rest: Rest<'_>) -> Result<(Terminal, Rest<'_>), ReadF
 /// `NotRead` only where the items aren't terminals, otherwise out of memory.
 pub fn terminals(alloc: Global, items: Rest<'_>) -> Result<Vec<Terminal>, ReadFault>
     requires few { length (left items) ≤ 65536 }
-    ensures read { IfOk result (λ list. terminals_at capped_reader (left items.entry) ≡ Some (terminal_forms list.items)) }
+    ensures read { IfOk result (λ list. terminals_at capped_reader (left items.entry)
+        ≡ Some (terminal_forms list.items)) }
     ensures unread { IfErr result (λ e. e ≡ NotRead → terminals_at capped_reader (left items.entry) ≡ None) }
 {
     let mut list = Vec::new(alloc);

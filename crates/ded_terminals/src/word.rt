@@ -1,7 +1,8 @@
 //! Words: those that are reserved, and names.
 ghost use Rattle.std.specs.Prelude.{◌≡◌, ℕ, List};
 ghost use Rattle.ded_lex.specs.Tokens.{token_text};
-ghost use Rattle.ded_terminals.specs.Symbols.{formula_word, command_word, is_unused, unused_word, dedale_symbol, dump_symbol, language_word, word_symbol};
+ghost use Rattle.ded_terminals.specs.Symbols.{formula_word, command_word, is_unused, unused_word, dedale_symbol};
+ghost use Rattle.ded_terminals.specs.Symbols.{dump_symbol, language_word, word_symbol};
 ghost use Rattle.ded_terminals.specs.Items.{seen};
 ghost use Rattle.ded_terminals.specs.Reserved.{may_be_reserved};
 
@@ -114,7 +115,8 @@ fn dump(language: Language) -> Item
     }
 }
 
-/// The item of a word that stands in commands of one language alone, or the other item where the text isn't such a word.
+/// The item of a word that stands in commands of one language alone, or the other item where the text isn't such a
+/// word.
 fn language_word(language: Language, other: Item, text: &[u8]) -> Item
     ensures { (bytes : List ℕ) → seen bytes result ≡ language_word language (seen bytes other) text.now }
 {

@@ -1,7 +1,7 @@
 //! Eliminating a slot from a conjunction of text atoms.
 //!
-//! Where some equality gives the slot a word, the word is put in its place. Else each atom that mentions the slot says that it
-//! differs from something, and is dropped: some text differs from finitely many others.
+//! Where some equality gives the slot a word, the word is put in its place. Else each atom that mentions the slot says
+//! that it differs from something, and is dropped: some text differs from finitely many others.
 ghost use Rattle.std.specs.Prelude.{◌≡◌, ◌↔◌, IfOk, IsTrue, MatchOption, true, false};
 ghost use Rattle.std.specs.List.{AllByRecursion};
 ghost use Rattle.ded_model.specs.declared.slot.Slot.{Slot};
@@ -22,7 +22,8 @@ use ded_model::tuple::ThemeAtom;
 use ded_theory::Eliminated;
 use std::alloc::Global;
 
-/// A conjunction without the slot that holds exactly where some extension of the point at the slot satisfies all the atoms.
+/// A conjunction without the slot that holds exactly where some extension of the point at the slot satisfies all the
+/// atoms.
 ///
 /// # Errors
 /// Out of memory.
@@ -32,9 +33,11 @@ pub(crate) fn eliminate(
     slot: Slot,
 ) -> Result<Eliminated<ThemeAtom>, NoMemory>
     requires { AllByRecursion IsNormalTheme atoms.now }
-    ensures holds { IfOk result (λ e. (p : Point) → IsPoint p → IsTrue (eliminated_holds theme_holds e p) ↔ SomeExtension slot (conj_holds theme_holds atoms.now) p) }
+    ensures holds { IfOk result (λ e. (p : Point) → IsPoint p → IsTrue (eliminated_holds theme_holds e p)
+        ↔ SomeExtension slot (conj_holds theme_holds atoms.now) p) }
     ensures normal { IfOk result (λ e. AllByRecursion IsNormalTheme (eliminated_atoms e)) }
-    ensures slots { IfOk result (λ e. (s : Slot) → conj_mentions theme_mentions (eliminated_atoms e) s ≡ true → (same_slot s slot ≡ false) × (conj_mentions theme_mentions atoms.now s ≡ true)) }
+    ensures slots { IfOk result (λ e. (s : Slot) → conj_mentions theme_mentions (eliminated_atoms e) s ≡ true
+        → (same_slot s slot ≡ false) × (conj_mentions theme_mentions atoms.now s ≡ true)) }
 {
     match word_for(atoms, slot) {
         Some(word) => with_word_in_all(alloc, atoms, slot, word),
@@ -62,7 +65,8 @@ fn word_for<'a>(atoms: &'a [ThemeAtom], slot: Slot) -> Option<Word<'a>>
 /// The word that the atom gives the slot, none where it is no equality of the slot.
 fn partner(atom: &ThemeAtom, slot: Slot) -> Option<Word<'_>>
     requires { IsNormalTheme atom.now }
-    ensures { MatchOption result (theme_mentions atom.now slot ≡ true → is_equality atom.now ≡ false) (λ w. IsPartner slot (source w) atom.now) }
+    ensures { MatchOption result (theme_mentions atom.now slot ≡ true
+        → is_equality atom.now ≡ false) (λ w. IsPartner slot (source w) atom.now) }
 {
     let comparison = comparison_of(atom);
     if !comparison.equal {
@@ -85,9 +89,11 @@ fn with_word_in_all<'a>(
 ) -> Result<Eliminated<ThemeAtom>, NoMemory>
     requires normal { AllByRecursion IsNormalTheme atoms.now }
     requires word { IsNormalSource (source word) }
-    ensures holds { IfOk result (λ e. (p : Point) → eliminated_holds theme_holds e p ≡ conj_holds (replaced_holds slot (source word.entry)) atoms.now p) }
+    ensures holds { IfOk result (λ e. (p : Point)
+        → eliminated_holds theme_holds e p ≡ conj_holds (replaced_holds slot (source word.entry)) atoms.now p) }
     ensures normal { IfOk result (λ e. AllByRecursion IsNormalTheme (eliminated_atoms e)) }
-    ensures slots { IfOk result (λ e. (t : Slot) → conj_mentions theme_mentions (eliminated_atoms e) t ≡ true → conj_mentions (replaced_mentions slot (source word.entry)) atoms.now t ≡ true) }
+    ensures slots { IfOk result (λ e. (t : Slot) → conj_mentions theme_mentions (eliminated_atoms e) t ≡ true
+        → conj_mentions (replaced_mentions slot (source word.entry)) atoms.now t ≡ true) }
 {
     let mut remaining = Vec::new(alloc);
     for atom in atoms {

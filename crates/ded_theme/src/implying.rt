@@ -5,8 +5,8 @@ ghost use Rattle.ded_model.specs.Row.{theme_holds};
 
 use ded_model::tuple::ThemeAtom;
 
-/// Whether it is plain that the one atom holds only where the other one does: they are the same, or the one says which text stands in
-/// a slot, and the other one that a different text doesn't stand there.
+/// Whether it is plain that the one atom holds only where the other one does: they are the same, or the one says which
+/// text stands in a slot, and the other one that a different text doesn't stand there.
 pub(crate) fn implies(one: &ThemeAtom, other: &ThemeAtom) -> bool
     ensures { result ≡ true → (p : Point) → theme_holds one.now p ≡ true → theme_holds other.now p ≡ true }
 {

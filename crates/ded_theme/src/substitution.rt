@@ -5,7 +5,8 @@ ghost use Rattle.ded_model.specs.Point.{Point, same_slot};
 ghost use Rattle.ded_model.specs.Normal.{IsNormalTheme};
 ghost use Rattle.ded_theme.specs.declared.substitution.Made.TheVariants.{Always, Never, Atom};
 ghost use Rattle.ded_theme.specs.Sources.{source, is_at, compares, texts, IsNormalSource};
-ghost use Rattle.ded_theme.specs.Replacing.{replaced_holds, replaced_mentions, text_atom, slots_atom, made_holds, made_mentions, IsNormalMade};
+ghost use Rattle.ded_theme.specs.Replacing.{replaced_holds, replaced_mentions, text_atom, slots_atom, made_holds};
+ghost use Rattle.ded_theme.specs.Replacing.{made_mentions, IsNormalMade};
 
 use crate::words::{Word, comparison_of};
 use ded_model::memory::NoMemory;
@@ -35,9 +36,11 @@ pub(crate) fn with_word<'a>(
 ) -> Result<Made, NoMemory>
     requires normal { IsNormalTheme atom.now }
     requires word { IsNormalSource (source word) }
-    ensures holds { IfOk result (λ m. (p : Point) → made_holds m p ≡ replaced_holds slot (source word.entry) atom.now p) }
+    ensures holds { IfOk result (λ m. (p : Point)
+        → made_holds m p ≡ replaced_holds slot (source word.entry) atom.now p) }
     ensures normal { IfOk result (λ m. IsNormalMade m) }
-    ensures slots { IfOk result (λ m. (t : Slot) → made_mentions m t ≡ true → replaced_mentions slot (source word.entry) atom.now t ≡ true) }
+    ensures slots { IfOk result (λ m. (t : Slot) → made_mentions m t ≡ true
+        → replaced_mentions slot (source word.entry) atom.now t ≡ true) }
 {
     let comparison = comparison_of(atom);
     let left = comparison.left.replaced(slot, word);
@@ -49,9 +52,11 @@ pub(crate) fn with_word<'a>(
 fn made_of(equal: bool, left: Word<'_>, right: Word<'_>) -> Result<Made, NoMemory>
     requires left { IsNormalSource (source left) }
     requires right { IsNormalSource (source right) }
-    ensures holds { IfOk result (λ m. (p : Point) → made_holds m p ≡ compares equal (source left.entry) (source right.entry) (texts p)) }
+    ensures holds { IfOk result (λ m. (p : Point)
+        → made_holds m p ≡ compares equal (source left.entry) (source right.entry) (texts p)) }
     ensures normal { IfOk result (λ m. IsNormalMade m) }
-    ensures slots { IfOk result (λ m. (t : Slot) → made_mentions m t ≡ true → (is_at t (source left.entry) || is_at t (source right.entry)) ≡ true) }
+    ensures slots { IfOk result (λ m. (t : Slot) → made_mentions m t ≡ true
+        → (is_at t (source left.entry) || is_at t (source right.entry)) ≡ true) }
 {
     match (left, right) {
         (Word::At(slot), Word::Quoted(text)) => Ok(Made::Atom(against(equal, slot, text)?)),
@@ -63,7 +68,8 @@ fn made_of(equal: bool, left: Word<'_>, right: Word<'_>) -> Result<Made, NoMemor
 
 /// What the comparison of two slots comes to.
 fn made_of_slots(equal: bool, left: Slot, right: Slot) -> Made
-    ensures { result ≡ (if same_slot left right then (if equal then Always else Never) else Atom (slots_atom equal left right)) }
+    ensures { result ≡ (if same_slot left right then (if equal then Always else Never) else Atom
+        (slots_atom equal left right)) }
 {
     if left.is_same(right) {
         decided(equal)

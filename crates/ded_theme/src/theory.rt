@@ -17,8 +17,8 @@ use ded_model::tuple::{Negated, ThemeAtom};
 use ded_theory::{Eliminated, OfTexts, Span, Theory, Verdict};
 use std::alloc::Global;
 
-/// The theory of text atoms. Texts range over all finite byte strings. It decides every conjunction: no elimination is given
-/// up, no verdict is `Unknown`, and no bounds are `Around`.
+/// The theory of text atoms. Texts range over all finite byte strings. It decides every conjunction: no elimination is
+/// given up, no verdict is `Unknown`, and no bounds are `Around`.
 pub struct Theme {}
 
 impl Theory for Theme {

@@ -19,8 +19,8 @@ use std::alloc::Global;
 use std::marker::PhantomData;
 
 /// The theory whose atoms are those of two theories: a conjunction is split, each part is handed to its theory, and the
-/// answers are put together. The texts come first, as they are cheap to refute: where nothing satisfies them, the numbers are
-/// not looked at. It decides every conjunction where both theories do.
+/// answers are put together. The texts come first, as they are cheap to refute: where nothing satisfies them, the
+/// numbers are not looked at. It decides every conjunction where both theories do.
 pub struct Both<A: OfNumbers, B: OfTexts> {
     pub parts: PhantomData<(A, B)>,
 }
@@ -117,7 +117,8 @@ impl<A: OfNumbers, B: OfTexts> Theory for Both<A, B> {
 
     ghost cells_tell = { kinds_tell A.holds B.holds A.cell B.cell A.cells_tell B.cells_tell };
 
-    ghost owned_slots = { kinds_owned A.mentions B.mentions A.normal B.normal A.owned B.owned A.owned_slots B.owned_slots };
+    ghost owned_slots = { kinds_owned A.mentions B.mentions A.normal B.normal A.owned B.owned
+        A.owned_slots B.owned_slots };
 
     ghost line_slots = { kinds_line_slots A.mentions B.mentions A.lines B.lines A.line_slots B.line_slots };
 }
@@ -150,7 +151,8 @@ fn eliminate_first<A: OfNumbers, B: OfTexts>(
 ) -> Result<Eliminated<BothAtom<A::Atom, B::Atom>>, Refused>
     requires normal { AllByRecursion (IsByKind A.normal B.normal) atoms.now }
     requires sort { slot.sort ≡ Rat }
-    ensures is { IfOk result (λ e. IsElimination (by_kind A.holds B.holds) (by_kind A.mentions B.mentions) (by_kind A.lines B.lines) (IsByKind A.normal B.normal) atoms.now slot e) }
+    ensures is { IfOk result (λ e. IsElimination (by_kind A.holds B.holds) (by_kind A.mentions B.mentions)
+        (by_kind A.lines B.lines) (IsByKind A.normal B.normal) atoms.now slot e) }
     ensures wide { IsErrOf result Wide → clash_at slot (conj_lines (by_kind A.lines B.lines) atoms.now) ≡ true }
     ensures never_wide { A.decides → IsErrOf result Wide → ⊥ }
 {
@@ -172,7 +174,8 @@ fn eliminate_second<A: OfNumbers, B: OfTexts>(
 ) -> Result<Eliminated<BothAtom<A::Atom, B::Atom>>, Refused>
     requires normal { AllByRecursion (IsByKind A.normal B.normal) atoms.now }
     requires sort { slot.sort ≡ Text }
-    ensures is { IfOk result (λ e. IsElimination (by_kind A.holds B.holds) (by_kind A.mentions B.mentions) (by_kind A.lines B.lines) (IsByKind A.normal B.normal) atoms.now slot e) }
+    ensures is { IfOk result (λ e. IsElimination (by_kind A.holds B.holds) (by_kind A.mentions B.mentions)
+        (by_kind A.lines B.lines) (IsByKind A.normal B.normal) atoms.now slot e) }
     ensures wide { IsErrOf result Wide → clash_at slot (conj_lines (by_kind A.lines B.lines) atoms.now) ≡ true }
     ensures never_wide { B.decides → IsErrOf result Wide → ⊥ }
 {

@@ -47,8 +47,8 @@ pub trait Theory {
     /// Whether the atoms may mention slots of a sort.
     ghost owned: { Sort → Bool };
 
-    /// Whether the theory decides every conjunction, whatever its numbers: no elimination is `Wide`, no verdict `Unknown`, and
-    /// no bounds are `Around`.
+    /// Whether the theory decides every conjunction, whatever its numbers: no elimination is `Wide`, no verdict
+    /// `Unknown`, and no bounds are `Around`.
     ghost decides: { Type 0 };
 
     /// Whether the atoms may mention slots of the sort. It does not allocate.
@@ -62,9 +62,9 @@ pub trait Theory {
     fn copy(atom: &Self::Atom) -> Result<Self::Atom, NoMemory>
         ensures { IfOk result (λ a. a ≡ atom.now) };
 
-    /// The normal form of the atom with each slot replaced as the pairs say; a slot that no pair names stays. The pairs are one
-    /// to one on the atom's slots and keep their sorts. The result holds at a point exactly where the atom does at a point that
-    /// has the same values at the slots before, and has the atom's lines over the new slots.
+    /// The normal form of the atom with each slot replaced as the pairs say; a slot that no pair names stays. The pairs
+    /// are one to one on the atom's slots and keep their sorts. The result holds at a point exactly where the atom does
+    /// at a point that has the same values at the slots before, and has the atom's lines over the new slots.
     ///
     /// # Errors
     /// Out of memory.
@@ -72,52 +72,61 @@ pub trait Theory {
         requires normal { normal atom.now }
         requires one { IsOneToOne map.now (mentions atom.now) }
         requires sorts { KeepsSorts map.now (mentions atom.now) }
-        ensures holds { IfOk result (λ a. (p q : Point) → 0 < p.den → IsRenamedPoint map.now (mentions atom.now) p q → holds a q ≡ holds atom.now p) }
+        ensures holds { IfOk result (λ a. (p q : Point) → 0 < p.den → IsRenamedPoint map.now (mentions atom.now) p q
+            → holds a q ≡ holds atom.now p) }
         ensures normal { IfOk result normal }
-        ensures slots { IfOk result (λ a. (t : Slot) → mentions a t ≡ true → (s : Slot) × (mentions atom.now s ≡ true) × (renamed map.now s ≡ t)) }
+        ensures slots { IfOk result (λ a. (t : Slot) → mentions a t ≡ true
+            → (s : Slot) × (mentions atom.now s ≡ true) × (renamed map.now s ≡ t)) }
         ensures lines { IfOk result (λ a. lines a ≡ mapped_lines map.now (lines atom.now)) };
 
-    /// The negation of the atom: pieces that exclude each other and hold together exactly where the atom doesn't. They mention
-    /// its slots alone, have its lines, and tell apart no points of one cell of the atom.
+    /// The negation of the atom: pieces that exclude each other and hold together exactly where the atom doesn't. They
+    /// mention its slots alone, have its lines, and tell apart no points of one cell of the atom.
     ///
     /// # Errors
     /// Out of memory.
     fn negate(atom: &Self::Atom) -> Result<Negated<Self::Atom>, NoMemory>
         requires normal { normal atom.now }
-        ensures holds { IfOk result (λ n. (p : Point) → 0 < p.den → some_piece_holds holds n p ≡ not (holds atom.now p)) }
+        ensures holds { IfOk result (λ n. (p : Point) → 0 < p.den
+            → some_piece_holds holds n p ≡ not (holds atom.now p)) }
         ensures disjoint { IfOk result (λ n. (p : Point) → 0 < p.den → both_pieces_hold holds n p ≡ false) }
         ensures normal { IfOk result (λ n. EachPiece normal n) }
-        ensures slots { IfOk result (λ n. EachPiece (λ a. (s : Slot) → mentions a s ≡ true → mentions atom.now s ≡ true) n) }
+        ensures slots { IfOk result (λ n. EachPiece (λ a. (s : Slot) → mentions a s ≡ true
+            → mentions atom.now s ≡ true) n) }
         ensures lines { IfOk result (λ n. EachPiece (λ a. lines a ≡ lines atom.now) n) }
-        ensures cells { IfOk result (λ n. EachPiece (λ a. (p q : Point) → cell atom.now p ≡ cell atom.now q → cell a p ≡ cell a q) n) };
+        ensures cells { IfOk result (λ n. EachPiece (λ a. (p q : Point) → cell atom.now p ≡ cell atom.now q
+            → cell a p ≡ cell a q) n) };
 
     /// Whether it is plain that the one atom holds only where the other one does. It does not allocate.
     fn implies(one: &Self::Atom, other: &Self::Atom) -> bool
         ensures { result ≡ true → (p : Point) → 0 < p.den → holds one.now p ≡ true → holds other.now p ≡ true };
 
-    /// A conjunction that holds at a point exactly where some extension of the point at the slot satisfies all the atoms;
-    /// `Never` holds nowhere. It doesn't mention the slot and mentions no new one, and its lines are among those that the
-    /// elimination makes of the atoms' lines. So its numbers have at most 2b + 1 digits where the atoms' have at most b.
+    /// A conjunction that holds at a point exactly where some extension of the point at the slot satisfies all the
+    /// atoms; `Never` holds nowhere. It doesn't mention the slot and mentions no new one, and its lines are among those
+    /// that the elimination makes of the atoms' lines. So its numbers have at most 2b + 1 digits where the atoms' have
+    /// at most b.
     ///
     /// # Errors
-    /// `Wide` only where two lines of the atoms clash at the slot, so only where a number has more than 63 digits, and never
-    /// of a theory that decides; otherwise out of memory.
+    /// `Wide` only where two lines of the atoms clash at the slot, so only where a number has more than 63 digits, and
+    /// never of a theory that decides; otherwise out of memory.
     fn eliminate(
         alloc: Global,
         atoms: &[Self::Atom],
         slot: Slot,
     ) -> Result<Eliminated<Self::Atom>, Refused>
         requires normal { AllByRecursion normal atoms.now }
-        ensures holds { IfOk result (λ e. (p : Point) → IsPoint p → IsTrue (eliminated_holds holds e p) ↔ SomeExtension slot (conj_holds holds atoms.now) p) }
+        ensures holds { IfOk result (λ e. (p : Point) → IsPoint p → IsTrue (eliminated_holds holds e p)
+            ↔ SomeExtension slot (conj_holds holds atoms.now) p) }
         ensures normal { IfOk result (λ e. AllByRecursion normal (eliminated_atoms e)) }
-        ensures slots { IfOk result (λ e. (s : Slot) → conj_mentions mentions (eliminated_atoms e) s ≡ true → (same_slot s slot ≡ false) × (conj_mentions mentions atoms.now s ≡ true)) }
-        ensures lines { IfOk result (λ e. IsSubset (conj_lines lines (eliminated_atoms e)) (elim_at slot (conj_lines lines atoms.now))) }
+        ensures slots { IfOk result (λ e. (s : Slot) → conj_mentions mentions (eliminated_atoms e) s ≡ true
+            → (same_slot s slot ≡ false) × (conj_mentions mentions atoms.now s ≡ true)) }
+        ensures lines { IfOk result (λ e. IsSubset (conj_lines lines (eliminated_atoms e))
+            (elim_at slot (conj_lines lines atoms.now))) }
         ensures wide { IsErrOf result Wide → clash_at slot (conj_lines lines atoms.now) ≡ true }
         ensures never_wide { decides → IsErrOf result Wide → ⊥ };
 
-    /// Whether some point satisfies all the atoms. `Unknown` only where the atoms are wide: with b the greatest length of their
-    /// numbers and k the count of rational slots that they mention, only where (b + 1) * 2^k is above 128. A theory that decides
-    /// never gives it.
+    /// Whether some point satisfies all the atoms. `Unknown` only where the atoms are wide: with b the greatest length
+    /// of their numbers and k the count of rational slots that they mention, only where (b + 1) * 2^k is above 128. A
+    /// theory that decides never gives it.
     ///
     /// # Errors
     /// Out of memory.
@@ -126,8 +135,8 @@ pub trait Theory {
         ensures verdict { IfOk result (λ v. IsVerdict holds mentions lines atoms.now v) }
         ensures decided { decides → IfOk result (λ v. v ≡ Unknown → ⊥) };
 
-    /// The exact bounds of a rational slot over all points that satisfy the atoms, `Nothing` where none does. `Around` only
-    /// where the atoms are wide, as `Unknown` of [`Theory::refute`].
+    /// The exact bounds of a rational slot over all points that satisfy the atoms, `Nothing` where none does. `Around`
+    /// only where the atoms are wide, as `Unknown` of [`Theory::refute`].
     ///
     /// # Errors
     /// Out of memory.
@@ -148,7 +157,8 @@ pub trait Theory {
     ghost owned_slots: { (a : Self.Atom) (s : Slot) → normal a → mentions a s ≡ true → owned s.sort ≡ true };
 
     /// The lines of an atom mention only slots that it mentions.
-    ghost line_slots: { (a : Self.Atom) (l : Line) (s : Slot) → In l (lines a) → row_mentions l s ≡ true → mentions a s ≡ true };
+    ghost line_slots: { (a : Self.Atom) (l : Line) (s : Slot) → In l (lines a) → row_mentions l s ≡ true
+        → mentions a s ≡ true };
 }
 
 /// A theory of numbers: it owns the rational slots and no text slot.

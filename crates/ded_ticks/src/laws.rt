@@ -16,5 +16,6 @@ pub fn reach()
 
 /// Nine steps behind the first multiple is above the greatest value, so that nine ticks are all.
 pub fn last()
-    ensures { (low high : ℤ) (step : ℕ) → low <ℤ high → unsigned_abs (high -ℤ low) ≤ 8 * step → high <ℤ (first_multiple low (pos step) +ℤ pos (9 * step)) }
+    ensures { (low high : ℤ) (step : ℕ) → low <ℤ high → unsigned_abs (high -ℤ low) ≤ 8 * step
+        → high <ℤ (first_multiple low (pos step) +ℤ pos (9 * step)) }
 {}

@@ -12,8 +12,8 @@ use ded_polygon::Window;
 use ded_svg::Tick;
 use std::alloc::Global;
 
-/// The ticks along the lower border of a picture of the window with this width in units: round numbers from its left end to its right
-/// end, in ascending order.
+/// The ticks along the lower border of a picture of the window with this width in units: round numbers from its left
+/// end to its right end, in ascending order.
 ///
 /// # Errors
 /// Out of memory.
@@ -23,8 +23,8 @@ pub fn lower_ticks(alloc: Global, window: Window, width: u32) -> Result<Vec<Tick
     ticks(alloc, Axis::Lower, window, width)
 }
 
-/// The ticks along the left border of a picture of the window with this height in units: round numbers from its bottom to its top, in
-/// ascending order. Places are downwards.
+/// The ticks along the left border of a picture of the window with this height in units: round numbers from its bottom
+/// to its top, in ascending order. Places are downwards.
 ///
 /// # Errors
 /// Out of memory.
@@ -34,7 +34,8 @@ pub fn left_ticks(alloc: Global, window: Window, height: u32) -> Result<Vec<Tick
     ticks(alloc, Axis::Left, window, height)
 }
 
-/// The ticks along the lower border as in [`lower_ticks`], where its numbers are minutes: round times, with labels as `08:30`.
+/// The ticks along the lower border as in [`lower_ticks`], where its numbers are minutes: round times, with labels as
+/// `08:30`.
 ///
 /// # Errors
 /// Out of memory.

@@ -21,13 +21,15 @@ use ded_model::tuple::Atom;
 use ded_theory::{Theory, Verdict};
 use std::alloc::Global;
 
-/// A list that holds at the points that are close to the list: each point with points as near as one likes, and with the same
-/// texts, at which the list holds. It has the conjunctions that hold somewhere, with their strict rows made weak.
+/// A list that holds at the points that are close to the list: each point with points as near as one likes, and with
+/// the same texts, at which the list holds. It has the conjunctions that hold somewhere, with their strict rows made
+/// weak.
 ///
 /// # Errors
 /// `Wide` only where some conjunction isn't narrow, otherwise out of memory.
 pub fn closure(alloc: Global, rel: &GenRel<Atoms>) -> Result<GenRel<Atoms>, Refused>
-    ensures is { IfOk result (λ r. (p : Point) → IsPoint p → IsCloseAt (tuples_hold rel.now) p ↔ IsTrue (tuples_hold r p)) }
+    ensures is { IfOk result (λ r. (p : Point) → IsPoint p → IsCloseAt (tuples_hold rel.now) p
+        ↔ IsTrue (tuples_hold r p)) }
     ensures slots { IfOk result (λ r. (s : Slot) → tuples_mention r s ≡ true → tuples_mention rel.now s ≡ true) }
     ensures lines { IfOk result (λ r. IsSubset (tuples_lines r) (tuples_lines rel.now)) }
     ensures wide { IsErrOf result Wide → SomeConj (λ t. IsNarrowList t → ⊥) rel.now }
@@ -42,7 +44,8 @@ pub fn closure(alloc: Global, rel: &GenRel<Atoms>) -> Result<GenRel<Atoms>, Refu
 /// `Wide` only where some conjunction is wide, otherwise out of memory.
 pub(crate) fn closed(alloc: Global, rel: &GenRel<Atoms>) -> Result<GenRel<Atoms>, Refused>
     ensures is { IfOk result (λ r. IsClosed rel.now r) }
-    ensures wide { IsErrOf result Wide → SomeConj (IsWide ⟦<Atoms as Theory>⟧.mentions ⟦<Atoms as Theory>⟧.lines) rel.now }
+    ensures wide { IsErrOf result Wide → SomeConj
+        (IsWide ⟦<Atoms as Theory>⟧.mentions ⟦<Atoms as Theory>⟧.lines) rel.now }
 {
     let mut out = GenRel::new(alloc);
     for conj in rel.list() {
@@ -57,7 +60,8 @@ pub(crate) fn closed(alloc: Global, rel: &GenRel<Atoms>) -> Result<GenRel<Atoms>
 /// `Wide` only where the conjunction is wide, otherwise out of memory.
 fn push_closed(alloc: Global, out: &mut GenRel<Atoms>, conj: &[Atom]) -> Result<(), Refused>
     requires { AllByRecursion ⟦<Atoms as Theory>⟧.normal conj.now }
-    ensures is { IfOk result (λ _. (conjs : List (List Atom)) → IsClosed conjs out.old → IsClosed (conjs ++ conj.now ∷ []) out.new) }
+    ensures is { IfOk result (λ _. (conjs : List (List Atom)) → IsClosed conjs out.old
+        → IsClosed (conjs ++ conj.now ∷ []) out.new) }
     ensures wide { IsErrOf result Wide → IsWide ⟦<Atoms as Theory>⟧.mentions ⟦<Atoms as Theory>⟧.lines conj.now }
 {
     let verdict = Atoms::refute(alloc, conj)?;

@@ -16,13 +16,14 @@ use ded_genrel::GenRel;
 use ded_model::memory::Refused;
 use std::alloc::Global;
 
-/// A list that holds at the points that are inside of the list: each point for which the list holds at all points that are near
-/// enough and have the same texts. It is the complement of the closure of the complement.
+/// A list that holds at the points that are inside of the list: each point for which the list holds at all points that
+/// are near enough and have the same texts. It is the complement of the closure of the complement.
 ///
 /// # Errors
 /// `Wide` only where the list of all atoms isn't narrow, otherwise out of memory.
 pub fn interior(alloc: Global, rel: &GenRel<Atoms>) -> Result<GenRel<Atoms>, Refused>
-    ensures is { IfOk result (λ r. (p : Point) → IsPoint p → IsInsideAt (tuples_hold rel.now) p ↔ IsTrue (tuples_hold r p)) }
+    ensures is { IfOk result (λ r. (p : Point) → IsPoint p → IsInsideAt (tuples_hold rel.now) p
+        ↔ IsTrue (tuples_hold r p)) }
     ensures slots { IfOk result (λ r. (s : Slot) → tuples_mention r s ≡ true → tuples_mention rel.now s ≡ true) }
     ensures lines { IfOk result (λ r. IsSubset (tuples_lines r) (tuples_lines rel.now)) }
     ensures wide { IsErrOf result Wide → IsNarrowList (all_atoms rel.now) → ⊥ }

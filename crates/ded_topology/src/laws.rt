@@ -16,24 +16,33 @@ ghost use Rattle.ded_genrel.specs.Lists.{SomeConj};
 ghost use Rattle.ded_complement.specs.Pieces.{all_atoms};
 ghost use Rattle.ded_topology.specs.Names.{StandsForName, HoldsAsTuples};
 
-/// Where tuples over a heading stand for a relation or view, tuples over it that hold at the points close to them, as those of
-/// [`crate::closed_tuples`] do, stand for the closure, and those that hold inside, as of [`crate::inner_tuples`], for the interior.
+/// Where tuples over a heading stand for a relation or view, tuples over it that hold at the points close to them, as
+/// those of [`crate::closed_tuples`] do, stand for the closure, and those that hold inside, as of
+/// [`crate::inner_tuples`], for the interior.
 pub fn names()
-    ensures closure { (c : Catalogue) (m n : List ℕ) (h : List Column) (ts us : List (List Atom)) → reading m ≡ closure_of n → StandsForName c n h ts
-        → ((p : Point) → IsPoint p → IsCloseAt (tuples_hold ts) p ↔ IsTrue (tuples_hold us p)) → AllByRecursion (IsTupleOver h) us
+    ensures closure { (c : Catalogue) (m n : List ℕ) (h : List Column) (ts us : List (List Atom))
+        → reading m ≡ closure_of n → StandsForName c n h ts
+        → ((p : Point) → IsPoint p → IsCloseAt (tuples_hold ts) p ↔ IsTrue (tuples_hold us p))
+        → AllByRecursion (IsTupleOver h) us
         → HoldsAsTuples (meaning c m) h us }
-    ensures interior { (c : Catalogue) (m n : List ℕ) (h : List Column) (ts us : List (List Atom)) → reading m ≡ interior_of n → StandsForName c n h ts
-        → ((p : Point) → IsPoint p → IsInsideAt (tuples_hold ts) p ↔ IsTrue (tuples_hold us p)) → AllByRecursion (IsTupleOver h) us
+    ensures interior { (c : Catalogue) (m n : List ℕ) (h : List Column) (ts us : List (List Atom))
+        → reading m ≡ interior_of n → StandsForName c n h ts
+        → ((p : Point) → IsPoint p → IsInsideAt (tuples_hold ts) p ↔ IsTrue (tuples_hold us p))
+        → AllByRecursion (IsTupleOver h) us
         → HoldsAsTuples (meaning c m) h us }
 {}
 
-/// A made name of a well formed catalogue clashes where one of some tuples over the columns of the relation or view that it is made
-/// of, with lines among those of that name, isn't narrow, and where the list of all their atoms isn't.
+/// A made name of a well formed catalogue clashes where one of some tuples over the columns of the relation or view
+/// that it is made of, with lines among those of that name, isn't narrow, and where the list of all their atoms isn't.
 pub fn wide_names()
-    ensures each { (c : Catalogue) → IsWellFormed c → (m n : List ℕ) → (reading m ≡ closure_of n) ⊎ (reading m ≡ interior_of n)
-        → (ts : List (List Atom)) → AllByRecursion (IsTupleOver (columns_in c n)) ts → IsSubset (tuples_lines ts) (stored_measures c n).lines
+    ensures each { (c : Catalogue) → IsWellFormed c → (m n : List ℕ)
+        → (reading m ≡ closure_of n) ⊎ (reading m ≡ interior_of n)
+        → (ts : List (List Atom)) → AllByRecursion (IsTupleOver (columns_in c n)) ts
+        → IsSubset (tuples_lines ts) (stored_measures c n).lines
         → SomeConj (λ t. IsNarrowList t → ⊥) ts → (measures c m).clash ≡ true }
-    ensures together { (c : Catalogue) → IsWellFormed c → (m n : List ℕ) → (reading m ≡ closure_of n) ⊎ (reading m ≡ interior_of n)
-        → (ts : List (List Atom)) → AllByRecursion (IsTupleOver (columns_in c n)) ts → IsSubset (tuples_lines ts) (stored_measures c n).lines
+    ensures together { (c : Catalogue) → IsWellFormed c → (m n : List ℕ)
+        → (reading m ≡ closure_of n) ⊎ (reading m ≡ interior_of n)
+        → (ts : List (List Atom)) → AllByRecursion (IsTupleOver (columns_in c n)) ts
+        → IsSubset (tuples_lines ts) (stored_measures c n).lines
         → (IsNarrowList (all_atoms ts) → ⊥) → (measures c m).clash ≡ true }
 {}

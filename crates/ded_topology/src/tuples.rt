@@ -26,8 +26,10 @@ use std::alloc::Global;
 /// # Errors
 /// `Wide` only where some tuple isn't narrow, otherwise out of memory.
 pub fn closed_tuples(alloc: Global, tuples: &[Tuple]) -> Result<Tuples, Refused>
-    ensures is { IfOk result (λ us. (p : Point) → IsPoint p → IsCloseAt (tuples_hold tuples.now) p ↔ IsTrue (tuples_hold us p)) }
-    ensures over { IfOk result (λ us. (h : List Column) → AllByRecursion (IsTupleOver h) tuples.now → AllByRecursion (IsTupleOver h) us) }
+    ensures is { IfOk result (λ us. (p : Point) → IsPoint p → IsCloseAt (tuples_hold tuples.now) p
+        ↔ IsTrue (tuples_hold us p)) }
+    ensures over { IfOk result (λ us. (h : List Column) → AllByRecursion (IsTupleOver h) tuples.now
+        → AllByRecursion (IsTupleOver h) us) }
     ensures lines { IfOk result (λ us. IsSubset (tuples_lines us) (tuples_lines tuples.now)) }
     ensures wide { IsErrOf result Wide → SomeConj (λ t. IsNarrowList t → ⊥) tuples.now }
 {
@@ -40,8 +42,10 @@ pub fn closed_tuples(alloc: Global, tuples: &[Tuple]) -> Result<Tuples, Refused>
 /// # Errors
 /// `Wide` only where the list of the atoms of all tuples isn't narrow, otherwise out of memory.
 pub fn inner_tuples(alloc: Global, tuples: &[Tuple]) -> Result<Tuples, Refused>
-    ensures is { IfOk result (λ us. (p : Point) → IsPoint p → IsInsideAt (tuples_hold tuples.now) p ↔ IsTrue (tuples_hold us p)) }
-    ensures over { IfOk result (λ us. (h : List Column) → AllByRecursion (IsTupleOver h) tuples.now → AllByRecursion (IsTupleOver h) us) }
+    ensures is { IfOk result (λ us. (p : Point) → IsPoint p → IsInsideAt (tuples_hold tuples.now) p
+        ↔ IsTrue (tuples_hold us p)) }
+    ensures over { IfOk result (λ us. (h : List Column) → AllByRecursion (IsTupleOver h) tuples.now
+        → AllByRecursion (IsTupleOver h) us) }
     ensures lines { IfOk result (λ us. IsSubset (tuples_lines us) (tuples_lines tuples.now)) }
     ensures wide { IsErrOf result Wide → IsNarrowList (all_atoms tuples.now) → ⊥ }
 {

@@ -121,7 +121,8 @@ fn intervals_touch(rt: HostRuntime) -> Result<(), Fail> {
     Ok(())
 }
 
-/// An index of the intervals from 0 to 1 and from 2 to 3, of the point 1 as number 7, and of an empty interval as number 8.
+/// An index of the intervals from 0 to 1 and from 2 to 3, of the point 1 as number 7, and of an empty interval as
+/// number 8.
 fn index(alloc: Global) -> Result<BoxIndex, NoMemory> {
     let boxes = vec![in alloc; closed(alloc, 0, 1)?, closed(alloc, 2, 3)?]?;
     let mut index = BoxIndex::build(alloc, &boxes)?;

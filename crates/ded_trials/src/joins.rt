@@ -98,8 +98,8 @@ fn lack(_refused: Refused) -> NoMemory {
     AllocError
 }
 
-/// How many conjunctions and met pairs the evaluation of a hundred intervals joined with themselves has, and whether a list that is
-/// made of it for a kept view is the intervals again.
+/// How many conjunctions and met pairs the evaluation of a hundred intervals joined with themselves has, and whether a
+/// list that is made of it for a kept view is the intervals again.
 fn evaluated(alloc: Global) -> Result<(usize, u64, bool), Fail> {
     let lines = intervals(alloc)?;
     let plan = twice(alloc, &read(alloc, &lines)?.tuples.list)?;

@@ -1,10 +1,9 @@
 //! Trials of what no script can show.
 //!
-//! Each function is proved in its own crate, and the scripts of tests/scripts show what the program answers. What is left stands
-//! here: counts of pairs that no reply tells, calls that the program itself never makes, the lists that are held of views, devices
-//! that fail, keys and limits that no script reaches, verdicts that replies don't tell apart, and certificates. Nothing stands on this
-//! crate.
-//! The trials are tables of texts that the product's own readers read.
+//! Each function is proved in its own crate, and the scripts of tests/scripts show what the program answers. What is
+//! left stands here: counts of pairs that no reply tells, calls that the program itself never makes, the lists that are
+//! held of views, devices that fail, keys and limits that no script reaches, verdicts that replies don't tell apart,
+//! and certificates. Nothing stands on this crate. The trials are tables of texts that the product's own readers read.
 #![tactic(auto)]
 
 #[cfg(test)]

@@ -16,8 +16,8 @@ use ded_model::plan::Plan;
 use std::alloc::Global;
 use std::test::Fail;
 
-/// Order rows that bound `x` by fractions of numbers of 101 digits, and what is left of them without `x`. Which of two fractions is
-/// less is told by products of 202 digits.
+/// Order rows that bound `x` by fractions of numbers of 101 digits, and what is left of them without `x`. Which of two
+/// fractions is less is told by products of 202 digits.
 const PROJECTED: [(&str, &str); 3] = [
     (
         "{ 1267650600228229401496703205379*x > 1267650600228229401496703205377, 1267650600228229401496703205377*x < 1267650600228229401496703205379 }\n",
@@ -50,7 +50,8 @@ fn projected(alloc: Global, lines: &str) -> Result<Result<GenRel<Atoms>, Refused
     Ok(eval(alloc, &plan, &Given::new(alloc)))
 }
 
-/// Whether the tuples are evaluated without `x` to those that the other lines spell; none where that is refused as too wide.
+/// Whether the tuples are evaluated without `x` to those that the other lines spell; none where that is refused as too
+/// wide.
 fn is_projected(alloc: Global, lines: &str, wanted: &str) -> Result<Option<bool>, Fail> {
     match projected(alloc, lines)? {
         Ok(list) => Ok(Some(is_written(alloc, list, wanted)?)),

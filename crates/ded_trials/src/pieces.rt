@@ -4,7 +4,8 @@ use ded_model::memory::NoMemory;
 use std::alloc::Global;
 use std::test::Fail;
 
-/// Inputs, and how they are cut: each piece before a `|`, and a sign for the rest, `.` where that is blank and `?` where it is cut.
+/// Inputs, and how they are cut: each piece before a `|`, and a sign for the rest, `.` where that is blank and `?`
+/// where it is cut.
 const INPUTS: [(&str, &str); 18] = [
     ("", "."),
     ("a;", "a|."),
@@ -71,7 +72,8 @@ struct Seen {
     length: usize,
 }
 
-/// Feeds one byte many times and then the end of the piece. The length is that of the last piece of at most 65,536 bytes.
+/// Feeds one byte many times and then the end of the piece. The length is that of the last piece of at most 65,536
+/// bytes.
 fn fed(splitter: &mut Splitter, byte: u8, count: usize) -> Seen {
     let mut is_whole = true;
     for _ in 0..count {

@@ -190,7 +190,8 @@ fn unread(source: &mut BytesSource) -> usize {
     count
 }
 
-/// How a run ends that reads one statement a call, whether it writes these replies, and how many bytes it leaves unread.
+/// How a run ends that reads one statement a call, whether it writes these replies, and how many bytes it leaves
+/// unread.
 fn stopped(
     alloc: Global,
     failing_reads: &[u64],
@@ -208,8 +209,8 @@ fn stopped(
     Ok((status, sink.contents() == replies, unread(&mut source)))
 }
 
-/// Each statement is answered before the next one is read: a failed read leaves the replies to all statements before it, and a failed
-/// write the statements behind it unread.
+/// Each statement is answered before the next one is read: a failed read leaves the replies to all statements before
+/// it, and a failed write the statements behind it unread.
 #[test]
 fn reading_and_answering_alternate(rt: HostRuntime) -> Result<(), Fail> {
     let alloc = rt.alloc();

@@ -46,8 +46,8 @@ ask V(1)",
     kept: "{ x = 2 }\n",
 };
 
-/// The part of a union that stands in the list already comes first, and then the one that was inserted, without that part again.
-/// An answer that is read from the list has the same order.
+/// The part of a union that stands in the list already comes first, and then the one that was inserted, without that
+/// part again. An answer that is read from the list has the same order.
 const READ: Case = Case {
     statements: "\
 relation T(x)

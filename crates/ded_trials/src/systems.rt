@@ -1,4 +1,5 @@
-//! Verdicts on systems of many rows over three to five slots, and whether the first slot has values there. The expected ones are another solver's.
+//! Verdicts on systems of many rows over three to five slots, and whether the first slot has values there. The expected
+//! ones are another solver's.
 ghost use Rattle.std.specs.Prelude.{IfOk};
 ghost use Rattle.ded_readback.specs.Plain.{IsPlainHeading};
 
@@ -15,8 +16,8 @@ use std::test::Fail;
 /// A conjunction, and whether it holds somewhere.
 type System = (&'static str, Verdict);
 
-/// Dense rows, equalities, half-spaces that touch in a point, of which one row may be strict, a thin open cone, and rows with numbers
-/// that are too long for a search by minors.
+/// Dense rows, equalities, half-spaces that touch in a point, of which one row may be strict, a thin open cone, and
+/// rows with numbers that are too long for a search by minors.
 const SYSTEMS: [System; 16] = [
     (
         "{ 8*v - 6*w - 6*x >= -101, 6*v - 5*w - x >= -53, 4*v - 9*w - 8*x >= -85, 2*v + 2*w + 7*x <= 41 }\n",

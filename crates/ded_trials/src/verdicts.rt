@@ -20,8 +20,8 @@ enum Kind {
     Around,
 }
 
-/// A list of one conjunction or none, whether it holds somewhere, what bounds `x` has in the conjunction, and what is left without `x`:
-/// nothing where numbers get too long.
+/// A list of one conjunction or none, whether it holds somewhere, what bounds `x` has in the conjunction, and what is
+/// left without `x`: nothing where numbers get too long.
 type Case = (&'static str, Verdict, Option<Kind>, Option<&'static str>);
 
 const CASES: [Case; 8] = [

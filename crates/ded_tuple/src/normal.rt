@@ -16,8 +16,8 @@ use ded_model::row::{Row, RowOp};
 use ded_model::tuple::{Atom, BothAtom, Tuple};
 use std::alloc::Global;
 
-/// The normal tuple of atoms that are normal one by one: true rows are left out, and of equal atoms one is kept. It holds where
-/// all the atoms do.
+/// The normal tuple of atoms that are normal one by one: true rows are left out, and of equal atoms one is kept. It
+/// holds where all the atoms do.
 ///
 /// # Errors
 /// Out of memory.

@@ -1,6 +1,7 @@
 //! The order of atoms, and atoms put at their places.
 ghost use Rattle.std.specs.Prelude.{◌≡◌, OnOk};
-ghost use Rattle.ded_model.specs.Normal.{IsNormalAtom, IsNormalTuple, atom_order, theme_order, first_slot, kind_place, second_number, quoted_text, place_atom};
+ghost use Rattle.ded_model.specs.Normal.{IsNormalAtom, IsNormalTuple, atom_order, theme_order, first_slot, kind_place};
+ghost use Rattle.ded_model.specs.Normal.{second_number, quoted_text, place_atom};
 ghost use Rattle.ded_tuple.specs.Places.{AreOrdered, atom_place, is_placed};
 
 use ded_model::memory::NoMemory;

@@ -9,10 +9,12 @@ ghost use Rattle.ded_weighing.specs.Meeting.{meets};
 
 /// Rows of which a sum of multiples holds nowhere hold nowhere together.
 pub fn refutations()
-    ensures { (ms : List ℤ) (rs : List LinearConstraint) → refutes ms rs ≡ true → HoldsNowhere (conj_holds row_holds rs) }
+    ensures { (ms : List ℤ) (rs : List LinearConstraint) → refutes ms rs ≡ true
+        → HoldsNowhere (conj_holds row_holds rs) }
 {}
 
 /// Rows that hold at a point which is given as data hold somewhere.
 pub fn witnesses()
-    ensures { (vs : List (Slot × ℤ)) (d : ℤ) (rs : List LinearConstraint) → meets vs d rs ≡ true → HoldsSomewhere (conj_holds row_holds rs) }
+    ensures { (vs : List (Slot × ℤ)) (d : ℤ) (rs : List LinearConstraint) → meets vs d rs ≡ true
+        → HoldsSomewhere (conj_holds row_holds rs) }
 {}

@@ -4,15 +4,16 @@ ghost use Rattle.std.specs.List.{list_all};
 ghost use Rattle.ded_model.specs.Row.{row_at};
 ghost use Rattle.ded_weighing.specs.Weighing.{term_is_long};
 ghost use Rattle.ded_weighing.specs.Columns.{lent};
-ghost use Rattle.ded_weighing.specs.Meeting.{point_of, number_from, sum_with, coefs_are_long, row_is_long, meets_row, meets, weakly, leans_row, leans};
+ghost use Rattle.ded_weighing.specs.Meeting.{point_of, number_from, sum_with, coefs_are_long, row_is_long, meets_row};
+ghost use Rattle.ded_weighing.specs.Meeting.{meets, weakly, leans_row, leans};
 
 use crate::weighing::with_term;
 use crate::witness::Witness;
 use ded_model::row::{Row, RowOp};
 use ded_model::slot::Slot;
 
-/// Whether the denominator is positive and each row holds at the point. A product, or a sum on the way, of more than 127 binary
-/// digits counts as no.
+/// Whether the denominator is positive and each row holds at the point. A product, or a sum on the way, of more than
+/// 127 binary digits counts as no.
 pub fn meets(rows: &[&Row], witness: &Witness) -> bool
     ensures { result ≡ meets witness.now.values.items witness.now.denominator (lent rows.now) }
 {
@@ -43,8 +44,9 @@ fn meets_row(row: &Row, witness: &Witness) -> bool
     }
 }
 
-/// Whether the denominator isn't negative and each row holds at the point, or along the direction that is meant with 0, where one by
-/// `<` is taken for one by `<=`. A product, or a sum on the way, of more than 127 binary digits counts as no.
+/// Whether the denominator isn't negative and each row holds at the point, or along the direction that is meant with 0,
+/// where one by `<` is taken for one by `<=`. A product, or a sum on the way, of more than 127 binary digits counts as
+/// no.
 pub fn leans(rows: &[&Row], witness: &Witness) -> bool
     ensures { result ≡ leans witness.now.values.items witness.now.denominator (lent rows.now) }
 {
@@ -89,7 +91,8 @@ fn weakly(op: RowOp) -> RowOp
 pub fn row_at(row: &Row, witness: &Witness) -> Option<i128>
     requires { pos 0 ≤ℤ witness.now.denominator }
     ensures { MatchOption result (row_is_long witness.now.values.items witness.now.denominator row.now ≡ true)
-        (λ z. (row_is_long witness.now.values.items witness.now.denominator row.now ≡ false) × (z ≡ row_at row.now (point_of witness.now.values.items witness.now.denominator))) }
+        (λ z. (row_is_long witness.now.values.items witness.now.denominator row.now ≡ false)
+        × (z ≡ row_at row.now (point_of witness.now.values.items witness.now.denominator))) }
 {
     let constant = constant_at(row, witness)?;
     with_coefs(row.coefs.list(), &witness.values, constant)
@@ -98,12 +101,14 @@ pub fn row_at(row: &Row, witness: &Witness) -> Option<i128>
 /// The constant times the denominator; none where that is too long.
 fn constant_at(row: &Row, witness: &Witness) -> Option<i128>
     ensures { MatchOption result (term_is_long row.now.constant witness.now.denominator (pos 0) ≡ true)
-        (λ z. (term_is_long row.now.constant witness.now.denominator (pos 0) ≡ false) × (z ≡ row.now.constant *ℤ witness.now.denominator +ℤ pos 0)) }
+        (λ z. (term_is_long row.now.constant witness.now.denominator (pos 0) ≡ false)
+        × (z ≡ row.now.constant *ℤ witness.now.denominator +ℤ pos 0)) }
 {
     with_term(row.constant, witness.denominator, 0)
 }
 
-/// The numbers of the slots, each times its coefficient, and what there is before; none where a number on the way is too long.
+/// The numbers of the slots, each times its coefficient, and what there is before; none where a number on the way is
+/// too long.
 fn with_coefs(coefs: &[(Slot, i128)], values: &[(Slot, i128)], before: i128) -> Option<i128>
     ensures { MatchOption result (coefs_are_long values.now before coefs.now ≡ true)
         (λ z. (coefs_are_long values.now before coefs.now ≡ false) × (z ≡ sum_with values.now before coefs.now)) }
@@ -118,7 +123,8 @@ fn with_coefs(coefs: &[(Slot, i128)], values: &[(Slot, i128)], before: i128) -> 
 /// The number of the slot times its coefficient, and the sum before; none where one of these is too long.
 fn with_coef(coef: &(Slot, i128), values: &[(Slot, i128)], sum: i128) -> Option<i128>
     ensures { MatchOption result (term_is_long coef.now.1 (number_from (pos 0) values.now coef.now.0) sum ≡ true)
-        (λ z. (term_is_long coef.now.1 (number_from (pos 0) values.now coef.now.0) sum ≡ false) × (z ≡ coef.now.1 *ℤ number_from (pos 0) values.now coef.now.0 +ℤ sum)) }
+        (λ z. (term_is_long coef.now.1 (number_from (pos 0) values.now coef.now.0) sum ≡ false)
+        × (z ≡ coef.now.1 *ℤ number_from (pos 0) values.now coef.now.0 +ℤ sum)) }
 {
     with_term(coef.1, number_of(values, coef.0), sum)
 }

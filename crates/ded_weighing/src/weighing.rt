@@ -6,7 +6,9 @@ ghost use Rattle.ded_model.specs.declared.slot.Slot.{Slot};
 ghost use Rattle.ded_model.specs.Cell.{conj_holds, HoldsNowhere};
 ghost use Rattle.ded_model.specs.Coefs.{coef_at, AreCoefs};
 ghost use Rattle.ded_model.specs.Row.{row_holds};
-ghost use Rattle.ded_weighing.specs.Weighing.{fits, signs_fit, is_strict_at, is_weak_at, is_strict, is_weak, constant_refutes, refutes, term_is_long, column_is_long, IsLongSum, IsLongWeighing};
+ghost use Rattle.ded_weighing.specs.Weighing.{fits, signs_fit, is_strict_at, is_weak_at, is_strict, is_weak};
+ghost use Rattle.ded_weighing.specs.Weighing.{constant_refutes, refutes, term_is_long, column_is_long, IsLongSum};
+ghost use Rattle.ded_weighing.specs.Weighing.{IsLongWeighing};
 ghost use Rattle.ded_weighing.specs.Columns.{lent, number_in, sum_from, all_vanish};
 
 use crate::slots::slots_of;
@@ -25,12 +27,12 @@ enum Column {
     At(Slot),
 }
 
-/// Whether there are as many numbers as rows, of the right signs, and the rows, each times its number, come to a row that has no
-/// coefficient and holds nowhere.
+/// Whether there are as many numbers as rows, of the right signs, and the rows, each times its number, come to a row
+/// that has no coefficient and holds nowhere.
 ///
 /// # Errors
-/// `Wide` only where there are as many numbers as rows, of the right signs, and a product, or a sum on the way, has more than 127
-/// binary digits; otherwise out of memory.
+/// `Wide` only where there are as many numbers as rows, of the right signs, and a product, or a sum on the way, has
+/// more than 127 binary digits; otherwise out of memory.
 pub fn refutes(alloc: Global, multipliers: &[i128], rows: &[&Row]) -> Result<bool, Refused>
     requires { AllByRecursion (λ r. AreCoefs r.coefs) (lent rows.now) }
     ensures is { IfOk result (λ b. b ≡ refutes multipliers.now (lent rows.now)) }
@@ -46,7 +48,8 @@ pub fn refutes(alloc: Global, multipliers: &[i128], rows: &[&Row]) -> Result<boo
     }
 }
 
-/// Whether the numbers refute the rows, which then hold nowhere together. A number on the way that is too long counts as no.
+/// Whether the numbers refute the rows, which then hold nowhere together. A number on the way that is too long counts
+/// as no.
 ///
 /// # Errors
 /// Out of memory.
@@ -61,12 +64,14 @@ pub fn are_refuted(alloc: Global, multipliers: &[i128], rows: &[&Row]) -> Result
     }
 }
 
-/// Whether the coefficients of each of the slots come to 0 and the constants to a number that doesn't stand to 0 as the rows say.
-/// None where a number on the way is too long.
+/// Whether the coefficients of each of the slots come to 0 and the constants to a number that doesn't stand to 0 as the
+/// rows say. None where a number on the way is too long.
 fn sum_refutes(multipliers: &[i128], rows: &[&Row], slots: &[Slot]) -> Option<bool>
     requires { length multipliers.now ≡ length rows.now }
     ensures { MatchOption result (IsLongSum multipliers.now (lent rows.now))
-        (λ b. b ≡ (all_vanish multipliers.now (lent rows.now) slots.now && constant_refutes (is_strict multipliers.now (lent rows.now)) (is_weak multipliers.now (lent rows.now)) (sum_from (λ r. r.constant) (pos 0) multipliers.now (lent rows.now)))) }
+        (λ b. b ≡ (all_vanish multipliers.now (lent rows.now) slots.now
+        && constant_refutes (is_strict multipliers.now (lent rows.now)) (is_weak multipliers.now (lent rows.now))
+        (sum_from (λ r. r.constant) (pos 0) multipliers.now (lent rows.now)))) }
 {
     if !all_vanish(multipliers, rows, slots)? {
         return Some(false);
@@ -87,7 +92,9 @@ fn constant_refutes(strict: bool, weak: bool, constant: i128) -> bool
 /// Whether the coefficients of each of the slots come to 0; none where a number on the way is too long.
 fn all_vanish(multipliers: &[i128], rows: &[&Row], slots: &[Slot]) -> Option<bool>
     requires { length multipliers.now ≡ length rows.now }
-    ensures { MatchOption result ((s : Slot) × (column_is_long (λ r. coef_at r.coefs s) (pos 0) multipliers.now (lent rows.now) ≡ true)) (λ b. b ≡ all_vanish multipliers.now (lent rows.now) slots.now) }
+    ensures { MatchOption result ((s : Slot)
+        × (column_is_long (λ r. coef_at r.coefs s) (pos 0) multipliers.now (lent rows.now) ≡ true)) (λ b. b
+        ≡ all_vanish multipliers.now (lent rows.now) slots.now) }
 {
     for slot in slots {
         if column_sum(multipliers, rows, Column::At(*slot))? != 0 {
@@ -100,7 +107,8 @@ fn all_vanish(multipliers: &[i128], rows: &[&Row], slots: &[Slot]) -> Option<boo
 /// The sum of the numbers of a column, each times that of its row; none where a number on the way is too long.
 fn column_sum(multipliers: &[i128], rows: &[&Row], column: Column) -> Option<i128>
     requires { length multipliers.now ≡ length rows.now }
-    ensures { MatchOption result (column_is_long (number_in column) (pos 0) multipliers.now (lent rows.now) ≡ true) (λ z. z ≡ sum_from (number_in column) (pos 0) multipliers.now (lent rows.now)) }
+    ensures { MatchOption result (column_is_long (number_in column) (pos 0) multipliers.now (lent rows.now) ≡ true)
+        (λ z. z ≡ sum_from (number_in column) (pos 0) multipliers.now (lent rows.now)) }
 {
     let mut sum = 0;
     for i in 0..rows.len() {
@@ -121,7 +129,8 @@ fn number_in(row: &Row, column: Column) -> i128
 
 /// A multiple of the number, and the sum before; none where one of these is too long.
 pub(crate) fn with_term(multiplier: i128, number: i128, sum: i128) -> Option<i128>
-    ensures { MatchOption result (term_is_long multiplier number sum ≡ true) (λ z. (term_is_long multiplier number sum ≡ false) × (z ≡ multiplier *ℤ number +ℤ sum)) }
+    ensures { MatchOption result (term_is_long multiplier number sum ≡ true)
+        (λ z. (term_is_long multiplier number sum ≡ false) × (z ≡ multiplier *ℤ number +ℤ sum)) }
 {
     if sum == i128::MIN {
         return None;

@@ -1,9 +1,10 @@
 //! Answers a script from standard input, and draws the tuples of the answers as a picture on standard output.
 //!
-//! `dedale_draw [--limit N] [--columns X,Y] [--window X0,Y0,X1,Y1] [--size N] [--time X]` writes one picture as SVG when the script has
-//! ended, and nothing to standard error. Its exit status says how the run ended: 0 done, 1 done with some refusal or a tuple that isn't
-//! drawn as its numbers are too long, 2 words that aren't accepted, 3 a failed read, 4 a failed write, 5 out of memory, 6 an input of more
-//! than 2^40 bytes. Nothing is written where it is 2, 3, 5 or 6. All that it does is `ded_draw::run`.
+//! `dedale_draw [--limit N] [--columns X,Y] [--window X0,Y0,X1,Y1] [--size N] [--time X]` writes one picture as SVG
+//! when the script has ended, and nothing to standard error. Its exit status says how the run ended: 0 done, 1 done
+//! with some refusal or a tuple that isn't drawn as its numbers are too long, 2 words that aren't accepted, 3 a failed
+//! read, 4 a failed write, 5 out of memory, 6 an input of more than 2^40 bytes. Nothing is written where it is 2, 3, 5
+//! or 6. All that it does is `ded_draw::run`.
 #![tactic(auto)]
 
 use ded_draw::run;

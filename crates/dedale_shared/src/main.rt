@@ -1,8 +1,9 @@
 //! Answers the tagged statements of many sessions from standard input on standard output.
 //!
-//! `dedale_shared` takes no words. It writes one reply for each statement, and nothing to standard error. Its exit status says how
-//! the run ended: 0 done, 1 done with some refusal, 2 any word, 3 a failed read, 4 a failed write, 5 out of memory before the
-//! first read, 6 an input of more than 2^40 bytes. All that it does is `ded_shared::run_shared`.
+//! `dedale_shared` takes no words. It writes one reply for each statement, and nothing to standard error. Its exit
+//! status says how the run ended: 0 done, 1 done with some refusal, 2 any word, 3 a failed read, 4 a failed write, 5
+//! out of memory before the first read, 6 an input of more than 2^40 bytes. All that it does is
+//! `ded_shared::run_shared`.
 #![tactic(auto)]
 
 use ded_io::{StdSink, StdSource};
@@ -13,7 +14,8 @@ use std::process::ExitCode;
 use std::random::RandomSource;
 use std::rt::Env;
 
-/// How many words stand behind the program's name, or how a run without them ends: where they aren't all texts, there is one.
+/// How many words stand behind the program's name, or how a run without them ends: where they aren't all texts, there
+/// is one.
 fn words(rt: &(impl Env + AllocGlobal)) -> Result<usize, SharedStatus> {
     match env::args(rt) {
         Ok(args) => Ok(args.skip(1).count()),

@@ -1,6 +1,8 @@
-//! An example of Dedale as a library: a timetable, asked which talks are in one room at the same time, and when a room is free.
+//! An example of Dedale as a library: a timetable, asked which talks are in one room at the same time, and when a room
+//! is free.
 //!
-//! It opens a session, carries statements out, reads an answer tuple by tuple, and writes another one as the program `dedale` does.
+//! It opens a session, carries statements out, reads an answer tuple by tuple, and writes another one as the program
+//! `dedale` does.
 #![tactic(auto)]
 
 use ded_io::{Failed, Sink, StdSink, send};

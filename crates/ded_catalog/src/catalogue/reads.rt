@@ -56,14 +56,16 @@ impl Catalogue {
 
     /// The heading of a relation or a view. None exactly where no entry has the name.
     pub fn heading(&self, name: &Name) -> Option<&Heading>
-        ensures { option_map (λ h. h.now) result ≡ option_map (λ k. k.columns) (known (catalogue_of self.now) name.now) }
+        ensures { option_map (λ h. h.now) result ≡ option_map (λ k. k.columns)
+            (known (catalogue_of self.now) name.now) }
     {
         heading_of(&self.names, name)
     }
 
     /// The tuples of a relation by their numbers, in ascending order. None exactly where the name is no relation.
     pub fn stored(&self, name: &Name) -> Option<&BTreeMap<u32, Packed>>
-        ensures { option_map (λ ts. ts.now.entries) result ≡ relation_in (entry_of (catalogue_of self.now).entries name.now) }
+        ensures { option_map (λ ts. ts.now.entries) result
+            ≡ relation_in (entry_of (catalogue_of self.now).entries name.now) }
     {
         match relation_of(&self.names, name) {
             Some(relation) => Some(relation.tuples()),
@@ -71,13 +73,14 @@ impl Catalogue {
         }
     }
 
-    /// The tuples of a relation that may hold in the window, with their numbers, in ascending order of these. All that hold somewhere in
-    /// it are among them. None exactly where the name is no relation.
+    /// The tuples of a relation that may hold in the window, with their numbers, in ascending order of these. All that
+    /// hold somewhere in it are among them. None exactly where the name is no relation.
     ///
-    /// Each node of a tree of reaches, each entry and each tuple that is looked at is a step, and so is each number that is found of no
-    /// tuple. Keys of texts aren't counted. Where the relation has one column, and the window no texts and some limits, each of one term at
-    /// most, that some values meet, the steps are at most 9 (2k + 2d + 1) d + k, and as many more as entries stand in no tree: k entries in
-    /// whose reaches the limits may hold, and d binary digits of how many entries there are.
+    /// Each node of a tree of reaches, each entry and each tuple that is looked at is a step, and so is each number
+    /// that is found of no tuple. Keys of texts aren't counted. Where the relation has one column, and the window no
+    /// texts and some limits, each of one term at most, that some values meet, the steps are at most 9 (2k + 2d + 1) d
+    /// + k, and as many more as entries stand in no tree: k entries in whose reaches the limits may hold, and d binary
+    /// digits of how many entries there are.
     ///
     /// # Errors
     /// Out of memory.
@@ -88,8 +91,10 @@ impl Catalogue {
         window: &Window,
         steps: &mut Steps<L>,
     ) -> Result<Option<Vec<(u32, &'a Packed)>>, NoMemory>
-        ensures found { IfOk result (λ found. AreFound window.now (option_map (λ v. numbered v.items) found) (relation_in (entry_of (catalogue_of self.now).entries name.now))) }
-        ensures steps { (r : Relation) → relation_at (lookup (bytes_eq name.now) self.now.names) ≡ Some r → IsLookup window.now r → steps.new ≤ steps.old + most_reads window.now r }
+        ensures found { IfOk result (λ found. AreFound window.now (option_map (λ v. numbered v.items) found)
+            (relation_in (entry_of (catalogue_of self.now).entries name.now))) }
+        ensures steps { (r : Relation) → relation_at (lookup (bytes_eq name.now) self.now.names) ≡ Some r
+            → IsLookup window.now r → steps.new ≤ steps.old + most_reads window.now r }
         ensures read { IfOk result (λ found. IfSome found (λ ts. steps.old + length ts.items ≤ steps.new)) }
     {
         match relation_of(&self.names, name) {
@@ -98,8 +103,8 @@ impl Catalogue {
         }
     }
 
-    /// Each tuple of a relation has an entry in its index, with its number and a reach that contains its points, and where the relation
-    /// has one column, all entries there are segments. It does nothing.
+    /// Each tuple of a relation has an entry in its index, with its number and a reach that contains its points, and
+    /// where the relation has one column, all entries there are segments. It does nothing.
     pub fn indexed(&self, name: &Name)
         ensures { (r : Relation) → relation_at (lookup (bytes_eq name.now) self.now.names) ≡ Some r → HasReaches r }
     {
@@ -110,7 +115,8 @@ impl Catalogue {
 
     /// The goal of a view's formula. None exactly where the name is no view.
     pub fn goal(&self, name: &Name) -> Option<&Goal>
-        ensures { option_map (λ g. goal_form g.now) result ≡ option_map (λ v. goal_of v.0 v.1) (view_in (entry_of (catalogue_of self.now).entries name.now)) }
+        ensures { option_map (λ g. goal_form g.now) result
+            ≡ option_map (λ v. goal_of v.0 v.1) (view_in (entry_of (catalogue_of self.now).entries name.now)) }
     {
         match view_of(&self.names, name) {
             Some(view) => Some(&view.goal),
@@ -118,10 +124,12 @@ impl Catalogue {
         }
     }
 
-    /// The formula of a view as written. None exactly where the name is no view. Each sum of it has each name once, the two
-    /// sides of each comparison are over one denominator, and no row of it has a number above 2^63 - 1 in magnitude.
+    /// The formula of a view as written. None exactly where the name is no view. Each sum of it has each name once, the
+    /// two sides of each comparison are over one denominator, and no row of it has a number above 2^63 - 1 in
+    /// magnitude.
     pub fn formula(&self, name: &Name) -> Option<&Formula>
-        ensures value { option_map (λ f. form f.now) result ≡ option_map (λ v. v.1) (view_in (entry_of (catalogue_of self.now).entries name.now)) }
+        ensures value { option_map (λ f. form f.now) result
+            ≡ option_map (λ v. v.1) (view_in (entry_of (catalogue_of self.now).entries name.now)) }
         ensures plain { IfSome result (λ f. IsPlain (form f.now)) }
         ensures short { IfSome result (λ f. some_atom is_long_atom (form f.now) ≡ false) }
     {
@@ -131,11 +139,12 @@ impl Catalogue {
         }
     }
 
-    /// The names that a view's formula speaks of, each once; a closure or an interior counts by the name that it is made of.
-    /// None exactly where the name is no view. It does not allocate.
+    /// The names that a view's formula speaks of, each once; a closure or an interior counts by the name that it is
+    /// made of. None exactly where the name is no view. It does not allocate.
     pub fn mentions(&self, name: &Name) -> Option<&[Name]>
         ensures none { is_none result ≡ is_none (view_in (entry_of (catalogue_of self.now).entries name.now)) }
-        ensures mentions { IfSome result (λ ns. IfSome (view_in (entry_of (catalogue_of self.now).entries name.now)) (λ v. AreMentions ns.now v.1)) }
+        ensures mentions { IfSome result (λ ns. IfSome (view_in (entry_of (catalogue_of self.now).entries name.now))
+            (λ v. AreMentions ns.now v.1)) }
     {
         match view_of(&self.names, name) {
             Some(view) => Some(view.mentions.as_slice()),

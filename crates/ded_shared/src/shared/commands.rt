@@ -37,7 +37,8 @@ impl Shared {
         requires short { length tag.rest.now ≤ 65536 }
         requires tokens { AreTokensOf tag.rest.now tag.bytes.now tag.tokens.now }
         requires no_word { (verb : Verb) → IsWord (verb_word verb) tag.rest.now → ⊥ }
-        ensures { (bytes : List ℕ) → length bytes ≤ 65536 → HasTag bytes tag.entry.session tag.entry.rest.now → StepsTagged bytes (state_of self.old) (shared_form result) (state_of self.new) }
+        ensures { (bytes : List ℕ) → length bytes ≤ 65536 → HasTag bytes tag.entry.session tag.entry.rest.now
+            → StepsTagged bytes (state_of self.old) (shared_form result) (state_of self.new) }
     {
         match read_tokens(self.alloc, tag.bytes, tag.tokens, Language::One) {
             Ok(command) => SharedReply::Plain(self.work(tag, command)),
@@ -51,7 +52,8 @@ impl Shared {
         requires high { tag.session ≤ 64 }
         requires short { length tag.rest.now ≤ 65536 }
         requires read { IsRead One tag.rest.now (command_form command) }
-        ensures { Works tag.entry.session tag.entry.rest.now (transaction_of (state_of self.old) tag.entry.session) (state_of self.old) (reply_form result) (state_of self.new) }
+        ensures { Works tag.entry.session tag.entry.rest.now (transaction_of (state_of self.old) tag.entry.session)
+            (state_of self.old) (reply_form result) (state_of self.new) }
     {
         match &mut self.transactions[place_of(tag.session)] {
             Some(transaction) => transaction.work(self.alloc, tag.rest, command),

@@ -24,7 +24,8 @@ impl Shared {
     pub(super) fn begin(&mut self, session: u32) -> SharedReply
         requires low { 1 ≤ session }
         requires high { session ≤ 64 }
-        ensures { Begins session (transaction_of (state_of self.old) session) (state_of self.old) (shared_form result) (state_of self.new) }
+        ensures { Begins session (transaction_of (state_of self.old) session) (state_of self.old)
+            (shared_form result) (state_of self.new) }
     {
         if self.is_open(session) {
             return SharedReply::Begun;
@@ -41,7 +42,8 @@ impl Shared {
     pub(super) fn abort(&mut self, session: u32) -> SharedReply
         requires low { 1 ≤ session }
         requires high { session ≤ 64 }
-        ensures { Aborts session (transaction_of (state_of self.old) session) (state_of self.old) (shared_form result) (state_of self.new) }
+        ensures { Aborts session (transaction_of (state_of self.old) session) (state_of self.old)
+            (shared_form result) (state_of self.new) }
     {
         if !self.is_open(session) {
             return SharedReply::NotBegun;
@@ -75,7 +77,8 @@ impl Shared {
     pub(super) fn commit(&mut self, session: u32) -> SharedReply
         requires low { 1 ≤ session }
         requires high { session ≤ 64 }
-        ensures { Commits session (transaction_of (state_of self.old) session) (state_of self.old) (shared_form result) (state_of self.new) }
+        ensures { Commits session (transaction_of (state_of self.old) session) (state_of self.old)
+            (shared_form result) (state_of self.new) }
     {
         let Some(transaction) = &self.transactions[place_of(session)] else {
             return SharedReply::NotBegun;
@@ -95,7 +98,8 @@ impl Shared {
         requires low { 1 ≤ session }
         requires high { session ≤ 64 }
         requires free { IfSome (transaction_of (state_of self.old) session) (λ x. NoneInBoth x.touched x.stale) }
-        ensures { Commits session (transaction_of (state_of self.old) session) (state_of self.old) (shared_form result) (state_of self.new) }
+        ensures { Commits session (transaction_of (state_of self.old) session) (state_of self.old)
+            (shared_form result) (state_of self.new) }
     {
         let Some(transaction) = &self.transactions[place_of(session)] else {
             return SharedReply::NotBegun;
@@ -114,14 +118,16 @@ impl Shared {
         SharedReply::Plain(Reply::Done)
     }
 
-    /// Makes the accepted changes of the session's transaction where nothing was changed since its begin: the transaction's own
-    /// catalogue becomes the shared one.
+    /// Makes the accepted changes of the session's transaction where nothing was changed since its begin: the
+    /// transaction's own catalogue becomes the shared one.
     fn take_over(&mut self, session: u32) -> SharedReply
         requires low { 1 ≤ session }
         requires high { session ≤ 64 }
         requires free { IfSome (transaction_of (state_of self.old) session) (λ x. NoneInBoth x.touched x.stale) }
-        requires current { IfSome (get_or self.old.transactions (session - 1) None) (λ x. x.since ≡ length self.old.log) }
-        ensures { Commits session (transaction_of (state_of self.old) session) (state_of self.old) (shared_form result) (state_of self.new) }
+        requires current { IfSome (get_or self.old.transactions (session - 1) None) (λ x. x.since
+            ≡ length self.old.log) }
+        ensures { Commits session (transaction_of (state_of self.old) session) (state_of self.old)
+            (shared_form result) (state_of self.new) }
     {
         let place = &mut self.transactions[place_of(session)];
         let Some(transaction) = place else {
