@@ -5,13 +5,13 @@ ghost use Rattle.ded_axes.specs.Around.{usual_frame, widened};
 ghost use Rattle.ded_num.specs.Length.{IsWithin};
 
 use crate::power::power;
-use crate::span::{Reach, Reaches, greater, spans};
-use ded_polygon::{Corner, Window};
+use crate::span::{NumberSpan, Reaches, greater, spans};
+use ded_polygon::{Corner, PlaneWindow};
 
 /// The window around corners: a little more than all of them. A corner with a coordinate of 2 ^ 60 or more in size is
 /// left out; where none is left, the window goes from -10 to 10 both ways. Its denominator is a power of ten, at which
 /// the corners span 1000 units or more as far as that is possible with 9 digits behind the point.
-pub fn window_around(corners: &[Corner]) -> Window
+pub fn window_around(corners: &[Corner]) -> PlaneWindow
     ensures { result ≡ frame_around corners.now }
 {
     let den = power(exponent(corners));
@@ -22,10 +22,10 @@ pub fn window_around(corners: &[Corner]) -> Window
 }
 
 /// The window from -10 to 10 both ways.
-fn usual_window() -> Window
+fn usual_window() -> PlaneWindow
     ensures { result ≡ usual_frame }
 {
-    Window {
+    PlaneWindow {
         left: -10,
         right: 10,
         bottom: -10,
@@ -35,7 +35,7 @@ fn usual_window() -> Window
 }
 
 /// What the corners reach over, and a margin on each side.
-fn widened(den: i128, reaches: Reaches) -> Window
+fn widened(den: i128, reaches: Reaches) -> PlaneWindow
     requires den { IsWithin 31 den }
     requires positive { pos 0 <ℤ den }
     ensures { result ≡ widened den reaches }
@@ -45,7 +45,7 @@ fn widened(den: i128, reaches: Reaches) -> Window
 }
 
 /// What both coordinates reach over, and this margin on each side.
-fn framed(den: i128, margin: i128, x: Reach, y: Reach) -> Window
+fn framed(den: i128, margin: i128, x: NumberSpan, y: NumberSpan) -> PlaneWindow
     requires den { IsWithin 31 den }
     requires positive { pos 0 <ℤ den }
     requires margin { IsWithin 60 margin }
@@ -54,7 +54,7 @@ fn framed(den: i128, margin: i128, x: Reach, y: Reach) -> Window
 {
     let (left, right) = x.widened(margin);
     let (bottom, top) = y.widened(margin);
-    Window {
+    PlaneWindow {
         left,
         right,
         bottom,
@@ -64,7 +64,7 @@ fn framed(den: i128, margin: i128, x: Reach, y: Reach) -> Window
 }
 
 /// A twentieth of the extent, and at least one unit.
-fn margin(x: Reach, y: Reach) -> i128
+fn margin(x: NumberSpan, y: NumberSpan) -> i128
     ensures value { result ≡ pos (margin (record { x = x; y = y })) }
     ensures short { IsWithin 60 result }
     ensures positive { pos 0 <ℤ result }

@@ -4,11 +4,11 @@ ghost use Rattle.ded_svg.specs.Coordinates.{nearest};
 ghost use Rattle.ded_axes.specs.Heights.{height_of, within_height};
 ghost use Rattle.ded_num.specs.Length.{IsWithin};
 
-use ded_polygon::Window;
+use ded_polygon::PlaneWindow;
 
 /// The height in units of a picture of this width, at which both axes have the same scale, to the nearest unit; but
 /// more than an eighth of the width, and at most four times the width.
-pub fn height_of(window: Window, width: u32) -> u32
+pub fn height_of(window: PlaneWindow, width: u32) -> u32
     requires { width ≤ 10000 }
     ensures { result ≡ height_of window width }
 {

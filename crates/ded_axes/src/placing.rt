@@ -4,12 +4,12 @@ ghost use Rattle.ded_axes.specs.Places.{place, place_x, place_y};
 
 use crate::number::{extent, rise};
 use crate::parts::portion;
-use ded_polygon::{Corner, Window};
+use ded_polygon::{Corner, PlaneWindow};
 use ded_svg::{Coordinate, Point};
 
 /// Where a corner stands in a picture of the window with this width and height in units. Each coordinate is the nearest
 /// one in whole hundredths; a corner outside of the window stands on the border that is nearest to it.
-pub fn place(window: Window, width: u32, height: u32, corner: Corner) -> Point
+pub fn place(window: PlaneWindow, width: u32, height: u32, corner: Corner) -> Point
     ensures { result ≡ place window width height corner }
 {
     Point {
@@ -19,7 +19,7 @@ pub fn place(window: Window, width: u32, height: u32, corner: Corner) -> Point
 }
 
 /// How far to the right a corner stands.
-fn place_x(window: Window, width: u32, corner: Corner) -> Coordinate
+fn place_x(window: PlaneWindow, width: u32, corner: Corner) -> Coordinate
     ensures { result ≡ place_x window width corner }
 {
     let offset = rise(corner.x, corner.den, window.left, window.den);
@@ -27,7 +27,7 @@ fn place_x(window: Window, width: u32, corner: Corner) -> Coordinate
 }
 
 /// How far downwards a corner stands.
-fn place_y(window: Window, height: u32, corner: Corner) -> Coordinate
+fn place_y(window: PlaneWindow, height: u32, corner: Corner) -> Coordinate
     ensures { result ≡ place_y window height corner }
 {
     let offset = rise(window.top, window.den, corner.y, corner.den);

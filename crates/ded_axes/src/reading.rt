@@ -7,7 +7,7 @@ ghost use Rattle.ded_num.specs.Length.{IsWithin};
 ghost use Rattle.ded_polygon.specs.Windows.{Frame, IsFrame};
 
 use crate::power::power;
-use ded_polygon::Window;
+use ded_polygon::PlaneWindow;
 
 /// The most digits before a point.
 const WHOLE: u32 = 18;
@@ -18,7 +18,7 @@ const PLACES: u32 = 9;
 /// The window that a text spells: the left end, the lower, the right and the upper one, as decimals with commas
 /// between. Each is 1 to 18 digits, maybe behind `-`, and maybe a point and 1 to 9 digits more. None where the text
 /// spells no window.
-pub fn window_of(text: &[u8]) -> Option<Window>
+pub fn window_of(text: &[u8]) -> Option<PlaneWindow>
     ensures { MatchOption result ((w : Frame) → IsFrame w → frame_spelled text.now ≡ Some w
         → ⊥) (λ w. frame_spelled text.now ≡ Some w) }
 {
@@ -40,7 +40,7 @@ fn window_from(
     bottom: (i128, u32),
     right: (i128, u32),
     top: (i128, u32),
-) -> Option<Window>
+) -> Option<PlaneWindow>
     requires left { IsWithin 90 left.0 × (left.1 ≤ 9) }
     requires bottom { IsWithin 90 bottom.0 × (bottom.1 ≤ 9) }
     requires right { IsWithin 90 right.0 × (right.1 ≤ 9) }
@@ -49,7 +49,7 @@ fn window_from(
         → ⊥) (λ w. w ≡ frame_of left bottom right top) }
 {
     let most = most_places(left.1, bottom.1, right.1, top.1);
-    Window::new(
+    PlaneWindow::new(
         in_units(most, left.0, left.1),
         in_units(most, right.0, right.1),
         in_units(most, bottom.0, bottom.1),

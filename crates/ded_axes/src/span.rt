@@ -11,12 +11,12 @@ use std::marker::Model;
 
 /// The numbers from `low` to `high`, which are below 2 ^ 61 in size.
 #[derive(Clone, Copy)]
-pub(crate) struct Reach {
+pub(crate) struct NumberSpan {
     pub low: i128,
     pub high: i128,
 }
 
-impl Model for Reach {
+impl Model for NumberSpan {
     ghost use Rattle.ded_axes.specs.Spans.{Span, IsSpan};
 
     ghost Value = { Span };
@@ -31,26 +31,26 @@ impl Model for Reach {
 /// What both coordinates of corners reach over.
 #[derive(Clone, Copy)]
 pub(crate) struct Reaches {
-    pub x: Reach,
-    pub y: Reach,
+    pub x: NumberSpan,
+    pub y: NumberSpan,
 }
 
-impl Reach {
+impl NumberSpan {
     /// The whole units around a number.
-    fn around(low: i128, high: i128) -> Reach
+    fn around(low: i128, high: i128) -> NumberSpan
         requires low { IsWithin 61 low }
         requires high { IsWithin 61 high }
         requires order { low ≤ℤ high }
         ensures { result ≡ record { low = low; high = high } }
     {
-        Reach { low, high }
+        NumberSpan { low, high }
     }
 
     /// The least span that has both in it.
-    fn joined(self, other: Reach) -> Reach
+    fn joined(self, other: NumberSpan) -> NumberSpan
         ensures { result ≡ joined_span self other }
     {
-        Reach {
+        NumberSpan {
             low: least(self.low, other.low),
             high: greatest(self.high, other.high),
         }
@@ -176,7 +176,7 @@ fn spans_of(den: i128, corner: Corner) -> Reaches
 }
 
 /// The whole units around `z / d`.
-fn span_of(den: i128, z: i128, d: i128) -> Reach
+fn span_of(den: i128, z: i128, d: i128) -> NumberSpan
     requires den { IsWithin 30 den }
     requires z { IsWithin 94 z }
     requires d { IsWithin 63 d }
@@ -185,7 +185,7 @@ fn span_of(den: i128, z: i128, d: i128) -> Reach
     ensures { result ≡ span_of den z d }
 {
     let scaled = product(z, den);
-    Reach::around(floor(scaled, d), ceiling(scaled, d))
+    NumberSpan::around(floor(scaled, d), ceiling(scaled, d))
 }
 
 /// The greatest whole number that is at most `z / d`.

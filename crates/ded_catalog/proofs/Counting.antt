@@ -9,7 +9,7 @@ use Rattle.std.proofs.lemmas.Option.{none-some, same_Some}
 use Rattle.ded_num.proofs.Tests.{from_same_texts}
 use Rattle.ded_model.proofs.Bools.{bytes_eq-refl}
 use Rattle.ded_model.specs.Form.{Form, speaks_of}
-use Rattle.ded_catalog.specs.declared.entries.Entry.{Entry}
+use Rattle.ded_catalog.specs.declared.entries.NameEntry.{NameEntry}
 use Rattle.ded_relation.specs.declared.relation.Relation.{Relation}
 use Rattle.ded_catalog.specs.declared.stored.Stored.{Stored}
 use Rattle.ded_catalog.specs.declared.stored.Stored.TheVariants as stored
@@ -44,7 +44,7 @@ swap false false k = refl
 
 -- ---- more numbers than one
 
-pub raises_none : (es : List (List ℕ × Entry)) → Raises (λ n. false) es es
+pub raises_none : (es : List (List ℕ × NameEntry)) → Raises (λ n. false) es es
 raises_none es = record { stored = refl; users = λ n. same (users_at n es) }
   where
     same : (o : Option ℕ) → o ≡ option_map (more false) o
@@ -52,7 +52,7 @@ raises_none es = record { stored = refl; users = λ n. same (users_at n es) }
     same (Some k) = refl
 
 -- those of one test, and then those of another
-raises_then : (p q r : List ℕ → Bool) (es fs gs : List (List ℕ × Entry)) → ((n : List ℕ) (k : ℕ) → more (r n) k ≡ more (q n) (more (p n) k)) → Raises p es fs → Raises q fs gs → Raises r es gs
+raises_then : (p q r : List ℕ → Bool) (es fs gs : List (List ℕ × NameEntry)) → ((n : List ℕ) (k : ℕ) → more (r n) k ≡ more (q n) (more (p n) k)) → Raises p es fs → Raises q fs gs → Raises r es gs
 raises_then p q r es fs gs both a b = record {
   stored = b.stored ∙ a.stored;
   users = λ n. b.users n ∙ ap (option_map (more (q n))) (a.users n) ∙ by n (users_at n es);
@@ -98,29 +98,29 @@ module _ (ns : List (List ℕ)) (i : ℕ) (m : List ℕ) (once : AreOnce ns) (in
       by false true e f = refl
       by false false e f = refl
 
-  pub raises_more : (es fs gs : List (List ℕ × Entry)) → Raises (λ n. list_any (bytes_eq n) (take i ns)) es fs → Raises (λ n. bytes_eq n m) fs gs → Raises (λ n. list_any (bytes_eq n) (take (i + 1) ns)) es gs
+  pub raises_more : (es fs gs : List (List ℕ × NameEntry)) → Raises (λ n. list_any (bytes_eq n) (take i ns)) es fs → Raises (λ n. bytes_eq n m) fs gs → Raises (λ n. list_any (bytes_eq n) (take (i + 1) ns)) es gs
   raises_more es fs gs a b = raises_then (λ n. list_any (bytes_eq n) (take i ns)) (λ n. bytes_eq n m) (λ n. list_any (bytes_eq n) (take (i + 1) ns)) es fs gs one_more a b
 
-  pub lowers_more : (es fs gs : List (List ℕ × Entry)) → Raises (λ n. list_any (bytes_eq n) (take i ns)) fs es → Raises (λ n. bytes_eq n m) gs fs → Raises (λ n. list_any (bytes_eq n) (take (i + 1) ns)) gs es
+  pub lowers_more : (es fs gs : List (List ℕ × NameEntry)) → Raises (λ n. list_any (bytes_eq n) (take i ns)) fs es → Raises (λ n. bytes_eq n m) gs fs → Raises (λ n. list_any (bytes_eq n) (take (i + 1) ns)) gs es
   lowers_more es fs gs a b =
       raises_then (λ n. bytes_eq n m) (λ n. list_any (bytes_eq n) (take i ns)) (λ n. list_any (bytes_eq n) (take (i + 1) ns)) gs fs es
       (λ n k. one_more n k ∙ swap (bytes_eq n m) (list_any (bytes_eq n) (take i ns)) k) b a
 
   -- there is room for one more
-  pub has_room : (es fs : List (List ℕ × Entry)) → HaveRoom es → Raises (λ n. list_any (bytes_eq n) (take i ns)) es fs → IfSome (users_at m fs) (λ k. k < 2 ^ 64 - 1)
+  pub has_room : (es fs : List (List ℕ × NameEntry)) → HaveRoom es → Raises (λ n. list_any (bytes_eq n) (take i ns)) es fs → IfSome (users_at m fs) (λ k. k < 2 ^ 64 - 1)
   has_room es fs room a =
       subst (λ o. IfSome o (λ k. k < 2 ^ 64 - 1)) (sym (a.users m ∙ ap (λ b. option_map (more b) (users_at m es)) before))
       (through (users_at m es) (more false) (λ k. k < 2 ^ 63) (λ k. k < 2 ^ 64 - 1) (λ k h. omega (arith, h)) (room.each m))
 
   -- there is one that may be taken away
-  pub is_used : (es fs : List (List ℕ × Entry)) → AreUsed ns es → Raises (λ n. list_any (bytes_eq n) (take i ns)) fs es → IfSome (users_at m fs) (λ k. 0 < k)
+  pub is_used : (es fs : List (List ℕ × NameEntry)) → AreUsed ns es → Raises (λ n. list_any (bytes_eq n) (take i ns)) fs es → IfSome (users_at m fs) (λ k. 0 < k)
   is_used es fs used a =
       let here : list_any (bytes_eq m) ns ≡ true = list_any_at (bytes_eq m) ns i m inside (ap (bytes_eq m) (sym is) ∙ bytes_eq-refl m) in
       back (users_at m fs) (more false) (λ k. 0 < k) (λ k. 0 < k) (λ k h. h)
       (subst (λ o. IfSome o (λ k. 0 < k)) (a.users m ∙ ap (λ b. option_map (more b) (users_at m fs)) before) (used.each m here))
 
 -- with none left
-pub raises_all : (ns left : List (List ℕ)) (i : ℕ) (es fs : List (List ℕ × Entry)) → left ≡ ns → length left ≤ i → Raises (λ n. list_any (bytes_eq n) (take i left)) es fs → Raises (λ n. list_any (bytes_eq n) ns) es fs
+pub raises_all : (ns left : List (List ℕ)) (i : ℕ) (es fs : List (List ℕ × NameEntry)) → left ≡ ns → length left ≤ i → Raises (λ n. list_any (bytes_eq n) (take i left)) es fs → Raises (λ n. list_any (bytes_eq n) ns) es fs
 raises_all ns left i es fs e le a = subst (λ l. Raises (λ n. list_any (bytes_eq n) l) es fs) (take_all i left le ∙ e) a
 
 -- ---- all numbers
@@ -133,18 +133,18 @@ users-length (e ∷ es) n = by (stored_uses n e.1) (users-length es n)
     by true h = omega (arith, h)
     by false h = omega (arith, h)
 
-plain-length : (es : List (List ℕ × Entry)) → length (without_users es) ≡ length es
+plain-length : (es : List (List ℕ × NameEntry)) → length (without_users es) ≡ length es
 plain-length [] = refl
 plain-length (e ∷ es) = ap suc (plain-length es)
 
 -- numbers that count have room, as there are fewer views than that
-pub room : (es : List (List ℕ × Entry)) → length es < 2 ^ 63 → AreCounted (λ n. false) es → HaveRoom es
+pub room : (es : List (List ℕ × NameEntry)) → length es < 2 ^ 63 → AreCounted (λ n. false) es → HaveRoom es
 room es few c = record {
   each = λ n. weaker (users_at n es) (λ k. k ≡ users_in (without_users es) n) (λ k. k < 2 ^ 63)
       (λ k e. omega (arith, e, few, users-length (without_users es) n, plain-length es)) (c.each n);
 }
 
-module _ (f : Form) (ns : List (List ℕ)) (names : AreMentions ns f) (es fs : List (List ℕ × Entry)) where
+module _ (f : Form) (ns : List (List ℕ)) (names : AreMentions ns f) (es fs : List (List ℕ × NameEntry)) where
   -- with one view more that speaks of the names
   pub counted_more : AreCounted (λ n. false) es → Raises (λ n. list_any (bytes_eq n) ns) es fs → AreCounted (λ n. speaks_of n f) fs
   counted_more c a = record {
@@ -178,7 +178,7 @@ module _ (f : Form) (ns : List (List ℕ)) (names : AreMentions ns f) (es fs : L
 
 -- ---- one entry more, and one less
 
-lookup-last : (n m : List ℕ) (es : List (List ℕ × Entry)) (x : Entry) → lookup (bytes_eq n) es ≡ None → lookup (bytes_eq n) (es ++ (m, x) ∷ []) ≡ cond (bytes_eq n m) (Some x) None
+lookup-last : (n m : List ℕ) (es : List (List ℕ × NameEntry)) (x : NameEntry) → lookup (bytes_eq n) es ≡ None → lookup (bytes_eq n) (es ++ (m, x) ∷ []) ≡ cond (bytes_eq n m) (Some x) None
 lookup-last n m [] x h = refl
 lookup-last n m (e ∷ es) x h = by (bytes_eq n e.0) h (lookup-last n m es x)
   where
@@ -187,7 +187,7 @@ lookup-last n m (e ∷ es) x h = by (bytes_eq n e.0) h (lookup-last n m es x)
     by true g next = absurd (none-some e.1 (sym g))
     by false g next = next g
 
-lookup-first : (n m : List ℕ) (es : List (List ℕ × Entry)) (x y : Entry) → lookup (bytes_eq n) es ≡ Some y → lookup (bytes_eq n) (es ++ (m, x) ∷ []) ≡ Some y
+lookup-first : (n m : List ℕ) (es : List (List ℕ × NameEntry)) (x y : NameEntry) → lookup (bytes_eq n) es ≡ Some y → lookup (bytes_eq n) (es ++ (m, x) ∷ []) ≡ Some y
 lookup-first n m [] x y h = absurd (none-some y h)
 lookup-first n m (e ∷ es) x y h = by (bytes_eq n e.0) h (lookup-first n m es x y)
   where
@@ -219,11 +219,11 @@ no_users es n h = by (users_in es n) (any_users es n ∙ h)
     by k e = grind (arith, nat_tests)
 
 -- a new entry that nothing speaks of, and that was counted
-pub counted_push : (es fs : List (List ℕ × Entry)) (m : List ℕ) (s : Stored) → fs ≡ es ++ (m, record { stored = s; users = 0 }) ∷ []
+pub counted_push : (es fs : List (List ℕ × NameEntry)) (m : List ℕ) (s : Stored) → fs ≡ es ++ (m, record { stored = s; users = 0 }) ∷ []
     → list_any (stored_uses m) (map (λ e. e.1) (without_users es)) ≡ false → stored_uses m s ≡ false → AreCounted (λ n. stored_uses n s) es → AreCounted (λ n. false) fs
 counted_push es fs m s is unused own c = subst (AreCounted (λ n. false)) (sym is) (record { each = λ n. at n (lookup (bytes_eq n) es) refl })
   where
-    x : Entry
+    x : NameEntry
     x = record { stored = s; users = 0 }
 
     all : (n : List ℕ) → users_in (without_users (es ++ (m, x) ∷ [])) n ≡ more (stored_uses n s) (users_in (without_users es) n)
@@ -239,7 +239,7 @@ counted_push es fs m s is unused own c = subst (AreCounted (λ n. false)) (sym i
     new n true e = zero_there n e
     new n false e = tt
 
-    at : (n : List ℕ) (o : Option Entry) → lookup (bytes_eq n) es ≡ o → IfSome (users_at n (es ++ (m, x) ∷ [])) (λ k. k ≡ users_in (without_users (es ++ (m, x) ∷ [])) n)
+    at : (n : List ℕ) (o : Option NameEntry) → lookup (bytes_eq n) es ≡ o → IfSome (users_at n (es ++ (m, x) ∷ [])) (λ k. k ≡ users_in (without_users (es ++ (m, x) ∷ [])) n)
     at n None e =
         subst (λ o. IfSome (option_map (λ y. y.users) o) (λ k. k ≡ users_in (without_users (es ++ (m, x) ∷ [])) n)) (sym (lookup-last n m es x e)) (new n (bytes_eq n m) refl)
     at n (Some y) e =
@@ -247,7 +247,7 @@ counted_push es fs m s is unused own c = subst (AreCounted (λ n. false)) (sym i
         subst (λ o. IfSome (option_map (λ z. z.users) o) (λ k. k ≡ more (stored_uses n s) (users_in (without_users es) n))) e (c.each n) in
         subst (λ o. IfSome (option_map (λ z. z.users) o) (λ k. k ≡ users_in (without_users (es ++ (m, x) ∷ [])) n)) (sym (lookup-first n m es x y e)) (was ∙ sym (all n))
 
-users-without : (es : List (List ℕ × Entry)) (m : List ℕ) (e : Entry) (n : List ℕ) → lookup (bytes_eq m) es ≡ Some e
+users-without : (es : List (List ℕ × NameEntry)) (m : List ℕ) (e : NameEntry) (n : List ℕ) → lookup (bytes_eq m) es ≡ Some e
     → users_in (without_users es) n ≡ more (stored_uses n e.stored) (users_in (without_users (remove_entry (bytes_eq m) es)) n)
 users-without [] m e n h = absurd (none-some e h)
 users-without (f ∷ es) m e n h = by (bytes_eq m f.0) h (users-without es m e n)
@@ -259,7 +259,7 @@ users-without (f ∷ es) m e n h = by (bytes_eq m f.0) h (users-without es m e n
     by false g next = ap (more (stored_uses n f.1.stored)) (next g) ∙ swap (stored_uses n f.1.stored) (stored_uses n e.stored) (users_in (without_users (remove_entry (bytes_eq m) es)) n)
 
 -- what is taken out is counted yet
-pub counted_taken : (es fs : List (List ℕ × Entry)) (m : List ℕ) (e : Entry) → lookup (bytes_eq m) es ≡ Some e → fs ≡ remove_entry (bytes_eq m) es → lookup (bytes_eq m) fs ≡ None
+pub counted_taken : (es fs : List (List ℕ × NameEntry)) (m : List ℕ) (e : NameEntry) → lookup (bytes_eq m) es ≡ Some e → fs ≡ remove_entry (bytes_eq m) es → lookup (bytes_eq m) fs ≡ None
     → AreCounted (λ n. false) es → AreCounted (λ n. stored_uses n e.stored) fs
 counted_taken es fs m e found is gone c = record { each = λ n. by n (bytes_eq n m) refl }
   where
@@ -285,7 +285,7 @@ users-set (e ∷ es) test r s n h = by (test e.0) h (users-set es test r s n)
     by false g next = ap (more (stored_uses n e.1)) (next g)
 
 -- a relation in the place of another changes no number
-pub counted_altered : (es fs : List (List ℕ × Entry)) (m : List ℕ) (Fact : Relation → Relation → Type 0) → Alters es fs m Fact → AreCounted (λ n. false) es → AreCounted (λ n. false) fs
+pub counted_altered : (es fs : List (List ℕ × NameEntry)) (m : List ℕ) (Fact : Relation → Relation → Type 0) → Alters es fs m Fact → AreCounted (λ n. false) es → AreCounted (λ n. false) fs
 counted_altered es fs m Fact h c = record { each = λ n. subst (λ o. IfSome o (λ k. k ≡ users_in (without_users fs) n)) (sym (at n)) (weaker (users_at n es) _ _ (λ k g. g ∙ sym (all n)) (c.each n)) }
   where
     all : (n : List ℕ) → users_in (without_users fs) n ≡ users_in (without_users es) n
@@ -303,7 +303,7 @@ counted_altered es fs m Fact h c = record { each = λ n. subst (λ o. IfSome o (
 -- ---- what the numbers tell
 
 -- whether some view speaks of a name that is defined
-pub tells_users : (es : List (List ℕ × Entry)) (n : List ℕ) (e : Entry) → Some e ≡ lookup (bytes_eq n) es → AreCounted (λ m. false) es
+pub tells_users : (es : List (List ℕ × NameEntry)) (n : List ℕ) (e : NameEntry) → Some e ≡ lookup (bytes_eq n) es → AreCounted (λ m. false) es
     → nat_lt 0 e.users ≡ list_any (stored_uses n) (map (λ x. x.1) (without_users es))
 tells_users es n e found c =
     let is : e.users ≡ users_in (without_users es) n = subst (λ o. IfSome (option_map (λ x. x.users) o) (λ k. k ≡ users_in (without_users es) n)) (sym found) (c.each n) in

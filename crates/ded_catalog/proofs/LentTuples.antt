@@ -17,7 +17,7 @@ use Rattle.ded_packed.specs.Lent.{tuple_of, lent}
 use Rattle.ded_relation.specs.Lookups.{IsLookup, most_reads}
 use Rattle.ded_relation.specs.Nearby.{numbered, AreNear, AreFound}
 use Rattle.ded_relation.specs.Relations.{Relation}
-use Rattle.ded_catalog.specs.Changing.{Change, changed, inserted_in, deleted_in, is_left_out, without_number, with_last}
+use Rattle.ded_catalog.specs.Changing.{PendingChange, changed, inserted_in, deleted_in, is_left_out, without_number, with_last}
 use Rattle.ded_catalog.specs.Snapshots.{Snapshot, AreSnapshotSteps}
 use Rattle.ded_catalog.specs.State.{Table, relation_at}
 use Rattle.ded_catalog.proofs.SnapshotTuples.{read_with, tuples-changed}
@@ -43,7 +43,7 @@ last_near : (w : Window) (o : Option (List Atom)) (us ts : List (List Atom)) →
 last_near w None us ts n = n
 last_near w (Some t) us ts n = near_append w us ts (t ∷ []) (t ∷ []) n (near_same w (t ∷ []))
 
-module _ (w : Window) (c : Catalogue) (x : Change) (m : List ℕ) where
+module _ (w : Window) (c : Catalogue) (x : PendingChange) (m : List ℕ) where
   some_read : (us : List (ℕ × List Atom)) (o : Option (List (ℕ × List Atom))) → AreFound w (Some us) o → AreLent w (Some (with_last (tuples_of (without_number (deleted_in x m) us)) (inserted_in x m))) (read_with (deleted_in x m) (inserted_in x m) o)
   some_read us None n = n
   some_read us (Some ts) n = last_near w (inserted_in x m) (tuples_of (without_number (deleted_in x m) us)) (tuples_of (without_number (deleted_in x m) ts)) (left_near w (deleted_in x m) us ts n)
@@ -87,7 +87,7 @@ lent_counted o p us ts old mid new is h tick =
 -- ---- steps
 
 -- those of the catalogue, and one more at most
-pub steps_more : (w : Window) (t : Table) (x : Change) (s : Snapshot) (n : List ℕ) (old mid new : ℕ) → record { table = t; change = x } ≡ s → ((r : Relation) → relation_at (lookup (bytes_eq n) t.names) ≡ Some r → IsLookup w r → mid ≤ old + most_reads w r)
+pub steps_more : (w : Window) (t : Table) (x : PendingChange) (s : Snapshot) (n : List ℕ) (old mid new : ℕ) → record { table = t; change = x } ≡ s → ((r : Relation) → relation_at (lookup (bytes_eq n) t.names) ≡ Some r → IsLookup w r → mid ≤ old + most_reads w r)
     → new ≤ mid + 1 → AreSnapshotSteps s n w old new
 steps_more w t x s n old mid new is few more = subst (λ (s : Snapshot). AreSnapshotSteps s n w old new) is (λ r e l. sum mid new (most_reads w r) more (few r e l))
   where

@@ -16,7 +16,7 @@ use Rattle.ded_model.specs.ShortRows.{HasShortRows}
 use Rattle.ded_sorts.specs.Changes.{Inserts, Deletes}
 use Rattle.ded_sorts.proofs.KnownEntries.{relation_there, columns_there}
 use Rattle.ded_relation.proofs.Numbers.{stored-push, stored-remove, length-remove}
-use Rattle.ded_catalog.specs.Changing.{Change, none, insertion, deletion, changed_under, entry_with, entry_without, without_number, with_tuple, without_tuple, changed, MayInsert, MayChange, inserted_in, deleted_in, with_last}
+use Rattle.ded_catalog.specs.Changing.{PendingChange, none, insertion, deletion, changed_under, entry_with, entry_without, without_number, with_tuple, without_tuple, changed, MayInsert, MayChange, inserted_in, deleted_in, with_last}
 use Rattle.ded_catalog.proofs.SnapshotEntries.{split, over_at, known_from-changed, own_entry, other_entry, over-changed}
 use Rattle.ded_catalog.proofs.Calls.{has_room}
 
@@ -192,7 +192,7 @@ module _ (c : Catalogue) (n : List ℕ) (w : IsWellFormed c) where
 
 -- ---- what is read of a changed catalogue
 
-pub changed_formed : (c : Catalogue) (x : Change) → IsWellFormed c → MayChange c x → IsWellFormed (changed c x)
+pub changed_formed : (c : Catalogue) (x : PendingChange) → IsWellFormed c → MayChange c x → IsWellFormed (changed c x)
 changed_formed c none w may = w
 changed_formed c (insertion n t) w may = with_formed c n w t may
 changed_formed c (deletion n k) w may = without_formed c n w k may
@@ -214,13 +214,13 @@ short_under n f keeps (e ∷ es) s = by (bytes_eq n (entry_name e)) (short_under
     by false next = (s.0, next)
 
 -- views have short rows where they had
-pub changed_short : (c : Catalogue) (x : Change) → AllByRecursion HasShortRows c.entries → AllByRecursion HasShortRows (changed c x).entries
+pub changed_short : (c : Catalogue) (x : PendingChange) → AllByRecursion HasShortRows c.entries → AllByRecursion HasShortRows (changed c x).entries
 changed_short c none s = s
 changed_short c (insertion n t) s = short_under n (entry_with t) (with_short t) c.entries s
 changed_short c (deletion n k) s = short_under n (entry_without k) (without_short k) c.entries s
 
 -- the same is known of names
-pub known-changed : (c : Catalogue) (x : Change) (m : List ℕ) → known (changed c x) m ≡ known c m
+pub known-changed : (c : Catalogue) (x : PendingChange) (m : List ℕ) → known (changed c x) m ≡ known c m
 unfolding known_of
 known-changed c none m = refl
 known-changed c (insertion n t) m = ap (λ (K : KnownNames). K m) (known_from-changed n (entry_with t) (with_named t) (with_known_same t) (λ m. None) c.entries)
@@ -237,7 +237,7 @@ view_without k (Some (relation m h i ts)) = refl
 view_without k (Some (view m h f)) = refl
 
 -- views are the same
-pub view-changed : (c : Catalogue) (x : Change) (m : List ℕ) → view_in (entry_of (changed c x).entries m) ≡ view_in (entry_of c.entries m)
+pub view-changed : (c : Catalogue) (x : PendingChange) (m : List ℕ) → view_in (entry_of (changed c x).entries m) ≡ view_in (entry_of c.entries m)
 view-changed c none m = refl
 view-changed c (insertion n t) m = by (bytes_eq n m) refl
   where
@@ -281,7 +281,7 @@ read_less k (Some (relation m h i ts)) = refl
 read_less k (Some (view m h f)) = refl
 
 -- the tuples of a name are those that are left, and the new one
-pub tuples-changed : (c : Catalogue) (x : Change) (m : List ℕ) → read_with (deleted_in x m) (inserted_in x m) (relation_in (entry_of c.entries m)) ≡ option_map tuples_of (relation_in (entry_of (changed c x).entries m))
+pub tuples-changed : (c : Catalogue) (x : PendingChange) (m : List ℕ) → read_with (deleted_in x m) (inserted_in x m) (relation_in (entry_of c.entries m)) ≡ option_map tuples_of (relation_in (entry_of (changed c x).entries m))
 tuples-changed c none m = read_all (relation_in (entry_of c.entries m))
 tuples-changed c (insertion n t) m = by (bytes_eq n m) refl
   where
@@ -313,7 +313,7 @@ mapped_there f None = refl
 mapped_there f (Some x) = refl
 
 -- a name is that of a relation where it was
-pub relation-changed : (c : Catalogue) (x : Change) (m : List ℕ) → is_some (relation_in (entry_of (changed c x).entries m)) ≡ is_some (relation_in (entry_of c.entries m))
+pub relation-changed : (c : Catalogue) (x : PendingChange) (m : List ℕ) → is_some (relation_in (entry_of (changed c x).entries m)) ≡ is_some (relation_in (entry_of c.entries m))
 relation-changed c x m =
     sym (mapped_there tuples_of (relation_in (entry_of (changed c x).entries m))) ∙ sym (ap is_some (tuples-changed c x m))
     ∙ mapped_there (λ ts. with_last (tuples_of (without_number (deleted_in x m) ts)) (inserted_in x m)) (relation_in (entry_of c.entries m))

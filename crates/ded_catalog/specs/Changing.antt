@@ -10,10 +10,10 @@ use Rattle.ded_model.specs.Width.{tuple_length}
 use Rattle.ded_sorts.specs.Causes.{insert_refusal, is_relation_with}
 
 -- no change, a tuple more in the relation of the name, or the tuple of the number less
-pub data Change : Type 0 where
-  none : Change
-  insertion : List ℕ → List Atom → Change
-  deletion : List ℕ → ℕ → Change
+pub data PendingChange : Type 0 where
+  none : PendingChange
+  insertion : List ℕ → List Atom → PendingChange
+  deletion : List ℕ → ℕ → PendingChange
 
 -- another entry in the place of the first one of the name
 abbrev pub changed_under : List ℕ → (Entry → Entry) → List Entry → List Entry
@@ -49,7 +49,7 @@ abbrev pub without_tuple : Catalogue → List ℕ → ℕ → Catalogue
 without_tuple c n k = record { limit = c.limit; entries = changed_under n (entry_without k) c.entries }
 
 -- the catalogue that the change makes
-abbrev pub changed : Catalogue → Change → Catalogue
+abbrev pub changed : Catalogue → PendingChange → Catalogue
 changed c none = c
 changed c (insertion n t) = with_tuple c n t
 changed c (deletion n k) = without_tuple c n k
@@ -62,7 +62,7 @@ pub record MayInsert (c : Catalogue) (n : List ℕ) (t : List Atom) : Type 0 whe
   pub room : insert_refusal c n ≡ None
 
 -- the change isn't refused
-abbrev pub MayChange : Catalogue → Change → Type 0
+abbrev pub MayChange : Catalogue → PendingChange → Type 0
 MayChange c none = Unit {0}
 MayChange c (insertion n t) = MayInsert c n t
 MayChange c (deletion n k) = list_any (λ t. t.0 == k) (tuples_in c n) ≡ true
@@ -70,13 +70,13 @@ MayChange c (deletion n k) = list_any (λ t. t.0 == k) (tuples_in c n) ≡ true
 -- ---- of a name
 
 -- the tuple that is inserted into the relation of the name
-abbrev pub inserted_in : Change → List ℕ → Option (List Atom)
+abbrev pub inserted_in : PendingChange → List ℕ → Option (List Atom)
 inserted_in none n = None
 inserted_in (insertion m t) n = if bytes_eq m n then Some t else None
 inserted_in (deletion m k) n = None
 
 -- the number of the tuple that is deleted from the relation of the name
-abbrev pub deleted_in : Change → List ℕ → Option ℕ
+abbrev pub deleted_in : PendingChange → List ℕ → Option ℕ
 deleted_in none n = None
 deleted_in (insertion m t) n = None
 deleted_in (deletion m k) n = if bytes_eq m n then Some k else None

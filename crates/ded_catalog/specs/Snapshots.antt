@@ -7,12 +7,12 @@ use Rattle.ded_ranges.specs.declared.window.Window.{Window}
 use Rattle.ded_relation.specs.Lookups.{IsLookup, most_reads}
 use Rattle.ded_relation.specs.Relations.{Relation}
 use Rattle.ded_catalog.specs.State.{Table, catalogue_of, relation_at}
-use Rattle.ded_catalog.specs.Changing.{Change, changed}
+use Rattle.ded_catalog.specs.Changing.{PendingChange, changed}
 
 -- a catalogue of the program, and what is changed of it
 pub record Snapshot : Type 0 where
   pub table : Table
-  pub change : Change
+  pub change : PendingChange
 
 -- the catalogue
 unfoldable pub snapshot_of : Snapshot → Catalogue

@@ -14,13 +14,13 @@ use std::alloc::Global;
 
 /// Nothing, one tuple more in the relation of the name, or the tuple of the number less.
 #[derive(Drop)]
-pub(crate) enum Change<'a> {
+pub(crate) enum PendingChange<'a> {
     Nothing,
     Insert(&'a Name, &'a Tuple),
     Delete(&'a Name, u64),
 }
 
-impl<'a> Change<'a> {
+impl<'a> PendingChange<'a> {
     ghost use Rattle.ded_catalog.specs.Forms.{change_form};
 
     /// The tuple that is inserted into the relation of the name, if one is.
@@ -28,14 +28,14 @@ impl<'a> Change<'a> {
         ensures { option_map (λ t. t.now) result ≡ inserted_in (change_form self.now) name.now }
     {
         match self {
-            Change::Insert(into, tuple) => {
+            PendingChange::Insert(into, tuple) => {
                 if into.is_same(name) {
                     Some(tuple)
                 } else {
                     None
                 }
             }
-            Change::Nothing | Change::Delete(_, _) => None,
+            PendingChange::Nothing | PendingChange::Delete(_, _) => None,
         }
     }
 
@@ -44,14 +44,14 @@ impl<'a> Change<'a> {
         ensures { result ≡ deleted_in (change_form self.now) name.now }
     {
         match self {
-            Change::Delete(from, number) => {
+            PendingChange::Delete(from, number) => {
                 if from.is_same(name) {
                     Some(*number)
                 } else {
                     None
                 }
             }
-            Change::Nothing | Change::Insert(_, _) => None,
+            PendingChange::Nothing | PendingChange::Insert(_, _) => None,
         }
     }
 }

@@ -21,13 +21,13 @@ use std::marker::Model;
 
 /// What stands under a name, and how many views speak of the name.
 #[derive(Drop)]
-pub(crate) struct Entry {
+pub(crate) struct NameEntry {
     pub(crate) stored: Stored,
     pub(crate) users: usize,
 }
 
 /// Entries that are linked in order of definition.
-type Linked = LruCache<Name, Entry, NameHashing>;
+type Linked = LruCache<Name, NameEntry, NameHashing>;
 
 /// What stands under each name, in order of definition. Memory is allocated for the first name. Whatever is done with
 /// one name takes the same time, however many names there are.
@@ -42,7 +42,7 @@ impl Model for Entries {
     ghost use Rattle.std.specs.Prelude.{◌≡◌, ◌-◌, ◌^◌, [], IfSome};
     ghost use Rattle.std.specs.Coded.{codes};
     ghost use Rattle.std.specs.Option.{option_map_or};
-    ghost use Rattle.ded_catalog.specs.contracts.entries.Entry as entry;
+    ghost use Rattle.ded_catalog.specs.contracts.entries.NameEntry as entry;
     ghost use Rattle.ded_catalog.specs.Users.{Counted};
 
     ghost Value = { Counted };
@@ -79,7 +79,7 @@ impl Entries {
     }
 
     /// The entry of the name, none where it isn't defined.
-    pub(crate) fn get(&self, name: &Name) -> Option<&Entry>
+    pub(crate) fn get(&self, name: &Name) -> Option<&NameEntry>
         ensures { option_map (λ e. e.now) result ≡ lookup (bytes_eq name.now) self.now.entries }
     {
         match &self.linked {
@@ -92,7 +92,7 @@ impl Entries {
     ///
     /// # Errors
     /// The entry, where memory runs out; nothing is changed then.
-    pub(crate) fn push(&mut self, name: Name, entry: Entry) -> Result<(), Entry>
+    pub(crate) fn push(&mut self, name: Name, entry: NameEntry) -> Result<(), NameEntry>
         requires { lookup (bytes_eq name) self.old.entries ≡ None }
         ensures ok { OnOk result (self.new.entries ≡ self.old.entries ++ (name, entry) ∷ []) }
         ensures err { OnErr result (self.new.entries ≡ self.old.entries) }
@@ -108,7 +108,7 @@ impl Entries {
     }
 
     /// Takes out the entry of the name. The others keep their order.
-    pub(crate) fn remove(&mut self, name: &Name) -> Option<Entry>
+    pub(crate) fn remove(&mut self, name: &Name) -> Option<NameEntry>
         ensures value { result ≡ lookup (bytes_eq name.now) self.old.entries }
         ensures entries { self.new.entries ≡ remove_entry (bytes_eq name.now) self.old.entries }
         ensures gone { lookup (bytes_eq name.now) self.new.entries ≡ None }
@@ -214,7 +214,7 @@ impl Entries {
 ///
 /// # Errors
 /// The entry, where memory runs out.
-fn first(alloc: Global, hashing: NameHashing, name: Name, entry: Entry) -> Result<Linked, Entry>
+fn first(alloc: Global, hashing: NameHashing, name: Name, entry: NameEntry) -> Result<Linked, NameEntry>
     ensures ok { IfOk result (λ c. c.entries ≡ (name, entry) ∷ []) }
     ensures cap { IfOk result (λ c. c.cap ≡ 2 ^ 64 - 1) }
     ensures back { IfErr result (λ e. e ≡ entry) }
@@ -232,7 +232,7 @@ fn first(alloc: Global, hashing: NameHashing, name: Name, entry: Entry) -> Resul
 ///
 /// # Errors
 /// The entry, where memory runs out; nothing is changed then.
-fn push_into(linked: &mut Linked, name: Name, entry: Entry) -> Result<(), Entry>
+fn push_into(linked: &mut Linked, name: Name, entry: NameEntry) -> Result<(), NameEntry>
     requires cap { linked.old.cap ≡ 2 ^ 64 - 1 }
     requires new { lookup (bytes_eq name) linked.old.entries ≡ None }
     ensures ok { OnOk result (linked.new.entries ≡ linked.old.entries ++ (name, entry) ∷ []) }
@@ -250,7 +250,7 @@ fn push_into(linked: &mut Linked, name: Name, entry: Entry) -> Result<(), Entry>
 ///
 /// # Errors
 /// The entry, where memory runs out; nothing is changed then.
-fn put_last(linked: &mut Linked, name: Name, entry: Entry, key: &Name) -> Result<(), Entry>
+fn put_last(linked: &mut Linked, name: Name, entry: NameEntry, key: &Name) -> Result<(), NameEntry>
     requires cap { linked.old.cap ≡ 2 ^ 64 - 1 }
     requires new { lookup (bytes_eq name) linked.old.entries ≡ None }
     requires key { key.now ≡ name }
@@ -271,7 +271,7 @@ fn put_last(linked: &mut Linked, name: Name, entry: Entry, key: &Name) -> Result
 }
 
 /// Takes out the entry of the name.
-fn remove_from(linked: &mut Linked, name: &Name) -> Option<Entry>
+fn remove_from(linked: &mut Linked, name: &Name) -> Option<NameEntry>
     ensures value { result ≡ lookup (bytes_eq name.now) linked.old.entries }
     ensures entries { linked.new.entries ≡ remove_entry (bytes_eq name.now) linked.old.entries }
     ensures gone { lookup (bytes_eq name.now) linked.new.entries ≡ None }
@@ -367,7 +367,7 @@ fn copy_into(copies: &mut Entries, linked: &Linked) -> Result<(), NoMemory>
     let _ = linked.len(); // each name stands once
     for (name, entry) in linked {
         let key = name.copy()?;
-        let copy = Entry {
+        let copy = NameEntry {
             stored: entry.stored.clone()?,
             users: entry.users,
         };
@@ -380,7 +380,7 @@ fn copy_into(copies: &mut Entries, linked: &Linked) -> Result<(), NoMemory>
 ///
 /// # Errors
 /// Out of memory; nothing is changed then.
-fn push_copy(copies: &mut Entries, name: Name, entry: Entry) -> Result<(), NoMemory>
+fn push_copy(copies: &mut Entries, name: Name, entry: NameEntry) -> Result<(), NoMemory>
     requires { lookup (bytes_eq name) copies.old.entries ≡ None }
     ensures pushed { OnOk result (copies.new.entries ≡ copies.old.entries ++ (name, entry) ∷ []) }
     ensures hashed { copies.new.hashing ≡ copies.old.hashing }

@@ -14,7 +14,7 @@ use indexmap::IndexSet;
 use std::alloc::Global;
 
 /// Names, each once, in the order in which they were met.
-type Names = IndexSet<Name, NameHashing>;
+type NamesMet = IndexSet<Name, NameHashing>;
 
 /// The names that the formula speaks of, each once. A closure or an interior counts by the name that it is made of.
 ///
@@ -37,7 +37,7 @@ pub(crate) fn mentioned(
 /// # Errors
 /// Out of memory.
 #[cycle(gathering)]
-fn gather(names: &mut Names, formula: &Formula) -> Result<(), NoMemory>
+fn gather(names: &mut NamesMet, formula: &Formula) -> Result<(), NoMemory>
     ensures { OnOk result (Gathers (λ n. speaks_of n (form formula.now)) names.old.keys names.new.keys) }
 {
     match formula {
@@ -59,7 +59,7 @@ fn gather(names: &mut Names, formula: &Formula) -> Result<(), NoMemory>
 /// # Errors
 /// Out of memory.
 #[cycle(gathering)]
-fn gather_each(names: &mut Names, parts: &Vec<Formula>) -> Result<(), NoMemory>
+fn gather_each(names: &mut NamesMet, parts: &Vec<Formula>) -> Result<(), NoMemory>
     ensures { OnOk result (Gathers (λ n. some_atom_of (atom_speaks_of n) (forms parts.now.items))
         names.old.keys names.new.keys) }
 {
@@ -73,7 +73,7 @@ fn gather_each(names: &mut Names, parts: &Vec<Formula>) -> Result<(), NoMemory>
 ///
 /// # Errors
 /// Out of memory.
-fn gather_base(names: &mut Names, name: &Name) -> Result<(), NoMemory>
+fn gather_base(names: &mut NamesMet, name: &Name) -> Result<(), NoMemory>
     ensures { OnOk result (Gathers (λ n. bytes_eq n (base name.now)) names.old.keys names.new.keys) }
 {
     let base = name.base_name()?;

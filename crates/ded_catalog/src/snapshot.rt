@@ -6,7 +6,7 @@ ghost use Rattle.ded_model.specs.Entries.{entry_of, relation_in};
 ghost use Rattle.ded_catalog.specs.State.{catalogue_of};
 
 use crate::catalogue::Catalogue;
-use crate::change::{Change, left_of, with_inserted};
+use crate::change::{PendingChange, left_of, with_inserted};
 use ded_model::goal::Goal;
 use ded_model::memory::NoMemory;
 use ded_model::name::{Heading, Name};
@@ -24,7 +24,7 @@ use std::sync::ledger::Ledger;
 #[derive(Drop)]
 pub struct Snapshot<'a> {
     catalogue: &'a Catalogue,
-    change: Change<'a>,
+    change: PendingChange<'a>,
 }
 
 impl<'a> Model for Snapshot<'a> {
@@ -66,7 +66,7 @@ impl<'a> Snapshot<'a> {
     {
         Snapshot {
             catalogue,
-            change: Change::Nothing,
+            change: PendingChange::Nothing,
         }
     }
 
@@ -83,7 +83,7 @@ impl<'a> Snapshot<'a> {
         catalogue.formed();
         Snapshot {
             catalogue,
-            change: Change::Insert(name, tuple),
+            change: PendingChange::Insert(name, tuple),
         }
     }
 
@@ -96,7 +96,7 @@ impl<'a> Snapshot<'a> {
         catalogue.formed();
         Snapshot {
             catalogue,
-            change: Change::Delete(name, number),
+            change: PendingChange::Delete(name, number),
         }
     }
 

@@ -19,7 +19,7 @@ ghost use Rattle.ded_catalog.specs.State.{atom_level_in};
 ghost use Rattle.ded_relation.specs.Tuples.{AreUpTo, refusal_of, IsSame, Pushes, Removes};
 ghost use Rattle.ded_catalog.specs.Users.{HasMentions};
 
-use crate::entries::{Entries, Entry};
+use crate::entries::{Entries, NameEntry};
 use crate::mentions::mentioned;
 use crate::stored::{Stored, View};
 use crate::users::{count, discount};
@@ -126,7 +126,7 @@ pub(crate) fn add(table: &mut Table, name: Name, stored: Stored) -> Result<(), N
     ensures hashed { table.new.hashing ≡ table.old.hashing }
 {
     count(&mut table.entries, &stored);
-    match table.entries.push(name, Entry { stored, users: 0 }) {
+    match table.entries.push(name, NameEntry { stored, users: 0 }) {
         Ok(()) => Ok(()),
         Err(entry) => {
             discount(&mut table.entries, entry.stored);

@@ -138,23 +138,23 @@ fn spread(alloc: Global, flags: &[bool], numbers: &Multipliers) -> Result<Multip
 
 /// A number, and those behind it.
 #[derive(Clone, Copy)]
-struct Next<'a> {
+struct NextNumber<'a> {
     number: i128,
     rest: &'a [i128],
 }
 
 /// The next number of the list where it is that of a chosen row, and otherwise 0.
-fn next_number<'a>(flag: bool, numbers: &'a [i128]) -> Next<'a>
+fn next_number<'a>(flag: bool, numbers: &'a [i128]) -> NextNumber<'a>
     ensures spread { (fs : List Bool) → spread (flag ∷ fs) numbers.now ≡ result.number ∷ spread fs result.rest.now }
     ensures short { AllByRecursion IsShort numbers.now
         → IsShort result.number × AllByRecursion IsShort result.rest.now }
 {
     match numbers {
-        [number, rest @ ..] if flag => Next {
+        [number, rest @ ..] if flag => NextNumber {
             number: *number,
             rest,
         },
-        _ => Next {
+        _ => NextNumber {
             number: 0,
             rest: numbers,
         },

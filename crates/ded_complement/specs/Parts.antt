@@ -8,7 +8,7 @@ use Rattle.ded_model.specs.Lines.{Line}
 use Rattle.ded_genrel.specs.Lists.{conjs_hold}
 use Rattle.ded_complement.specs.declared.boxed.Boxed.{Boxed}
 use Rattle.ded_complement.specs.declared.parts.Halves.{Halves}
-use Rattle.ded_complement.specs.declared.parts.Part.{Part}
+use Rattle.ded_complement.specs.declared.parts.BoxedPiece.{BoxedPiece}
 use Rattle.ded_complement.specs.Boxed.{conjs_in, IsBoxed}
 use Rattle.ded_complement.specs.Pieces.{all_atoms, AreAmong, IsMadeOf, IsMore}
 
@@ -32,7 +32,7 @@ abbrev pub IsSameOutside : {A : Type 0} → (A → Point → Bool) → List A �
 IsSameOutside h c ds es = (p : Point) → IsPoint p → (conj_holds h c p && not (conjs_hold h ds p)) ≡ (conj_holds h c p && not (conjs_hold h es p))
 
 -- the piece is in its box, and what of it is outside of the list is what of it is outside of those at the places
-pub record IsPart {A : Type 0} (h : A → Point → Bool) (n : A → Type 0) (ss : List Slot) (taken : List (Boxed A)) (r : Part A) : Type 0 where
+pub record IsPart {A : Type 0} (h : A → Point → Bool) (n : A → Type 0) (ss : List Slot) (taken : List (Boxed A)) (r : BoxedPiece A) : Type 0 where
   pub boxed : IsBoxed h n ss r.piece
   pub places : ArePlaces taken r.near.items
   pub near : IsSameOutside h r.piece.conj.items (conjs_in taken) (conjs_at taken r.near.items)

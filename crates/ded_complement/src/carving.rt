@@ -10,7 +10,7 @@ ghost use Rattle.ded_complement.specs.Pieces.{all_atoms, IsAmong, IsMadeOf, IsMo
 
 use crate::boxed::{Boxed, unboxed};
 use crate::lessening::without;
-use crate::parts::{Halves, Part, half};
+use crate::parts::{Halves, BoxedPiece, half};
 use crate::splitting::splitter;
 use ded_genrel::GenRel;
 use ded_model::memory::NoMemory;
@@ -33,7 +33,7 @@ pub(crate) const DEEPEST: usize = 64;
 /// Out of memory.
 pub(crate) fn carve<T: Theory>(
     out: &mut GenRel<T>,
-    part: Part<T::Atom>,
+    part: BoxedPiece<T::Atom>,
     taken: &[Boxed<T::Atom>],
     slots: &[Slot],
     depth: usize,
@@ -60,7 +60,7 @@ pub(crate) fn carve<T: Theory>(
 /// from the pieces that are left, one after another.
 fn carve_in_turn<T: Theory>(
     out: &mut GenRel<T>,
-    part: Part<T::Atom>,
+    part: BoxedPiece<T::Atom>,
     taken: &[Boxed<T::Atom>],
     slots: &[Slot],
 ) -> Result<(), NoMemory>
@@ -70,7 +70,7 @@ fn carve_in_turn<T: Theory>(
     ensures { IfOk result (λ _. AreCarved T.holds T.mentions T.lines T.cell taken.now
         part.piece.conj.items out.old out.new) }
 {
-    let Part { piece, near } = part;
+    let BoxedPiece { piece, near } = part;
     let alloc = *near.allocator();
     let mut pieces = inhabited::<T>(alloc, piece)?;
     for place in &near {
@@ -104,7 +104,7 @@ fn inhabited<T: Theory>(
 /// The halves of the part of which the larger one has the fewest near it, over all slots; none where each cut leaves
 /// more than three quarters near one half.
 fn halves<T: Theory>(
-    part: &Part<T::Atom>,
+    part: &BoxedPiece<T::Atom>,
     taken: &[Boxed<T::Atom>],
     slots: &[Slot],
 ) -> Result<Option<Halves<T::Atom>>, NoMemory>
@@ -142,7 +142,7 @@ fn better<A: Drop>(one: Option<Halves<A>>, other: Option<Halves<A>>) -> Option<H
 
 /// The halves of the part at an atom that bounds the slot of the column; none where there is no such atom.
 fn halves_at<T: Theory>(
-    part: &Part<T::Atom>,
+    part: &BoxedPiece<T::Atom>,
     taken: &[Boxed<T::Atom>],
     slots: &[Slot],
     column: usize,
@@ -165,7 +165,7 @@ fn halves_at<T: Theory>(
 /// What of the part doesn't satisfy the atom, and what does; none where the negation has two pieces or the cut leaves
 /// more than three quarters near one half.
 fn halves_by<T: Theory>(
-    part: &Part<T::Atom>,
+    part: &BoxedPiece<T::Atom>,
     atom: T::Atom,
     taken: &[Boxed<T::Atom>],
     slots: &[Slot],

@@ -18,7 +18,7 @@ use std::alloc::Global;
 
 /// A piece in its box, and the places of those conjunctions of a list whose boxes share values with it.
 #[derive(Drop)]
-pub(crate) struct Part<A> {
+pub(crate) struct BoxedPiece<A> {
     pub(crate) piece: Boxed<A>,
     pub(crate) near: Vec<usize>,
 }
@@ -26,8 +26,8 @@ pub(crate) struct Part<A> {
 /// Two parts of a part.
 #[derive(Drop)]
 pub(crate) struct Halves<A> {
-    pub(crate) first: Part<A>,
-    pub(crate) second: Part<A>,
+    pub(crate) first: BoxedPiece<A>,
+    pub(crate) second: BoxedPiece<A>,
 }
 
 impl<A> Halves<A> {
@@ -46,7 +46,7 @@ pub(crate) fn whole<T: Theory>(
     piece: Vec<T::Atom>,
     taken: &[Boxed<T::Atom>],
     slots: &[Slot],
-) -> Result<Part<T::Atom>, NoMemory>
+) -> Result<BoxedPiece<T::Atom>, NoMemory>
     requires normal { AllByRecursion T.normal piece.items }
     requires rational { AreRational slots.now }
     requires boxed { AreBoxed T.holds T.normal slots.now taken.now }
@@ -62,11 +62,11 @@ pub(crate) fn whole<T: Theory>(
 /// # Errors
 /// Out of memory.
 pub(crate) fn half<T: Theory>(
-    part: &Part<T::Atom>,
+    part: &BoxedPiece<T::Atom>,
     atom: T::Atom,
     taken: &[Boxed<T::Atom>],
     slots: &[Slot],
-) -> Result<Part<T::Atom>, NoMemory>
+) -> Result<BoxedPiece<T::Atom>, NoMemory>
     requires normal { T.normal atom }
     requires rational { AreRational slots.now }
     requires boxed { AreBoxed T.holds T.normal slots.now taken.now }
@@ -85,7 +85,7 @@ fn part_of<T: Theory>(
     taken: &[Boxed<T::Atom>],
     places: &[usize],
     slots: &[Slot],
-) -> Result<Part<T::Atom>, NoMemory>
+) -> Result<BoxedPiece<T::Atom>, NoMemory>
     requires normal { AllByRecursion T.normal piece.items }
     requires rational { AreRational slots.now }
     requires boxed { AreBoxed T.holds T.normal slots.now taken.now }
@@ -99,7 +99,7 @@ fn part_of<T: Theory>(
     let alloc = *piece.allocator();
     let piece = with_box::<T>(alloc, piece, slots)?;
     let near = near_places::<T>(alloc, &piece, taken, places)?;
-    Ok(Part { piece, near })
+    Ok(BoxedPiece { piece, near })
 }
 
 /// The places of the list, in order.

@@ -31,7 +31,7 @@ use Rattle.ded_views.proofs.Unaffected.{unaffected}
 use Rattle.ded_views.proofs.ViewGoals.{IsGoalOfView, reached_by_used}
 use Rattle.ded_views.proofs.Views.{view_reaches, used_reaches}
 use Rattle.ded_database.specs.declared.mark.Mark.{Mark}
-use Rattle.ded_database.specs.declared.mark.Reach.{Reach}
+use Rattle.ded_database.specs.declared.mark.NameReach.{NameReach}
 use Rattle.ded_database.specs.Closed.{has}
 use Rattle.ded_database.proofs.Closing.{used_by_goal}
 use Rattle.ded_database.proofs.UsedNames.{IsReach}
@@ -42,36 +42,36 @@ use Rattle.ded_model.proofs.Bools.{bytes_eq-refl}
 -- ---- lists of names with what they reach
 
 -- what is so of each, and of one that passes a test with its name, follows where some passes
-some_reach : (P : Reach → Type 0) (test : Reach → Bool) (us : List Reach) (X : Type 0) → AllByRecursion P us
-    → ((u : Reach) → list_any (λ (v : Reach). bytes_eq u.name v.name) us ≡ true → P u → test u ≡ true → X) → list_any test us ≡ true → X
+some_reach : (P : NameReach → Type 0) (test : NameReach → Bool) (us : List NameReach) (X : Type 0) → AllByRecursion P us
+    → ((u : NameReach) → list_any (λ (v : NameReach). bytes_eq u.name v.name) us ≡ true → P u → test u ≡ true → X) → list_any test us ≡ true → X
 some_reach P test [] X k step h = absurd (true≢false (sym h))
 some_reach P test (u ∷ us) X k step h = elim (or_split (test u) (list_any test us) h) [
-  | inl e ↦ step u (or_left (bytes_eq u.name u.name) (list_any (λ (v : Reach). bytes_eq u.name v.name) us) (bytes_eq-refl u.name)) k.0 e
-  | inr e ↦ some_reach P test us X k.1 (λ v i p t. step v (or_right (bytes_eq v.name u.name) (list_any (λ (w : Reach). bytes_eq v.name w.name) us) i) p t) e
+  | inl e ↦ step u (or_left (bytes_eq u.name u.name) (list_any (λ (v : NameReach). bytes_eq u.name v.name) us) (bytes_eq-refl u.name)) k.0 e
+  | inr e ↦ some_reach P test us X k.1 (λ v i p t. step v (or_right (bytes_eq v.name u.name) (list_any (λ (w : NameReach). bytes_eq v.name w.name) us) i) p t) e
 ]
 
 -- some passes where those of the name do
-named_reach : (P : Reach → Type 0) (test : Reach → Bool) (us : List Reach) (n : List ℕ) → AllByRecursion P us → list_any (λ (u : Reach). bytes_eq n u.name) us ≡ true
-    → ((u : Reach) → P u → n ≡ u.name → test u ≡ true) → list_any test us ≡ true
+named_reach : (P : NameReach → Type 0) (test : NameReach → Bool) (us : List NameReach) (n : List ℕ) → AllByRecursion P us → list_any (λ (u : NameReach). bytes_eq n u.name) us ≡ true
+    → ((u : NameReach) → P u → n ≡ u.name → test u ≡ true) → list_any test us ≡ true
 named_reach P test [] n k h step = absurd (true≢false (sym h))
-named_reach P test (u ∷ us) n k h step = elim (or_split (bytes_eq n u.name) (list_any (λ (v : Reach). bytes_eq n v.name) us) h) [
+named_reach P test (u ∷ us) n k h step = elim (or_split (bytes_eq n u.name) (list_any (λ (v : NameReach). bytes_eq n v.name) us) h) [
   | inl e ↦ or_left (test u) (list_any test us) (step u k.0 ((bytes_eq-Decides n u.name).0 e))
   | inr e ↦ or_right (test u) (list_any test us) (named_reach P test us n k.1 e step)
 ]
 
 -- what follows of each from its name
-each_reach : (P Q : Reach → Type 0) (us : List Reach) → AllByRecursion P us → ((u : Reach) → list_any (λ (v : Reach). bytes_eq u.name v.name) us ≡ true → P u → Q u) → AllByRecursion Q us
+each_reach : (P Q : NameReach → Type 0) (us : List NameReach) → AllByRecursion P us → ((u : NameReach) → list_any (λ (v : NameReach). bytes_eq u.name v.name) us ≡ true → P u → Q u) → AllByRecursion Q us
 each_reach P Q [] k step = tt
 each_reach P Q (u ∷ us) k step = (
-  step u (or_left (bytes_eq u.name u.name) (list_any (λ (v : Reach). bytes_eq u.name v.name) us) (bytes_eq-refl u.name)) k.0,
-  each_reach P Q us k.1 (λ v i p. step v (or_right (bytes_eq v.name u.name) (list_any (λ (w : Reach). bytes_eq v.name w.name) us) i) p),
+  step u (or_left (bytes_eq u.name u.name) (list_any (λ (v : NameReach). bytes_eq u.name v.name) us) (bytes_eq-refl u.name)) k.0,
+  each_reach P Q us k.1 (λ v i p. step v (or_right (bytes_eq v.name u.name) (list_any (λ (w : NameReach). bytes_eq v.name w.name) us) i) p),
 )
 
 -- ---- a mark
 
 -- with the plan of the view's goal, and the names that the goal uses
 pub is_mark : (c : Catalogue) (n : List ℕ) (g : GoalForm) (m : Mark) → IsGoalOfView c n g → m.name ≡ n → IsPlanned g (plan_form m.plan)
-    → ((k : List ℕ) → goal_uses k g ≡ list_any (λ (u : Reach). bytes_eq k u.name) m.used.items) → AllByRecursion (IsReach c) m.used.items → IsMark c m
+    → ((k : List ℕ) → goal_uses k g ≡ list_any (λ (u : NameReach). bytes_eq k u.name) m.used.items) → AllByRecursion (IsReach c) m.used.items → IsMark c m
 is_mark c n g m v e planned used reached = record {
   own = v.own;
   columns = v.columns;
@@ -103,7 +103,7 @@ nothing_beside c m n k h other u o = false_from_ne_true (reaches c (base other) 
     both false b e f = f
     both true b e f = absurd (true≢false e)
 
-    step : reaches c (base other) n ≡ true → (v : Reach) → IsReach c v → other ≡ v.name → (not (bytes_eq v.name n) && has v.reached.items n) ≡ true
+    step : reaches c (base other) n ≡ true → (v : NameReach) → IsReach c v → other ≡ v.name → (not (bytes_eq v.name n) && has v.reached.items n) ≡ true
     step r v p i = both (bytes_eq v.name n) (has v.reached.items n) (ap (λ x. bytes_eq x n) (sym i) ∙ o) (p n ∙ ap (λ x. reaches c (base x) n) (sym i) ∙ r)
 
 -- ---- views that only add
@@ -116,7 +116,7 @@ beside_none c m n k none = false_from_ne_true (reaches_beside m n) (λ h. some_r
     parts false b e = (refl, e)
     parts true b e = absurd (true≢false (sym e))
 
-    step : (v : Reach) → list_any (λ (u : Reach). bytes_eq v.name u.name) m.used.items ≡ true → IsReach c v → (not (bytes_eq v.name n) && has v.reached.items n) ≡ true → ⊥
+    step : (v : NameReach) → list_any (λ (u : NameReach). bytes_eq v.name u.name) m.used.items ≡ true → IsReach c v → (not (bytes_eq v.name n) && has v.reached.items n) ≡ true → ⊥
     step v i p t =
         let both = parts (bytes_eq v.name n) (has v.reached.items n) t in
         true≢false (sym (sym (p n) ∙ both.1) ∙ none v.name (k.used v.name ∙ i) both.0)

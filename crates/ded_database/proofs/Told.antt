@@ -17,7 +17,7 @@ use Rattle.ded_views.proofs.Placing.{none_known}
 use Rattle.ded_views.proofs.Changing.{entry_there}
 use Rattle.ded_sorts.specs.Changes.{Deletes}
 use Rattle.ded_database.specs.Changes.{deleted_in, IsInsert, IsChange, DeletesTuple, IsToldDelete}
-use Rattle.ded_database.specs.declared.change.Step.{Step}
+use Rattle.ded_database.specs.declared.change.TupleStep.{TupleStep}
 
 -- numbers differ
 at_self : (k : ℕ) → is_at (nat_cmp k) k ≡ true
@@ -68,8 +68,8 @@ told_delete f c d n k None h v x = tt
 told_delete f c d n k (Some b) h v x = h d v x
 
 -- a step is a delete of the tuple that it tells
-pub step_told : (c d : Catalogue) (n : List ℕ) (s t : Step) → s ≡ t → IsToldDelete c d n (deleted_in s) → IsToldDelete c d n (deleted_in t)
-step_told c d n s t e h = subst (λ (r : Step). IsToldDelete c d n (deleted_in r)) e h
+pub step_told : (c d : Catalogue) (n : List ℕ) (s t : TupleStep) → s ≡ t → IsToldDelete c d n (deleted_in s) → IsToldDelete c d n (deleted_in t)
+step_told c d n s t e h = subst (λ (r : TupleStep). IsToldDelete c d n (deleted_in r)) e h
 
 -- and an insert of the tuple that comes
 pub step_inserts : (c d : Catalogue) (n : List ℕ) (t : List Atom) (o : Option (List Atom)) → o ≡ Some t → IsChange c d n o → IsInsert c d n t

@@ -7,11 +7,11 @@ use Rattle.ded_model.specs.Goal.{GoalForm}
 use Rattle.ded_model.specs.Made.{base}
 use Rattle.ded_model.specs.Uses.{goal_uses}
 use Rattle.ded_views.specs.Reaching.{reaches}
-use Rattle.ded_database.specs.declared.mark.Reach.{Reach}
+use Rattle.ded_database.specs.declared.mark.NameReach.{NameReach}
 use Rattle.ded_database.specs.Closed.{has, IsReachedAfter}
 
 -- it has what its name is made of reaches
-abbrev pub IsReach : Catalogue → Reach → Type 0
+abbrev pub IsReach : Catalogue → NameReach → Type 0
 IsReach c u = (n : List ℕ) → has u.reached.items n ≡ reaches c (base u.name) n
 
 -- of a list that was empty
@@ -19,28 +19,28 @@ pub reached_alone : (c : Catalogue) (n : List ℕ) (old new : List (List ℕ)) �
 reached_alone c n old new e a m = a.all m ∙ ap (λ ns. has ns m || reaches c n m) e
 
 -- one for each of the names, in order
-pub record AreUses (c : Catalogue) (names : List (List ℕ)) (us : List Reach) : Type 0 where
-  pub named : map (λ (u : Reach). u.name) us ≡ names
+pub record AreUses (c : Catalogue) (names : List (List ℕ)) (us : List NameReach) : Type 0 where
+  pub named : map (λ (u : NameReach). u.name) us ≡ names
   pub reached : AllByRecursion (IsReach c) us
 
-pub uses_none : (c : Catalogue) (us : List Reach) → us ≡ [] → AreUses c [] us
+pub uses_none : (c : Catalogue) (us : List NameReach) → us ≡ [] → AreUses c [] us
 uses_none c us e = subst (AreUses c []) (sym e) (record { named = refl; reached = tt })
 
 -- one more
-all_more : (c : Catalogue) (us : List Reach) (u : Reach) → AllByRecursion (IsReach c) us → IsReach c u → AllByRecursion (IsReach c) (us ++ u ∷ [])
+all_more : (c : Catalogue) (us : List NameReach) (u : NameReach) → AllByRecursion (IsReach c) us → IsReach c u → AllByRecursion (IsReach c) (us ++ u ∷ [])
 all_more c [] u k h = (h, tt)
 all_more c (v ∷ us) u k h = (k.0, all_more c us u k.1 h)
 
-pub uses_more : (c : Catalogue) (names : List (List ℕ)) (us new : List Reach) (u : Reach) → new ≡ us ++ u ∷ [] → AreUses c names us → IsReach c u → AreUses c (names ++ u.name ∷ []) new
+pub uses_more : (c : Catalogue) (names : List (List ℕ)) (us new : List NameReach) (u : NameReach) → new ≡ us ++ u ∷ [] → AreUses c names us → IsReach c u → AreUses c (names ++ u.name ∷ []) new
 uses_more c names us new u e a h =
     subst (AreUses c (names ++ u.name ∷ [])) (sym e)
-    (record { named = map-append (λ (v : Reach). v.name) us (u ∷ []) ∙ ap (λ ns. ns ++ u.name ∷ []) a.named; reached = all_more c us u a.reached h })
+    (record { named = map-append (λ (v : NameReach). v.name) us (u ∷ []) ∙ ap (λ ns. ns ++ u.name ∷ []) a.named; reached = all_more c us u a.reached h })
 
 -- of all names of the goal
-any_named : (us : List Reach) (n : List ℕ) → list_any (bytes_eq n) (map (λ (u : Reach). u.name) us) ≡ list_any (λ (u : Reach). bytes_eq n u.name) us
+any_named : (us : List NameReach) (n : List ℕ) → list_any (bytes_eq n) (map (λ (u : NameReach). u.name) us) ≡ list_any (λ (u : NameReach). bytes_eq n u.name) us
 any_named [] n = refl
 any_named (u ∷ us) n = ap (λ b. bytes_eq n u.name || b) (any_named us n)
 
-pub uses_all : (c : Catalogue) (g : GoalForm) (names : List (List ℕ)) (us : List Reach) → ((n : List ℕ) → goal_uses n g ≡ list_any (bytes_eq n) names) → AreUses c names us
-    → (n : List ℕ) → goal_uses n g ≡ list_any (λ (u : Reach). bytes_eq n u.name) us
+pub uses_all : (c : Catalogue) (g : GoalForm) (names : List (List ℕ)) (us : List NameReach) → ((n : List ℕ) → goal_uses n g ≡ list_any (bytes_eq n) names) → AreUses c names us
+    → (n : List ℕ) → goal_uses n g ≡ list_any (λ (u : NameReach). bytes_eq n u.name) us
 uses_all c g names us all a n = all n ∙ ap (list_any (bytes_eq n)) (sym a.named) ∙ any_named us n

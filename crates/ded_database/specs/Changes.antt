@@ -8,8 +8,8 @@ use Rattle.ded_sorts.specs.Changes.{Inserts, Deletes}
 use Rattle.ded_catalog.specs.State.{catalogue_of}
 use Rattle.ded_catalog.specs.Snapshots.{snapshot_of}
 use Rattle.ded_database.specs.declared.change.Change.{Change}
-use Rattle.ded_database.specs.declared.change.Step.{Step}
-use Rattle.ded_database.specs.declared.change.Step.TheVariants.{Inserted, Deleted}
+use Rattle.ded_database.specs.declared.change.TupleStep.{TupleStep}
+use Rattle.ded_database.specs.declared.change.TupleStep.TheVariants.{Inserted, Deleted}
 
 -- the catalogue before the change
 abbrev pub before : Change → Catalogue
@@ -20,12 +20,12 @@ abbrev pub after : Change → Catalogue
 after x = snapshot_of x.snapshot.now
 
 -- the tuple that is inserted
-abbrev pub inserted_in : Step → Option (List Atom)
+abbrev pub inserted_in : TupleStep → Option (List Atom)
 inserted_in (Inserted t) = Some t.now
 inserted_in (Deleted o) = None
 
 -- the tuple that is deleted, where it is told
-abbrev pub deleted_in : Step → Option (List Atom)
+abbrev pub deleted_in : TupleStep → Option (List Atom)
 deleted_in (Inserted t) = None
 deleted_in (Deleted o) = option_map (λ t. t.now) o
 

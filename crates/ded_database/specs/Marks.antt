@@ -15,16 +15,16 @@ use Rattle.ded_keep.specs.Additive.{is_additive}
 use Rattle.ded_plan.specs.Planned.{IsPlanned}
 use Rattle.ded_views.specs.Reaching.{reaches}
 use Rattle.ded_database.specs.declared.mark.Mark.{Mark}
-use Rattle.ded_database.specs.declared.mark.Reach.{Reach}
+use Rattle.ded_database.specs.declared.mark.NameReach.{NameReach}
 use Rattle.ded_database.specs.Closed.{has}
 
 -- a name in the formula reaches the name
 abbrev pub mark_reaches : Mark → List ℕ → Bool
-mark_reaches m n = list_any (λ (u : Reach). has u.reached.items n) m.used.items
+mark_reaches m n = list_any (λ (u : NameReach). has u.reached.items n) m.used.items
 
 -- and so does another name in it than that one
 abbrev pub reaches_beside : Mark → List ℕ → Bool
-reaches_beside m n = list_any (λ (u : Reach). not (bytes_eq u.name n) && has u.reached.items n) m.used.items
+reaches_beside m n = list_any (λ (u : NameReach). not (bytes_eq u.name n) && has u.reached.items n) m.used.items
 
 -- the plan only adds where the name does: it scans the name once, where nothing is taken away, and no other name in the formula reaches it
 abbrev pub mark_adds : Mark → List ℕ → Bool
@@ -37,8 +37,8 @@ pub record IsMark (c : Catalogue) (m : Mark) : Type 0 where
   pub formula : Form
   pub entry : entry_of c.entries m.name ≡ Some (view own columns formula)
   pub planned : IsPlanned (goal_of columns formula) (plan_form m.plan)
-  pub used : (n : List ℕ) → uses n formula ≡ list_any (λ (u : Reach). bytes_eq n u.name) m.used.items
-  pub reached : AllByRecursion (λ (u : Reach). (n : List ℕ) → has u.reached.items n ≡ reaches c (base u.name) n) m.used.items
+  pub used : (n : List ℕ) → uses n formula ≡ list_any (λ (u : NameReach). bytes_eq n u.name) m.used.items
+  pub reached : AllByRecursion (λ (u : NameReach). (n : List ℕ) → has u.reached.items n ≡ reaches c (base u.name) n) m.used.items
 
 -- the view's goal is conjunctive and has an atom of the name once, and no other name in it is made of one that reaches the name
 pub record IsOnceIn (c : Catalogue) (v n : List ℕ) : Type 0 where

@@ -8,7 +8,7 @@ use ded_packed::Packed;
 
 /// The tuple that is inserted, or the one that is deleted, where it is told.
 #[derive(Clone, Copy)]
-pub enum Step<'b> {
+pub enum TupleStep<'b> {
     Inserted(&'b Tuple),
     Deleted(Option<&'b Packed>),
 }
@@ -19,7 +19,7 @@ pub struct Change<'a, 'b> {
     pub catalogue: &'b Catalogue,
     pub snapshot: &'a Snapshot<'b>,
     pub name: &'b Name,
-    pub step: Step<'b>,
+    pub step: TupleStep<'b>,
 }
 
 /// A kept view, by its mark, and the change that its list has to follow.

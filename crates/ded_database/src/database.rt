@@ -5,7 +5,7 @@ ghost use Rattle.std.specs.List.{list_any};
 ghost use Rattle.std.specs.Option.{option_map, unwrap_or};
 ghost use Rattle.ded_catalog.specs.State.{catalogue_of};
 
-use crate::change::{Change, Step};
+use crate::change::{Change, TupleStep};
 use crate::gone::told_tuple;
 use crate::keeping::{drop_kept, keep_view};
 use crate::laws;
@@ -237,7 +237,7 @@ impl Database {
             catalogue: &self.catalogue,
             snapshot: &snapshot,
             name,
-            step: Step::Inserted(&tuple),
+            step: TupleStep::Inserted(&tuple),
         };
         let Ok(count) = bring_up_to_date::<E>(
             self.alloc,
@@ -280,7 +280,7 @@ impl Database {
             catalogue: &self.catalogue,
             snapshot: &snapshot,
             name,
-            step: Step::Deleted(told_tuple(&self.catalogue, name, number)),
+            step: TupleStep::Deleted(told_tuple(&self.catalogue, name, number)),
         };
         let count = bring_up_to_date::<E>(
             self.alloc,

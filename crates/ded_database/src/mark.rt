@@ -17,12 +17,12 @@ use std::alloc::Global;
 
 /// A name, and all names that it reaches, or that what it is made of does.
 #[derive(Drop)]
-pub struct Reach {
+pub struct NameReach {
     pub name: Name,
     pub reached: Vec<Name>,
 }
 
-impl Reach {
+impl NameReach {
     /// Whether the name is among those that are reached.
     fn reaches(&self, name: &Name) -> bool
         ensures { result ≡ has self.now.reached.items name.now }
@@ -37,7 +37,7 @@ impl Reach {
 pub struct Mark {
     pub name: Name,
     pub plan: Plan,
-    pub used: Vec<Reach>,
+    pub used: Vec<NameReach>,
 }
 
 /// The mark of a view.

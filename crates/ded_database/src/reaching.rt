@@ -12,7 +12,7 @@ ghost use Rattle.ded_catalog.specs.State.{catalogue_of};
 ghost use Rattle.ded_views.specs.Reaching.{reaches};
 ghost use Rattle.ded_database.specs.Closed.{has, IsClosed, IsReachedAfter, AreReachedAfter, AreUsedBelow};
 
-use crate::mark::Reach;
+use crate::mark::NameReach;
 use ded_catalog::Catalogue;
 use ded_model::goal::Goal;
 use ded_model::limits;
@@ -29,7 +29,7 @@ pub(crate) fn uses_of(
     alloc: Global,
     catalogue: &Catalogue,
     goal: &Goal,
-) -> Result<Vec<Reach>, NoMemory>
+) -> Result<Vec<NameReach>, NoMemory>
     requires below { AreUsedBelow (catalogue_of catalogue.now) (goal_form goal.now) 17 }
     ensures used { IfOk result (λ v. (n : List ℕ)
         → goal_uses n (goal_form goal.now) ≡ list_any (λ u. bytes_eq n u.name) v.items) }
@@ -40,7 +40,7 @@ pub(crate) fn uses_of(
     for name in used_names(alloc, goal)? {
         let mut reached = Vec::new(alloc);
         add_reached(alloc, catalogue, &name, limits::LEVELS, &mut reached)?;
-        uses.push(Reach { name, reached })?;
+        uses.push(NameReach { name, reached })?;
     }
     Ok(uses)
 }

@@ -12,7 +12,7 @@ ghost use Rattle.ded_database.specs.Held.{IsHeld, held_under, is_marked, AreMark
 ghost use Rattle.ded_database.specs.Renewed.{IsRenewed, AreRenewed};
 ghost use Rattle.ded_database.specs.Upkeep.{IsLonger};
 
-use crate::change::{Change, Renewal, Step};
+use crate::change::{Change, Renewal, TupleStep};
 use crate::extending::extended;
 use crate::laws;
 use crate::mark::Mark;
@@ -155,12 +155,12 @@ fn followed<E: Evaluate>(
         → (measures (after renewal.now.change.now) renewal.now.mark.now.name).clash ≡ true }
 {
     match renewal.change.step {
-        Step::Inserted(tuple) => {
+        TupleStep::Inserted(tuple) => {
             let tuples = extended::<E>(alloc, renewal, tuple, list, held)?;
             *added = added.saturating_add(1);
             Ok(tuples)
         }
-        Step::Deleted(told) => match told {
+        TupleStep::Deleted(told) => match told {
             Some(gone) => {
                 let gone = gone.unpack(alloc)?;
                 list_without::<E>(alloc, renewal, &gone, list, held)

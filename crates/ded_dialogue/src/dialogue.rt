@@ -7,7 +7,7 @@ ghost use Rattle.ded_dialogue.specs.Streams.{IsReplied};
 use crate::answering::Answering;
 use crate::pending::{Pending, put};
 use ded_io::{Failed, Sink};
-use ded_lex::{Fed, Piece, Rest, Splitter};
+use ded_lex::{Fed, Piece, Unended, Splitter};
 use ded_model::memory::NoMemory;
 use std::alloc::Global;
 
@@ -139,15 +139,15 @@ impl<A: Answering> Dialogue<A> {
         ensures cause { HasCause (K.faults sink.old) (K.faults sink.new) result }
     {
         match self.splitter.finish() {
-            Rest::Blank => Ok(()),
-            Rest::Cut => answer_at_once(
+            Unended::Blank => Ok(()),
+            Unended::Cut => answer_at_once(
                 &mut self.machine,
                 Piece::Cut,
                 &mut self.refused,
                 &mut self.silent,
                 sink,
             ),
-            Rest::CutLong => answer_at_once(
+            Unended::CutLong => answer_at_once(
                 &mut self.machine,
                 Piece::Long,
                 &mut self.refused,

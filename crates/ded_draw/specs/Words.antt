@@ -9,7 +9,7 @@ use Rattle.ded_polygon.specs.Windows.{Frame, IsFrame}
 use Rattle.ded_run.specs.CommandLine.{has_dashes}
 use Rattle.ded_run.specs.Words.{IsNumber, LimitValue}
 use Rattle.ded_draw.specs.CommandLine.{drawing, value_of}
-use Rattle.ded_draw.specs.declared.words.Options.{Options}
+use Rattle.ded_draw.specs.declared.words.DrawOptions.{DrawOptions}
 
 -- the picture is 800 units wide where no value gives another width
 abbrev pub WidthValue : Option (List ℕ) → ℕ → Type 0
@@ -55,7 +55,7 @@ WindowValue (Some value) None = ⊥
 WindowValue (Some value) (Some window) = IsFrame window × (frame_spelled value ≡ Some window)
 
 -- The words are accepted, and give these options.
-pub record AcceptedWords (words : List (List ℕ)) (o : Options) : Type 0 where
+pub record AcceptedWords (words : List (List ℕ)) (o : DrawOptions) : Type 0 where
   pub no_dashes : has_dashes words ≡ false
   pub parsed : fault_of drawing words ≡ []
   pub limit : LimitValue (value_of (codes "limit") words) o.limit
@@ -65,5 +65,5 @@ pub record AcceptedWords (words : List (List ℕ)) (o : Options) : Type 0 where
   pub clock : o.style.has_clock ≡ is_some (value_of (codes "time") words)
 
 -- the words are accepted, and with the options that they give it is so
-abbrev pub WithOptions : List (List ℕ) → (Options → Type 0) → Type 0
-WithOptions words Fact = (o : Options) × AcceptedWords words o × Fact o
+abbrev pub WithOptions : List (List ℕ) → (DrawOptions → Type 0) → Type 0
+WithOptions words Fact = (o : DrawOptions) × AcceptedWords words o × Fact o

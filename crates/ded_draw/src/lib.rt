@@ -15,4 +15,4 @@ mod program;
 mod words;
 
 pub use program::{run, serve};
-pub use words::Options;
+pub use words::DrawOptions;

@@ -5,10 +5,10 @@ ghost use Rattle.ded_run.specs.Words.{texts_in};
 ghost use Rattle.ded_session.specs.Answered.{reply_form};
 ghost use Rattle.ded_draw.specs.Outcome.{HalfPictured, HalfWritten, IsOverlong, Pictured, Written};
 ghost use Rattle.ded_draw.specs.Words.{AcceptedWords, WithOptions};
-ghost use Rattle.ded_draw.specs.declared.words.Options.{Options};
+ghost use Rattle.ded_draw.specs.declared.words.DrawOptions.{DrawOptions};
 
 use crate::gathering::Gathering;
-use crate::words::{Options, options_in};
+use crate::words::{DrawOptions, options_in};
 use ded_dialogue::{Dialogue, serve_dialogue};
 use ded_drawing::{Style, drawing_of};
 use ded_io::{Failed, Sink, Source, SureSink, send};
@@ -110,7 +110,7 @@ pub fn run<S: Source, K: Sink>(
     source: &mut S,
     sink: &mut K,
 ) -> Status
-    ensures bad_words { result ≡ Status.BadWords → (options : Options)
+    ensures bad_words { result ≡ Status.BadWords → (options : DrawOptions)
         → AcceptedWords (texts_in words.now) options → ⊥ }
     ensures no_words { result ≡ Status.BadWords → (source.new ≡ source.old) × (sink.new ≡ sink.old) }
     ensures done { result ≡ Status.Done → WithOptions (texts_in words.now) (λ options.

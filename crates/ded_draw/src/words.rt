@@ -7,7 +7,7 @@ ghost use Rattle.clap.specs.Simple.{with_rule};
 ghost use Rattle.ded_polygon.specs.Windows.{Frame};
 ghost use Rattle.ded_run.specs.CommandLine.{option_rule};
 ghost use Rattle.ded_draw.specs.CommandLine.{bare, drawing, value_of};
-ghost use Rattle.ded_draw.specs.declared.words.Options.{Options};
+ghost use Rattle.ded_draw.specs.declared.words.DrawOptions.{DrawOptions};
 ghost use Rattle.ded_draw.specs.Words.{AcceptedWords, WidthValue, WindowValue, cut_at_comma, look_of, time_first};
 ghost use Rattle.ded_draw.specs.Words.{two_columns};
 
@@ -18,13 +18,13 @@ use ded_drawing::Style;
 use ded_figures::Look;
 use ded_model::memory::NoMemory;
 use ded_model::name::Name;
-use ded_polygon::Window;
+use ded_polygon::PlaneWindow;
 use ded_run::{WordFault, has_dashes, limit_of, number_of};
 use std::alloc::Global;
 
 /// What the words ask for.
 #[derive(Drop)]
-pub struct Options {
+pub struct DrawOptions {
     /// The most tuples that a relation holds.
     pub limit: u32,
     /// How the answers are drawn.
@@ -39,7 +39,7 @@ const GREATEST_WIDTH: u32 = 10_000;
 
 /// The values of the options, where the words have them.
 #[derive(Clone, Copy)]
-struct Values<'a> {
+struct DrawValues<'a> {
     limit: Option<&'a str>,
     columns: Option<&'a str>,
     window: Option<&'a str>,
@@ -51,10 +51,10 @@ struct Values<'a> {
 ///
 /// # Errors
 /// `Bad` only where the words are no accepted list, otherwise out of memory.
-pub(crate) fn options_in(alloc: Global, words: &[String]) -> Result<Options, WordFault>
+pub(crate) fn options_in(alloc: Global, words: &[String]) -> Result<DrawOptions, WordFault>
     ensures accepted { IfOk result (λ options. AcceptedWords (map string_bytes words.now) options) }
     ensures bad { result ≡ Err WordFault.Bad →
-        (options : Options) → AcceptedWords (map string_bytes words.now) options → ⊥ }
+        (options : DrawOptions) → AcceptedWords (map string_bytes words.now) options → ⊥ }
 {
     if has_dashes(words) {
         return Err(WordFault::Bad);
@@ -72,7 +72,7 @@ pub(crate) fn options_in(alloc: Global, words: &[String]) -> Result<Options, Wor
     let Some(look) = look_of(alloc, values.columns, values.time)? else {
         return Err(WordFault::Bad);
     };
-    Ok(Options {
+    Ok(DrawOptions {
         limit,
         style: Style {
             look,
@@ -119,7 +119,7 @@ fn with_option<'a>(
 }
 
 /// The values of the options, where the words have them. `Bad` only where `clap` finds a fault in the words.
-fn values_in<'a>(alloc: Global, words: &'a [String]) -> Result<Values<'a>, WordFault>
+fn values_in<'a>(alloc: Global, words: &'a [String]) -> Result<DrawValues<'a>, WordFault>
     ensures none { IfOk result (λ _. fault_of drawing (map string_bytes words.entry.now) ≡ []) }
     ensures limit { IfOk result (λ values. option_map (λ t. t.now) values.limit
         ≡ value_of (codes "limit") (map string_bytes words.entry.now)) }
@@ -134,7 +134,7 @@ fn values_in<'a>(alloc: Global, words: &'a [String]) -> Result<Values<'a>, WordF
     ensures bad { result ≡ Err WordFault.Bad → fault_of drawing (map string_bytes words.entry.now) ≢ [] }
 {
     match command(alloc)?.try_get_matches_from(words) {
-        Ok(matches) => Ok(Values {
+        Ok(matches) => Ok(DrawValues {
             limit: matches.get_str("limit"),
             columns: matches.get_str("columns"),
             window: matches.get_str("window"),
@@ -159,7 +159,7 @@ fn width_of(value: Option<&str>) -> Option<u32>
 }
 
 /// The window that the value gives, where there is a value; none where the value isn't one.
-fn window_in(value: Option<&str>) -> Option<Option<Window>>
+fn window_in(value: Option<&str>) -> Option<Option<PlaneWindow>>
     ensures { MatchOption result
         ((window : Option Frame) → WindowValue (option_map (λ t. t.now) value.entry) window → ⊥)
         (λ window. WindowValue (option_map (λ t. t.now) value.entry) window) }

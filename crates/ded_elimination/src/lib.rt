@@ -6,7 +6,7 @@
 //! constant or op alone only the stronger is kept, but that of many rows both stay where the hash of another row hides
 //! one; true rows are left out, and a false row ends the work.
 //!
-//! How two rows are combined is a parameter, a [`Mixing`]; [`Checked`] is that of `ded_row`, for any rows. No row of
+//! How two rows are combined is a parameter, a [`Mixing`]; [`CheckedCombination`] is that of `ded_row`, for any rows. No row of
 //! the answer mentions the slot, and its lines are among those that an elimination makes of the lines of the given
 //! rows. `Wide` comes only where two of these lines clash, and never of a mixing that decides.
 #![tactic(auto)]
@@ -37,7 +37,7 @@ use ded_model::row::Row;
 use ded_model::slot::Slot;
 use ded_theory::Eliminated;
 pub use keeping::implies;
-pub use mixing::{Checked, Mixing};
+pub use mixing::{CheckedCombination, Mixing};
 use std::alloc::Global;
 
 /// Rows that hold at a point exactly where some extension of the point at the slot satisfies all the given ones;

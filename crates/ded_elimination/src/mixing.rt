@@ -2,7 +2,7 @@
 //!
 //! An elimination combines rows two by two. What two rows give is fixed; how it is computed, and whether it is ever
 //! refused because a number gets too long, depends on the rows. So an elimination takes the combination as a parameter,
-//! a [`Mixing`], and so does what is built on it. [`Checked`] combines any two rows. Rows of a kind whose combinations
+//! a [`Mixing`], and so does what is built on it. [`CheckedCombination`] combines any two rows. Rows of a kind whose combinations
 //! multiply nothing can have a mixing of their own, which is never refused; whatever is written over any [`Mixing`] is
 //! then exact for them.
 ghost use Rattle.std.specs.Prelude.{◌≡◌, true, false, IfOk, IsErrOf};
@@ -46,9 +46,9 @@ pub trait Mixing {
 }
 
 /// The combination of any two rows, refused where a product or a sum is too long.
-pub struct Checked {}
+pub struct CheckedCombination {}
 
-impl Mixing for Checked {
+impl Mixing for CheckedCombination {
     ghost rows = { λ r. Unit {0} };
 
     ghost decides = { ⊥ };

@@ -51,37 +51,37 @@ pub(crate) fn others_than_rows(parts: &Vec<Plan>) -> usize {
 
 /// The slots that are projected around a plan.
 #[derive(Clone, Copy)]
-pub(crate) enum Bound<'a> {
+pub(crate) enum Projected<'a> {
     Nothing,
-    Within(Slot, &'a Bound<'a>),
+    Within(Slot, &'a Projected<'a>),
 }
 
-impl<'a> Bound<'a> {
+impl<'a> Projected<'a> {
     /// Whether the slot is one of them.
     fn has(&self, slot: Slot) -> bool {
         match self {
-            Bound::Nothing => false,
-            Bound::Within(own, outer) => own.is_same(slot) || outer.has(slot),
+            Projected::Nothing => false,
+            Projected::Within(own, outer) => own.is_same(slot) || outer.has(slot),
         }
     }
 }
 
 /// Whether each slot that the plan scans, or that its rows and text atoms mention, is projected in it, or around it.
 #[cycle(is_closed)]
-pub(crate) fn is_closed(plan: &Plan, bound: &Bound<'_>) -> bool {
+pub(crate) fn is_closed(plan: &Plan, bound: &Projected<'_>) -> bool {
     match plan {
         Plan::Scan(_, slots) => slots.list.iter().all(|slot| bound.has(*slot)),
         Plan::Rows(tuple) => tuple.atoms.iter().all(|atom| is_bound(atom, bound)),
         Plan::Join(parts) | Plan::Union(parts) => are_closed(parts, bound),
         Plan::Minus(from, taken) => is_closed(from, bound) && is_closed(taken, bound),
         Plan::Not(part) => is_closed(part, bound),
-        Plan::Project(slot, part) => is_closed(part, &Bound::Within(*slot, &*bound)),
+        Plan::Project(slot, part) => is_closed(part, &Projected::Within(*slot, &*bound)),
     }
 }
 
 /// Whether each slot of each part is so.
 #[cycle(is_closed)]
-fn are_closed(parts: &Vec<Plan>, bound: &Bound<'_>) -> bool {
+fn are_closed(parts: &Vec<Plan>, bound: &Projected<'_>) -> bool {
     for part in parts {
         if !is_closed(part, bound) {
             return false;
@@ -91,7 +91,7 @@ fn are_closed(parts: &Vec<Plan>, bound: &Bound<'_>) -> bool {
 }
 
 /// Whether each slot that the atom mentions is projected around it.
-fn is_bound(atom: &Atom, bound: &Bound<'_>) -> bool {
+fn is_bound(atom: &Atom, bound: &Projected<'_>) -> bool {
     match atom {
         BothAtom::First(row) => row.coefs.list().iter().all(|coef| bound.has(coef.0)),
         BothAtom::Second(theme) => bound.has(first_slot(theme)) && bound.has(last_slot(theme)),

@@ -8,7 +8,7 @@ use Rattle.ded_num.specs.Length.{length_of}
 use Rattle.ded_num.proofs.Lengths.{within_length}
 use Rattle.ded_model.proofs.Lists.{Every, every-left, every-right}
 use Rattle.ded_ranges.specs.declared.limit.Limit.{Limit}
-use Rattle.ded_hull.specs.declared.entry.Entry.{Entry}
+use Rattle.ded_hull.specs.declared.entry.ReachEntry.{ReachEntry}
 use Rattle.ded_hull.specs.Entries.{ids_in, most_nodes, Hulls, most_steps}
 use Rattle.ded_hull.specs.Segments.{IsSegment, AreSegments}
 use Rattle.ded_hull.specs.Trees.{all_of, AreAlong, IsCost, IsCostOfAll, AreFalling, IsRoomFor}
@@ -18,7 +18,7 @@ use Rattle.ded_hull.proofs.Merged.{all_of-append, tree_more}
 
 -- ---- the first of them
 
-pub falling_front : (ts us : List (List Entry)) → AreFalling (ts ++ us) → AreFalling ts
+pub falling_front : (ts us : List (List ReachEntry)) → AreFalling (ts ++ us) → AreFalling ts
 falling_front [] us h = tt
 falling_front (t ∷ []) [] h = h
 falling_front (t ∷ []) (u ∷ us) h = (some (length t) (length u) h.0 (some_first u us h.1), tt)
@@ -26,16 +26,16 @@ falling_front (t ∷ []) (u ∷ us) h = (some (length t) (length u) h.0 (some_fi
     some : (a b : ℕ) → 2 * b ≤ a → 0 < b → 0 < a
     some a b h k = omega arith
 
-    some_first : (u : List Entry) (us : List (List Entry)) → AreFalling (u ∷ us) → 0 < length u
+    some_first : (u : List ReachEntry) (us : List (List ReachEntry)) → AreFalling (u ∷ us) → 0 < length u
     some_first u [] h = h.0
     some_first u (v ∷ vs) h = some (length u) (length v) h.0 (some_first v vs h.1)
 falling_front (t ∷ (x ∷ ts)) us h = (h.0, falling_front (x ∷ ts) us h.1)
 
-pub falling_taken : (k : ℕ) (ts new : List (List Entry)) → new ≡ take k ts → AreFalling ts → AreFalling new
+pub falling_taken : (k : ℕ) (ts new : List (List ReachEntry)) → new ≡ take k ts → AreFalling ts → AreFalling new
 falling_taken k ts new e h = subst AreFalling (sym e) (falling_front (take k ts) (drop k ts) (subst AreFalling (sym (take-append-drop k ts)) h))
 
 -- each has some entries
-pub all_some : (ts : List (List Entry)) → AreFalling ts → Every (λ t. 0 < length t) ts
+pub all_some : (ts : List (List ReachEntry)) → AreFalling ts → Every (λ t. 0 < length t) ts
 all_some [] h = tt
 all_some (t ∷ []) h = (h.0, tt)
 all_some (t ∷ (u ∷ us)) h =
@@ -47,13 +47,13 @@ all_some (t ∷ (u ∷ us)) h =
 
 -- ---- one more
 
-pub falling_more : (ts new : List (List Entry)) (t : List Entry) (b : ℕ) → new ≡ ts ++ t ∷ [] → length t ≡ b → 0 < b → IsRoomFor b ts → AreFalling ts → AreFalling new
+pub falling_more : (ts new : List (List ReachEntry)) (t : List ReachEntry) (b : ℕ) → new ≡ ts ++ t ∷ [] → length t ≡ b → 0 < b → IsRoomFor b ts → AreFalling ts → AreFalling new
 falling_more ts new t b e l s r h = subst AreFalling (sym e) (more ts r h)
   where
     some : 0 < length t
     some = subst (λ n. 0 < n) (sym l) s
 
-    more : (ts : List (List Entry)) → IsRoomFor b ts → AreFalling ts → AreFalling (ts ++ t ∷ [])
+    more : (ts : List (List ReachEntry)) → IsRoomFor b ts → AreFalling ts → AreFalling (ts ++ t ∷ [])
     more [] r h = (some, tt)
     more (x ∷ []) r h = (subst (λ n. 2 * n ≤ length x) (sym l) r, (some, tt))
     more (x ∷ (y ∷ ys)) r h = (h.0, more (y ∷ ys) r h.1)
@@ -61,14 +61,14 @@ falling_more ts new t b e l s r h = subst AreFalling (sym e) (more ts r h)
 -- ---- where the last ones stay
 
 -- the last of the first lists has room
-room_at : (ts : List (List Entry)) (k b : ℕ) (d : List Entry) → k < length ts → 2 * b ≤ length (get_or ts k d) → IsRoomFor b (take (suc k) ts)
+room_at : (ts : List (List ReachEntry)) (k b : ℕ) (d : List ReachEntry) → k < length ts → 2 * b ≤ length (get_or ts k d) → IsRoomFor b (take (suc k) ts)
 room_at [] k b d h r = absurd (omega (arith, h))
 room_at (t ∷ ts) zero b d h r = r
 room_at (t ∷ []) (suc k) b d h r = absurd (omega (arith, h))
 room_at (t ∷ (u ∷ us)) (suc k) b d h r = room_at (u ∷ us) k b d (omega (arith, h)) r
 
 -- a count as far as m, at most half of the last of the first lists
-pub room_kept : (ts : List (List Entry)) (keep b c m : ℕ) (d : List Entry) → 0 < keep → keep ≤ length ts → c ≡ min b m → c ≤ length (get_or ts (keep - 1) d) / 2 → length (get_or ts (keep - 1) d) ≤ m → 0 < m → IsRoomFor b (take keep ts)
+pub room_kept : (ts : List (List ReachEntry)) (keep b c m : ℕ) (d : List ReachEntry) → 0 < keep → keep ≤ length ts → c ≡ min b m → c ≤ length (get_or ts (keep - 1) d) / 2 → length (get_or ts (keep - 1) d) ≤ m → 0 < m → IsRoomFor b (take keep ts)
 room_kept ts zero b c m d s i e h l p = absurd (omega (arith, s))
 room_kept ts (suc k) b c m d s i e h l p = room_at ts k b d (omega (arith, i)) (twice (length (get_or ts k d)) b c m e (subst (λ n. c ≤ length (get_or ts n d) / 2) (less k) h) (subst (λ n. length (get_or ts n d) ≤ m) (less k) l) p)
   where
@@ -80,7 +80,7 @@ room_kept ts (suc k) b c m d s i e h l p = room_at ts k b d (omega (arith, i)) (
 
 -- ---- how many there are
 
-pub doubled : (ts : List (List Entry)) → AreFalling ts → 2 ^ length ts ≤ length (all_of ts) + 1
+pub doubled : (ts : List (List ReachEntry)) → AreFalling ts → 2 ^ length ts ≤ length (all_of ts) + 1
 doubled [] h = omega arith
 doubled (t ∷ ts) h = subst (λ n. 2 ^ suc (length ts) ≤ n + 1) (sym (length-append t (all_of ts))) (both (length ts) (length t) (length (all_of ts)) (first t ts h) (doubled ts h.1))
   where
@@ -90,7 +90,7 @@ doubled (t ∷ ts) h = subst (λ n. 2 ^ suc (length ts) ≤ n + 1) (sym (length-
     twice : (k a b : ℕ) → 2 ^ k ≤ b → 2 * b ≤ a → 2 ^ suc k ≤ a
     twice k a b h l = omega arith
 
-    first : (t : List Entry) (ts : List (List Entry)) → AreFalling (t ∷ ts) → 2 ^ length ts ≤ length t
+    first : (t : List ReachEntry) (ts : List (List ReachEntry)) → AreFalling (t ∷ ts) → 2 ^ length ts ≤ length t
     first t [] h = one (length t) h.0
       where
         one : (a : ℕ) → 0 < a → 2 ^ 0 ≤ a
@@ -100,7 +100,7 @@ doubled (t ∷ ts) h = subst (λ n. 2 ^ suc (length ts) ≤ n + 1) (sym (length-
 -- ---- steps
 
 -- of one tree more
-pub cost_more : (ls : List Limit) (ts : List (List Entry)) (i : ℕ) (t : List Entry) (old before after : ℕ) → i < length ts → t ≡ get_or ts i t → IsCost ls t before after
+pub cost_more : (ls : List Limit) (ts : List (List ReachEntry)) (i : ℕ) (t : List ReachEntry) (old before after : ℕ) → i < length ts → t ≡ get_or ts i t → IsCost ls t before after
     → (AreAlong ls → AreSegments (all_of ts) → Every (λ t. 0 < length t) ts → (h : ℕ) → length (all_of ts) ≤ 2 ^ h → before ≤ old + 9 * (2 * ((length (ids_in ls (all_of (take i ts))) + i) * h) + i))
     → AreAlong ls → AreSegments (all_of ts) → Every (λ t. 0 < length t) ts → (h : ℕ) → length (all_of ts) ≤ 2 ^ h → after ≤ old + 9 * (2 * ((length (ids_in ls (all_of (take (i + 1) ts))) + (i + 1)) * h) + (i + 1))
 cost_more ls ts i t old before after inside is one former along segments some h few =
@@ -119,13 +119,13 @@ cost_more ls ts i t old before after inside is one former along segments some h 
     own = every-right IsSegment (all_of (take i ts)) t (every-left IsSegment (all_of (take i ts) ++ t) (all_of (drop (i + 1) ts)) (subst AreSegments whole segments))
 
     own_some : 0 < length t
-    own_some = (every-right (λ (u : List Entry). 0 < length u) (take i ts) (t ∷ []) (subst (Every (λ (u : List Entry). 0 < length u)) (taken_more ts i t inside ∙ ap (λ x. take i ts ++ x ∷ []) (sym is)) (every-left (λ (u : List Entry). 0 < length u) (take (i + 1) ts) (drop (i + 1) ts) (subst (Every (λ (u : List Entry). 0 < length u)) (sym (take-append-drop (i + 1) ts)) some)))).0
+    own_some = (every-right (λ (u : List ReachEntry). 0 < length u) (take i ts) (t ∷ []) (subst (Every (λ (u : List ReachEntry). 0 < length u)) (taken_more ts i t inside ∙ ap (λ x. take i ts ++ x ∷ []) (sym is)) (every-left (λ (u : List ReachEntry). 0 < length u) (take (i + 1) ts) (drop (i + 1) ts) (subst (Every (λ (u : List ReachEntry). 0 < length u)) (sym (take-append-drop (i + 1) ts)) some)))).0
 
     part : (a b c n m : ℕ) → n ≡ a + b + c → n ≤ m → b ≤ m
     part a b c n m e f = omega arith
 
     lengths : length (all_of ts) ≡ length (all_of (take i ts)) + length t + length (all_of (drop (i + 1) ts))
-    lengths = ap (λ (es : List Entry). length es) whole ∙ length-append (all_of (take i ts) ++ t) (all_of (drop (i + 1) ts)) ∙ ap (λ n. n + length (all_of (drop (i + 1) ts))) (length-append (all_of (take i ts)) t)
+    lengths = ap (λ (es : List ReachEntry). length es) whole ∙ length-append (all_of (take i ts) ++ t) (all_of (drop (i + 1) ts)) ∙ ap (λ n. n + length (all_of (drop (i + 1) ts))) (length-append (all_of (take i ts)) t)
 
     own_few : length t ≤ 2 ^ h
     own_few = part (length (all_of (take i ts))) (length t) (length (all_of (drop (i + 1) ts))) (length (all_of ts)) (2 ^ h) lengths few
@@ -134,7 +134,7 @@ cost_more ls ts i t old before after inside is one former along segments some h 
     sum a b i h old before after e f = omega arith
 
 -- of the first ones, no more than of all
-pub cost_whole : (ls : List Limit) (ts : List (List Entry)) (i old after : ℕ) → i ≤ length ts
+pub cost_whole : (ls : List Limit) (ts : List (List ReachEntry)) (i old after : ℕ) → i ≤ length ts
     → (AreAlong ls → AreSegments (all_of ts) → Every (λ t. 0 < length t) ts → (h : ℕ) → length (all_of ts) ≤ 2 ^ h → after ≤ old + 9 * (2 * ((length (ids_in ls (all_of (take i ts))) + i) * h) + i))
     → IsCostOfAll ls ts old after
 cost_whole ls ts i old after inside c along segments some h few =
@@ -178,7 +178,7 @@ pow_back (suc a) (suc b) h = more a b (pow_back a b (less a b h))
     more a b h = omega arith
 
 -- of trees that fall, and a list beside them
-pub few_nodes : (ls : List Limit) (ts : List (List Entry)) (tail view : List Entry) (old after : ℕ) → all_of ts ++ tail ≡ view → AreFalling ts → IsCostOfAll ls ts old after → AreAlong ls → AreSegments view → after ≤ old + 9 * most_nodes ls view
+pub few_nodes : (ls : List Limit) (ts : List (List ReachEntry)) (tail view : List ReachEntry) (old after : ℕ) → all_of ts ++ tail ≡ view → AreFalling ts → IsCostOfAll ls ts old after → AreAlong ls → AreSegments view → after ≤ old + 9 * most_nodes ls view
 few_nodes ls ts tail view old after is falling cost along segments =
     subst (λ es. after ≤ old + 9 * most_nodes ls es) is
     (enough (length (ids_in ls (all_of ts))) (length (ids_in ls (all_of ts ++ tail))) (length ts) d old after fewer few (cost along own (all_some ts falling) d (under (length (all_of ts)) (2 ^ d) here)))
@@ -226,7 +226,7 @@ few_nodes ls ts tail view old after is falling cost along segments =
         close x b m d old after p q r = omega arith
 
 -- and of the list beside them
-pub few_steps : (ls : List Limit) (ts : List (List Entry)) (tail : List Entry) (x : Hulls) (old middle after : ℕ) → record { entries = all_of ts ++ tail; loose = length tail } ≡ x → AreFalling ts → IsCostOfAll ls ts old middle → after ≤ middle + length tail
+pub few_steps : (ls : List Limit) (ts : List (List ReachEntry)) (tail : List ReachEntry) (x : Hulls) (old middle after : ℕ) → record { entries = all_of ts ++ tail; loose = length tail } ≡ x → AreFalling ts → IsCostOfAll ls ts old middle → after ≤ middle + length tail
     → AreAlong ls → AreSegments x.entries → after ≤ old + most_steps ls x
 few_steps ls ts tail x old middle after is falling cost rest along segments =
     subst (λ n. after ≤ old + (9 * most_nodes ls x.entries + n)) (ap (λ (y : Hulls). y.loose) is)
@@ -238,8 +238,8 @@ few_steps ls ts tail x old middle after is falling cost rest along segments =
 -- ---- how many trees stay
 
 -- none are behind all
-pub kept_start : (ts : List (List Entry)) (b : ℕ) → b < 2 ^ 64 → b ≡ min (length (all_of (drop (length ts) ts)) + b) (2 ^ 64 - 1)
-kept_start ts b h = same (length (all_of (drop (length ts) ts))) b (ap (λ (us : List (List Entry)). length (all_of us)) (drop_all (length ts) ts (le (length ts)))) h
+pub kept_start : (ts : List (List ReachEntry)) (b : ℕ) → b < 2 ^ 64 → b ≡ min (length (all_of (drop (length ts) ts)) + b) (2 ^ 64 - 1)
+kept_start ts b h = same (length (all_of (drop (length ts) ts))) b (ap (λ (us : List (List ReachEntry)). length (all_of us)) (drop_all (length ts) ts (le (length ts)))) h
   where
     le : (n : ℕ) → n ≤ n
     le n = omega arith
@@ -248,10 +248,10 @@ kept_start ts b h = same (length (all_of (drop (length ts) ts))) b (ap (λ (us :
     same a b e h = omega arith
 
 -- one tree more is behind
-pub kept_more : (ts : List (List Entry)) (keep b c d l m : ℕ) (t : List Entry) → 0 < keep → keep ≤ length ts → t ≡ get_or ts (keep - 1) t → c ≡ min (length (all_of (drop keep ts)) + b) m → l ≡ length t → d ≡ min (c + l) m → d ≡ min (length (all_of (drop (keep - 1) ts)) + b) m
+pub kept_more : (ts : List (List ReachEntry)) (keep b c d l m : ℕ) (t : List ReachEntry) → 0 < keep → keep ≤ length ts → t ≡ get_or ts (keep - 1) t → c ≡ min (length (all_of (drop keep ts)) + b) m → l ≡ length t → d ≡ min (c + l) m → d ≡ min (length (all_of (drop (keep - 1) ts)) + b) m
 kept_more ts zero b c d l m t s i is e f g = absurd (omega (arith, s))
 kept_more ts (suc k) b c d l m t s i is e f g =
-    sum (length (all_of (drop (suc k) ts))) b c d l (length (all_of (drop (suc k - 1) ts))) m e g (ap (λ j. length (all_of (drop j ts))) (less k) ∙ ap (λ (us : List (List Entry)). length (all_of us)) (drop-cons ts k t (omega (arith, i))) ∙ length-append (get_or ts k t) (all_of (drop (suc k) ts)) ∙ ap (λ n. n + length (all_of (drop (suc k) ts))) (sym (f ∙ ap (λ (u : List Entry). length u) (is ∙ ap (λ j. get_or ts j t) (less k)))))
+    sum (length (all_of (drop (suc k) ts))) b c d l (length (all_of (drop (suc k - 1) ts))) m e g (ap (λ j. length (all_of (drop j ts))) (less k) ∙ ap (λ (us : List (List ReachEntry)). length (all_of us)) (drop-cons ts k t (omega (arith, i))) ∙ length-append (get_or ts k t) (all_of (drop (suc k) ts)) ∙ ap (λ n. n + length (all_of (drop (suc k) ts))) (sym (f ∙ ap (λ (u : List ReachEntry). length u) (is ∙ ap (λ j. get_or ts j t) (less k)))))
   where
     less : (k : ℕ) → suc k - 1 ≡ k
     less k = omega arith
@@ -261,7 +261,7 @@ kept_more ts (suc k) b c d l m t s i is e f g =
 
 -- ---- the last ones gathered
 
-pub gathered_more : (ts first new : List (List Entry)) (k keep : ℕ) (x : List Entry) → k + 1 ≡ length ts → new ≡ take k (set ts k x) → keep < length ts → ts ≡ take (length ts) first → (new ≡ take (length new) first) × (min keep (length first) ≤ length new)
+pub gathered_more : (ts first new : List (List ReachEntry)) (k keep : ℕ) (x : List ReachEntry) → k + 1 ≡ length ts → new ≡ take k (set ts k x) → keep < length ts → ts ≡ take (length ts) first → (new ≡ take (length new) first) × (min keep (length first) ≤ length new)
 gathered_more ts first new k keep x e n s f = (is ∙ ap (λ j. take j first) (sym count), at_least keep (length first) (length ts) k (length new) e s count)
   where
     below : (k n : ℕ) → k + 1 ≡ n → k ≤ n
@@ -274,24 +274,24 @@ gathered_more ts first new k keep x e n s f = (is ∙ ap (λ j. take j first) (s
     shorter k n m e f = omega arith
 
     count : length new ≡ k
-    count = ap (λ (us : List (List Entry)). length us) is ∙ length-take k first ∙ shorter k (length ts) (length first) e (ap (λ (us : List (List Entry)). length us) f ∙ length-take (length ts) first)
+    count = ap (λ (us : List (List ReachEntry)). length us) is ∙ length-take k first ∙ shorter k (length ts) (length first) e (ap (λ (us : List (List ReachEntry)). length us) f ∙ length-take (length ts) first)
 
     at_least : (keep m n k c : ℕ) → k + 1 ≡ n → keep < n → c ≡ k → min keep m ≤ c
     at_least keep m n k c e s f = omega arith
 
-pub gathered_same : (ts first : List (List Entry)) (k : ℕ) (t x : List Entry) → t ≡ get_or ts k t → x ≡ t → ts ≡ take (length ts) first → set ts k x ≡ take (length (set ts k x)) first
+pub gathered_same : (ts first : List (List ReachEntry)) (k : ℕ) (t x : List ReachEntry) → t ≡ get_or ts k t → x ≡ t → ts ≡ take (length ts) first → set ts k x ≡ take (length (set ts k x)) first
 gathered_same ts first k t x is e f =
     let same : set ts k x ≡ ts = ap (λ y. set ts k y) (e ∙ is) ∙ set-get_or ts k t in
-    same ∙ f ∙ ap (λ (us : List (List Entry)). take (length us) first) (sym same)
+    same ∙ f ∙ ap (λ (us : List (List ReachEntry)). take (length us) first) (sym same)
 
-pub gathered_all : (ts first : List (List Entry)) (keep : ℕ) → length ts ≤ keep → ts ≡ take (length ts) first → min keep (length first) ≤ length ts → length ts ≡ min keep (length first)
-gathered_all ts first keep h f s = between (length ts) keep (length first) h (ap (λ (us : List (List Entry)). length us) f ∙ length-take (length ts) first) s
+pub gathered_all : (ts first : List (List ReachEntry)) (keep : ℕ) → length ts ≤ keep → ts ≡ take (length ts) first → min keep (length first) ≤ length ts → length ts ≡ min keep (length first)
+gathered_all ts first keep h f s = between (length ts) keep (length first) h (ap (λ (us : List (List ReachEntry)). length us) f ∙ length-take (length ts) first) s
   where
     between : (n k m : ℕ) → n ≤ k → n ≡ min n m → min k m ≤ n → n ≡ min k m
     between n k m h e s = omega arith
 
 -- there is room for the list that they are gathered in
-pub room_settled : (old new : List (List Entry)) (tail gathered : List Entry) (keep b : ℕ) → keep ≤ length old → new ≡ take (length new) old → length new ≡ min keep (length old) → all_of new ++ gathered ≡ all_of old ++ tail → b ≡ length tail → IsRoomFor (length (all_of (drop keep old)) + b) (take keep old) → IsRoomFor (length gathered) new
+pub room_settled : (old new : List (List ReachEntry)) (tail gathered : List ReachEntry) (keep b : ℕ) → keep ≤ length old → new ≡ take (length new) old → length new ≡ min keep (length old) → all_of new ++ gathered ≡ all_of old ++ tail → b ≡ length tail → IsRoomFor (length (all_of (drop keep old)) + b) (take keep old) → IsRoomFor (length gathered) new
 room_settled old new tail gathered keep b inside first count moved is room = subst (IsRoomFor (length gathered)) (sym own) (subst (λ n. IsRoomFor n (take keep old)) lengths room)
   where
     all : (a b c : ℕ) → c ≡ min a b → a ≤ b → c ≡ a
@@ -301,10 +301,10 @@ room_settled old new tail gathered keep b inside first count moved is room = sub
     own = first ∙ ap (λ n. take n old) (all keep (length old) (length new) count inside)
 
     whole : length (all_of old) ≡ length (all_of new) + length (all_of (drop keep old))
-    whole = ap (λ (us : List (List Entry)). length (all_of us)) (sym (take-append-drop keep old)) ∙ ap (λ (es : List Entry). length es) (all_of-append (take keep old) (drop keep old)) ∙ length-append (all_of (take keep old)) (all_of (drop keep old)) ∙ ap (λ (us : List (List Entry)). length (all_of us) + length (all_of (drop keep old))) (sym own)
+    whole = ap (λ (us : List (List ReachEntry)). length (all_of us)) (sym (take-append-drop keep old)) ∙ ap (λ (es : List ReachEntry). length es) (all_of-append (take keep old) (drop keep old)) ∙ length-append (all_of (take keep old)) (all_of (drop keep old)) ∙ ap (λ (us : List (List ReachEntry)). length (all_of us) + length (all_of (drop keep old))) (sym own)
 
     both : length (all_of new) + length gathered ≡ length (all_of old) + length tail
-    both = sym (length-append (all_of new) gathered) ∙ ap (λ (es : List Entry). length es) moved ∙ length-append (all_of old) tail
+    both = sym (length-append (all_of new) gathered) ∙ ap (λ (es : List ReachEntry). length es) moved ∙ length-append (all_of old) tail
 
     rest : (a b c d e f : ℕ) → a ≡ b + c → b + d ≡ a + e → f ≡ e → c + f ≡ d
     rest a b c d e f p q r = omega arith

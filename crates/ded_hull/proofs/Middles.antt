@@ -14,7 +14,7 @@ use Rattle.ded_model.proofs.Lists.{Every, Some as SomeOf, every_all, all_every, 
 use Rattle.ded_model.proofs.Points.{and_right, and_left}
 use Rattle.ded_ranges.specs.declared.reach.Range.{Range}
 use Rattle.ded_ranges.specs.declared.limit.Limit.{Limit}
-use Rattle.ded_hull.specs.declared.entry.Entry.{Entry}
+use Rattle.ded_hull.specs.declared.entry.ReachEntry.{ReachEntry}
 use Rattle.ded_ranges.specs.Codes.{fine, is_up_to}
 use Rattle.ded_ranges.specs.Reaches.{range_at, everywhere, Lies, NotAbove, NotBelow, IsPart, IsWithin}
 use Rattle.ded_ranges.specs.Limits.{Term, kept, plus, times, least_end, turned, least_of, at_most_zero, below_zero, may_stand, may_meet, may_hold}
@@ -116,11 +116,11 @@ unit_held ls along = may_hold_sound (unit_alone u ∷ []) along.values along.den
 -- ---- before and behind these units
 
 -- the middle of the entry is no later than that of the units and the next ones
-abbrev pub IsEarly : ℤ → Entry → Type 0
+abbrev pub IsEarly : ℤ → ReachEntry → Type 0
 IsEarly u e = middle (first_range e) ≤ℤ ((u +ℤ u) +ℤ pos 1)
 
 -- the middle of the entry is no earlier than that of the units and the next ones
-abbrev pub IsLate : ℤ → Entry → Type 0
+abbrev pub IsLate : ℤ → ReachEntry → Type 0
 IsLate u e = ((u +ℤ u) +ℤ pos 1) ≤ℤ middle (first_range e)
 
 low_early : (l h : Option ℤ) (u : ℤ) → is_up_to l h ≡ true → middle_between l h ≤ℤ ((u +ℤ u) +ℤ pos 1) → NotAbove l (Some u)
@@ -167,18 +167,18 @@ module _ (ls : List Limit) (along : AreAlong ls) (h : List Range) (one : length 
   in_one : may_hold (range_at h 0 ∷ []) ls ≡ true
   in_one = subst (λ rs. may_hold rs ls ≡ true) (one_range h one) holds
 
-  wider : (x : Range) (e : Entry) → IsSegment e → IsPart x (first_range e) → may_hold (x ∷ []) ls ≡ true → may_hold e.reach ls ≡ true
+  wider : (x : Range) (e : ReachEntry) → IsSegment e → IsPart x (first_range e) → may_hold (x ∷ []) ls ≡ true → may_hold e.reach ls ≡ true
   wider x e s p k = subst (λ rs. may_hold rs ls ≡ true) (sym (one_range e.reach s.one)) (may_hold_wider (x ∷ []) (first_range e ∷ []) ls (alone_within x (first_range e) p) k)
 
   -- the entry that reaches furthest
-  early_one : (e : Entry) → IsSegment e → IsEarly (floor_at ls along) e → (first_range e).high ≡ (range_at h 0).high → may_hold e.reach ls ≡ true
+  early_one : (e : ReachEntry) → IsSegment e → IsEarly (floor_at ls along) e → (first_range e).high ≡ (range_at h 0).high → may_hold e.reach ls ≡ true
   early_one e s m is =
       let u = floor_at ls along in
       let x = from_unit u (range_at h 0) in
       wider x e s (record { low = low_early (first_range e).low (first_range e).high u s.ends m; high = not_below_same (first_range e).high (range_at h 0).high is })
       (all_held x (unit_alone u) (range_at h 0) (mixed_from u (range_at h 0)) ls along.single (unit_held ls along) in_one)
 
-  late_one : (e : Entry) → IsSegment e → IsLate (floor_at ls along) e → (first_range e).low ≡ (range_at h 0).low → may_hold e.reach ls ≡ true
+  late_one : (e : ReachEntry) → IsSegment e → IsLate (floor_at ls along) e → (first_range e).low ≡ (range_at h 0).low → may_hold e.reach ls ≡ true
   late_one e s m is =
       let u = floor_at ls along in
       let x = to_unit u (range_at h 0) in
@@ -193,27 +193,27 @@ module _ (ls : List Limit) (along : AreAlong ls) (h : List Range) (one : length 
   passing_first true i is k = omega arith
   passing_first false i is k = absurd (true≢false (sym k))
 
-  early_found : (es : List Entry) → AreSegments es → Every (IsEarly (floor_at ls along)) es → SomeOf (λ e. (first_range e).high ≡ (range_at h 0).high) es → 1 ≤ length (ids_in ls es)
+  early_found : (es : List ReachEntry) → AreSegments es → Every (IsEarly (floor_at ls along)) es → SomeOf (λ e. (first_range e).high ≡ (range_at h 0).high) es → 1 ≤ length (ids_in ls es)
   early_found [] s m k = absurd k
   early_found (e ∷ es) s m (inl k) = passing_first (may_hold e.reach ls) e.id (ids_in ls es) (early_one e s.0 m.0 k)
   early_found (e ∷ es) s m (inr k) = passing_later (may_hold e.reach ls) e.id (ids_in ls es) (early_found es s.1 m.1 k)
 
-  late_found : (es : List Entry) → AreSegments es → Every (IsLate (floor_at ls along)) es → SomeOf (λ e. (first_range e).low ≡ (range_at h 0).low) es → 1 ≤ length (ids_in ls es)
+  late_found : (es : List ReachEntry) → AreSegments es → Every (IsLate (floor_at ls along)) es → SomeOf (λ e. (first_range e).low ≡ (range_at h 0).low) es → 1 ≤ length (ids_in ls es)
   late_found [] s m k = absurd k
   late_found (e ∷ es) s m (inl k) = passing_first (may_hold e.reach ls) e.id (ids_in ls es) (late_one e s.0 m.0 k)
   late_found (e ∷ es) s m (inr k) = passing_later (may_hold e.reach ls) e.id (ids_in ls es) (late_found es s.1 m.1 k)
 
 -- all middles lie on one side of the units
-abbrev pub IsAside : ℤ → List Entry → Type 0
+abbrev pub IsAside : ℤ → List ReachEntry → Type 0
 IsAside v es = Every (IsEarly v) es ⊎ Every (IsLate v) es
 
 -- where the hull passes, some entry is found
-pub aside_found : (ls : List Limit) (along : AreAlong ls) (h : List Range) (es : List Entry) → IsHull h es → may_hold h ls ≡ true → AreSegments es → IsAside (floor_at ls along) es → 1 ≤ length (ids_in ls es)
+pub aside_found : (ls : List Limit) (along : AreAlong ls) (h : List Range) (es : List ReachEntry) → IsHull h es → may_hold h ls ≡ true → AreSegments es → IsAside (floor_at ls along) es → 1 ≤ length (ids_in ls es)
 aside_found ls along h es k m s (inl a) = early_found ls along h k.one m es s a k.high
 aside_found ls along h es k m s (inr a) = late_found ls along h k.one m es s a k.low
 
 -- of two lists, one before the other, one lies aside
-pub one_aside : (v : ℤ) (ds es : List Entry) → AreBefore ds es → Every (IsEarly v) ds ⊎ Every (IsLate v) es
+pub one_aside : (v : ℤ) (ds es : List ReachEntry) → AreBefore ds es → Every (IsEarly v) ds ⊎ Every (IsLate v) es
 one_aside v [] es b = inl tt
 one_aside v (d ∷ ds) es b = by (int_le (middle (first_range d)) ((v +ℤ v) +ℤ pos 1)) refl (one_aside v ds es b.1)
   where
@@ -223,7 +223,7 @@ one_aside v (d ∷ ds) es b = by (int_le (middle (first_range d)) ((v +ℤ v) +�
     past : (x y z : ℤ) → int_le x y ≡ false → x ≤ℤ z → y ≤ℤ z
     past x y z e h = omega (arith, ints)
 
-    late : (xs : List Entry) → int_le (middle (first_range d)) ((v +ℤ v) +ℤ pos 1) ≡ false → Every (NotLater d) xs → Every (IsLate v) xs
+    late : (xs : List ReachEntry) → int_le (middle (first_range d)) ((v +ℤ v) +ℤ pos 1) ≡ false → Every (NotLater d) xs → Every (IsLate v) xs
     late [] e h = tt
     late (x ∷ xs) e h = (past (middle (first_range d)) ((v +ℤ v) +ℤ pos 1) (middle (first_range x)) e h.0, late xs e h.1)
 
@@ -232,20 +232,20 @@ one_aside v (d ∷ ds) es b = by (int_le (middle (first_range d)) ((v +ℤ v) +�
     by true e (inr k) = inr k
     by false e k = inr (late es e b.0)
 
-pub aside_left : (v : ℤ) (ds es : List Entry) → IsAside v (ds ++ es) → IsAside v ds
+pub aside_left : (v : ℤ) (ds es : List ReachEntry) → IsAside v (ds ++ es) → IsAside v ds
 aside_left v ds es (inl k) = inl (every-left (IsEarly v) ds es k)
 aside_left v ds es (inr k) = inr (every-left (IsLate v) ds es k)
 
-pub aside_right : (v : ℤ) (ds es : List Entry) → IsAside v (ds ++ es) → IsAside v es
+pub aside_right : (v : ℤ) (ds es : List ReachEntry) → IsAside v (ds ++ es) → IsAside v es
 aside_right v ds es (inl k) = inl (every-right (IsEarly v) ds es k)
 aside_right v ds es (inr k) = inr (every-right (IsLate v) ds es k)
 
 -- ---- in order
 
-pub every_moved : (P : Entry → Type 0) (xs ys : List Entry) → IsPermutation xs ys → Every P xs → Every P ys
+pub every_moved : (P : ReachEntry → Type 0) (xs ys : List ReachEntry) → IsPermutation xs ys → Every P xs → Every P ys
 every_moved P xs ys p h = all_every P ys (All-permutation P xs ys p (every_all P xs h))
 
-unfoldable pub is_before : Entry → Entry → Bool
+unfoldable pub is_before : ReachEntry → ReachEntry → Bool
 is_before d e = is_lt (middle_order 0 d e)
 
 pub entries_ranked : IsStrictWeakOrder is_before
@@ -264,34 +264,34 @@ entries_ranked = record {
 not_later : (x y : ℤ) → is_lt (int_cmp y x) ≡ false → x ≤ℤ y
 not_later x y h = grind (arith, ints)
 
-all_later : (e : Entry) (es : List Entry) → ((j : ℕ) (d : Entry) → j < length es → is_before (get_or es j d) e ≡ false) → Every (NotLater e) es
+all_later : (e : ReachEntry) (es : List ReachEntry) → ((j : ℕ) (d : ReachEntry) → j < length es → is_before (get_or es j d) e ≡ false) → Every (NotLater e) es
 unfolding is_before
 all_later e [] h = tt
 all_later e (x ∷ es) h = (not_later (middle (first_range e)) (middle (first_range x)) (h zero x (omega arith)), all_later e es (λ j d l. h (suc j) d (omega arith)))
 
-in_order_from : (es : List Entry) → ((i j : ℕ) (d : Entry) → i ≤ j → j < length es → is_before (get_or es j d) (get_or es i d) ≡ false) → InOrder es
+in_order_from : (es : List ReachEntry) → ((i j : ℕ) (d : ReachEntry) → i ≤ j → j < length es → is_before (get_or es j d) (get_or es i d) ≡ false) → InOrder es
 in_order_from [] h = tt
 in_order_from (e ∷ es) h = (all_later e es (λ j d l. h zero (suc j) d (omega arith) (omega arith)), in_order_from es (λ i j d a l. h (suc i) (suc j) d (omega arith) (omega arith)))
 
-pub in_order : (es : List Entry) → IsSortedBy is_before es → InOrder es
+pub in_order : (es : List ReachEntry) → IsSortedBy is_before es → InOrder es
 in_order es s = in_order_from es (λ i j d a l. sorted_far is_before entries_ranked es s i j d a l)
 
-pub inorder-left : (ds es : List Entry) → InOrder (ds ++ es) → InOrder ds
+pub inorder-left : (ds es : List ReachEntry) → InOrder (ds ++ es) → InOrder ds
 inorder-left [] es h = tt
 inorder-left (d ∷ ds) es h = (every-left (NotLater d) ds es h.0, inorder-left ds es h.1)
 
-pub inorder-right : (ds es : List Entry) → InOrder (ds ++ es) → InOrder es
+pub inorder-right : (ds es : List ReachEntry) → InOrder (ds ++ es) → InOrder es
 inorder-right [] es h = h
 inorder-right (d ∷ ds) es h = inorder-right ds es h.1
 
-pub inorder-before : (ds es : List Entry) → InOrder (ds ++ es) → AreBefore ds es
+pub inorder-before : (ds es : List ReachEntry) → InOrder (ds ++ es) → AreBefore ds es
 inorder-before [] es h = tt
 inorder-before (d ∷ ds) es h = (every-right (NotLater d) ds es h.0, inorder-before ds es h.1)
 
 -- in other orders
-each_moved : (xs ys : List Entry) → IsPermutation xs ys → (ds : List Entry) → AreBefore ds xs → AreBefore ds ys
+each_moved : (xs ys : List ReachEntry) → IsPermutation xs ys → (ds : List ReachEntry) → AreBefore ds xs → AreBefore ds ys
 each_moved xs ys p [] h = tt
 each_moved xs ys p (d ∷ ds) h = (every_moved (NotLater d) xs ys p h.0, each_moved xs ys p ds h.1)
 
-pub before_moved : (ds es xs ys : List Entry) → IsPermutation ds xs → IsPermutation es ys → AreBefore ds es → AreBefore xs ys
+pub before_moved : (ds es xs ys : List ReachEntry) → IsPermutation ds xs → IsPermutation es ys → AreBefore ds es → AreBefore xs ys
 before_moved ds es xs ys p q h = each_moved es ys q xs (every_moved (λ d. Every (NotLater d) es) ds xs p h)

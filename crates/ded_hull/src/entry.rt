@@ -1,7 +1,7 @@
 //! Entries, the hulls of lists of them, and how such lists are split.
 ghost use Rattle.std.specs.Prelude.{◌≡◌, ◌<◌, ◌≤◌, ◌+◌, ◌%◌, ◌++◌, List, [], ◌∷◌, length, IfOk};
 ghost use Rattle.std.specs.List.Sorted.{IsPermutation};
-ghost use Rattle.ded_hull.specs.declared.entry.Entry.{Entry};
+ghost use Rattle.ded_hull.specs.declared.entry.ReachEntry.{ReachEntry};
 ghost use Rattle.ded_hull.specs.Entries.{ids_in, of_keys, Covers};
 ghost use Rattle.ded_hull.specs.Segments.{middle, middle_order, AreSegments, InOrder, IsHull, IsFirst};
 
@@ -18,7 +18,7 @@ const LEVELS: u32 = 2;
 
 /// A reach under a number.
 #[derive(Drop)]
-pub struct Entry {
+pub struct ReachEntry {
     pub id: u32,
     pub reach: Reach,
 }
@@ -27,7 +27,7 @@ pub struct Entry {
 ///
 /// # Errors
 /// Out of memory.
-pub(crate) fn hull_of(alloc: Global, entries: &[Entry]) -> Result<Reach, NoMemory>
+pub(crate) fn hull_of(alloc: Global, entries: &[ReachEntry]) -> Result<Reach, NoMemory>
     ensures covers { IfOk result (λ h. Covers h entries.now) }
     ensures hull { IfOk result (λ h. AreSegments entries.now → 0 < length entries.now → IsHull h entries.now) }
 {
@@ -40,7 +40,7 @@ pub(crate) fn hull_of(alloc: Global, entries: &[Entry]) -> Result<Reach, NoMemor
 ///
 /// # Errors
 /// Out of memory.
-fn first_reach(alloc: Global, entries: &[Entry]) -> Result<Reach, NoMemory>
+fn first_reach(alloc: Global, entries: &[ReachEntry]) -> Result<Reach, NoMemory>
     ensures { IfOk result (λ h. IsFirst h entries.now) }
 {
     match entries {
@@ -50,9 +50,9 @@ fn first_reach(alloc: Global, entries: &[Entry]) -> Result<Reach, NoMemory>
 }
 
 /// Widens the hull to one of the entries too.
-fn cover(hull: &mut Reach, entries: &[Entry])
+fn cover(hull: &mut Reach, entries: &[ReachEntry])
     ensures covers { Covers hull.new entries.now }
-    ensures hull { (xs : List Entry) → IsHull hull.old xs → AreSegments entries.now
+    ensures hull { (xs : List ReachEntry) → IsHull hull.old xs → AreSegments entries.now
         → IsHull hull.new (xs ++ entries.now) }
 {
     for i in 0..entries.len() {
@@ -65,7 +65,7 @@ fn cover(hull: &mut Reach, entries: &[Entry])
 /// # Errors
 /// Out of memory.
 pub(crate) fn push_passing<L: Ledger>(
-    entries: &[Entry],
+    entries: &[ReachEntry],
     probe: &Probe,
     found: &mut Vec<u32>,
     steps: &mut Steps<L>,
@@ -82,7 +82,7 @@ pub(crate) fn push_passing<L: Ledger>(
 }
 
 /// Adds the number of the entry where the limits may hold in its reach.
-fn push_if_passing(entry: &Entry, probe: &Probe, found: &mut Vec<u32>) -> Result<(), NoMemory>
+fn push_if_passing(entry: &ReachEntry, probe: &Probe, found: &mut Vec<u32>) -> Result<(), NoMemory>
     ensures { IfOk result (λ _. found.new.items ≡ found.old.items ++ ids_in probe.now (entry.now ∷ [])) }
 {
     if probe.may_hold(&entry.reach) {
@@ -95,11 +95,11 @@ fn push_if_passing(entry: &Entry, probe: &Probe, found: &mut Vec<u32>) -> Result
 ///
 /// # Errors
 /// Out of memory.
-pub(crate) fn copy_all(from: &[Entry], to: &mut Vec<Entry>) -> Result<(), NoMemory>
+pub(crate) fn copy_all(from: &[ReachEntry], to: &mut Vec<ReachEntry>) -> Result<(), NoMemory>
     ensures { IfOk result (λ _. to.new.items ≡ to.old.items ++ from.now) }
 {
     for i in 0..from.len() {
-        to.push(Entry {
+        to.push(ReachEntry {
             id: from[i].id,
             reach: from[i].reach.copy()?,
         })?;
@@ -109,7 +109,7 @@ pub(crate) fn copy_all(from: &[Entry], to: &mut Vec<Entry>) -> Result<(), NoMemo
 
 /// On every second level, sorts the entries by their middles in the column in which these lie farthest apart. So each
 /// sort is good for four parts.
-pub(crate) fn arrange(entries: &mut [Entry], level: u32)
+pub(crate) fn arrange(entries: &mut [ReachEntry], level: u32)
     ensures entries { IsPermutation entries.old entries.new }
     ensures order { AreSegments entries.old → (0 < level % 2 → InOrder entries.old) → InOrder entries.new }
 {
@@ -120,14 +120,14 @@ pub(crate) fn arrange(entries: &mut [Entry], level: u32)
 }
 
 /// The order of the middles of two entries in a column.
-fn order(a: &Entry, b: &Entry, place: usize) -> Ordering
+fn order(a: &ReachEntry, b: &ReachEntry, place: usize) -> Ordering
     ensures { result ≡ middle_order place a.now b.now }
 {
     middle(a.reach.at(place)).cmp(&middle(b.reach.at(place)))
 }
 
 /// The column, of those of the first entry, in which the middles of the entries lie farthest apart.
-fn widest(entries: &[Entry]) -> usize
+fn widest(entries: &[ReachEntry]) -> usize
     ensures { AreSegments entries.now → result ≡ 0 }
 {
     let mut best = 0;
@@ -143,7 +143,7 @@ fn widest(entries: &[Entry]) -> usize
 }
 
 /// How many columns the reach of the first entry has.
-fn width(entries: &[Entry]) -> usize
+fn width(entries: &[ReachEntry]) -> usize
     ensures { AreSegments entries.now → result ≤ 1 }
 {
     match entries {
@@ -153,7 +153,7 @@ fn width(entries: &[Entry]) -> usize
 }
 
 /// How far the middles of the entries lie apart in a column, twice.
-fn spread(entries: &[Entry], place: usize) -> i128 {
+fn spread(entries: &[ReachEntry], place: usize) -> i128 {
     let mut least = i128::MAX;
     let mut greatest = i128::MIN;
     for entry in entries {
@@ -176,7 +176,7 @@ fn middle(range: Range) -> i128
 }
 
 /// Keeps the entries whose numbers are keys of the map.
-pub(crate) fn keep_present<V>(entries: &mut Vec<Entry>, present: &BTreeMap<u32, V>)
+pub(crate) fn keep_present<V>(entries: &mut Vec<ReachEntry>, present: &BTreeMap<u32, V>)
     ensures { entries.new.items ≡ of_keys present.now.entries entries.old.items }
 {
     entries.retain(|entry| present.contains_key(&entry.id));

@@ -10,7 +10,7 @@ ghost use Rattle.ded_hull.specs.Entries.{ids_in, of_keys, AreFound, IsComplete, 
 ghost use Rattle.ded_hull.specs.Segments.{AreSegments};
 ghost use Rattle.ded_hull.specs.Trees.{all_of, AreAlong, AreFalling, IsRoomFor, IsCostOfAll};
 
-use crate::entry::{Entry, copy_all, keep_present, push_passing};
+use crate::entry::{ReachEntry, copy_all, keep_present, push_passing};
 use crate::tree::Tree;
 use ded_model::memory::NoMemory;
 use ded_model::steps::Steps;
@@ -32,7 +32,7 @@ const FULL_LIST: usize = 32;
 #[derive(Drop)]
 pub struct Hulls {
     trees: Vec<Tree>,
-    tail: Vec<Entry>,
+    tail: Vec<ReachEntry>,
 }
 
 impl Model for Hulls {
@@ -77,7 +77,7 @@ impl Hulls {
         ensures kept { OnErr result (IsPermutation self.old.entries self.new.entries) }
     {
         settle(&mut self.trees, &mut self.tail)?;
-        self.tail.push(Entry { id, reach })?;
+        self.tail.push(ReachEntry { id, reach })?;
         Ok(())
     }
 
@@ -179,7 +179,7 @@ fn find_in<L: Ledger>(
 ///
 /// # Errors
 /// Out of memory.
-fn copy_trees(trees: &[Tree], to: &mut Vec<Entry>) -> Result<(), NoMemory>
+fn copy_trees(trees: &[Tree], to: &mut Vec<ReachEntry>) -> Result<(), NoMemory>
     ensures { IfOk result (λ _. to.new.items ≡ to.old.items ++ all_of trees.now) }
 {
     for i in 0..trees.len() {
@@ -192,7 +192,7 @@ fn copy_trees(trees: &[Tree], to: &mut Vec<Entry>) -> Result<(), NoMemory>
 ///
 /// # Errors
 /// Out of memory; the entries stay then too, some of them in the list.
-fn settle(trees: &mut Vec<Tree>, tail: &mut Vec<Entry>) -> Result<(), NoMemory>
+fn settle(trees: &mut Vec<Tree>, tail: &mut Vec<ReachEntry>) -> Result<(), NoMemory>
     ensures entries { IsPermutation (all_of trees.old.items ++ tail.old.items)
         (all_of trees.new.items ++ tail.new.items) }
     ensures room { OnOk result (length tail.new.items < 32) }
@@ -224,7 +224,7 @@ fn kept(trees: &[Tree], mut behind: usize) -> usize
 ///
 /// # Errors
 /// Out of memory; some of the trees have given their entries then.
-fn gather(trees: &mut Vec<Tree>, keep: usize, tail: &mut Vec<Entry>) -> Result<(), NoMemory>
+fn gather(trees: &mut Vec<Tree>, keep: usize, tail: &mut Vec<ReachEntry>) -> Result<(), NoMemory>
     ensures moved { all_of trees.new.items ++ tail.new.items ≡ all_of trees.old.items ++ tail.old.items }
     ensures first { trees.new.items ≡ take (length trees.new.items) trees.old.items }
     ensures gathered { OnOk result (length trees.new.items ≡ min keep (length trees.old.items)) }
@@ -241,7 +241,7 @@ fn gather(trees: &mut Vec<Tree>, keep: usize, tail: &mut Vec<Entry>) -> Result<(
 ///
 /// # Errors
 /// Out of memory; the entries stay in the list then, in another order.
-fn plant(trees: &mut Vec<Tree>, tail: &mut Vec<Entry>) -> Result<(), NoMemory>
+fn plant(trees: &mut Vec<Tree>, tail: &mut Vec<ReachEntry>) -> Result<(), NoMemory>
     ensures entries { IsPermutation (all_of trees.old.items ++ tail.old.items)
         (all_of trees.new.items ++ tail.new.items) }
     ensures planted { OnOk result (tail.new.items ≡ []) }

@@ -16,5 +16,5 @@ mod entry;
 mod hulls;
 mod tree;
 
-pub use entry::Entry;
+pub use entry::ReachEntry;
 pub use hulls::Hulls;

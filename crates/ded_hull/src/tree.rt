@@ -14,12 +14,12 @@
 ghost use Rattle.std.specs.Prelude.{◌≡◌, ◌<◌, ◌≤◌, ◌+◌, ◌*◌, ◌%◌, ◌^◌, ◌++◌, ◌∷◌, [], ℕ, List, length, IfOk, OnOk};
 ghost use Rattle.std.specs.Prelude.{OnErr};
 ghost use Rattle.std.specs.List.Sorted.{IsPermutation};
-ghost use Rattle.ded_hull.specs.declared.entry.Entry.{Entry};
+ghost use Rattle.ded_hull.specs.declared.entry.ReachEntry.{ReachEntry};
 ghost use Rattle.ded_hull.specs.Entries.{ids_in, Covers};
 ghost use Rattle.ded_hull.specs.Segments.{AreSegments, InOrder};
 ghost use Rattle.ded_hull.specs.Trees.{IsTree, IsOver, IsHalved, AreNarrow, HullsJoined, IsStep, IsCost, looked_at};
 
-use crate::entry::{Entry, arrange, copy_all, hull_of, push_passing};
+use crate::entry::{ReachEntry, arrange, copy_all, hull_of, push_passing};
 use ded_model::memory::NoMemory;
 use ded_model::steps::Steps;
 use ded_ranges::{Probe, Reach};
@@ -34,7 +34,7 @@ const LEAF: usize = 8;
 /// A hull of the entries under a node, how many of the nodes behind it stand below it, and how many entries are under
 /// it.
 #[derive(Drop)]
-pub(crate) struct Node {
+pub(crate) struct HullNode {
     pub hull: Reach,
     pub below: usize,
     pub count: usize,
@@ -43,16 +43,16 @@ pub(crate) struct Node {
 /// A tree. Contracts see the list of its entries.
 #[derive(Drop)]
 pub(crate) struct Tree {
-    nodes: Vec<Node>,
-    entries: Vec<Entry>,
+    nodes: Vec<HullNode>,
+    entries: Vec<ReachEntry>,
 }
 
 impl Model for Tree {
     ghost use Rattle.std.specs.Prelude.{List};
-    ghost use Rattle.ded_hull.specs.declared.entry.Entry.{Entry};
+    ghost use Rattle.ded_hull.specs.declared.entry.ReachEntry.{ReachEntry};
     ghost use Rattle.ded_hull.specs.Trees.{IsTree, IsBalanced};
 
-    ghost Value = { List Entry };
+    ghost Value = { List ReachEntry };
 
     ghost view = { λ t. t.entries.items };
 
@@ -64,7 +64,7 @@ impl Tree {
     ///
     /// # Errors
     /// Out of memory; the entries stay in the list then, in another order.
-    pub(crate) fn build(entries: &mut Vec<Entry>) -> Result<Tree, NoMemory>
+    pub(crate) fn build(entries: &mut Vec<ReachEntry>) -> Result<Tree, NoMemory>
         ensures built { IfOk result (λ t. IsPermutation entries.old.items t) }
         ensures moved { OnOk result (entries.new.items ≡ []) }
         ensures kept { OnErr result (IsPermutation entries.old.items entries.new.items) }
@@ -106,7 +106,7 @@ impl Tree {
     ///
     /// # Errors
     /// Out of memory.
-    pub(crate) fn copy_into(&self, to: &mut Vec<Entry>) -> Result<(), NoMemory>
+    pub(crate) fn copy_into(&self, to: &mut Vec<ReachEntry>) -> Result<(), NoMemory>
         ensures { IfOk result (λ _. to.new.items ≡ to.old.items ++ self.now) }
     {
         copy_all(&self.entries, to)
@@ -117,7 +117,7 @@ impl Tree {
     ///
     /// # Errors
     /// Out of memory; nothing has changed then.
-    pub(crate) fn give(&mut self, list: &mut Vec<Entry>) -> Result<(), NoMemory>
+    pub(crate) fn give(&mut self, list: &mut Vec<ReachEntry>) -> Result<(), NoMemory>
         ensures given { OnOk result (list.new.items ≡ self.old ++ list.old.items) }
         ensures left { OnOk result (self.new ≡ []) }
         ensures unchanged { OnErr result (self.new ≡ self.old) }
@@ -136,7 +136,7 @@ impl Tree {
 ///
 /// # Errors
 /// Out of memory; the entries are in another order then.
-pub(crate) fn build(alloc: Global, entries: &mut [Entry], level: u32) -> Result<Vec<Node>, NoMemory>
+pub(crate) fn build(alloc: Global, entries: &mut [ReachEntry], level: u32) -> Result<Vec<HullNode>, NoMemory>
     ensures tree { IfOk result (λ ns. IsTree ns.items entries.new) }
     ensures over { IfOk result (λ ns. IsOver ns.items entries.new) }
     ensures entries { IsPermutation entries.old entries.new }
@@ -160,8 +160,8 @@ pub(crate) fn build(alloc: Global, entries: &mut [Entry], level: u32) -> Result<
 ///
 /// # Errors
 /// Out of memory.
-fn hull_over(alloc: Global, first: &[Node], second: &[Node]) -> Result<Reach, NoMemory>
-    ensures covers { IfOk result (λ h. (xs ys : List Entry) → IsOver first.now xs → IsOver second.now ys
+fn hull_over(alloc: Global, first: &[HullNode], second: &[HullNode]) -> Result<Reach, NoMemory>
+    ensures covers { IfOk result (λ h. (xs ys : List ReachEntry) → IsOver first.now xs → IsOver second.now ys
         → Covers h (xs ++ ys)) }
     ensures value { IfOk result (λ h. HullsJoined first.now second.now h) }
 {
@@ -179,11 +179,11 @@ fn hull_over(alloc: Global, first: &[Node], second: &[Node]) -> Result<Reach, No
 ///
 /// # Errors
 /// Out of memory.
-fn one(alloc: Global, hull: Reach, count: usize) -> Result<Vec<Node>, NoMemory>
+fn one(alloc: Global, hull: Reach, count: usize) -> Result<Vec<HullNode>, NoMemory>
     ensures { IfOk result (λ ns. ns.items ≡ record { hull = hull; below = 0; count = count } ∷ []) }
 {
     let mut nodes = Vec::with_capacity(alloc, 1)?;
-    nodes.push(Node {
+    nodes.push(HullNode {
         hull,
         below: 0,
         count,
@@ -198,16 +198,16 @@ fn one(alloc: Global, hull: Reach, count: usize) -> Result<Vec<Node>, NoMemory>
 fn joined(
     hull: Reach,
     count: usize,
-    first: Vec<Node>,
-    mut second: Vec<Node>,
-) -> Result<Vec<Node>, NoMemory>
+    first: Vec<HullNode>,
+    mut second: Vec<HullNode>,
+) -> Result<Vec<HullNode>, NoMemory>
     ensures { IfOk result (λ ns. ns.items ≡ record { hull = hull; below = length first.items
         + length second.items; count = count } ∷ (first.items ++ second.items)) }
 {
     let below = first.len() + second.len();
     let mut nodes = first;
     nodes.reserve_exact(second.len() + 1)?;
-    nodes.insert(0, Node { hull, below, count })?;
+    nodes.insert(0, HullNode { hull, below, count })?;
     nodes.append(&mut second)?;
     Ok(nodes)
 }
@@ -218,8 +218,8 @@ fn joined(
 /// # Errors
 /// Out of memory.
 pub(crate) fn visit_all<L: Ledger>(
-    nodes: &[Node],
-    entries: &[Entry],
+    nodes: &[HullNode],
+    entries: &[ReachEntry],
     probe: &Probe,
     found: &mut Vec<u32>,
     steps: &mut Steps<L>,
@@ -245,13 +245,13 @@ pub(crate) fn visit_all<L: Ledger>(
 /// # Errors
 /// Out of memory.
 fn visit<'a, L: Ledger>(
-    node: &Node,
-    behind: &'a [Node],
-    entries: &'a [Entry],
+    node: &HullNode,
+    behind: &'a [HullNode],
+    entries: &'a [ReachEntry],
     probe: &Probe,
     found: &mut Vec<u32>,
     steps: &mut Steps<L>,
-) -> Result<(&'a [Node], &'a [Entry]), NoMemory>
+) -> Result<(&'a [HullNode], &'a [ReachEntry]), NoMemory>
     requires { IsTree (node.now ∷ behind.now) entries.now }
     ensures next { IfOk result (λ next. IsStep probe.now node.now behind.now entries.now next.0.now next.1.now
         found.old.items found.new.items) }

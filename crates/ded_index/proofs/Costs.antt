@@ -9,7 +9,7 @@ use Rattle.std.proofs.lemmas.List.{length-take, length-drop}
 use Rattle.std.specs.List.{AllByRecursion}
 use Rattle.ded_box.specs.Intervals.{may_meet, has_value, intervals_meet}
 use Rattle.ded_box.specs.Boxes.{AreIntervals}
-use Rattle.ded_index.specs.declared.tree.Node.{Node}
+use Rattle.ded_index.specs.declared.tree.BoxNode.{BoxNode}
 use Rattle.ded_index.specs.Entries.{Box, first_of, near_first}
 use Rattle.ded_index.specs.Trees.{entries_of, AreFull}
 use Rattle.ded_index.specs.Costs.{Begins, IsCost}
@@ -46,11 +46,11 @@ one_of_begun a b c h s t k x = omega arith
 -- ---- visits
 
 -- of nothing
-pub cost_none : (w : Box) (ns : List Node) (s : ℕ) → IsCost w (entries_of ns) s s
+pub cost_none : (w : Box) (ns : List BoxNode) (s : ℕ) → IsCost w (entries_of ns) s s
 cost_none w ns s = record { any = λ h l. omega arith; begun = λ a h l. omega arith }
 
 -- of one node
-pub cost_dead : (w : Box) (ns : List Node) (s : ℕ) → 0 < length ns → IsCost w (entries_of ns) s (s + 1)
+pub cost_dead : (w : Box) (ns : List BoxNode) (s : ℕ) → 0 < length ns → IsCost w (entries_of ns) s (s + 1)
 cost_dead w ns s p = record {
   any = λ h l. by_height h (subst (λ k. k < 2 ^ h) (entries_of-length ns) l);
   begun = λ a h l. omega arith;
@@ -64,12 +64,12 @@ cost_dead w ns s p = record {
         at_least s x h = omega arith
 
 -- the ranges beside the node are of lesser height
-pub record AreHalves (ns ls rs : List Node) : Type 0 where
+pub record AreHalves (ns ls rs : List BoxNode) : Type 0 where
   pub some : 0 < length ns
   pub left : length ls ≡ length ns / 2
   pub right : length ns / 2 + 1 + length rs ≡ length ns
 
-pub halves : (ns : List Node) → 0 < length ns → AreHalves ns (take (length ns / 2) ns) (drop (length ns / 2 + 1) ns)
+pub halves : (ns : List BoxNode) → 0 < length ns → AreHalves ns (take (length ns / 2) ns) (drop (length ns / 2 + 1) ns)
 halves ns p = record { some = p; left = simp length-take (min_half (length ns)); right = simp length-drop (rest (length ns) p) }
   where
     min_half : (k : ℕ) → min (k / 2) k ≡ k / 2
@@ -78,7 +78,7 @@ halves ns p = record { some = p; left = simp length-take (min_half (length ns));
     rest : (k : ℕ) → 0 < k → k / 2 + 1 + (k - (k / 2 + 1)) ≡ k
     rest k h = omega arith
 
-module _ (w : Box) (ns : List Node) (n : Node) (ls rs : List Node) (half : AreHalves ns ls rs) (round : IsRound ns n ls rs) (iw : AreIntervals w) where
+module _ (w : Box) (ns : List BoxNode) (n : BoxNode) (ls rs : List BoxNode) (half : AreHalves ns ls rs) (round : IsRound ns n ls rs) (iw : AreIntervals w) where
   -- near entries on the left, at the node and on the right
   near_split : near_first w (entries_of ns) ≡ near_first w (entries_of ls) + (cond (intervals_meet (first_of n.entry.bounds) (first_of w)) 1 0 + near_first w (entries_of rs))
   near_split = ap (near_first w) round.split ∙ near_first-append w (entries_of ls) (n.entry ∷ entries_of rs)

@@ -3,14 +3,14 @@ use Rattle.std.proofs.Common.{◌≡◌, ℕ, false, List, [], ◌∷◌, ◌++�
 use Rattle.std.specs.List.{AllByRecursion}
 use Rattle.ded_box.specs.Intervals.{may_meet, has_value}
 use Rattle.ded_box.specs.Boxes.{AreIntervals}
-use Rattle.ded_index.specs.declared.entry.Entry.{Entry}
-use Rattle.ded_index.specs.declared.tree.Node.{Node}
+use Rattle.ded_index.specs.declared.entry.BoxEntry.{BoxEntry}
+use Rattle.ded_index.specs.declared.tree.BoxNode.{BoxNode}
 use Rattle.ded_index.specs.Entries.{Box, first_of, low, ids_in}
 use Rattle.ded_index.specs.Trees.{entries_of}
 use Rattle.ded_index.proofs.Members.{ids_in-append}
 use Rattle.ded_index.proofs.Pruning.{IsRound, IsFar, right_far, far_found, far_window, dead_found}
 
-module _ (w : Box) (ns : List Node) (n : Node) (ls rs : List Node) (round : IsRound ns n ls rs) (iw : AreIntervals w) where
+module _ (w : Box) (ns : List BoxNode) (n : BoxNode) (ls rs : List BoxNode) (round : IsRound ns n ls rs) (iw : AreIntervals w) where
   -- nothing, where all end before the window begins
   pub dead : (out : List ℕ) → may_meet (first_of w).0 n.end ≡ false → out ≡ out ++ ids_in w (entries_of ns)
   dead out h = sym (append-nil out) ∙ ap (λ is. out ++ is) (sym (dead_found w (entries_of ns) n.end iw round.greatest h))
@@ -30,9 +30,9 @@ module _ (w : Box) (ns : List Node) (n : Node) (ls rs : List Node) (round : IsRo
       ∙ ap (λ is. out ++ is) (ap (λ is. ids_in w (entries_of ls) ++ is) (sym (ids_in-append w (n.entry ∷ []) (entries_of rs))) ∙ sym (ids_in-append w (entries_of ls) (n.entry ∷ entries_of rs)) ∙ sym (ap (ids_in w) round.split))
 
 -- nothing lies in a window whose first interval is empty
-pub none_found : (w : Box) (es : List Entry) (out : List ℕ) → has_value (first_of w) ≡ false → out ≡ out ++ ids_in w es
+pub none_found : (w : Box) (es : List BoxEntry) (out : List ℕ) → has_value (first_of w) ≡ false → out ≡ out ++ ids_in w es
 none_found w es out h = sym (append-nil out) ∙ ap (λ is. out ++ is) (sym (far_found w es (all_far es)))
   where
-    all_far : (es : List Entry) → AllByRecursion (IsFar w) es
+    all_far : (es : List BoxEntry) → AllByRecursion (IsFar w) es
     all_far [] = tt
     all_far (e ∷ es) = (far_window w e h, all_far es)

@@ -12,8 +12,8 @@ use Rattle.ded_num.specs.Length.{length_of}
 use Rattle.ded_num.proofs.Lengths.{within_length}
 use Rattle.ded_box.specs.Boxes.{AreIntervals, Shared, boxes_meet}
 use Rattle.ded_box.proofs.Shares.{boxes_meet-is}
-use Rattle.ded_index.specs.declared.entry.Entry.{Entry}
-use Rattle.ded_index.specs.declared.tree.Node.{Node}
+use Rattle.ded_index.specs.declared.entry.BoxEntry.{BoxEntry}
+use Rattle.ded_index.specs.declared.tree.BoxNode.{BoxNode}
 use Rattle.ded_box.specs.Intervals.{has_value}
 use Rattle.ded_index.specs.Entries.{Box, first_of, SomeEntry, ids_in, near_first, most_steps, AreFound}
 use Rattle.ded_index.specs.Trees.{entries_of, AreSound, IsIndex}
@@ -23,7 +23,7 @@ use Rattle.ded_index.proofs.Pruning.{IsFar, far_empty, far_found}
 
 -- ---- steps
 
-pub few_steps : (w : Box) (es apart : List Entry) (s t : ℕ) → IsCost w es s t → t ≤ s + most_steps w (es ++ apart)
+pub few_steps : (w : Box) (es apart : List BoxEntry) (s t : ℕ) → IsCost w es s t → t ≤ s + most_steps w (es ++ apart)
 few_steps w es apart s t c =
     let d : ℕ = length_of (pos (length (es ++ apart))) in
     let low : length (es ++ apart) < 2 ^ d = within_length (pos (length (es ++ apart))) in
@@ -54,7 +54,7 @@ has_to (x ∷ xs) i (inl e) = (zero, omega arith, e)
 has_to (x ∷ xs) i (inr h) = let c = has_to xs i h in (suc c.0, omega (arith, c.1), c.2)
 
 -- an entry with the number meets the window
-abbrev Meets : Box → ℕ → Entry → Type 0
+abbrev Meets : Box → ℕ → BoxEntry → Type 0
 Meets w i e = (e.id ≡ i) × (boxes_meet e.bounds w ≡ true)
 
 has_later : (b : Bool) (x : ℕ) (xs : List ℕ) (i : ℕ) → Has xs i → Has (cond b (x ∷ xs) xs) i
@@ -66,34 +66,34 @@ has_split true x xs i (inl e) = inl (e, refl)
 has_split true x xs i (inr h) = inr h
 has_split false x xs i h = inr h
 
-some_from : (w : Box) (es : List Entry) (i : ℕ) → Has (ids_in w es) i → SomeEntry (Meets w i) es
+some_from : (w : Box) (es : List BoxEntry) (i : ℕ) → Has (ids_in w es) i → SomeEntry (Meets w i) es
 some_from w [] i h = absurd h
 some_from w (e ∷ es) i h = elim (has_split (boxes_meet e.bounds w) e.id (ids_in w es) i h) [ inl k ↦ inl k | inr k ↦ inr (some_from w es i k) ]
 
-some_to : (w : Box) (es : List Entry) (i : ℕ) → SomeEntry (Meets w i) es → Has (ids_in w es) i
+some_to : (w : Box) (es : List BoxEntry) (i : ℕ) → SomeEntry (Meets w i) es → Has (ids_in w es) i
 some_to w [] i h = absurd h
 some_to w (e ∷ es) i (inl k) = subst (λ b. Has (cond b (e.id ∷ ids_in w es) (ids_in w es)) i) (sym k.1) (inl k.0)
 some_to w (e ∷ es) i (inr k) = has_later (boxes_meet e.bounds w) e.id (ids_in w es) i (some_to w es i k)
 
 -- an entry with the number shares values with the window
-abbrev Shares : Box → ℕ → Entry → Type 0
+abbrev Shares : Box → ℕ → BoxEntry → Type 0
 Shares w i e = (e.id ≡ i) × Shared e.bounds w
 
 -- those that stand apart share none
-some_of_left : (P : Entry → Type 0) (xs ys : List Entry) → SomeEntry P (xs ++ ys) → SomeEntry P xs ⊎ SomeEntry P ys
+some_of_left : (P : BoxEntry → Type 0) (xs ys : List BoxEntry) → SomeEntry P (xs ++ ys) → SomeEntry P xs ⊎ SomeEntry P ys
 some_of_left P [] ys h = inr h
 some_of_left P (x ∷ xs) ys (inl h) = inl (inl h)
 some_of_left P (x ∷ xs) ys (inr h) = elim (some_of_left P xs ys h) [ inl k ↦ inl (inr k) | inr k ↦ inr k ]
 
-none_apart : (w : Box) (es : List Entry) (i : ℕ) → AllByRecursion (IsFar w) es → Has (ids_in w es) i → ⊥
+none_apart : (w : Box) (es : List BoxEntry) (i : ℕ) → AllByRecursion (IsFar w) es → Has (ids_in w es) i → ⊥
 none_apart w es i far h = subst (λ xs. Has xs i) (far_found w es far) h
 
-module _ (w : Box) (ns : List Node) (es : List Entry) (x : IsIndex ns es) (iw : AreIntervals w) where
+module _ (w : Box) (ns : List BoxNode) (es : List BoxEntry) (x : IsIndex ns es) (iw : AreIntervals w) where
   pub found_to : (i : ℕ) → Contains (ids_in w (entries_of ns)) i → SomeEntry (Shares w i) (entries_of ns ++ es)
   found_to i c = some-left (Shares w i) (entries_of ns) es
       (some-all (Meets w i) (λ e. AreIntervals e.bounds) (Shares w i) (entries_of ns) (λ e m s. (m.0, (boxes_meet-is e.bounds w s iw).0 m.1)) (some_from w (entries_of ns) i (has_from (ids_in w (entries_of ns)) i c.0 c.1 c.2)) x.tree.sound)
 
-  meets_from : (ys : List Entry) (i : ℕ) → AreSound ys → SomeEntry (Shares w i) ys → Has (ids_in w ys) i
+  meets_from : (ys : List BoxEntry) (i : ℕ) → AreSound ys → SomeEntry (Shares w i) ys → Has (ids_in w ys) i
   meets_from ys i s h = some_to w ys i (some-all (Shares w i) (λ e. AreIntervals e.bounds) (Meets w i) ys (λ e m a. (m.0, (boxes_meet-is e.bounds w a iw).1 m.1)) h s)
 
   pub found_from : (i : ℕ) → SomeEntry (Shares w i) (entries_of ns ++ es) → Contains (ids_in w (entries_of ns)) i
@@ -103,7 +103,7 @@ module _ (w : Box) (ns : List Node) (es : List Entry) (x : IsIndex ns es) (iw : 
   ])
 
 -- the numbers in order, each once
-pub answer : (w : Box) (ns : List Node) (es view : List Entry) → IsIndex ns es → AreIntervals w → entries_of ns ++ es ≡ view → (found sorted ids : List ℕ) → found ≡ ids_in w (entries_of ns) → IsPermutation found sorted → IsSorted nat_cmp sorted
+pub answer : (w : Box) (ns : List BoxNode) (es view : List BoxEntry) → IsIndex ns es → AreIntervals w → entries_of ns ++ es ≡ view → (found sorted ids : List ℕ) → found ≡ ids_in w (entries_of ns) → IsPermutation found sorted → IsSorted nat_cmp sorted
     → ids ≡ dedup eqb sorted → AreFound w view ids
 answer w ns es view x iw v found sorted ids e p s is = record {
   ascending = subst IsStrictlyIncreasing (sym is) (IsStrictlyIncreasing-dedup sorted s);

@@ -19,7 +19,7 @@ use Rattle.ded_model.proofs.Core.{Meets, below_at_most}
 use Rattle.ded_box.specs.Intervals.{IsPositive, HasPositive}
 use Rattle.ded_box.proofs.Gaps.{gap, gap_chain, gap_turned}
 use Rattle.ded_box.proofs.Insides.{MayMeet}
-use Rattle.ded_index.specs.declared.entry.Entry.{Entry}
+use Rattle.ded_index.specs.declared.entry.BoxEntry.{BoxEntry}
 use Rattle.ded_index.specs.Entries.{low}
 use Rattle.ded_index.specs.Orders.{sound_fraction, sound, fraction_order, low_order, entry_order}
 
@@ -193,6 +193,6 @@ entries_ranked = record {
     one_way a b h = elim (follows_either a b) [ inl f ↦ absurd (true≢false (sym h ∙ follows_to a b f)) | inr g ↦ follows_to b a g ]
 
 -- an entry that isn't before another follows it
-pub entry_follows : (a b : Entry) → HasPositive (low a) → HasPositive (low b) → is_lt (entry_order a b) ≡ false → Follows (low a) (low b)
+pub entry_follows : (a b : BoxEntry) → HasPositive (low a) → HasPositive (low b) → is_lt (entry_order a b) ≡ false → Follows (low a) (low b)
 entry_follows a b pa pb h =
     subst (λ z. Follows z (low b)) (sound_is (low a) pa) (subst (λ z. Follows (sound (low a)) z) (sound_is (low b) pb) (follows_from (sound (low a)) (sound (low b)) h))

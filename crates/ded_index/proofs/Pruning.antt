@@ -11,8 +11,8 @@ use Rattle.ded_box.specs.Intervals.{may_meet, has_value, intervals_meet}
 use Rattle.ded_box.specs.Boxes.{AreIntervals, boxes_meet}
 use Rattle.ded_box.proofs.Insides.{may_meet_decides}
 use Rattle.ded_box.proofs.Shares.{parts_of, from_parts}
-use Rattle.ded_index.specs.declared.entry.Entry.{Entry}
-use Rattle.ded_index.specs.declared.tree.Node.{Node}
+use Rattle.ded_index.specs.declared.entry.BoxEntry.{BoxEntry}
+use Rattle.ded_index.specs.declared.tree.BoxNode.{BoxNode}
 use Rattle.ded_index.specs.Entries.{Box, first_of, low, high, SomeEntry, ids_in, near_first}
 use Rattle.ded_index.specs.Trees.{entries_of, NotAfter, InOrder, IsGreatest, AreFull, AreSound, IsTree}
 use Rattle.ded_index.specs.Costs.{Begins}
@@ -30,10 +30,10 @@ boxes_first (i ∷ is) [] h = absurd (true≢false (sym h))
 boxes_first (i ∷ is) (j ∷ js) h = and_left (intervals_meet i j) (boxes_meet is js) h
 
 -- entries whose first intervals don't meet that of the window
-abbrev pub IsFar : Box → Entry → Type 0
+abbrev pub IsFar : Box → BoxEntry → Type 0
 IsFar w e = intervals_meet (first_of e.bounds) (first_of w) ≡ false
 
-pub far_found : (w : Box) (es : List Entry) → AllByRecursion (IsFar w) es → ids_in w es ≡ []
+pub far_found : (w : Box) (es : List BoxEntry) → AllByRecursion (IsFar w) es → ids_in w es ≡ []
 far_found w [] h = refl
 far_found w (e ∷ es) h =
     ap (λ b. cond b (e.id ∷ ids_in w es) (ids_in w es)) (false_from_ne_true (boxes_meet e.bounds w) (λ m. true≢false (sym (boxes_first e.bounds w m) ∙ h.0))) ∙ far_found w es h.1
@@ -42,31 +42,31 @@ far_found w (e ∷ es) h =
 
 module _ (w : Box) where
   -- what ends before the window begins
-  far_behind : (e : Entry) → may_meet (first_of w).0 (high e) ≡ false → IsFar w e
+  far_behind : (e : BoxEntry) → may_meet (first_of w).0 (high e) ≡ false → IsFar w e
   far_behind e h = false_from_ne_true (intervals_meet (first_of e.bounds) (first_of w)) (λ m. true≢false (sym (parts_of (first_of e.bounds) (first_of w) m).back ∙ h))
 
   -- what begins after it ends
-  far_ahead : (e : Entry) → may_meet (low e) (first_of w).1 ≡ false → IsFar w e
+  far_ahead : (e : BoxEntry) → may_meet (low e) (first_of w).1 ≡ false → IsFar w e
   far_ahead e h = false_from_ne_true (intervals_meet (first_of e.bounds) (first_of w)) (λ m. true≢false (sym (parts_of (first_of e.bounds) (first_of w) m).forth ∙ h))
 
   -- an entry without values
-  pub far_empty : (e : Entry) → has_value (first_of e.bounds) ≡ false → IsFar w e
+  pub far_empty : (e : BoxEntry) → has_value (first_of e.bounds) ≡ false → IsFar w e
   far_empty e h = false_from_ne_true (intervals_meet (first_of e.bounds) (first_of w)) (λ m. true≢false (sym (parts_of (first_of e.bounds) (first_of w) m).first ∙ h))
 
   -- a window without values
-  pub far_window : (e : Entry) → has_value (first_of w) ≡ false → IsFar w e
+  pub far_window : (e : BoxEntry) → has_value (first_of w) ≡ false → IsFar w e
   far_window e h = false_from_ne_true (intervals_meet (first_of e.bounds) (first_of w)) (λ m. true≢false (sym (parts_of (first_of e.bounds) (first_of w) m).second ∙ h))
 
   -- a range whose greatest end is before the window
-  pub dead_found : (es : List Entry) (b : Bound) → AreIntervals w → IsGreatest es b → may_meet (first_of w).0 b ≡ false → ids_in w es ≡ []
+  pub dead_found : (es : List BoxEntry) (b : Bound) → AreIntervals w → IsGreatest es b → may_meet (first_of w).0 b ≡ false → ids_in w es ≡ []
   dead_found es b iw g h = far_found w es (all-weaker (EndsBy b) (IsFar w) es
       (λ e f. far_behind e (false_from_ne_true (may_meet (first_of w).0 (high e)) (λ m. true≢false (sym (f (first_of w).0 (low-positive w iw) m) ∙ h)))) g.upper)
 
-  near_one : (e : Entry) → intervals_meet (first_of e.bounds) (first_of w) ≡ true → (es : List Entry) → near_first w (e ∷ es) ≡ 1 + near_first w es
+  near_one : (e : BoxEntry) → intervals_meet (first_of e.bounds) (first_of w) ≡ true → (es : List BoxEntry) → near_first w (e ∷ es) ≡ 1 + near_first w es
   near_one e h es = ap (λ b. cond b 1 0 + near_first w es) h
 
   -- else, where all begin before the window ends, some entry is near
-  pub some_near : (es : List Entry) (b : Bound) → has_value (first_of w) ≡ true → AreFull es → AllByRecursion (Begins w) es → SomeEntry (λ e. high e ≡ b) es → may_meet (first_of w).0 b ≡ true → 1 ≤ near_first w es
+  pub some_near : (es : List BoxEntry) (b : Bound) → has_value (first_of w) ≡ true → AreFull es → AllByRecursion (Begins w) es → SomeEntry (λ e. high e ≡ b) es → may_meet (first_of w).0 b ≡ true → 1 ≤ near_first w es
   some_near [] b hw f a h m = absurd h
   some_near (e ∷ es) b hw f a (inl h) m =
       let near = from_parts (first_of e.bounds) (first_of w) (record { first = f.0; second = hw; forth = a.0; back = ap (may_meet (first_of w).0) h ∙ m }) in
@@ -79,18 +79,18 @@ module _ (w : Box) where
 
   -- ---- order
 
-  begins_before : (x e : Entry) → AreIntervals w → AreIntervals x.bounds → AreIntervals e.bounds → NotAfter x e → Begins w e → Begins w x
+  begins_before : (x e : BoxEntry) → AreIntervals w → AreIntervals x.bounds → AreIntervals e.bounds → NotAfter x e → Begins w e → Begins w x
   begins_before x e iw ix ie n b =
       let px = low-positive x.bounds ix in
       let pe = low-positive e.bounds ie in
       (may_meet_decides (low x) (first_of w).1).1 (earlier_meets (low x) (low e) (first_of w).1 px pe (high-positive w iw) (entry_follows e x pe px n) ((may_meet_decides (low e) (first_of w).1).0 b))
 
   -- what stands before an entry that begins before the window ends
-  pub left_begins : (e : Entry) (xs : List Entry) → AreIntervals w → AreIntervals e.bounds → AreSound xs → AllByRecursion (λ x. NotAfter x e) xs → Begins w e → AllByRecursion (Begins w) xs
+  pub left_begins : (e : BoxEntry) (xs : List BoxEntry) → AreIntervals w → AreIntervals e.bounds → AreSound xs → AllByRecursion (λ x. NotAfter x e) xs → Begins w e → AllByRecursion (Begins w) xs
   left_begins e xs iw ie s n b = all-both (λ x. AreIntervals x.bounds) (λ x. NotAfter x e) (Begins w) xs (λ x ix nx. begins_before x e iw ix ie nx b) s n
 
   -- what stands from an entry on that begins after the window ends
-  pub right_far : (e : Entry) (xs : List Entry) → AreIntervals w → AreIntervals e.bounds → AreSound xs → AllByRecursion (NotAfter e) xs → may_meet (low e) (first_of w).1 ≡ false → AllByRecursion (IsFar w) (e ∷ xs)
+  pub right_far : (e : BoxEntry) (xs : List BoxEntry) → AreIntervals w → AreIntervals e.bounds → AreSound xs → AllByRecursion (NotAfter e) xs → may_meet (low e) (first_of w).1 ≡ false → AllByRecursion (IsFar w) (e ∷ xs)
   right_far e xs iw ie s n h = (
     far_ahead e h,
     all-both (λ x. AreIntervals x.bounds) (NotAfter e) (IsFar w) xs (λ x ix nx. far_ahead x (false_from_ne_true (may_meet (low x) (first_of w).1) (λ m. true≢false (sym (begins_before e x iw ie ix nx m) ∙ h)))) s n,
@@ -98,29 +98,29 @@ module _ (w : Box) where
 
 -- ---- a list in order, round one of its entries
 
-pub inorder-left : (xs ys : List Entry) → InOrder (xs ++ ys) → InOrder xs
+pub inorder-left : (xs ys : List BoxEntry) → InOrder (xs ++ ys) → InOrder xs
 inorder-left [] ys h = tt
 inorder-left (x ∷ xs) ys h = (all-left (NotAfter x) xs ys h.0, inorder-left xs ys h.1)
 
-pub inorder-right : (xs ys : List Entry) → InOrder (xs ++ ys) → InOrder ys
+pub inorder-right : (xs ys : List BoxEntry) → InOrder (xs ++ ys) → InOrder ys
 inorder-right [] ys h = h
 inorder-right (x ∷ xs) ys h = inorder-right xs ys h.1
 
-inorder-before : (xs : List Entry) (e : Entry) (ys : List Entry) → InOrder (xs ++ e ∷ ys) → AllByRecursion (λ x. NotAfter x e) xs
+inorder-before : (xs : List BoxEntry) (e : BoxEntry) (ys : List BoxEntry) → InOrder (xs ++ e ∷ ys) → AllByRecursion (λ x. NotAfter x e) xs
 inorder-before [] e ys h = tt
 inorder-before (x ∷ xs) e ys h = ((all-right (NotAfter x) xs (e ∷ ys) h.0).0, inorder-before xs e ys h.1)
 
 -- ---- a tree round a node
 
-split_suc : (ns : List Node) (i : ℕ) (n : Node) → i < length ns → n ≡ get_or ns i n → ns ≡ take i ns ++ n ∷ drop (suc i) ns
+split_suc : (ns : List BoxNode) (i : ℕ) (n : BoxNode) → i < length ns → n ≡ get_or ns i n → ns ≡ take i ns ++ n ∷ drop (suc i) ns
 split_suc [] i n h e = absurd (omega (arith, h))
 split_suc (x ∷ ns) zero n h e = ap (λ y. y ∷ ns) (sym e)
 split_suc (x ∷ ns) (suc i) n h e = ap (λ ys. x ∷ ys) (split_suc ns i n (omega (arith, h)) e)
 
-split_at : (ns : List Node) (i : ℕ) (n : Node) → i < length ns → n ≡ get_or ns i n → ns ≡ take i ns ++ n ∷ drop (i + 1) ns
+split_at : (ns : List BoxNode) (i : ℕ) (n : BoxNode) → i < length ns → n ≡ get_or ns i n → ns ≡ take i ns ++ n ∷ drop (i + 1) ns
 split_at ns i n h e = split_suc ns i n h e ∙ ap (λ k. take i ns ++ n ∷ drop k ns) (sym (add-one i))
 
-pub record IsRound (ns : List Node) (n : Node) (ls rs : List Node) : Type 0 where
+pub record IsRound (ns : List BoxNode) (n : BoxNode) (ls rs : List BoxNode) : Type 0 where
   pub split : entries_of ns ≡ entries_of ls ++ n.entry ∷ entries_of rs
   pub left : IsTree ls
   pub right : IsTree rs
@@ -129,7 +129,7 @@ pub record IsRound (ns : List Node) (n : Node) (ls rs : List Node) : Type 0 wher
   pub after : AllByRecursion (NotAfter n.entry) (entries_of rs)
   pub greatest : IsGreatest (entries_of ns) n.end
 
-pub tree_round : (ns : List Node) (n : Node) → 0 < length ns → n ≡ get_or ns (length ns / 2) n → IsTree ns → IsRound ns n (take (length ns / 2) ns) (drop (length ns / 2 + 1) ns)
+pub tree_round : (ns : List BoxNode) (n : BoxNode) → 0 < length ns → n ≡ get_or ns (length ns / 2) n → IsTree ns → IsRound ns n (take (length ns / 2) ns) (drop (length ns / 2 + 1) ns)
 tree_round ns n p e t =
     let m : ℕ = length ns / 2 in
     let ls = take m ns in
@@ -152,14 +152,14 @@ tree_round ns n p e t =
       sound = sound_later.0;
       before = inorder-before (entries_of ls) n.entry (entries_of rs) order;
       after = later.0;
-      greatest = subst (λ (x : Node). IsGreatest (entries_of ns) x.end) (sym e) ((t.ends 1).0 n p);
+      greatest = subst (λ (x : BoxNode). IsGreatest (entries_of ns) x.end) (sym e) ((t.ends 1).0 n p);
     }
   where
     half : (k : ℕ) → 0 < k → k / 2 < k
     half k h = omega arith
 
 -- the list from a place on, as a slice has it
-pub tail_is : (ns : List Node) (k : ℕ) → take (length ns - k) (drop k ns) ≡ drop k ns
+pub tail_is : (ns : List BoxNode) (k : ℕ) → take (length ns - k) (drop k ns) ≡ drop k ns
 tail_is ns k = take_all (length ns - k) (drop k ns) (simp length-drop (at_most (length ns - k)))
   where
     at_most : (n : ℕ) → n ≤ n

@@ -6,7 +6,7 @@ use Rattle.std.specs.Ordering.{int_cmp, ordering_then}
 use Rattle.ded_model.specs.declared.bound.Bound.{Bound}
 use Rattle.ded_model.specs.declared.bound.Bound.TheVariants.{Infinite, Excluded, Included}
 use Rattle.ded_model.specs.Bound.{Fraction}
-use Rattle.ded_index.specs.declared.entry.Entry.{Entry}
+use Rattle.ded_index.specs.declared.entry.BoxEntry.{BoxEntry}
 use Rattle.ded_index.specs.Entries.{low}
 
 -- a fraction without a denominator above 0, which no value of the program has, counts as 0, so that any two compare
@@ -36,5 +36,5 @@ low_order (Included f) (Excluded g) = ordering_then (fraction_order f g) Less
 low_order (Included f) (Included g) = fraction_order f g
 
 -- the order of entries, by where their first intervals begin
-abbrev pub entry_order : Entry → Entry → Ordering
+abbrev pub entry_order : BoxEntry → BoxEntry → Ordering
 entry_order a b = low_order (sound (low a)) (sound (low b))

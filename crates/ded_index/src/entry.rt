@@ -12,7 +12,7 @@ use std::cmp::Ordering;
 
 /// A box under a number.
 #[derive(Drop)]
-pub struct Entry {
+pub struct BoxEntry {
     pub id: u32,
     pub bounds: BoundBox,
 }
@@ -38,7 +38,7 @@ pub(crate) fn is_full(bounds: &BoundBox) -> bool
 }
 
 /// The order of two entries by the low ends of their first intervals.
-pub(crate) fn order(a: &Entry, b: &Entry) -> Ordering
+pub(crate) fn order(a: &BoxEntry, b: &BoxEntry) -> Ordering
     ensures { result ≡ entry_order a.now b.now }
 {
     low_order(first_interval(&a.bounds).0, first_interval(&b.bounds).0)

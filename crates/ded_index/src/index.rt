@@ -5,8 +5,8 @@ ghost use Rattle.std.specs.List.Sorted.{IsPermutation};
 ghost use Rattle.ded_index.specs.Entries.{numbered, has_id, without, AreFound, most_steps};
 ghost use Rattle.ded_index.specs.Trees.{entries_of, AreFull, AreSound, AreApart};
 
-use crate::entry::{Entry, is_full};
-use crate::tree::{Node, arrange, fill, visit_all};
+use crate::entry::{BoxEntry, is_full};
+use crate::tree::{BoxNode, arrange, fill, visit_all};
 use ded_box::BoundBox;
 use ded_model::bound::Bound;
 use ded_model::memory::NoMemory;
@@ -20,16 +20,16 @@ use std::sync::ledger::{Blank, Ledger};
 /// The entries whose first interval isn't empty are a search tree, the others stand beside it.
 #[derive(Drop)]
 pub struct BoxIndex {
-    tree: Vec<Node>,
-    apart: Vec<Entry>,
+    tree: Vec<BoxNode>,
+    apart: Vec<BoxEntry>,
 }
 
 impl Model for BoxIndex {
     ghost use Rattle.std.specs.Prelude.{List, ◌++◌};
-    ghost use Rattle.ded_index.specs.declared.entry.Entry.{Entry};
+    ghost use Rattle.ded_index.specs.declared.entry.BoxEntry.{BoxEntry};
     ghost use Rattle.ded_index.specs.Trees.{entries_of, AreApart, IsIndex};
 
-    ghost Value = { List Entry };
+    ghost Value = { List BoxEntry };
 
     ghost view = { λ x. entries_of x.tree.items ++ x.apart.items };
 
@@ -48,7 +48,7 @@ impl BoxIndex {
         let mut tree = Vec::new(alloc);
         let mut apart = Vec::new(alloc);
         for i in 0..boxes.len() {
-            let entry = Entry {
+            let entry = BoxEntry {
                 id: i as u32,
                 bounds: boxes[i].copy()?,
             };
@@ -67,7 +67,7 @@ impl BoxIndex {
             (record { id = id; bounds = bounds.now } ∷ self.old) self.new) }
         ensures unchanged { OnErr result (self.new ≡ self.old) }
     {
-        let entry = Entry {
+        let entry = BoxEntry {
             id,
             bounds: bounds.copy()?,
         };
@@ -140,7 +140,7 @@ impl BoxIndex {
 ///
 /// # Errors
 /// Out of memory; nothing is added then.
-fn add(tree: &mut Vec<Node>, apart: &mut Vec<Entry>, entry: Entry) -> Result<(), NoMemory>
+fn add(tree: &mut Vec<BoxNode>, apart: &mut Vec<BoxEntry>, entry: BoxEntry) -> Result<(), NoMemory>
     requires full { AreFull (entries_of tree.old.items) }
     requires sound { AreSound (entries_of tree.old.items) }
     requires apart { AreApart apart.old.items }
@@ -153,7 +153,7 @@ fn add(tree: &mut Vec<Node>, apart: &mut Vec<Entry>, entry: Entry) -> Result<(),
     ensures apart_unchanged { OnErr result (apart.new.items ≡ apart.old.items) }
 {
     if is_full(&entry.bounds) {
-        let node = Node {
+        let node = BoxNode {
             entry,
             end: Bound::Infinite,
         };
@@ -165,21 +165,21 @@ fn add(tree: &mut Vec<Node>, apart: &mut Vec<Entry>, entry: Entry) -> Result<(),
 }
 
 /// Whether some entry, among the nodes or beside them, has the number.
-fn has_number(tree: &[Node], apart: &[Entry], id: u32) -> bool
+fn has_number(tree: &[BoxNode], apart: &[BoxEntry], id: u32) -> bool
     ensures { result ≡ (list_any (λ n. nat_eq n.entry.id id) tree.now || list_any (λ e. nat_eq e.id id) apart.now) }
 {
     has_node(tree, id) || has_entry(apart, id)
 }
 
 /// Whether the entry of some node has the number.
-fn has_node(tree: &[Node], id: u32) -> bool
+fn has_node(tree: &[BoxNode], id: u32) -> bool
     ensures { result ≡ list_any (λ n. nat_eq n.entry.id id) tree.now }
 {
     tree.iter().any(|node| node.entry.id == id)
 }
 
 /// Whether some entry beside the nodes has the number.
-fn has_entry(apart: &[Entry], id: u32) -> bool
+fn has_entry(apart: &[BoxEntry], id: u32) -> bool
     ensures { result ≡ list_any (λ e. nat_eq e.id id) apart.now }
 {
     apart.iter().any(|entry| entry.id == id)

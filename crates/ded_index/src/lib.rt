@@ -14,5 +14,5 @@ mod entry;
 mod index;
 mod tree;
 
-pub use entry::Entry;
+pub use entry::BoxEntry;
 pub use index::BoxIndex;

@@ -9,7 +9,7 @@ ghost use Rattle.ded_index.specs.Entries.{first_of, high, ids_in};
 ghost use Rattle.ded_index.specs.Trees.{entries_of, IsGreatest, AreEnds, AreFull, AreSound, IsTree};
 ghost use Rattle.ded_index.specs.Costs.{IsCost};
 
-use crate::entry::{Entry, first_interval, is_full, order};
+use crate::entry::{BoxEntry, first_interval, is_full, order};
 use ded_box::{BoundBox, Side, may_meet, meets, wider};
 use ded_model::bound::Bound;
 use ded_model::memory::NoMemory;
@@ -18,13 +18,13 @@ use std::sync::ledger::Ledger;
 
 /// An entry whose first interval isn't empty, and the greatest high end in the range of which it is the middle.
 #[derive(Drop)]
-pub(crate) struct Node {
-    pub entry: Entry,
+pub(crate) struct BoxNode {
+    pub entry: BoxEntry,
     pub end: Bound,
 }
 
 /// Makes a search tree of nodes, whatever their order and their ends.
-pub(crate) fn arrange(nodes: &mut Vec<Node>)
+pub(crate) fn arrange(nodes: &mut Vec<BoxNode>)
     requires full { AreFull (entries_of nodes.old.items) }
     requires sound { AreSound (entries_of nodes.old.items) }
     ensures tree { IsTree nodes.new.items }
@@ -35,7 +35,7 @@ pub(crate) fn arrange(nodes: &mut Vec<Node>)
 }
 
 /// Gives each node of the range its end, and gives the greatest one. The entries stay.
-pub(crate) fn fill(nodes: &mut [Node]) -> Option<Bound>
+pub(crate) fn fill(nodes: &mut [BoxNode]) -> Option<Bound>
     requires sound { AreSound (entries_of nodes.old) }
     ensures entries { entries_of nodes.new ≡ entries_of nodes.old }
     ensures ends { (h : ℕ) → AreEnds h nodes.new }
@@ -52,7 +52,7 @@ pub(crate) fn fill(nodes: &mut [Node]) -> Option<Bound>
 }
 
 /// Gives a node its end, from those of the ranges beside it.
-fn close(node: &mut Node, left: Option<Bound>, right: Option<Bound>) -> Bound
+fn close(node: &mut BoxNode, left: Option<Bound>, right: Option<Bound>) -> Bound
     ensures entry { node.new.entry ≡ node.old.entry }
     ensures end { node.new.end ≡ result }
     ensures latest { (first : Bound) × MatchOption left (first ≡ high node.old.entry) (λ b. first
@@ -80,7 +80,7 @@ fn later(bound: Bound, other: Option<Bound>) -> Bound
 /// # Errors
 /// Out of memory.
 pub(crate) fn visit_all<L: Ledger>(
-    nodes: &[Node],
+    nodes: &[BoxNode],
     window: &BoundBox,
     found: &mut Vec<u32>,
     steps: &mut Steps<L>,
@@ -104,7 +104,7 @@ pub(crate) fn visit_all<L: Ledger>(
 /// # Errors
 /// Out of memory.
 fn visit<L: Ledger>(
-    nodes: &[Node],
+    nodes: &[BoxNode],
     window: &BoundBox,
     found: &mut Vec<u32>,
     steps: &mut Steps<L>,
@@ -132,7 +132,7 @@ fn visit<L: Ledger>(
 }
 
 /// The node at a place, which is one step.
-fn look_at<'a, L: Ledger>(nodes: &'a [Node], place: usize, steps: &mut Steps<L>) -> &'a Node
+fn look_at<'a, L: Ledger>(nodes: &'a [BoxNode], place: usize, steps: &mut Steps<L>) -> &'a BoxNode
     requires { place < length nodes.now }
     ensures node { result.now ≡ slice_index_or nodes.now place result.now }
     ensures steps { steps.new ≡ steps.old + 1 }
@@ -142,7 +142,7 @@ fn look_at<'a, L: Ledger>(nodes: &'a [Node], place: usize, steps: &mut Steps<L>)
 }
 
 /// Adds the entry's number where its box meets the window.
-fn push_meeting(entry: &Entry, window: &BoundBox, found: &mut Vec<u32>) -> Result<(), NoMemory>
+fn push_meeting(entry: &BoxEntry, window: &BoundBox, found: &mut Vec<u32>) -> Result<(), NoMemory>
     ensures { IfOk result (λ _. found.new.items ≡ found.old.items ++ ids_in window.now (entry.now ∷ [])) }
 {
     if meets(&entry.bounds, window) {

@@ -7,28 +7,28 @@ use Rattle.std.proofs.lemmas.List.Sorted.{All-permutation, Contains-permutation}
 use Rattle.ded_model.specs.declared.slot.Slot.{Slot}
 use Rattle.ded_model.specs.Point.{Point}
 use Rattle.ded_model.specs.Lines.{Line}
-use Rattle.ded_index.specs.declared.entry.Entry.{Entry}
+use Rattle.ded_index.specs.declared.entry.BoxEntry.{BoxEntry}
 use Rattle.ded_index.specs.Entries.{Box, SomeEntry, numbered}
 use Rattle.ded_genrel.specs.Rounds.{IsRound, IsBoxOf}
 use Rattle.ded_join.specs.Picks.{AreBoxesOf, IsIndexOf}
 
-some_at : (P : Entry → Type 0) (es : List Entry) (e : Entry) (k : ℕ) → k < length es → get_or es k e ≡ e → P e → SomeEntry P es
+some_at : (P : BoxEntry → Type 0) (es : List BoxEntry) (e : BoxEntry) (k : ℕ) → k < length es → get_or es k e ≡ e → P e → SomeEntry P es
 some_at P [] e k l h p = absurd (omega (arith, l))
 some_at P (x ∷ es) e zero l h p = inl (subst P (sym h) p)
 some_at P (x ∷ es) e (suc k) l h p = inr (some_at P es e k (omega (arith, l)) h p)
 
 -- what is so of some entry, with its place
-record Found (P : Entry → Type 0) (es : List Entry) : Type 0 where
-  entry : Entry
+record Found (P : BoxEntry → Type 0) (es : List BoxEntry) : Type 0 where
+  entry : BoxEntry
   place : Contains es entry
   is : P entry
 
-found : (P : Entry → Type 0) (es : List Entry) → SomeEntry P es → Found P es
+found : (P : BoxEntry → Type 0) (es : List BoxEntry) → SomeEntry P es → Found P es
 found P [] h = absurd h
 found P (x ∷ es) (inl p) = record { entry = x; place = (zero, omega arith, refl); is = p }
 found P (x ∷ es) (inr h) = let f = found P es h in record { entry = f.entry; place = (suc f.place.0, omega (arith, f.place.1), f.place.2); is = f.is }
 
-some_moved : (P : Entry → Type 0) (xs ys : List Entry) → IsPermutation xs ys → SomeEntry P xs → SomeEntry P ys
+some_moved : (P : BoxEntry → Type 0) (xs ys : List BoxEntry) → IsPermutation xs ys → SomeEntry P xs → SomeEntry P ys
 some_moved P xs ys m h = let f = found P xs h in let c = Contains-permutation xs ys f.entry m f.place in some_at P ys f.entry c.0 c.1 c.2 f.is
 
 module _ {A : Type 0} (h : A → Point → Bool) (m : A → Slot → Bool) (l : A → List Line) (ss : List Slot) where
@@ -52,7 +52,7 @@ module _ {A : Type 0} (h : A → Point → Bool) (m : A → Slot → Bool) (l : 
       next k j = omega arith
 
   -- an entry under the place of a conjunction of which it has a box
-  abbrev Own : List (List A) → Entry → Type 0
+  abbrev Own : List (List A) → BoxEntry → Type 0
   Own all e = (e.id < length all) × IsBoxOf h m l ss (get_or all e.id []) e.bounds
 
   numbered_own : (all : List (List A)) (k : ℕ) (cs : List (List A)) (xs : List Box) → AreBoxesOf h m l ss cs xs → FromPlace all k cs → k + length cs ≡ length all → AllByRecursion (Own all) (numbered k xs)
@@ -73,7 +73,7 @@ module _ {A : Type 0} (h : A → Point → Bool) (m : A → Slot → Bool) (l : 
       next : (k n m : ℕ) → k + suc m ≡ n → k + 1 + m ≡ n
       next k n m e = omega arith
 
-  pub index_is : (cs : List (List A)) (xs : List Box) (es : List Entry) → AreBoxesOf h m l ss cs xs → IsPermutation (numbered 0 xs) es → IsIndexOf h m l ss cs es
+  pub index_is : (cs : List (List A)) (xs : List Box) (es : List BoxEntry) → AreBoxesOf h m l ss cs xs → IsPermutation (numbered 0 xs) es → IsIndexOf h m l ss cs es
   index_is cs xs es r p = record {
     each = λ j lt. some_moved (λ e. (e.id ≡ j) × IsRound h ss (get_or cs j []) e.bounds) (numbered 0 xs) es p (subst (λ n. SomeEntry (λ e. (e.id ≡ n) × IsRound h ss (get_or cs j []) e.bounds) (numbered 0 xs)) (none j) (numbered_each 0 cs xs j r lt));
     own = recursion_from_All (Own cs) es (All-permutation (Own cs) (numbered 0 xs) es p (All-from_recursion (Own cs) (numbered 0 xs) (numbered_own cs 0 cs xs r (λ j lt. ap (λ n. get_or cs n []) (none j)) (none (length cs)))));

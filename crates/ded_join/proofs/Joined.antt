@@ -20,7 +20,7 @@ use Rattle.ded_genrel.specs.Lists.{conjs_hold, conjs_lines, conjs_of, AreNormal,
 use Rattle.ded_genrel.specs.Operations.{IsMeet}
 use Rattle.ded_genrel.proofs.Items.{all-append, conjs_to, normal-at, pairs-push}
 use Rattle.ded_genrel.proofs.Laws.{meet_is, conjs_hold-append}
-use Rattle.ded_index.specs.declared.entry.Entry.{Entry}
+use Rattle.ded_index.specs.declared.entry.BoxEntry.{BoxEntry}
 use Rattle.ded_index.specs.Entries.{Box, SomeEntry, AreFound}
 use Rattle.ded_genrel.specs.Rounds.{values_at, IsRound, IsBoxOf}
 use Rattle.ded_genrel.proofs.Apart.{values_positive}
@@ -120,13 +120,13 @@ holds_at h c (d ∷ cs) p t = elim (or_split (conj_holds h (c ++ d) p) (conjs_ho
   | inr b ↦ later_place h c d cs p (holds_at h c cs p b)
 ]
 
-module _ {A : Type 0} (h : A → Point → Bool) (m : A → Slot → Bool) (l : A → List Line) (ss : List Slot) (c : List A) (cs : List (List A)) (es : List Entry) (x : Box) (js : List ℕ) (index : IsIndexOf h m l ss cs es) (box : IsBoxOf h m l ss c x) (found : AreFound x es js) where
+module _ {A : Type 0} (h : A → Point → Bool) (m : A → Slot → Bool) (l : A → List Line) (ss : List Slot) (c : List A) (cs : List (List A)) (es : List BoxEntry) (x : Box) (js : List ℕ) (index : IsIndexOf h m l ss cs es) (box : IsBoxOf h m l ss c x) (found : AreFound x es js) where
   -- the places that are found are places of conjunctions
   pub places_of : (ks : List ℕ) → ((j : ℕ) → Contains ks j → j < length cs) → AllByRecursion (λ j. j < length cs) ks
   places_of [] f = tt
   places_of (k ∷ ks) f = (f k (zero, omega arith, refl), places_of ks (λ j m. f j (suc m.0, omega (arith, m.1), m.2)))
 
-  inside : (j : ℕ) (ys : List Entry) → SomeEntry (λ e. (e.id ≡ j) × Shared e.bounds x) ys → AllByRecursion (λ e. (e.id < length cs) × IsBoxOf h m l ss (get_or cs e.id []) e.bounds) ys → j < length cs
+  inside : (j : ℕ) (ys : List BoxEntry) → SomeEntry (λ e. (e.id ≡ j) × Shared e.bounds x) ys → AllByRecursion (λ e. (e.id < length cs) × IsBoxOf h m l ss (get_or cs e.id []) e.bounds) ys → j < length cs
   inside j [] s w = absurd s
   inside j (y ∷ ys) (inl a) w = subst (λ n. n < length cs) a.0 w.0.0
   inside j (y ∷ ys) (inr b) w = inside j ys b w.1
@@ -134,7 +134,7 @@ module _ {A : Type 0} (h : A → Point → Bool) (m : A → Slot → Bool) (l : 
   pub places : AllByRecursion (λ j. j < length cs) js
   places = places_of js (λ j m. inside j es ((found.exact j).0 m) index.own)
 
-  some_weaker : (P Q : Entry → Type 0) (ys : List Entry) → ((e : Entry) → P e → Q e) → SomeEntry P ys → SomeEntry Q ys
+  some_weaker : (P Q : BoxEntry → Type 0) (ys : List BoxEntry) → ((e : BoxEntry) → P e → Q e) → SomeEntry P ys → SomeEntry Q ys
   some_weaker P Q [] f s = absurd s
   some_weaker P Q (y ∷ ys) f (inl a) = inl (f y a)
   some_weaker P Q (y ∷ ys) f (inr b) = inr (some_weaker P Q ys f b)

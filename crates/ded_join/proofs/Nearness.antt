@@ -16,7 +16,7 @@ use Rattle.ded_model.proofs.Points.{and_left, and_right}
 use Rattle.ded_theory.specs.Conjunctions.{IsWide}
 use Rattle.ded_box.specs.Intervals.{IsPositive, is_inside, is_within}
 use Rattle.ded_box.specs.Boxes.{AreValues, Shared, in_box}
-use Rattle.ded_index.specs.declared.entry.Entry.{Entry}
+use Rattle.ded_index.specs.declared.entry.BoxEntry.{BoxEntry}
 use Rattle.ded_index.specs.Entries.{Box, SomeEntry, AreFound}
 use Rattle.ded_join.specs.Near.{BoundsMeet, AreNear, ArePicked, AreNearPairs}
 use Rattle.ded_genrel.specs.Rounds.{AreSharp, IsBoxOf}
@@ -61,7 +61,7 @@ module _ {A : Type 0} (h : A → Point → Bool) (m : A → Slot → Bool) (l : 
     abbrev Near : ℕ → Type 0
     Near j = (IsWide m l c → ⊥) → (IsWide m l (get_or cs j []) → ⊥) → AreNear h ss c (get_or cs j [])
 
-    near_at : (j : ℕ) (ys : List Entry) → SomeEntry (λ e. (e.id ≡ j) × Shared e.bounds x) ys → AllByRecursion (λ e. (e.id < length cs) × IsBoxOf h m l ss (get_or cs e.id []) e.bounds) ys → Near j
+    near_at : (j : ℕ) (ys : List BoxEntry) → SomeEntry (λ e. (e.id ≡ j) × Shared e.bounds x) ys → AllByRecursion (λ e. (e.id < length cs) × IsBoxOf h m l ss (get_or cs e.id []) e.bounds) ys → Near j
     near_at j [] s w = absurd s
     near_at j (y ∷ ys) (inl a) w = subst Near a.0 (shared_near c (get_or cs y.id []) x y.bounds box w.0.1 a.1)
     near_at j (y ∷ ys) (inr b) w = near_at j ys b w.1
@@ -70,7 +70,7 @@ module _ {A : Type 0} (h : A → Point → Bool) (m : A → Slot → Bool) (l : 
     near_all [] f = tt
     near_all (k ∷ ks) f = (f k (zero, omega arith, refl), near_all ks (λ j i. f j (suc i.0, omega (arith, i.1), i.2)))
 
-    pub picked_near : (es : List Entry) (js : List ℕ) → IsIndexOf h m l ss cs es → AreFound x es js → ArePicked h m l ss c cs (picked c cs js)
+    pub picked_near : (es : List BoxEntry) (js : List ℕ) → IsIndexOf h m l ss cs es → AreFound x es js → ArePicked h m l ss c cs (picked c cs js)
     picked_near es js index found = record {
       places = js;
       ascending = found.ascending;

@@ -12,11 +12,11 @@ use Rattle.ded_polygon.specs.Windows.{Frame, window_planes}
 use Rattle.ded_polygon.proofs.Places.{in_at, place_in, in_read}
 use Rattle.ded_polygon.proofs.RowPlanes.{in_left, in_right, in_either}
 use Rattle.ded_polygon.proofs.Swapping.{equal_or}
-use Rattle.ded_strokes.specs.Bounds.{Limit}
+use Rattle.ded_strokes.specs.Bounds.{PlaneLimit}
 use Rattle.ded_strokes.specs.Stretches.{is_idle, IsIdle}
 use Rattle.ded_ranges.specs.declared.reach.Range.{Range}
 use Rattle.ded_ranges.specs.declared.limit.Limit.{Limit as Bound}
-use Rattle.ded_hull.specs.declared.entry.Entry.{Entry}
+use Rattle.ded_hull.specs.declared.entry.ReachEntry.{ReachEntry}
 use Rattle.ded_ranges.specs.Reaches.{Lies}
 use Rattle.ded_hull.specs.Entries.{IsComplete}
 use Rattle.ded_layers.specs.declared.part.Part.{Part}
@@ -33,14 +33,14 @@ in_or_not k (j ∷ ks) = elim (equal_or k j) [
 ]
 
 -- ---- pieces at places
-in_piece_at : (pieces : List (List Limit)) (k : ℕ) → k < length pieces → In (get_or pieces k []) (piece_at pieces k)
+in_piece_at : (pieces : List (List PlaneLimit)) (k : ℕ) → k < length pieces → In (get_or pieces k []) (piece_at pieces k)
 in_piece_at pieces k h = by (nat_lt k (length pieces)) (less k (length pieces) h)
   where
     by : (t : Bool) → t ≡ true → In (get_or pieces k []) (if t then get_or pieces k [] ∷ [] else [])
     by true e = inl refl
     by false e = absurd (true≢false (sym e))
 
-of_piece_at : (pieces : List (List Limit)) (k : ℕ) (bs : List Limit) → In bs (piece_at pieces k) → In bs pieces
+of_piece_at : (pieces : List (List PlaneLimit)) (k : ℕ) (bs : List PlaneLimit) → In bs (piece_at pieces k) → In bs pieces
 of_piece_at pieces k bs i = by (nat_lt k (length pieces)) refl i
   where
     by : (t : Bool) → nat_lt k (length pieces) ≡ t → In bs (if t then get_or pieces k [] ∷ [] else []) → In bs pieces
@@ -48,35 +48,35 @@ of_piece_at pieces k bs i = by (nat_lt k (length pieces)) refl i
     by true e (inr j) = absurd j
     by false e j = absurd j
 
-in_pieces_at : (pieces : List (List Limit)) (ks : List ℕ) (k : ℕ) → In k ks → k < length pieces → In (get_or pieces k []) (pieces_at pieces ks)
+in_pieces_at : (pieces : List (List PlaneLimit)) (ks : List ℕ) (k : ℕ) → In k ks → k < length pieces → In (get_or pieces k []) (pieces_at pieces ks)
 in_pieces_at pieces [] k i h = absurd i
 in_pieces_at pieces (j ∷ ks) k (inl e) h = in_left _ (piece_at pieces j) (pieces_at pieces ks) (subst (λ n. In (get_or pieces k []) (piece_at pieces n)) e (in_piece_at pieces k h))
 in_pieces_at pieces (j ∷ ks) k (inr i) h = in_right _ (piece_at pieces j) (pieces_at pieces ks) (in_pieces_at pieces ks k i h)
 
-of_pieces_at : (pieces : List (List Limit)) (ks : List ℕ) (bs : List Limit) → In bs (pieces_at pieces ks) → In bs pieces
+of_pieces_at : (pieces : List (List PlaneLimit)) (ks : List ℕ) (bs : List PlaneLimit) → In bs (pieces_at pieces ks) → In bs pieces
 of_pieces_at pieces [] bs i = absurd i
 of_pieces_at pieces (j ∷ ks) bs i = elim (in_either bs (piece_at pieces j) (pieces_at pieces ks) i) [ inl h ↦ of_piece_at pieces j bs h | inr h ↦ of_pieces_at pieces ks bs h ]
 
-in_drop : (xs : List (List Limit)) (n k : ℕ) → n ≤ k → k < length xs → In (get_or xs k []) (drop n xs)
+in_drop : (xs : List (List PlaneLimit)) (n k : ℕ) → n ≤ k → k < length xs → In (get_or xs k []) (drop n xs)
 in_drop [] n k h l = absurd (omega (arith, l))
 in_drop (x ∷ xs) zero k h l = in_at (x ∷ xs) k [] l
 in_drop (x ∷ xs) (suc n) zero h l = absurd (omega (arith, h))
 in_drop (x ∷ xs) (suc n) (suc k) h l = in_drop xs n k (omega (arith, h)) (omega (arith, l))
 
-of_drop : (xs : List (List Limit)) (n : ℕ) (bs : List Limit) → In bs (drop n xs) → In bs xs
+of_drop : (xs : List (List PlaneLimit)) (n : ℕ) (bs : List PlaneLimit) → In bs (drop n xs) → In bs xs
 of_drop [] zero bs i = i
 of_drop [] (suc n) bs i = i
 of_drop (x ∷ xs) zero bs i = i
 of_drop (x ∷ xs) (suc n) bs i = inr (of_drop xs n bs i)
 
 -- ---- entries
-found : (w : Frame) (pieces : List (List Limit)) (k : ℕ) (v : ℕ → ℤ) (d : ℕ) (ids : List ℕ) (es : List Entry) → Every (λ e. Lies e.reach v d → Contains ids e.id) es → Some (IsEntryOf w pieces k) es
+found : (w : Frame) (pieces : List (List PlaneLimit)) (k : ℕ) (v : ℕ → ℤ) (d : ℕ) (ids : List ℕ) (es : List ReachEntry) → Every (λ e. Lies e.reach v d → Contains ids e.id) es → Some (IsEntryOf w pieces k) es
     → ((r : List Range) → IsReachOf w (get_or pieces k []) r → Lies r v d) → Contains ids k
 found w pieces k v d ids [] h s lies = absurd s
 found w pieces k v d ids (e ∷ es) h (inl s) lies = subst (Contains ids) s.0 (h.0 (lies e.reach s.1))
 found w pieces k v d ids (e ∷ es) h (inr s) lies = found w pieces k v d ids es h.1 s lies
 
-module _ (n : ℕ) (w : Frame) (pieces : List (List Limit)) (es : List Entry) (index : (k : ℕ) → k < length pieces → k < n → Some (IsEntryOf w pieces k) es) (cs : List Spot)
+module _ (n : ℕ) (w : Frame) (pieces : List (List PlaneLimit)) (es : List ReachEntry) (index : (k : ℕ) → k < length pieces → k < n → Some (IsEntryOf w pieces k) es) (cs : List Spot)
     (within : AreCornersWithin w cs) (ls : List Bound) (meet : MeetBetween cs ls) (ids : List ℕ) (complete : IsComplete ls es ids) where
   module _ (i j : ℕ) (hi : i < length cs) (hj : j < length cs) where
     missed_idle : (k : ℕ) → k < length pieces → k < n → (In k ids → ⊥) → IsIdle (spot_in cs i) (spot_in cs j) (get_or pieces k [])
@@ -106,17 +106,17 @@ module _ (n : ℕ) (w : Frame) (pieces : List (List Limit)) (es : List Entry) (i
     some = λ bs f. elim (in_either bs (pieces_at pieces ids) (drop n pieces) f) [ inl g ↦ of_pieces_at pieces ids bs g | inr g ↦ of_drop pieces n bs g ];
     others = λ bs f.
         (let k = place_in pieces bs [] f in
-        subst (λ (cs' : List Limit). IsIdle (spot_in cs i) (spot_in cs j) cs' ⊎ In cs' (pieces_at pieces ids ++ drop n pieces)) k.2 (other i j hi hj k.0 k.1));
+        subst (λ (cs' : List PlaneLimit). IsIdle (spot_in cs i) (spot_in cs j) cs' ⊎ In cs' (pieces_at pieces ids ++ drop n pieces)) k.2 (other i j hi hj k.0 k.1));
   }
 
 -- those that are added to none
-pub added : (n : ℕ) (pieces : List (List Limit)) (ids read : List ℕ) (start mid new : List (List Limit)) → start ≡ [] → read ≡ ids → mid ≡ start ++ pieces_at pieces read → new ≡ mid ++ drop n pieces
+pub added : (n : ℕ) (pieces : List (List PlaneLimit)) (ids read : List ℕ) (start mid new : List (List PlaneLimit)) → start ≡ [] → read ≡ ids → mid ≡ start ++ pieces_at pieces read → new ≡ mid ++ drop n pieces
     → new ≡ pieces_at pieces ids ++ drop n pieces
 added n pieces ids read start mid new es ei em en =
     en ∙ ap (λ ps. ps ++ drop n pieces) (em ∙ ap (λ ps. ps ++ pieces_at pieces read) es ∙ ap (pieces_at pieces) ei)
 
-pub enough_of : (n : ℕ) (w : Frame) (parts : List Part) (es : List Entry) → ((k : ℕ) → k < length parts → k < n → Some (IsEntryOf w (pieces_of parts) k) es) → (cs : List Spot) → AreCornersWithin w cs
-    → (ls : List Bound) → MeetBetween cs ls → (ids : List ℕ) → IsComplete ls es ids → (near : List (List Limit)) → near ≡ pieces_at (pieces_of parts) ids ++ drop n (pieces_of parts) → AreAllEnough cs near (pieces_of parts)
+pub enough_of : (n : ℕ) (w : Frame) (parts : List Part) (es : List ReachEntry) → ((k : ℕ) → k < length parts → k < n → Some (IsEntryOf w (pieces_of parts) k) es) → (cs : List Spot) → AreCornersWithin w cs
+    → (ls : List Bound) → MeetBetween cs ls → (ids : List ℕ) → IsComplete ls es ids → (near : List (List PlaneLimit)) → near ≡ pieces_at (pieces_of parts) ids ++ drop n (pieces_of parts) → AreAllEnough cs near (pieces_of parts)
 enough_of n w parts es index cs within ls meet ids complete near e =
     subst (λ ps. AreAllEnough cs ps (pieces_of parts)) (sym e)
     (all_enough n w (pieces_of parts) es (λ k h small. index k (subst (λ m. k < m) (length-map parts (λ (t : Part). t.piece)) h) small) cs within ls meet ids complete)

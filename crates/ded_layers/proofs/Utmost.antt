@@ -6,7 +6,7 @@ use Rattle.ded_num.proofs.Signs.{abs_above, times_swap, zero_times}
 use Rattle.ded_polygon.specs.Plane.{HalfPlane, Spot, In, level, bend}
 use Rattle.ded_polygon.proofs.Polynomials.{plus, minus, times, var, identity}
 use Rattle.ded_polygon.proofs.Signs.{below_below, above_most, least_most, unscale_most}
-use Rattle.ded_strokes.specs.Bounds.{Limit}
+use Rattle.ded_strokes.specs.Bounds.{PlaneLimit}
 use Rattle.ded_layers.specs.Indexed.{LiesInAll, IsUtmost, Spans}
 
 -- how far the one spot is out of e before the other one, by how far it is out of s and t
@@ -41,7 +41,7 @@ inside s c m hc on most =
     let d = zero_times (level s c) m.den on in
     omega (arith, ints)
 
-pub utmost_by : (planes : List Limit) (s t : Limit) (e : HalfPlane) (c : Spot) → In s planes → In t planes → pos 0 <ℤ c.den → level s.plane c ≡ pos 0 → pos 0 ≤ℤ bend s.plane e
+pub utmost_by : (planes : List PlaneLimit) (s t : PlaneLimit) (e : HalfPlane) (c : Spot) → In s planes → In t planes → pos 0 <ℤ c.den → level s.plane c ≡ pos 0 → pos 0 ≤ℤ bend s.plane e
     → Spans s.plane t.plane c e → IsUtmost planes e c
 utmost_by planes s t e c hs ht hc on right span = record {
   positive = hc;
@@ -69,7 +69,7 @@ apart e c m =
 not_below : (a k : ℤ) → a <ℤ pos 0 → (a *ℤ k) ≤ℤ pos 0 → pos 0 ≤ℤ k
 not_below a k h m = by_lt_z k (pos 0) (λ b. (let n = below_below a k h b in absurd (omega (arith, ints)))) (λ b. omega (arith, ints))
 
-module _ (planes : List Limit) (e : HalfPlane) (c : Spot) (u : IsUtmost planes e c) (m : Spot) (hm : pos 0 <ℤ m.den) (lies : LiesInAll planes m) where
+module _ (planes : List PlaneLimit) (e : HalfPlane) (c : Spot) (u : IsUtmost planes e c) (m : Spot) (hm : pos 0 <ℤ m.den) (lies : LiesInAll planes m) where
   along_x : e.b ≡ pos 0 → (e.a *ℤ (m.x *ℤ c.den -ℤ c.x *ℤ m.den)) ≤ℤ pos 0
   along_x h =
       let a = u.utmost m hm lies in

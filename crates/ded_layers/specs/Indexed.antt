@@ -8,12 +8,12 @@ use Rattle.ded_polygon.specs.Rows.{opposite}
 use Rattle.ded_polygon.specs.Lists.{spot_in}
 use Rattle.ded_polygon.specs.Vertices.{LiesIn}
 use Rattle.ded_polygon.specs.Windows.{Frame, window_planes}
-use Rattle.ded_strokes.specs.Bounds.{Limit}
+use Rattle.ded_strokes.specs.Bounds.{PlaneLimit}
 use Rattle.ded_strokes.specs.Cuts.{LiesBetween}
 use Rattle.ded_strokes.specs.Stretches.{is_idle}
 use Rattle.ded_ranges.specs.declared.reach.Range.{Range}
 use Rattle.ded_ranges.specs.declared.limit.Limit.{Limit as Bound}
-use Rattle.ded_hull.specs.declared.entry.Entry.{Entry}
+use Rattle.ded_hull.specs.declared.entry.ReachEntry.{ReachEntry}
 use Rattle.ded_ranges.specs.Reaches.{Lies}
 use Rattle.ded_ranges.specs.Limits.{are_met}
 use Rattle.ded_layers.specs.declared.part.Part.{Part}
@@ -22,22 +22,22 @@ use Rattle.ded_layers.specs.Layers.{pieces_of}
 -- ---- half planes with their borders
 
 -- those of a limit by the op
-abbrev pub closed : RowOp → HalfPlane → List Limit
+abbrev pub closed : RowOp → HalfPlane → List PlaneLimit
 closed Zero s = record { plane = s; op = AtMost } ∷ record { plane = opposite s; op = AtMost } ∷ []
 closed AtMost s = record { plane = s; op = AtMost } ∷ []
 closed Below s = record { plane = s; op = AtMost } ∷ []
 
 -- those of a piece
-abbrev pub closed_of : List Limit → List Limit
+abbrev pub closed_of : List PlaneLimit → List PlaneLimit
 closed_of [] = []
 closed_of (b ∷ bs) = closed b.op b.plane ++ closed_of bs
 
 -- the spot lies in all of them
-abbrev pub LiesInAll : List Limit → Spot → Type 0
-LiesInAll planes m = (b : Limit) → In b planes → level b.plane m ≤ℤ pos 0
+abbrev pub LiesInAll : List PlaneLimit → Spot → Type 0
+LiesInAll planes m = (b : PlaneLimit) → In b planes → level b.plane m ≤ℤ pos 0
 
 -- no spot in all of the half planes is farther out of another one
-pub record IsUtmost (planes : List Limit) (out : HalfPlane) (c : Spot) : Type 0 where
+pub record IsUtmost (planes : List PlaneLimit) (out : HalfPlane) (c : Spot) : Type 0 where
   pub positive : pos 0 <ℤ c.den
   pub utmost : (m : Spot) → pos 0 <ℤ m.den → LiesInAll planes m → (level out m *ℤ c.den) ≤ℤ (level out c *ℤ m.den)
 
@@ -56,7 +56,7 @@ coordinates m (suc zero) = m.y
 coordinates m (suc (suc p)) = pos 0
 
 -- each spot in the window at which the piece is not idle lies in the ranges
-abbrev pub IsReachOf : Frame → List Limit → List Range → Type 0
+abbrev pub IsReachOf : Frame → List PlaneLimit → List Range → Type 0
 IsReachOf w bs r = (m : Spot) → pos 0 <ℤ m.den → LiesIn (window_planes w) m → is_idle bs m ≡ false → Lies r (coordinates m) (unsigned_abs m.den)
 
 -- all spots of the list lie in the ranges
@@ -71,18 +71,18 @@ MeetBetween cs ls = (j k : ℕ) → j < length cs → k < length cs → (pos 0 <
 -- ---- the index
 
 -- the entry is that of the piece at a place
-abbrev pub IsEntryOf : Frame → List (List Limit) → ℕ → Entry → Type 0
+abbrev pub IsEntryOf : Frame → List (List PlaneLimit) → ℕ → ReachEntry → Type 0
 IsEntryOf w pieces k e = (e.id ≡ k) × IsReachOf w (get_or pieces k []) e.reach
 
 -- each piece whose place is a number of 32 bits has an entry
-abbrev pub IsIndex : Frame → List Part → List Entry → Type 0
+abbrev pub IsIndex : Frame → List Part → List ReachEntry → Type 0
 IsIndex w parts es = (k : ℕ) → k < length parts → k < 2 ^ 32 → Some (IsEntryOf w (pieces_of parts) k) es
 
 -- the piece at a place, if there is one
-abbrev pub piece_at : List (List Limit) → ℕ → List (List Limit)
+abbrev pub piece_at : List (List PlaneLimit) → ℕ → List (List PlaneLimit)
 piece_at pieces k = if nat_lt k (length pieces) then get_or pieces k [] ∷ [] else []
 
 -- the pieces at places
-abbrev pub pieces_at : List (List Limit) → List ℕ → List (List Limit)
+abbrev pub pieces_at : List (List PlaneLimit) → List ℕ → List (List PlaneLimit)
 pieces_at pieces [] = []
 pieces_at pieces (k ∷ ks) = piece_at pieces k ++ pieces_at pieces ks

@@ -12,7 +12,7 @@ use ded_model::memory::NoMemory;
 use ded_model::steps::Steps;
 use ded_polygon::Corner;
 use ded_ranges::Limit;
-use ded_strokes::Piece;
+use ded_strokes::PlanePiece;
 use std::alloc::Global;
 use std::marker::Brand;
 use std::sync::ledger::{Blank, Ledger};
@@ -29,7 +29,7 @@ pub(crate) fn near_pieces(
     parts: &[Part],
     index: &Hulls,
     corners: &[Corner],
-) -> Result<Vec<Piece>, NoMemory>
+) -> Result<Vec<PlanePiece>, NoMemory>
     ensures { (w : Frame) → AreCornersWithin w corners.now → IsIndex w parts.now index.now.entries
         → IfOk result (λ near. AreAllEnough corners.now near.items (pieces_of parts.now)) }
 {
@@ -45,7 +45,7 @@ pub(crate) fn near_pieces(
 ///
 /// # Errors
 /// Out of memory.
-fn add_found(near: &mut Vec<Piece>, parts: &[Part], places: &[u32]) -> Result<(), NoMemory>
+fn add_found(near: &mut Vec<PlanePiece>, parts: &[Part], places: &[u32]) -> Result<(), NoMemory>
     ensures { OnOk result (near.new.items ≡ near.old.items ++ pieces_at (pieces_of parts.now) places.now) }
 {
     for place in places {
@@ -58,7 +58,7 @@ fn add_found(near: &mut Vec<Piece>, parts: &[Part], places: &[u32]) -> Result<()
 ///
 /// # Errors
 /// Out of memory.
-fn add_from(near: &mut Vec<Piece>, parts: &[Part], first: usize) -> Result<(), NoMemory>
+fn add_from(near: &mut Vec<PlanePiece>, parts: &[Part], first: usize) -> Result<(), NoMemory>
     ensures { OnOk result (near.new.items ≡ near.old.items ++ drop first (pieces_of parts.now)) }
 {
     for place in first..parts.len() {
@@ -71,7 +71,7 @@ fn add_from(near: &mut Vec<Piece>, parts: &[Part], first: usize) -> Result<(), N
 ///
 /// # Errors
 /// Out of memory.
-fn add_copy(near: &mut Vec<Piece>, parts: &[Part], place: usize) -> Result<(), NoMemory>
+fn add_copy(near: &mut Vec<PlanePiece>, parts: &[Part], place: usize) -> Result<(), NoMemory>
     ensures { OnOk result (near.new.items ≡ near.old.items ++ piece_at (pieces_of parts.now) place) }
 {
     if place < parts.len() {

@@ -12,16 +12,16 @@ use crate::support::support;
 use ded_hull::Hulls;
 use ded_model::memory::NoMemory;
 use ded_model::row::RowOp;
-use ded_polygon::{Corner, Window};
+use ded_polygon::{Corner, PlaneWindow};
 use ded_ranges::{End, Range, Reach};
-use ded_strokes::{Limit, Piece, window_limits};
+use ded_strokes::{PlaneLimit, PlanePiece, window_limits};
 use std::alloc::Global;
 
 /// The index of the parts, each under its place: a part whose place is no `u32` isn't in it.
 ///
 /// # Errors
 /// Out of memory.
-pub(crate) fn index_of(alloc: Global, parts: &[Part], window: Window) -> Result<Hulls, NoMemory>
+pub(crate) fn index_of(alloc: Global, parts: &[Part], window: PlaneWindow) -> Result<Hulls, NoMemory>
     ensures { IfOk result (λ h. IsIndex window parts.now h.entries) }
 {
     let mut index = Hulls::new(alloc);
@@ -39,7 +39,7 @@ pub(crate) fn index_of(alloc: Global, parts: &[Part], window: Window) -> Result<
 ///
 /// # Errors
 /// Out of memory.
-fn reach_of(alloc: Global, part: &Part, window: Window) -> Result<Reach, NoMemory>
+fn reach_of(alloc: Global, part: &Part, window: PlaneWindow) -> Result<Reach, NoMemory>
     ensures { IfOk result (λ r. IsReachOf window part.now.piece r) }
 {
     let planes = closed_planes(alloc, &part.piece, window)?;
@@ -62,7 +62,7 @@ fn reach_of(alloc: Global, part: &Part, window: Window) -> Result<Reach, NoMemor
 ///
 /// # Errors
 /// Out of memory.
-fn closed_planes(alloc: Global, piece: &Piece, window: Window) -> Result<Vec<Limit>, NoMemory>
+fn closed_planes(alloc: Global, piece: &PlanePiece, window: PlaneWindow) -> Result<Vec<PlaneLimit>, NoMemory>
     ensures { IfOk result (λ ps. ps.items ≡ closed_of piece.now ++ closed_limits (window_planes window)) }
 {
     let mut planes = Vec::new(alloc);
@@ -79,7 +79,7 @@ fn closed_planes(alloc: Global, piece: &Piece, window: Window) -> Result<Vec<Lim
 ///
 /// # Errors
 /// Out of memory.
-fn add_closed(planes: &mut Vec<Limit>, limits: &[Limit]) -> Result<(), NoMemory>
+fn add_closed(planes: &mut Vec<PlaneLimit>, limits: &[PlaneLimit]) -> Result<(), NoMemory>
     ensures { OnOk result (planes.new.items ≡ planes.old.items ++ closed_of limits.now) }
 {
     for limit in limits {
@@ -92,7 +92,7 @@ fn add_closed(planes: &mut Vec<Limit>, limits: &[Limit]) -> Result<(), NoMemory>
 ///
 /// # Errors
 /// Out of memory.
-fn add_closed_limit(planes: &mut Vec<Limit>, limit: Limit) -> Result<(), NoMemory>
+fn add_closed_limit(planes: &mut Vec<PlaneLimit>, limit: PlaneLimit) -> Result<(), NoMemory>
     ensures { OnOk result (planes.new.items ≡ planes.old.items ++ closed limit.op limit.plane) }
 {
     let plane = limit.closed();
@@ -105,7 +105,7 @@ fn add_closed_limit(planes: &mut Vec<Limit>, limit: Limit) -> Result<(), NoMemor
 }
 
 /// A low end for x, by a half plane to the right of a border that runs upwards.
-fn least_x(planes: &[Limit], corners: &[Corner], left: Limit) -> End
+fn least_x(planes: &[PlaneLimit], corners: &[Corner], left: PlaneLimit) -> End
     requires left { left.plane.a <ℤ pos 0 }
     requires upright { left.plane.b ≡ pos 0 }
     ensures { (m : Spot) → pos 0 <ℤ m.den → LiesInAll planes.now m → IsAbove result m.x (unsigned_abs m.den) }
@@ -117,7 +117,7 @@ fn least_x(planes: &[Limit], corners: &[Corner], left: Limit) -> End
 }
 
 /// A high end for x, by a half plane to the left of a border that runs upwards.
-fn greatest_x(planes: &[Limit], corners: &[Corner], right: Limit) -> End
+fn greatest_x(planes: &[PlaneLimit], corners: &[Corner], right: PlaneLimit) -> End
     requires right { pos 0 <ℤ right.plane.a }
     requires upright { right.plane.b ≡ pos 0 }
     ensures { (m : Spot) → pos 0 <ℤ m.den → LiesInAll planes.now m → IsBelow result m.x (unsigned_abs m.den) }
@@ -129,7 +129,7 @@ fn greatest_x(planes: &[Limit], corners: &[Corner], right: Limit) -> End
 }
 
 /// A low end for y, by a half plane above a border that runs sideways.
-fn least_y(planes: &[Limit], corners: &[Corner], bottom: Limit) -> End
+fn least_y(planes: &[PlaneLimit], corners: &[Corner], bottom: PlaneLimit) -> End
     requires bottom { bottom.plane.b <ℤ pos 0 }
     requires flat { bottom.plane.a ≡ pos 0 }
     ensures { (m : Spot) → pos 0 <ℤ m.den → LiesInAll planes.now m → IsAbove result m.y (unsigned_abs m.den) }
@@ -141,7 +141,7 @@ fn least_y(planes: &[Limit], corners: &[Corner], bottom: Limit) -> End
 }
 
 /// A high end for y, by a half plane below a border that runs sideways.
-fn greatest_y(planes: &[Limit], corners: &[Corner], top: Limit) -> End
+fn greatest_y(planes: &[PlaneLimit], corners: &[Corner], top: PlaneLimit) -> End
     requires top { pos 0 <ℤ top.plane.b }
     requires flat { top.plane.a ≡ pos 0 }
     ensures { (m : Spot) → pos 0 <ℤ m.den → LiesInAll planes.now m → IsBelow result m.y (unsigned_abs m.den) }

@@ -2,7 +2,7 @@
 ghost use Rattle.std.specs.Prelude.{◌≡◌, ◌↔◌, ◌<◌, List, length, IsTrue, IfOk, OnOk, MatchOption};
 ghost use Rattle.ded_polygon.specs.Lists.{after};
 ghost use Rattle.ded_polygon.specs.Windows.{Frame};
-ghost use Rattle.ded_strokes.specs.Bounds.{Limit};
+ghost use Rattle.ded_strokes.specs.Bounds.{PlaneLimit};
 ghost use Rattle.ded_strokes.specs.Stretches.{AreEnough};
 ghost use Rattle.ded_layers.specs.Layers.{pieces_of, ArePartsWithin, AreCornersWithin, AreLines, ArePartLines};
 ghost use Rattle.ded_layers.specs.Layers.{AreFirstLines, RunsThrough, IsBorder, AreSideLines, Adds, AreAllEnough};
@@ -13,8 +13,8 @@ use crate::index::index_of;
 use crate::part::Part;
 use ded_hull::Hulls;
 use ded_model::memory::NoMemory;
-use ded_polygon::{Corner, Window};
-use ded_strokes::{Limit, Piece, Stretch, add_lines, stretches};
+use ded_polygon::{Corner, PlaneWindow};
+use ded_strokes::{PlaneLimit, PlanePiece, Stretch, add_lines, stretches};
 use std::alloc::Global;
 
 /// The lines of the parts in order, side after side: those of the side from each corner to the next, and from the last
@@ -25,7 +25,7 @@ use std::alloc::Global;
 ///
 /// # Errors
 /// Out of memory.
-pub fn lines(alloc: Global, parts: &[Part], window: Window) -> Result<Vec<Stretch>, NoMemory>
+pub fn lines(alloc: Global, parts: &[Part], window: PlaneWindow) -> Result<Vec<Stretch>, NoMemory>
     requires within { ArePartsWithin window parts.now }
     ensures { IfOk result (λ ls. AreLines (pieces_of parts.now) parts.now ls.items) }
 {
@@ -63,12 +63,12 @@ fn add_part(
 /// # Errors
 /// Out of memory.
 fn add_sides(
-    near: &[Piece],
-    own: &Piece,
+    near: &[PlanePiece],
+    own: &PlanePiece,
     corners: &[Corner],
     lines: &mut Vec<Stretch>,
 ) -> Result<(), NoMemory>
-    ensures { (pieces : List (List Limit)) → AreAllEnough corners.now near.now pieces
+    ensures { (pieces : List (List PlaneLimit)) → AreAllEnough corners.now near.now pieces
         → OnOk result (Adds (AreFirstLines pieces own.now corners.now (length corners.now))
         lines.old.items lines.new.items) }
 {
@@ -98,13 +98,13 @@ fn after(count: usize, k: usize) -> usize
 /// # Errors
 /// Out of memory.
 fn add_side(
-    near: &[Piece],
-    own: &Piece,
+    near: &[PlanePiece],
+    own: &PlanePiece,
     from: Corner,
     to: Corner,
     lines: &mut Vec<Stretch>,
 ) -> Result<(), NoMemory>
-    ensures { (pieces : List (List Limit)) → AreEnough from to near.now pieces
+    ensures { (pieces : List (List PlaneLimit)) → AreEnough from to near.now pieces
         → OnOk result (Adds (AreSideLines pieces own.now from to) lines.old.items lines.new.items) }
 {
     let Some(side) = border(own, from, to) else {
@@ -117,15 +117,15 @@ fn add_side(
 }
 
 /// A limit of the piece whose border is a line through both corners.
-fn border(own: &Piece, from: Corner, to: Corner) -> Option<Limit>
-    ensures { MatchOption result ((b : Limit) → IsBorder own.now from to b → ⊥) (λ b. IsBorder own.now from to b) }
+fn border(own: &PlanePiece, from: Corner, to: Corner) -> Option<PlaneLimit>
+    ensures { MatchOption result ((b : PlaneLimit) → IsBorder own.now from to b → ⊥) (λ b. IsBorder own.now from to b) }
 {
     find_border(own.limits(), from, to)
 }
 
 /// A limit of the list whose border is a line through both corners.
-fn find_border(limits: &[Limit], from: Corner, to: Corner) -> Option<Limit>
-    ensures { MatchOption result ((b : Limit) → IsBorder limits.now from to b
+fn find_border(limits: &[PlaneLimit], from: Corner, to: Corner) -> Option<PlaneLimit>
+    ensures { MatchOption result ((b : PlaneLimit) → IsBorder limits.now from to b
         → ⊥) (λ b. IsBorder limits.now from to b) }
 {
     for limit in limits {
@@ -137,7 +137,7 @@ fn find_border(limits: &[Limit], from: Corner, to: Corner) -> Option<Limit>
 }
 
 /// Whether the border of the limit is a line through both corners.
-fn runs_through(limit: Limit, from: Corner, to: Corner) -> bool
+fn runs_through(limit: PlaneLimit, from: Corner, to: Corner) -> bool
     ensures { IsTrue result ↔ RunsThrough from to limit }
 {
     limit.is_proper() && limit.touches(from) && limit.touches(to)

@@ -19,7 +19,7 @@ pub enum Fed {
 
 /// What the bytes behind the last ended piece are.
 #[derive(Clone, Copy, Debug, PartialEq, Eq)]
-pub enum Rest {
+pub enum Unended {
     /// Blanks and comments alone, however many.
     Blank,
     /// Anything else, of at most 65,536 bytes.
@@ -115,20 +115,20 @@ impl Splitter {
     }
 
     /// What the bytes are that were fed since the last piece ended. It doesn't allocate.
-    pub fn finish(&self) -> Rest
+    pub fn finish(&self) -> Unended
         ensures rest { (bytes : List ℕ) → Since self.now bytes → IsCut bytes [] bytes }
-        ensures blank { result ≡ Rest.Blank → (bytes : List ℕ) → Since self.now bytes → IsBlank bytes }
-        ensures cut { result ≡ Rest.Cut → (bytes : List ℕ) → Since self.now bytes →
+        ensures blank { result ≡ Unended.Blank → (bytes : List ℕ) → Since self.now bytes → IsBlank bytes }
+        ensures cut { result ≡ Unended.Cut → (bytes : List ℕ) → Since self.now bytes →
             (IsBlank bytes → ⊥) × (length bytes ≤ 65536) }
-        ensures cut_long { result ≡ Rest.CutLong → (bytes : List ℕ) → Since self.now bytes →
+        ensures cut_long { result ≡ Unended.CutLong → (bytes : List ℕ) → Since self.now bytes →
             (IsBlank bytes → ⊥) × (65536 < length bytes) }
     {
         if self.is_blank() {
-            return Rest::Blank;
+            return Unended::Blank;
         }
         if self.count > STATEMENT_BYTES {
-            return Rest::CutLong;
+            return Unended::CutLong;
         }
-        Rest::Cut
+        Unended::Cut
     }
 }

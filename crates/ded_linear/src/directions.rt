@@ -18,15 +18,15 @@ const SHORTENED_FROM: i128 = 1 << 63;
 
 /// The coefficients of two slots. Products of two of these numbers always fit.
 #[derive(Clone, Copy)]
-struct Direction {
+struct CoefPair {
     x: i64,
     y: i64,
 }
 
-impl Direction {
+impl CoefPair {
     /// The direction of a row that mentions no other slots than these two. None of another row, or where a coefficient
     /// is too long.
-    fn of(row: &Row, slots: (Slot, Slot)) -> Option<Direction> {
+    fn of(row: &Row, slots: (Slot, Slot)) -> Option<CoefPair> {
         let (x, y) = match row.coefs.list() {
             [(slot, a)] if slot.is_same(slots.0) => (*a, 0),
             [(slot, a)] if slot.is_same(slots.1) => (0, *a),
@@ -35,22 +35,22 @@ impl Direction {
             }
             _ => return None,
         };
-        Some(Direction {
+        Some(CoefPair {
             x: i64::try_from(x).ok()?,
             y: i64::try_from(y).ok()?,
         })
     }
 
     /// The opposite direction.
-    fn opposite(self) -> Direction {
-        Direction {
+    fn opposite(self) -> CoefPair {
+        CoefPair {
             x: self.x.wrapping_neg(),
             y: self.y.wrapping_neg(),
         }
     }
 
     /// The cross product: above 0 where the other direction lies on the left, by less than half a turn.
-    fn cross(self, other: Direction) -> i128 {
+    fn cross(self, other: CoefPair) -> i128 {
         let left = i128::from(self.x).wrapping_mul(i128::from(other.y));
         let right = i128::from(self.y).wrapping_mul(i128::from(other.x));
         left.wrapping_sub(right)
@@ -63,7 +63,7 @@ impl Direction {
     }
 
     /// Whether it is the other direction or comes before it in that turn.
-    fn is_at_most(self, other: Direction) -> bool {
+    fn is_at_most(self, other: CoefPair) -> bool {
         if self.is_late() == other.is_late() {
             self.cross(other) >= 0
         } else {
@@ -72,7 +72,7 @@ impl Direction {
     }
 
     /// Whether it is the other direction.
-    fn is_same(self, other: Direction) -> bool {
+    fn is_same(self, other: CoefPair) -> bool {
         self.is_late() == other.is_late() && self.cross(other) == 0
     }
 
@@ -86,7 +86,7 @@ impl Direction {
 /// What is known of a row over the two slots.
 #[derive(Clone, Copy)]
 struct Border {
-    direction: Direction,
+    direction: CoefPair,
     constant: i128,
     /// The place of the row among those that are kept.
     place: usize,
@@ -164,12 +164,12 @@ impl Directions {
     }
 
     /// The direction of the row, where it is over the two slots.
-    fn direction_of(&self, row: &Row) -> Option<Direction> {
-        Direction::of(row, self.slots?)
+    fn direction_of(&self, row: &Row) -> Option<CoefPair> {
+        CoefPair::of(row, self.slots?)
     }
 
     /// How many of the rows have this direction or one before it.
-    fn rank(&self, direction: Direction) -> usize
+    fn rank(&self, direction: CoefPair) -> usize
         ensures { result ≤ length self.now.borders.items }
     {
         self.borders
@@ -259,7 +259,7 @@ fn two_slots(rows: &[Row]) -> Option<(Slot, Slot)> {
 
 /// The numbers by which the three directions come to nothing, where none is below 0. The second one counts for nothing
 /// where the first and the third one are opposite.
-fn weights(first: Direction, second: Direction, third: Direction) -> Option<[i128; 3]> {
+fn weights(first: CoefPair, second: CoefPair, third: CoefPair) -> Option<[i128; 3]> {
     if first.is_same(third.opposite()) {
         return Some([third.length(), 0, first.length()]);
     }

@@ -13,7 +13,7 @@ ghost use Rattle.ded_elimination.specs.LinearAtoms.{IsLinearAtom};
 ghost use Rattle.ded_weighing.specs.Columns.{lent};
 ghost use Rattle.ded_linear.specs.Prunings.{Imply};
 
-use crate::kept::Kept;
+use crate::kept::KeptByDirection;
 use ded_model::memory::NoMemory;
 use ded_model::row::Row;
 use ded_model::tuple::Negated;
@@ -50,7 +50,7 @@ impl Search {
 /// Out of memory.
 pub(crate) fn imply(
     alloc: Global,
-    kept: &Kept,
+    kept: &KeptByDirection,
     behind: &[Row],
     row: &Row,
     search: &mut Search,
@@ -70,7 +70,7 @@ pub(crate) fn imply(
 /// others than the two are asked, unless rows behind are asked too.
 fn are_apart(
     alloc: Global,
-    kept: &Kept,
+    kept: &KeptByDirection,
     behind: &[Row],
     row: &Row,
     search: &mut Search,
@@ -90,7 +90,7 @@ fn are_apart(
 }
 
 /// Whether the two of the kept rows on the sides of what is opposite to the row hold nowhere together with it.
-fn are_two_apart(alloc: Global, kept: &Kept, row: &Row) -> Result<bool, NoMemory>
+fn are_two_apart(alloc: Global, kept: &KeptByDirection, row: &Row) -> Result<bool, NoMemory>
     ensures { IfOk result (λ b. b ≡ true → (behind : List LinearConstraint)
         → HoldsNowhere (conj_holds row_holds ((kept.now.rows.items ++ behind) ++ row.now ∷ []))) }
 {

@@ -8,17 +8,17 @@ use std::alloc::Global;
 
 /// Rows that are kept, and those of them over two slots by their directions.
 #[derive(Drop)]
-pub(crate) struct Kept {
+pub(crate) struct KeptByDirection {
     pub rows: Vec<Row>,
     pub directions: Directions,
 }
 
-impl Kept {
+impl KeptByDirection {
     /// None yet of the rows. It does not allocate.
-    pub fn new(alloc: Global, rows: &[Row]) -> Kept
+    pub fn new(alloc: Global, rows: &[Row]) -> KeptByDirection
         ensures { result.rows.items ≡ [] }
     {
-        Kept {
+        KeptByDirection {
             rows: Vec::new(alloc),
             directions: Directions::new(alloc, rows),
         }

@@ -9,7 +9,7 @@ ghost use Rattle.ded_elimination.specs.LinearAtoms.{IsLinearAtom};
 ghost use Rattle.ded_linear.specs.Prunings.{IsPruned};
 
 use crate::implication::{Search, imply};
-use crate::kept::Kept;
+use crate::kept::KeptByDirection;
 use ded_model::memory::NoMemory;
 use ded_model::row::Row;
 use std::alloc::Global;
@@ -47,7 +47,7 @@ fn sifted(alloc: Global, rows: &[Row], search: &mut Search) -> Result<Vec<Row>, 
     requires normal { AllByRecursion IsLinearAtom rows.now }
     ensures { IfOk result (λ kept. IsPruned kept.items rows.now) }
 {
-    let mut kept = Kept::new(alloc, rows);
+    let mut kept = KeptByDirection::new(alloc, rows);
     let mut many = 4 * PRUNED_FROM;
     for i in 0..rows.len() {
         keep_needed(alloc, &mut kept, rows, i, false, search)?;
@@ -59,7 +59,7 @@ fn sifted(alloc: Global, rows: &[Row], search: &mut Search) -> Result<Vec<Row>, 
 /// Leaves those out of many rows that the others are found to imply. Gives how many are many the next time.
 fn leave_out(
     alloc: Global,
-    kept: &mut Kept,
+    kept: &mut KeptByDirection,
     many: usize,
     search: &mut Search,
 ) -> Result<usize, NoMemory>
@@ -79,11 +79,11 @@ fn leave_out(
 ///
 /// # Errors
 /// Out of memory.
-fn needed(alloc: Global, rows: &[Row], search: &mut Search) -> Result<Kept, NoMemory>
+fn needed(alloc: Global, rows: &[Row], search: &mut Search) -> Result<KeptByDirection, NoMemory>
     requires normal { AllByRecursion IsLinearAtom rows.now }
     ensures { IfOk result (λ kept. IsPruned kept.rows.items rows.now) }
 {
-    let mut kept = Kept::new(alloc, rows);
+    let mut kept = KeptByDirection::new(alloc, rows);
     for i in 0..rows.len() {
         keep_needed(alloc, &mut kept, rows, i, true, search)?;
     }
@@ -94,7 +94,7 @@ fn needed(alloc: Global, rows: &[Row], search: &mut Search) -> Result<Kept, NoMe
 /// found to imply it.
 fn keep_needed(
     alloc: Global,
-    kept: &mut Kept,
+    kept: &mut KeptByDirection,
     rows: &[Row],
     place: usize,
     ahead: bool,

@@ -9,7 +9,7 @@ ghost use Rattle.ded_linear.specs.Laws.{cells_tell, owned_slots, slots_of_lines}
 
 use crate::pruning::pruned;
 use crate::{bounding, verdict};
-use ded_elimination::Checked;
+use ded_elimination::CheckedCombination;
 use ded_model::memory::{NoMemory, Refused};
 use ded_model::row::Row;
 use ded_model::slot::{Slot, Sort};
@@ -61,18 +61,18 @@ impl Theory for Linear {
     }
 
     fn eliminate(alloc: Global, atoms: &[Row], slot: Slot) -> Result<Eliminated<Row>, Refused> {
-        match ded_elimination::eliminate::<Checked>(alloc, atoms, slot)? {
+        match ded_elimination::eliminate::<CheckedCombination>(alloc, atoms, slot)? {
             Eliminated::Never => Ok(Eliminated::Never),
             Eliminated::Conj(rows) => Ok(Eliminated::Conj(pruned(alloc, rows, atoms.len())?)),
         }
     }
 
     fn refute(alloc: Global, atoms: &[Row]) -> Result<Verdict, NoMemory> {
-        verdict::refute::<Checked>(alloc, atoms)
+        verdict::refute::<CheckedCombination>(alloc, atoms)
     }
 
     fn bounds(alloc: Global, atoms: &[Row], slot: Slot) -> Result<Span, NoMemory> {
-        bounding::bounds::<Checked>(alloc, atoms, slot)
+        bounding::bounds::<CheckedCombination>(alloc, atoms, slot)
     }
 
     ghost respects = { row_holds-same };

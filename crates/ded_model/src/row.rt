@@ -209,7 +209,7 @@ impl Row {
 
 /// Where a slot stands in a list, or would have to stand.
 #[derive(Clone, Copy)]
-struct Place {
+struct SlotPlace {
     /// The first place whose slot has no lesser number.
     at: usize,
     /// Whether the slot stands there.
@@ -217,7 +217,7 @@ struct Place {
 }
 
 /// The place of a slot in a list of pairs, and whether the slot stands there.
-fn find(list: &[(Slot, i128)], slot: Slot) -> Place
+fn find(list: &[(Slot, i128)], slot: Slot) -> SlotPlace
     ensures at { result.at ≡ place_of slot list.now }
     ensures taken { result.taken ≡ is_taken slot list.now }
 {
@@ -225,7 +225,7 @@ fn find(list: &[(Slot, i128)], slot: Slot) -> Place
     while at < list.len() && list[at].0.number < slot.number {
         at += 1;
     }
-    Place {
+    SlotPlace {
         at,
         taken: at < list.len() && list[at].0.is_same(slot),
     }

@@ -4,7 +4,7 @@ use Rattle.std.specs.Str.{bytes_eq}
 use Rattle.indexmap.specs.IndexSet.{insert_key}
 use Rattle.ded_figures.specs.declared.sight.Sight.{Sight}
 use Rattle.ded_figures.specs.declared.sight.Sight.TheVariants.{Nowhere, Wide, Seen}
-use Rattle.ded_svg.specs.declared.picture.Entry.{Entry}
+use Rattle.ded_svg.specs.declared.picture.LegendEntry.{LegendEntry}
 
 -- with the first text of what there is to be drawn at the end, if it is new
 abbrev pub with_label : List (List ℕ) → Sight → List (List ℕ)
@@ -27,6 +27,6 @@ words_of [] = codes "(no text)"
 words_of (b ∷ bs) = b ∷ bs
 
 -- the entries of the legend, for the colours from this number on
-abbrev pub entries_of : ℕ → List (List ℕ) → List Entry
+abbrev pub entries_of : ℕ → List (List ℕ) → List LegendEntry
 entries_of n [] = []
 entries_of n (l ∷ ls) = record { colour = n; words = words_of l } ∷ entries_of (n + 1) ls

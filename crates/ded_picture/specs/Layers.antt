@@ -5,7 +5,7 @@ use Rattle.ded_polygon.specs.Plane.{In}
 use Rattle.ded_polygon.specs.Windows.{Frame}
 use Rattle.ded_layers.specs.Layers.{AreLines, ArePartsWithin, pieces_of}
 use Rattle.ded_strokes.specs.declared.parting.Stretch.{Stretch}
-use Rattle.ded_svg.specs.declared.picture.Stroke.{Stroke}
+use Rattle.ded_svg.specs.declared.picture.ColouredLine.{ColouredLine}
 use Rattle.ded_picture.specs.declared.parts.Shown.{Shown}
 use Rattle.ded_picture.specs.declared.sheet.Sheet.{Sheet}
 use Rattle.ded_picture.specs.Sheets.{strokes_of}
@@ -26,17 +26,17 @@ abbrev pub layers_of : ℕ → List Shown → List (List Part)
 layers_of n ss = put_all (replicate n []) ss
 
 -- the lines of the sides of each layer, drawn in its colour, where the first layer has this colour
-abbrev pub AreStrokes : Sheet → ℕ → List (List Part) → List Stroke → Type 0
+abbrev pub AreStrokes : Sheet → ℕ → List (List Part) → List ColouredLine → Type 0
 AreStrokes sheet colour [] strokes = strokes ≡ []
 AreStrokes sheet colour (layer ∷ layers) strokes =
-    (lines : List Stretch) × (more : List Stroke) × AreLines (pieces_of layer) layer lines × (strokes ≡ strokes_of sheet colour lines ++ more) × AreStrokes sheet (colour + 1) layers more
+    (lines : List Stretch) × (more : List ColouredLine) × AreLines (pieces_of layer) layer lines × (strokes ≡ strokes_of sheet colour lines ++ more) × AreStrokes sheet (colour + 1) layers more
 
 -- the corners of all parts of layers lie in the window
 abbrev pub AreLayersWithin : Frame → List (List Part) → Type 0
 AreLayersWithin w layers = (layer : List Part) → In layer layers → ArePartsWithin w layer
 
 -- the strokes of layers stand behind the old ones
-pub record AddStrokes (sheet : Sheet) (colour : ℕ) (layers : List (List Part)) (old new : List Stroke) : Type 0 where
-  pub added : List Stroke
+pub record AddStrokes (sheet : Sheet) (colour : ℕ) (layers : List (List Part)) (old new : List ColouredLine) : Type 0 where
+  pub added : List ColouredLine
   pub strokes : AreStrokes sheet colour layers added
   pub is : new ≡ old ++ added

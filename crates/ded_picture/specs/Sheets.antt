@@ -7,11 +7,11 @@ use Rattle.ded_strokes.specs.declared.stretch.Stroke as drawn
 use Rattle.ded_strokes.specs.declared.stretch.Stroke.TheVariants as stroke
 use Rattle.ded_svg.specs.declared.picture.Line.{Line}
 use Rattle.ded_svg.specs.declared.picture.Line.TheVariants.{Solid, Dashed}
-use Rattle.ded_svg.specs.declared.picture.Mark.{Mark}
+use Rattle.ded_svg.specs.declared.picture.ColouredShape.{ColouredShape}
 use Rattle.ded_svg.specs.declared.picture.Point.{Point}
 use Rattle.ded_svg.specs.declared.picture.Shape.{Shape}
 use Rattle.ded_svg.specs.declared.picture.Shape.TheVariants.{Polygon, Segment, Disc}
-use Rattle.ded_svg.specs.declared.picture.Stroke.{Stroke}
+use Rattle.ded_svg.specs.declared.picture.ColouredLine.{ColouredLine}
 use Rattle.ded_picture.specs.declared.parts.Shown.{Shown}
 use Rattle.ded_picture.specs.declared.sheet.Sheet.{Sheet}
 
@@ -32,16 +32,16 @@ shape_of sheet (c ∷ d ∷ []) = Segment (point_on sheet c) (point_on sheet d) 
 shape_of sheet (c ∷ d ∷ e ∷ cs) = Polygon (map (point_on sheet) (c ∷ d ∷ e ∷ cs)) ∷ []
 
 -- these shapes, in a colour and with a title
-abbrev pub marks_with : ℕ → List ℕ → List Shape → List Mark
+abbrev pub marks_with : ℕ → List ℕ → List Shape → List ColouredShape
 marks_with colour title [] = []
 marks_with colour title (s ∷ ss) = record { shape = s; colour = colour; title = title } ∷ marks_with colour title ss
 
 -- the shape of a tuple, in its colour and with its title; none where it has no corners
-abbrev pub mark_of : Sheet → Shown → List Mark
+abbrev pub mark_of : Sheet → Shown → List ColouredShape
 mark_of sheet shown = marks_with shown.colour shown.title (shape_of sheet shown.part.corners.items)
 
 -- those of all, in order
-abbrev pub marks_of : Sheet → List Shown → List Mark
+abbrev pub marks_of : Sheet → List Shown → List ColouredShape
 marks_of sheet [] = []
 marks_of sheet (s ∷ ss) = mark_of sheet s ++ marks_of sheet ss
 
@@ -52,9 +52,9 @@ line_of stroke.Solid = Solid
 line_of stroke.Dashed = Dashed
 
 -- a line in a colour
-abbrev pub stroke_of : Sheet → ℕ → Stretch → Stroke
+abbrev pub stroke_of : Sheet → ℕ → Stretch → ColouredLine
 stroke_of sheet colour s = record { start = point_on sheet s.from; end = point_on sheet s.to; line = line_of s.stroke; colour = colour }
 
 -- those of all stretches, in order
-abbrev pub strokes_of : Sheet → ℕ → List Stretch → List Stroke
+abbrev pub strokes_of : Sheet → ℕ → List Stretch → List ColouredLine
 strokes_of sheet colour ss = map (stroke_of sheet colour) ss

@@ -6,7 +6,7 @@ use ded_atoms::following;
 use ded_figures::Sight;
 use ded_model::memory::NoMemory;
 use ded_model::name::Name;
-use ded_svg::Entry;
+use ded_svg::LegendEntry;
 use indexmap::IndexSet;
 use std::alloc::{AllocError, Global};
 
@@ -74,7 +74,7 @@ fn stands_at(labels: &IndexSet<Name>, place: usize, label: &Name) -> bool
 ///
 /// # Errors
 /// Out of memory.
-pub fn legend_of(alloc: Global, labels: &IndexSet<Name>) -> Result<Vec<Entry>, NoMemory>
+pub fn legend_of(alloc: Global, labels: &IndexSet<Name>) -> Result<Vec<LegendEntry>, NoMemory>
     ensures { IfOk result (λ legend. legend.items ≡ entries_of 0 labels.now.keys) }
 {
     let mut legend = Vec::new(alloc);
@@ -83,7 +83,7 @@ pub fn legend_of(alloc: Global, labels: &IndexSet<Name>) -> Result<Vec<Entry>, N
         let Some(label) = labels.get_index(place) else {
             return Err(AllocError);
         };
-        legend.push(Entry {
+        legend.push(LegendEntry {
             colour,
             words: words_of(alloc, label)?,
         })?;

@@ -5,7 +5,7 @@ ghost use Rattle.ded_picture.specs.Layers.{layers_of, put_in};
 use crate::parts::Shown;
 use ded_layers::{Part, lines};
 use ded_model::memory::NoMemory;
-use ded_polygon::Window;
+use ded_polygon::PlaneWindow;
 use ded_strokes::Stretch;
 use std::alloc::Global;
 use std::marker::Model;
@@ -33,7 +33,7 @@ impl Layer {
     ///
     /// # Errors
     /// Out of memory.
-    pub(crate) fn lines(&self, alloc: Global, window: Window) -> Result<Vec<Stretch>, NoMemory>
+    pub(crate) fn lines(&self, alloc: Global, window: PlaneWindow) -> Result<Vec<Stretch>, NoMemory>
         requires { ArePartsWithin window self.now }
         ensures { IfOk result (λ ls. AreLines (pieces_of self.now) self.now ls.items) }
     {

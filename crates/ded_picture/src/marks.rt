@@ -6,14 +6,14 @@ use crate::parts::Shown;
 use crate::sheet::{Sheet, point_on};
 use ded_model::memory::NoMemory;
 use ded_polygon::Corner;
-use ded_svg::{Corners, Mark, Point, Shape};
+use ded_svg::{Corners, ColouredShape, Point, Shape};
 use std::alloc::Global;
 
 /// The shapes of what is shown, in order.
 ///
 /// # Errors
 /// Out of memory.
-pub fn marks_of(alloc: Global, sheet: &Sheet, list: &[Shown]) -> Result<Vec<Mark>, NoMemory>
+pub fn marks_of(alloc: Global, sheet: &Sheet, list: &[Shown]) -> Result<Vec<ColouredShape>, NoMemory>
     ensures { IfOk result (λ marks. marks.items ≡ marks_of sheet.now list.now) }
 {
     let mut marks = Vec::new(alloc);
@@ -26,7 +26,7 @@ pub fn marks_of(alloc: Global, sheet: &Sheet, list: &[Shown]) -> Result<Vec<Mark
 /// Adds the shape of a tuple, unless it has no corner within the window.
 fn add_mark(
     alloc: Global,
-    marks: &mut Vec<Mark>,
+    marks: &mut Vec<ColouredShape>,
     sheet: &Sheet,
     shown: &Shown,
 ) -> Result<(), NoMemory>
@@ -35,7 +35,7 @@ fn add_mark(
     let Some(shape) = shape_of(alloc, sheet, &shown.part.corners)? else {
         return Ok(());
     };
-    marks.push(Mark {
+    marks.push(ColouredShape {
         shape,
         colour: shown.colour,
         title: shown.title.copy()?,

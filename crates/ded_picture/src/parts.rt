@@ -12,9 +12,9 @@ use ded_figures::{Figure, Sight};
 use ded_layers::Part;
 use ded_model::memory::{NoMemory, Refused};
 use ded_model::name::Name;
-use ded_polygon::{Corner, Window, cut};
+use ded_polygon::{Corner, PlaneWindow, cut};
 use ded_shapes::shapes;
-use ded_strokes::Piece;
+use ded_strokes::PlanePiece;
 use indexmap::IndexSet;
 use std::alloc::{AllocError, Global};
 
@@ -29,7 +29,7 @@ pub struct Shown {
 
 /// What is shown of tuples, and how many are too long to be shown.
 #[derive(Drop)]
-pub struct Parts {
+pub struct ShownParts {
     pub list: Vec<Shown>,
     pub wide: usize,
 }
@@ -42,12 +42,12 @@ pub fn parts_of(
     alloc: Global,
     sights: &[Sight],
     labels: &IndexSet<Name>,
-    window: Window,
-) -> Result<Parts, NoMemory>
+    window: PlaneWindow,
+) -> Result<ShownParts, NoMemory>
     ensures shown { IfOk result (λ parts. AreShown window labels.now.keys sights.now parts.list.items parts.wide) }
     ensures within { IfOk result (λ parts. AreAllWithin window parts.list.items) }
 {
-    let mut parts = Parts {
+    let mut parts = ShownParts {
         list: Vec::new(alloc),
         wide: 0,
     };
@@ -60,10 +60,10 @@ pub fn parts_of(
 /// Adds what is shown of a tuple.
 fn add_part(
     alloc: Global,
-    parts: &mut Parts,
+    parts: &mut ShownParts,
     sight: &Sight,
     labels: &IndexSet<Name>,
-    window: Window,
+    window: PlaneWindow,
 ) -> Result<(), NoMemory>
     ensures { OnOk result (AddsShown window labels.now.keys sight.now parts.old.list.items parts.old.wide
         parts.new.list.items parts.new.wide) }
@@ -88,7 +88,7 @@ fn add_part(
 }
 
 /// Counts a tuple that is too long.
-fn count_wide(parts: &mut Parts) -> Result<(), NoMemory>
+fn count_wide(parts: &mut ShownParts) -> Result<(), NoMemory>
     ensures list { parts.new.list.items ≡ parts.old.list.items }
     ensures count { OnOk result (parts.new.wide ≡ parts.old.wide + 1) }
 {
@@ -102,7 +102,7 @@ fn count_wide(parts: &mut Parts) -> Result<(), NoMemory>
 }
 
 /// Adds what is shown of a tuple.
-fn push_shown(parts: &mut Parts, shown: Shown) -> Result<(), NoMemory>
+fn push_shown(parts: &mut ShownParts, shown: Shown) -> Result<(), NoMemory>
     ensures list { OnOk result (parts.new.list.items ≡ parts.old.list.items ++ shown ∷ []) }
     ensures count { parts.new.wide ≡ parts.old.wide }
 {
@@ -115,7 +115,7 @@ fn shown_of(
     alloc: Global,
     figure: &Figure,
     labels: &IndexSet<Name>,
-    window: Window,
+    window: PlaneWindow,
 ) -> Result<Option<Shown>, NoMemory>
     ensures { IfOk result (MayShow window labels.now.keys figure.now) }
 {
@@ -136,7 +136,7 @@ fn shown_of(
 ///
 /// # Errors
 /// `Wide` only where a number of a row is beyond the exact range; otherwise out of memory.
-fn part_of(alloc: Global, figure: &Figure, window: Window) -> Result<Part, Refused>
+fn part_of(alloc: Global, figure: &Figure, window: PlaneWindow) -> Result<Part, Refused>
     ensures part { IfOk result (IsPartOf window figure.now) }
     ensures wide { IsErrOf result Wide → IsTooLong figure.now }
 {
@@ -149,18 +149,18 @@ fn part_of(alloc: Global, figure: &Figure, window: Window) -> Result<Part, Refus
 ///
 /// # Errors
 /// As [`part_of`].
-fn piece_of(alloc: Global, figure: &Figure) -> Result<Piece, Refused>
+fn piece_of(alloc: Global, figure: &Figure) -> Result<PlanePiece, Refused>
     ensures piece { IfOk result (λ p. p ≡ limits_of figure.now.axes.x figure.now.axes.y figure.now.rows) }
     ensures wide { IsErrOf result Wide → IsTooLong figure.now }
 {
-    Piece::new(alloc, &figure.rows, figure.axes.x, figure.axes.y)
+    PlanePiece::new(alloc, &figure.rows, figure.axes.x, figure.axes.y)
 }
 
 /// The corners of a figure within the window.
 ///
 /// # Errors
 /// As [`part_of`].
-fn corners_within(alloc: Global, figure: &Figure, window: Window) -> Result<Vec<Corner>, Refused>
+fn corners_within(alloc: Global, figure: &Figure, window: PlaneWindow) -> Result<Vec<Corner>, Refused>
     ensures corners { IfOk result (λ cs. AreCorners figure.now.axes.x figure.now.axes.y
         (figure.now.rows ++ window_rows figure.now.axes.x figure.now.axes.y window) cs.items) }
     ensures around { IfOk result (λ cs. GoAround figure.now.axes.x figure.now.axes.y

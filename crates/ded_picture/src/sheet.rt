@@ -3,13 +3,13 @@ ghost use Rattle.std.specs.Prelude.{◌≡◌};
 ghost use Rattle.ded_picture.specs.Sheets.{point_on};
 
 use ded_axes::place;
-use ded_polygon::{Corner, Window};
+use ded_polygon::{Corner, PlaneWindow};
 use ded_svg::Point;
 
 /// What is seen of the plane, and how wide and high it is drawn, in units.
 #[derive(Clone, Copy, Debug)]
 pub struct Sheet {
-    pub window: Window,
+    pub window: PlaneWindow,
     pub width: u32,
     pub height: u32,
 }

@@ -10,7 +10,7 @@ use crate::sheet::{Sheet, point_on};
 use ded_atoms::following;
 use ded_model::memory::NoMemory;
 use ded_strokes::Stretch;
-use ded_svg::{Line, Stroke};
+use ded_svg::{Line, ColouredLine};
 use std::alloc::Global;
 
 /// The lines of the sides of what is shown, colour after colour, of which there are so many.
@@ -22,7 +22,7 @@ pub fn strokes_of(
     sheet: &Sheet,
     colours: usize,
     list: Vec<Shown>,
-) -> Result<Vec<Stroke>, NoMemory>
+) -> Result<Vec<ColouredLine>, NoMemory>
     requires { AreAllWithin sheet.now.window list.items }
     ensures { IfOk result (λ strokes. AreStrokes sheet.now 0 (layers_of colours list.items) strokes.items) }
 {
@@ -38,7 +38,7 @@ fn add_layers(
     sheet: &Sheet,
     colour: u32,
     layers: &[Layer],
-    strokes: &mut Vec<Stroke>,
+    strokes: &mut Vec<ColouredLine>,
 ) -> Result<(), NoMemory>
     requires { AreLayersWithin sheet.now.window layers.now }
     ensures { OnOk result (AddStrokes sheet.now colour layers.now strokes.old.items strokes.new.items) }
@@ -54,7 +54,7 @@ fn add_layers(
 
 /// Adds lines in a colour.
 fn add_strokes(
-    strokes: &mut Vec<Stroke>,
+    strokes: &mut Vec<ColouredLine>,
     sheet: &Sheet,
     colour: u32,
     stretches: &[Stretch],
@@ -68,10 +68,10 @@ fn add_strokes(
 }
 
 /// A line in a colour.
-fn stroke_of(sheet: &Sheet, colour: u32, stretch: Stretch) -> Stroke
+fn stroke_of(sheet: &Sheet, colour: u32, stretch: Stretch) -> ColouredLine
     ensures { result ≡ stroke_of sheet.now colour stretch }
 {
-    Stroke {
+    ColouredLine {
         start: point_on(sheet, stretch.from),
         end: point_on(sheet, stretch.to),
         line: line_of(stretch.stroke),
@@ -80,11 +80,11 @@ fn stroke_of(sheet: &Sheet, colour: u32, stretch: Stretch) -> Stroke
 }
 
 /// How a stretch is drawn.
-fn line_of(stroke: ded_strokes::Stroke) -> Line
+fn line_of(stroke: ded_strokes::ColouredLine) -> Line
     ensures { result ≡ line_of stroke }
 {
     match stroke {
-        ded_strokes::Stroke::Seam | ded_strokes::Stroke::Solid => Line::Solid,
-        ded_strokes::Stroke::Dashed => Line::Dashed,
+        ded_strokes::ColouredLine::Seam | ded_strokes::ColouredLine::Solid => Line::Solid,
+        ded_strokes::ColouredLine::Dashed => Line::Dashed,
     }
 }

@@ -8,14 +8,14 @@ ghost use Rattle.ded_picture.specs.Windowing.{AddsCorners, AddsFor, AreCornersIn
 use ded_axes::window_around;
 use ded_figures::{Figure, Sight};
 use ded_model::memory::{NoMemory, Refused};
-use ded_polygon::{Corner, Window, corners};
+use ded_polygon::{Corner, PlaneWindow, corners};
 use std::alloc::{AllocError, Global};
 
 /// The window that is asked for, or the one around all corners where none is.
 ///
 /// # Errors
 /// Out of memory.
-pub fn window_of(alloc: Global, asked: Option<Window>, sights: &[Sight]) -> Result<Window, NoMemory>
+pub fn window_of(alloc: Global, asked: Option<PlaneWindow>, sights: &[Sight]) -> Result<PlaneWindow, NoMemory>
     ensures { IfOk result (IsWindow asked sights.now) }
 {
     match asked {

@@ -4,10 +4,10 @@ ghost use Rattle.ded_polygon.specs.Vertices.{IsEdge, IsStop, IsEnclosed};
 ghost use Rattle.ded_polygon.specs.Lists.{spot_in, AreAllVertices, AreJoined};
 
 use crate::corner::Corner;
-use crate::side::Side;
+use crate::side::PlaneSide;
 
 /// Puts each vertex behind the one from which an edge leads to it.
-pub(crate) fn arrange(corners: &mut Vec<Corner>, sides: &[Side])
+pub(crate) fn arrange(corners: &mut Vec<Corner>, sides: &[PlaneSide])
     requires all { AreAllVertices sides.now corners.old.items }
     ensures all { AreAllVertices sides.now corners.new.items }
     ensures joined { IsEnclosed sides.now → AreJoined sides.now corners.new.items }
@@ -21,7 +21,7 @@ pub(crate) fn arrange(corners: &mut Vec<Corner>, sides: &[Side])
 }
 
 /// The first place from the given one on to which an edge leads from the place before that.
-fn next_of(corners: &[Corner], place: usize, sides: &[Side]) -> Option<usize>
+fn next_of(corners: &[Corner], place: usize, sides: &[PlaneSide]) -> Option<usize>
     requires before { 0 < place }
     requires inside { place < length corners.now }
     ensures { MatchOption result
@@ -40,7 +40,7 @@ fn next_of(corners: &[Corner], place: usize, sides: &[Side]) -> Option<usize>
 }
 
 /// Whether an edge leads from the one corner to the other.
-fn is_edge(sides: &[Side], from: Corner, to: Corner) -> bool
+fn is_edge(sides: &[PlaneSide], from: Corner, to: Corner) -> bool
     ensures edge { IsTrue result → IsEdge sides.now from to }
     ensures none { IsEdge sides.now from to → IsTrue result }
 {
@@ -54,7 +54,7 @@ fn is_edge(sides: &[Side], from: Corner, to: Corner) -> bool
 
 /// Whether the way along the border of a half plane, through both corners, leads out of another one at the second
 /// corner, and not before.
-fn stops(sides: &[Side], side: Side, from: Corner, to: Corner) -> bool
+fn stops(sides: &[PlaneSide], side: PlaneSide, from: Corner, to: Corner) -> bool
     ensures { IsTrue result ↔ IsStop sides.now side from to }
 {
     for stop in sides {

@@ -5,7 +5,7 @@
 //! direction leads out of one of them, the corners go around counterclockwise: each shares a row that is an equality
 //! with the next, and all others lie strictly to the left of the way between them. The closure is then exactly what
 //! lies to the left of all these ways or on them, where there are three corners or more; it lies on the way between
-//! two, is one alone, and where there is no corner, it is empty. [`cut`] adds the four rows of a [`Window`], which
+//! two, is one alone, and where there is no corner, it is empty. [`cut`] adds the four rows of a [`PlaneWindow`], which
 //! bound any rows (the law [`windows`]).
 //!
 //! All of it is exact: a row whose numbers are beyond 2 ^ 31 and 2 ^ 62 is refused as too wide before anything is
@@ -34,4 +34,4 @@ pub use corner::Corner;
 pub use laws::windows;
 pub use polygon::{corners, cut};
 pub use reading::mention_only;
-pub use window::Window;
+pub use window::PlaneWindow;

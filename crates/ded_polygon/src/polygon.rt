@@ -11,9 +11,9 @@ ghost use Rattle.ded_polygon.specs.Windows.{window_rows, window_planes};
 use crate::arranging::arrange;
 use crate::corner::Corner;
 use crate::reading::sides;
-use crate::side::Side;
+use crate::side::PlaneSide;
 use crate::vertices::vertices;
-use crate::window::Window;
+use crate::window::PlaneWindow;
 use ded_model::memory::{NoMemory, Refused};
 use ded_model::row::Row;
 use ded_model::slot::Slot;
@@ -49,7 +49,7 @@ pub fn cut(
     rows: &[Row],
     x: Slot,
     y: Slot,
-    window: Window,
+    window: PlaneWindow,
 ) -> Result<Vec<Corner>, Refused>
     requires differ { same_slot x y ≡ false }
     requires only { MentionOnly x y rows.now }
@@ -64,7 +64,7 @@ pub fn cut(
 }
 
 /// Adds the half planes of the window.
-fn add_window(sides: &mut Vec<Side>, window: Window) -> Result<(), NoMemory>
+fn add_window(sides: &mut Vec<PlaneSide>, window: PlaneWindow) -> Result<(), NoMemory>
     ensures sides { OnOk result (sides.new.items ≡ sides.old.items ++ window_planes window) }
     ensures positive { pos 0 <ℤ window.den }
 {
@@ -77,7 +77,7 @@ fn add_window(sides: &mut Vec<Side>, window: Window) -> Result<(), NoMemory>
 }
 
 /// The vertices of half planes, in order.
-fn arranged(alloc: Global, sides: &[Side]) -> Result<Vec<Corner>, NoMemory>
+fn arranged(alloc: Global, sides: &[PlaneSide]) -> Result<Vec<Corner>, NoMemory>
     ensures all { IfOk result (λ cs. AreAllVertices sides.now cs.items) }
     ensures joined { IfOk result (λ cs. IsEnclosed sides.now → AreJoined sides.now cs.items) }
 {

@@ -8,7 +8,7 @@ ghost use Rattle.ded_model.specs.Point.{same_slot};
 ghost use Rattle.ded_polygon.specs.Closures.{MentionsOnly, MentionOnly, IsInRange, AreInRange};
 ghost use Rattle.ded_polygon.specs.Rows.{half_plane, half_planes, by_op};
 
-use crate::side::Side;
+use crate::side::PlaneSide;
 use ded_model::memory::{NoMemory, Refused};
 use ded_model::row::{Row, RowOp};
 use ded_model::slot::Slot;
@@ -45,7 +45,7 @@ fn are_of(list: &[(Slot, i128)], x: Slot, y: Slot) -> bool
 ///
 /// # Errors
 /// `Wide` only where a number of a row is beyond the exact range; otherwise out of memory.
-pub(crate) fn sides(alloc: Global, rows: &[Row], x: Slot, y: Slot) -> Result<Vec<Side>, Refused>
+pub(crate) fn sides(alloc: Global, rows: &[Row], x: Slot, y: Slot) -> Result<Vec<PlaneSide>, Refused>
     ensures sides { IfOk result (λ sides. sides.items ≡ half_planes x y rows.now) }
     ensures wide { IsErrOf result Wide → AreInRange x y rows.now → ⊥ }
 {
@@ -60,14 +60,14 @@ pub(crate) fn sides(alloc: Global, rows: &[Row], x: Slot, y: Slot) -> Result<Vec
 }
 
 /// The half plane of the row, read by `<=`. None where a number is beyond the exact range.
-fn side_of(row: &Row, x: Slot, y: Slot) -> Option<Side>
+fn side_of(row: &Row, x: Slot, y: Slot) -> Option<PlaneSide>
     ensures { MatchOption result (IsInRange x y row.now → ⊥) (λ s. s ≡ half_plane x y row.now) }
 {
     short_side(row.coefs.at(x), row.coefs.at(y), row.constant)
 }
 
 /// The half plane of these numbers. None where one is beyond the exact range.
-fn short_side(a: i128, b: i128, c: i128) -> Option<Side>
+fn short_side(a: i128, b: i128, c: i128) -> Option<PlaneSide>
     ensures { MatchOption result (IsShortSide (record { a = a; b = b; c = c })
         → ⊥) (λ s. s ≡ record { a = a; b = b; c = c }) }
 {
@@ -80,7 +80,7 @@ fn short_side(a: i128, b: i128, c: i128) -> Option<Side>
     if !is_constant(c) {
         return None;
     }
-    Some(Side { a, b, c })
+    Some(PlaneSide { a, b, c })
 }
 
 /// Whether the number is below 2 ^ 31 in size.
@@ -98,7 +98,7 @@ fn is_constant(c: i128) -> bool
 }
 
 /// Adds the half planes of a row by the op.
-fn add(sides: &mut Vec<Side>, op: RowOp, side: Side) -> Result<(), NoMemory>
+fn add(sides: &mut Vec<PlaneSide>, op: RowOp, side: PlaneSide) -> Result<(), NoMemory>
     ensures { OnOk result (sides.new.items ≡ sides.old.items ++ by_op op side) }
 {
     sides.push(side)?;

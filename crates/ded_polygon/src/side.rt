@@ -9,13 +9,13 @@ use std::marker::Model;
 
 /// The points with `a * x + b * y + c` at most 0.
 #[derive(Clone, Copy)]
-pub(crate) struct Side {
+pub(crate) struct PlaneSide {
     pub a: i128,
     pub b: i128,
     pub c: i128,
 }
 
-impl Model for Side {
+impl Model for PlaneSide {
     ghost use Rattle.ded_polygon.specs.Plane.{HalfPlane};
 
     ghost Value = { HalfPlane };
@@ -29,7 +29,7 @@ impl Model for Side {
     ghost invariant = { λ s. IsShortSide (record { a = s.a; b = s.b; c = s.c }) };
 }
 
-impl Side {
+impl PlaneSide {
     /// The left side at the corner, over its denominator: at most 0 inside, 0 on the border.
     pub fn level(self, corner: Corner) -> i128
         ensures { result ≡ level self corner }
@@ -41,7 +41,7 @@ impl Side {
     }
 
     /// Above 0 where the way along the border, with the inside to its left, leads out of the other half plane.
-    pub fn bend(self, other: Side) -> i128
+    pub fn bend(self, other: PlaneSide) -> i128
         ensures { result ≡ bend self other }
     {
         cross(self.a, other.b, self.b, other.a)
@@ -69,14 +69,14 @@ impl Side {
     }
 
     /// Whether the way along the border, with the inside to its left, leads out of the other half plane.
-    pub fn leads_out_of(self, other: Side) -> bool
+    pub fn leads_out_of(self, other: PlaneSide) -> bool
         ensures { IsTrue result ↔ (pos 0 <ℤ bend self other) }
     {
         self.bend(other) > 0
     }
 
     /// Where the borders cross, if the way along the first one leads out of the other half plane there.
-    pub fn crossing(self, other: Side) -> Option<Corner>
+    pub fn crossing(self, other: PlaneSide) -> Option<Corner>
         ensures { MatchOption result (bend self other ≤ℤ pos 0) (λ c. (c ≡ crossing self other)
             × (pos 0 <ℤ bend self other)) }
     {
@@ -92,10 +92,10 @@ impl Side {
     }
 
     /// The half plane on the other side of the border.
-    pub fn opposite(self) -> Side
+    pub fn opposite(self) -> PlaneSide
         ensures { result ≡ opposite self }
     {
-        Side {
+        PlaneSide {
             a: -self.a,
             b: -self.b,
             c: -self.c,

@@ -5,7 +5,7 @@ ghost use Rattle.ded_polygon.specs.Vertices.{LiesIn};
 ghost use Rattle.ded_polygon.specs.Lists.{spot_in, side_in, AreVertices, AreAllVertices, Grows, HasCrossing};
 
 use crate::corner::Corner;
-use crate::side::Side;
+use crate::side::PlaneSide;
 use ded_model::memory::NoMemory;
 use std::alloc::Global;
 
@@ -13,7 +13,7 @@ use std::alloc::Global;
 ///
 /// # Errors
 /// Out of memory.
-pub(crate) fn vertices(alloc: Global, sides: &[Side]) -> Result<Vec<Corner>, NoMemory>
+pub(crate) fn vertices(alloc: Global, sides: &[PlaneSide]) -> Result<Vec<Corner>, NoMemory>
     ensures { IfOk result (λ found. AreAllVertices sides.now found.items) }
 {
     let mut found = Vec::new(alloc);
@@ -24,7 +24,7 @@ pub(crate) fn vertices(alloc: Global, sides: &[Side]) -> Result<Vec<Corner>, NoM
 }
 
 /// Adds the vertices on the border of the half plane.
-fn add_on(found: &mut Vec<Corner>, side: Side, sides: &[Side]) -> Result<(), NoMemory>
+fn add_on(found: &mut Vec<Corner>, side: PlaneSide, sides: &[PlaneSide]) -> Result<(), NoMemory>
     requires vertices { AreVertices sides.now found.old.items }
     requires inside { In side sides.now }
     ensures grows { OnOk result (Grows sides.now found.old.items found.new.items) }
@@ -40,9 +40,9 @@ fn add_on(found: &mut Vec<Corner>, side: Side, sides: &[Side]) -> Result<(), NoM
 /// Adds the point where the borders cross, if it is a new vertex.
 fn add_crossing(
     found: &mut Vec<Corner>,
-    side: Side,
-    other: Side,
-    sides: &[Side],
+    side: PlaneSide,
+    other: PlaneSide,
+    sides: &[PlaneSide],
 ) -> Result<(), NoMemory>
     requires vertices { AreVertices sides.now found.old.items }
     requires inside { In side sides.now }
@@ -64,7 +64,7 @@ fn add_crossing(
 }
 
 /// Whether the corner lies in each of the half planes.
-fn lies_in(sides: &[Side], corner: Corner) -> bool
+fn lies_in(sides: &[PlaneSide], corner: Corner) -> bool
     ensures { IsTrue result ↔ LiesIn sides.now corner }
 {
     for side in sides {
@@ -76,7 +76,7 @@ fn lies_in(sides: &[Side], corner: Corner) -> bool
 }
 
 /// Whether one of the corners is on both borders.
-fn has_on_both(found: &[Corner], side: Side, other: Side) -> bool
+fn has_on_both(found: &[Corner], side: PlaneSide, other: PlaneSide) -> bool
     ensures { IsTrue result ↔ ((k : ℕ) × (k < length found.now) × (level side (spot_in found.now k) ≡ pos 0)
         × (level other (spot_in found.now k) ≡ pos 0)) }
 {

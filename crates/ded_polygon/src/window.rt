@@ -3,13 +3,13 @@ ghost use Rattle.std.specs.Prelude.{◌≡◌, ◌↔◌, pos, ◌<ℤ◌, IsTru
 ghost use Rattle.ded_num.specs.Length.{IsWithin};
 ghost use Rattle.ded_polygon.specs.Windows.{Frame, IsFrame, window_planes};
 
-use crate::side::Side;
+use crate::side::PlaneSide;
 use std::marker::Model;
 
 /// The points with x from `left / den` to `right / den` and y from `bottom / den` to `top / den`. The denominator is
 /// above 0 and below 2 ^ 31, the other numbers are below 2 ^ 62 in size, and each first one is less than the second.
 #[derive(Clone, Copy, Debug)]
-pub struct Window {
+pub struct PlaneWindow {
     pub left: i128,
     pub right: i128,
     pub bottom: i128,
@@ -17,7 +17,7 @@ pub struct Window {
     pub den: i128,
 }
 
-impl Model for Window {
+impl Model for PlaneWindow {
     ghost use Rattle.ded_polygon.specs.Windows.{Frame, IsFrame};
 
     ghost Value = { Frame };
@@ -30,9 +30,9 @@ impl Model for Window {
         IsFrame (record { left = w.left; right = w.right; bottom = w.bottom; top = w.top; den = w.den }) };
 }
 
-impl Window {
+impl PlaneWindow {
     /// The window of these numbers. None where one is beyond the exact range, or the window has no inside.
-    pub fn new(left: i128, right: i128, bottom: i128, top: i128, den: i128) -> Option<Window>
+    pub fn new(left: i128, right: i128, bottom: i128, top: i128, den: i128) -> Option<PlaneWindow>
         ensures { let w : Frame = record { left = left; right = right; bottom = bottom; top = top; den = den } in
             MatchOption result (IsFrame w → ⊥) (λ v. v ≡ w) }
     {
@@ -45,7 +45,7 @@ impl Window {
         if !are_ends(bottom, top) {
             return None;
         }
-        Some(Window {
+        Some(PlaneWindow {
             left,
             right,
             bottom,
@@ -55,27 +55,27 @@ impl Window {
     }
 
     /// The half planes left, right, below and above.
-    pub(crate) fn sides(self) -> [Side; 4]
+    pub(crate) fn sides(self) -> [PlaneSide; 4]
         ensures sides { result ≡ window_planes self }
         ensures positive { pos 0 <ℤ self.den }
     {
         [
-            Side {
+            PlaneSide {
                 a: -self.den,
                 b: 0,
                 c: self.left,
             },
-            Side {
+            PlaneSide {
                 a: self.den,
                 b: 0,
                 c: -self.right,
             },
-            Side {
+            PlaneSide {
                 a: 0,
                 b: -self.den,
                 c: self.bottom,
             },
-            Side {
+            PlaneSide {
                 a: 0,
                 b: self.den,
                 c: -self.top,

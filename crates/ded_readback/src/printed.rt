@@ -13,12 +13,12 @@ use std::alloc::Global;
 
 /// A sink that keeps all that it is given. It fails only where there is no memory.
 #[derive(Drop)]
-pub(crate) struct Text {
+pub(crate) struct PrintedText {
     bytes: Vec<u8>,
     faults: u64,
 }
 
-impl Sink for Text {
+impl Sink for PrintedText {
     ghost contents = { λ t. Some (text_bytes t) };
 
     ghost faults = { text_faults };
@@ -40,7 +40,7 @@ pub(crate) fn is_printed(alloc: Global, answer: &Answer, bytes: &[u8]) -> Result
     ensures same { IfOk result (λ b. b ≡ bytes_eq (answer_text answer.now.heading answer.now.tuples) bytes.now) }
     ensures memory { IfErr result (λ e. e ≡ Memory) }
 {
-    let mut text = Text {
+    let mut text = PrintedText {
         bytes: Vec::new(alloc),
         faults: 0,
     };

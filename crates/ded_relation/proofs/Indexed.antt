@@ -11,7 +11,7 @@ use Rattle.std.proofs.lemmas.List.Sorted.{Contains-permutation}
 use Rattle.ded_model.specs.Row.{Atom, tuple_holds}
 use Rattle.ded_model.proofs.Lists.{Every, Some, every-append, every_all, all_every}
 use Rattle.ded_model.proofs.Rows.{or_right}
-use Rattle.ded_hull.specs.declared.entry.Entry.{Entry}
+use Rattle.ded_hull.specs.declared.entry.ReachEntry.{ReachEntry}
 use Rattle.ded_ranges.specs.declared.window.Window.{Window}
 use Rattle.ded_hull.specs.Entries.{of_keys, IsComplete}
 use Rattle.ded_ranges.specs.Limits.{are_met}
@@ -49,22 +49,22 @@ every_by P Q (x ∷ xs) f h = (f x h.0, every_by P Q xs f h.1)
 -- ---- moved, and one more
 
 -- in another order
-pub moved : (es fs : List Entry) (ts : List (ℕ × List Atom)) → IsPermutation es fs → IsIndex es ts → IsIndex fs ts
+pub moved : (es fs : List ReachEntry) (ts : List (ℕ × List Atom)) → IsPermutation es fs → IsIndex es ts → IsIndex fs ts
 moved es fs ts p h = every_by _ _ ts (λ t s. some_moved (IsEntryOf t) es fs p s) h
 
 -- with one entry more
-pub longer : (old new : List Entry) (ts : List (ℕ × List Atom)) (t : ℕ × List Atom) → IsIndex old ts → Indexes t old new → IsIndex new ts
+pub longer : (old new : List ReachEntry) (ts : List (ℕ × List Atom)) (t : ℕ × List Atom) → IsIndex old ts → Indexes t old new → IsIndex new ts
 longer old new ts t h x = moved (x.entry ∷ old) new ts x.list (every_by _ _ ts (λ u s. inr s) h)
 
 -- and its tuple at the end
-pub pushed : (old new : List Entry) (ts us : List (ℕ × List Atom)) (t : ℕ × List Atom) → IsIndex old ts → Indexes t old new → us ≡ ts ++ t ∷ [] → IsIndex new us
+pub pushed : (old new : List ReachEntry) (ts us : List (ℕ × List Atom)) (t : ℕ × List Atom) → IsIndex old ts → Indexes t old new → us ≡ ts ++ t ∷ [] → IsIndex new us
 pushed old new ts us t h x e =
     subst (IsIndex new) (sym e)
     (every-append (λ u. Some (IsEntryOf u) new) ts (t ∷ []) (longer old new ts t h x) (some_moved (IsEntryOf t) (x.entry ∷ old) new x.list (inl x.is), tt))
 
 -- ---- without what has no tuple's number
 
-some_left : (P : Entry → Type 0) (vs : List (ℕ × List Atom)) (es : List Entry) → ((e : Entry) → P e → is_some (lookup (is_at (nat_cmp e.id)) vs) ≡ true) → Some P es → Some P (of_keys vs es)
+some_left : (P : ReachEntry → Type 0) (vs : List (ℕ × List Atom)) (es : List ReachEntry) → ((e : ReachEntry) → P e → is_some (lookup (is_at (nat_cmp e.id)) vs) ≡ true) → Some P es → Some P (of_keys vs es)
 some_left P vs [] f h = absurd h
 some_left P vs (e ∷ es) f (inl h) = subst (λ b. Some P (cond b (e ∷ of_keys vs es) (of_keys vs es))) (sym (f e h)) (inl h)
 some_left P vs (e ∷ es) f (inr h) = by (is_some (lookup (is_at (nat_cmp e.id)) vs)) (some_left P vs es f h)
@@ -74,10 +74,10 @@ some_left P vs (e ∷ es) f (inr h) = by (is_some (lookup (is_at (nat_cmp e.id))
     by false s = s
 
 -- what is true of each entry is so of those
-pub every_of : (P : Entry → Type 0) (vs : List (ℕ × List Atom)) (es : List Entry) → Every P es → Every P (of_keys vs es)
+pub every_of : (P : ReachEntry → Type 0) (vs : List (ℕ × List Atom)) (es : List ReachEntry) → Every P es → Every P (of_keys vs es)
 every_of P vs es h = all_every P (of_keys vs es) (All-filter (λ e. is_some (lookup (is_at (nat_cmp e.id)) vs)) P es (every_all P es h))
 
-pub pruned : (es fs : List Entry) (ts : List (ℕ × List Atom)) → IsPermutation (of_keys ts es) fs → IsIndex es ts → IsIndex fs ts
+pub pruned : (es fs : List ReachEntry) (ts : List (ℕ × List Atom)) → IsPermutation (of_keys ts es) fs → IsIndex es ts → IsIndex fs ts
 pruned es fs ts p h = moved (of_keys ts es) fs ts p (each [] ts refl h)
   where
     same : (k : ℕ) → (k == k) ≡ true
@@ -87,7 +87,7 @@ pruned es fs ts p h = moved (of_keys ts es) fs ts p (each [] ts refl h)
     has [] t us = ap (λ b. b || list_any (λ u. u.0 == t.0) us) (same t.0)
     has (u ∷ front) t us = or_right (u.0 == t.0) (list_any (λ u. u.0 == t.0) (front ++ t ∷ us)) (has front t us)
 
-    there : (front : List (ℕ × List Atom)) (t : ℕ × List Atom) (us : List (ℕ × List Atom)) → front ++ t ∷ us ≡ ts → (e : Entry) → IsEntryOf t e → is_some (lookup (is_at (nat_cmp e.id)) ts) ≡ true
+    there : (front : List (ℕ × List Atom)) (t : ℕ × List Atom) (us : List (ℕ × List Atom)) → front ++ t ∷ us ≡ ts → (e : ReachEntry) → IsEntryOf t e → is_some (lookup (is_at (nat_cmp e.id)) ts) ≡ true
     there front t us is e x = ap (λ k. is_some (lookup (is_at (nat_cmp k)) ts)) x.0 ∙ found_numbered t.0 ts ∙ subst (λ xs. list_any (λ u. u.0 == t.0) xs ≡ true) is (has front t us)
 
     each : (front us : List (ℕ × List Atom)) → front ++ us ≡ ts → Every (λ t. Some (IsEntryOf t) es) us → Every (λ t. Some (IsEntryOf t) (of_keys ts es)) us
@@ -125,13 +125,13 @@ apart_from : (a b : Bool) → (a ≡ true → b ≡ true → ⊥) → b ≡ true
 apart_from true b h e = absurd (h refl e)
 apart_from false b h e = refl
 
-pub missed : (w : Window) (es : List Entry) (ids : List ℕ) (t : ℕ × List Atom) → IsComplete w.limits.items es ids → Some (IsEntryOf t) es → (Contains ids t.0 → ⊥) → IsMissed w t.1
+pub missed : (w : Window) (es : List ReachEntry) (ids : List ℕ) (t : ℕ × List Atom) → IsComplete w.limits.items es ids → Some (IsEntryOf t) es → (Contains ids t.0 → ⊥) → IsMissed w t.1
 missed w es ids t complete some none p is within = apart_from (tuple_holds t.1 p) true (λ holds e. none (there es (complete (column_value p) p.den is.positive met) some holds)) refl
   where
     met : are_met (column_value p) p.den w.limits.items ≡ true
     met = and_left (are_met (column_value p) p.den w.limits.items) (list_all (is_text_met p) w.texts.items) within
 
-    there : (es : List Entry) → Every (λ e. Lies e.reach (column_value p) p.den → Contains ids e.id) es → Some (IsEntryOf t) es → tuple_holds t.1 p ≡ true → Contains ids t.0
+    there : (es : List ReachEntry) → Every (λ e. Lies e.reach (column_value p) p.den → Contains ids e.id) es → Some (IsEntryOf t) es → tuple_holds t.1 p ≡ true → Contains ids t.0
     there [] c s h = absurd s
     there (e ∷ es) c (inl s) h = subst (Contains ids) s.0 (c.0 (s.1 p is h))
     there (e ∷ es) c (inr s) h = there es c.1 s h

@@ -10,7 +10,7 @@ use Rattle.ded_model.specs.declared.name.Column.{Column}
 use Rattle.ded_model.specs.Row.{Atom, tuple_holds}
 use Rattle.ded_model.proofs.Lists.{Every, Some, every-append}
 use Rattle.ded_ranges.specs.declared.window.Window.{Window}
-use Rattle.ded_hull.specs.declared.entry.Entry.{Entry}
+use Rattle.ded_hull.specs.declared.entry.ReachEntry.{ReachEntry}
 use Rattle.ded_hull.specs.Entries.{IsComplete}
 use Rattle.ded_ranges.specs.declared.reach.Range.{Range}
 use Rattle.ded_hull.specs.Segments.{IsSegment, AreSegments}
@@ -41,11 +41,11 @@ with_texts cs x y ts e h = subst (λ hs. Every (IsThere hs cs y.texts.set) ts) (
 -- ---- segments
 
 -- in another order
-same_segments : (old new : List Entry) → IsPermutation old new → AreSegments old → AreSegments new
+same_segments : (old new : List ReachEntry) → IsPermutation old new → AreSegments old → AreSegments new
 same_segments = every_moved IsSegment
 
 -- with one more
-more_segments : (old new : List Entry) (t : ℕ × List Atom) (x : Indexes t old new) → IsSegment x.entry → AreSegments old → AreSegments new
+more_segments : (old new : List ReachEntry) (t : ℕ × List Atom) (x : Indexes t old new) → IsSegment x.entry → AreSegments old → AreSegments new
 more_segments old new t x is are = every_moved IsSegment (x.entry ∷ old) new x.list (is, are)
 
 segment_of : (k : ℕ) (rs : List Range) → length rs ≡ 1 → AreOrdered rs → IsSegment (record { id = k; reach = rs })

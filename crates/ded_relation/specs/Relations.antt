@@ -5,7 +5,7 @@ use Rattle.std.specs.List.Sorted.{IsPermutation, IsStrictlyIncreasing}
 use Rattle.ded_model.specs.declared.name.Column.{Column}
 use Rattle.ded_model.specs.Row.{Atom, tuple_holds}
 use Rattle.ded_model.proofs.Lists.{Every, Some}
-use Rattle.ded_hull.specs.declared.entry.Entry.{Entry}
+use Rattle.ded_hull.specs.declared.entry.ReachEntry.{ReachEntry}
 use Rattle.ded_ranges.specs.declared.window.Window.{Window}
 use Rattle.ded_hull.specs.Entries.{Hulls}
 use Rattle.ded_hull.specs.Segments.{IsSegment, AreSegments}
@@ -26,16 +26,16 @@ pub record Relation : Type 0 where
   pub reaches : Hulls
 
 -- the entry has the tuple's number, and its reach contains the values of each point of the tuple
-abbrev pub IsEntryOf : ℕ × List Atom → Entry → Type 0
+abbrev pub IsEntryOf : ℕ × List Atom → ReachEntry → Type 0
 IsEntryOf t e = (e.id ≡ t.0) × IsReachOf e.reach (tuple_holds t.1)
 
 -- each tuple has an entry
-abbrev pub IsIndex : List Entry → List (ℕ × List Atom) → Type 0
+abbrev pub IsIndex : List ReachEntry → List (ℕ × List Atom) → Type 0
 IsIndex es ts = Every (λ t. Some (IsEntryOf t) es) ts
 
 -- the entries, in some order, and one more of the tuple
-pub record Indexes (t : ℕ × List Atom) (old new : List Entry) : Type 0 where
-  pub entry : Entry
+pub record Indexes (t : ℕ × List Atom) (old new : List ReachEntry) : Type 0 where
+  pub entry : ReachEntry
   pub is : IsEntryOf t entry
   pub list : IsPermutation (entry ∷ old) new
 

@@ -21,7 +21,7 @@ use Rattle.ded_ranges.proofs.Sums.{zero_from}
 use Rattle.ded_print.proofs.Signs.{plus}
 use Rattle.ded_dump.specs.Operands.{parts_text, operand_text}
 use Rattle.ded_terminals.specs.Literals.{Literal, lowest, lcm_from, common, numerator_over, is_long_over, are_long_over, exact, marked}
-use Rattle.ded_terminals.specs.Operands.{Side, spell_side, Part, Reading, quoted, named, parts, literals_of, signed, no_sums, total_from, as_sum, operand_over, argument_of}
+use Rattle.ded_terminals.specs.Operands.{ParsedSide, spell_side, SignedFactor, Reading, quoted, named, parts, literals_of, signed, no_sums, total_from, as_sum, operand_over, argument_of}
 use Rattle.ded_terminals.specs.Atoms.{argument}
 use Rattle.ded_syntax.specs.Marks.{is_marked}
 use Rattle.ded_reread.specs.Operands.{parts_by, restored_operand}
@@ -86,13 +86,13 @@ sum_total M g k (c ∷ cs) over fine all once = by (int_eq k (pos 0)) refl
 -- ---- no mark
 
 -- each numerator over m is below 2^63
-abbrev pub AreShortOver : ℕ → List Part → Type 0
-AreShortOver m = AllByRecursion (λ (p : Part). numerator_over m p.1.0 < 2 ^ 63)
+abbrev pub AreShortOver : ℕ → List SignedFactor → Type 0
+AreShortOver m = AllByRecursion (λ (p : SignedFactor). numerator_over m p.1.0 < 2 ^ 63)
 
 pub not_long : (n : ℕ) → n < 2 ^ 63 → nat_lt (2 ^ 96) n ≡ false
 not_long n h = grind (arith, nat_tests)
 
-pub none_long : (m : ℕ) (ps : List Part) → AreShortOver m ps → list_any (is_long_over m) (literals_of ps) ≡ false
+pub none_long : (m : ℕ) (ps : List SignedFactor) → AreShortOver m ps → list_any (is_long_over m) (literals_of ps) ≡ false
 none_long m [] h = refl
 none_long m (p ∷ ps) h = or_from (is_long_over m p.1.0) (list_any (is_long_over m) (literals_of ps)) (not_long (numerator_over m p.1.0) h.0) (none_long m ps h.1)
 
@@ -105,7 +105,7 @@ marked_low ls m e h short =
     ap (λ (x : ℕ). if are_long_over x ls then 2 ^ 63 else x) e
     ∙ ap (λ (b : Bool). if b then 2 ^ 63 else m) (or_from (nat_le (2 ^ 63) m) (list_any (is_long_over m) ls) (low m h) short)
 
-pub short_append : (m : ℕ) (ps qs : List Part) → AreShortOver m ps → AreShortOver m qs → AreShortOver m (ps ++ qs)
+pub short_append : (m : ℕ) (ps qs : List SignedFactor) → AreShortOver m ps → AreShortOver m qs → AreShortOver m (ps ++ qs)
 short_append m [] qs h k = k
 short_append m (p ∷ ps) qs h k = (h.0, short_append m ps qs h.1 k)
 
@@ -127,7 +127,7 @@ sum_short M g k (c ∷ cs) over fine all = short_append (M / g) (parts_over M (c
 -- ---- arguments
 
 pub record IsWordedArgument (bytes : List ℕ) (o : Operand) : Type 0 where
-  pub side : Side
+  pub side : ParsedSide
   pub worded : Worded bytes (spell_side side)
   pub means : argument exact side ≡ o
   pub unmarked : is_marked (argument marked side) ≡ false

@@ -29,7 +29,7 @@ use Rattle.ded_dump.specs.Comparisons.{compare_text, constant_text, stated_text,
 use Rattle.ded_dump.specs.Operands.{operand_text, operands_text, member_text}
 use Rattle.ded_terminals.specs.Symbols.{Open, Close, Comma}
 use Rattle.ded_terminals.specs.Literals.{exact, marked}
-use Rattle.ded_terminals.specs.Operands.{Side, spell_side}
+use Rattle.ded_terminals.specs.Operands.{ParsedSide, spell_side}
 use Rattle.ded_terminals.specs.Atoms.{Named, spell_named, name_of, belongs, spell_rest, argument}
 use Rattle.ded_terminals.specs.MemberNames.{word_of}
 use Rattle.ded_syntax.specs.Marks.{is_marked}
@@ -129,7 +129,7 @@ pub comma : Loose (codes ", ") (Comma ∷ [])
 comma = then_any Any (codes ",") (codes " ") (Comma ∷ []) [] (lone_sign (codes ",") (inr (inr (inr (inr (inl refl))))) refl) blank
 
 record AreWordedArguments (bytes : List ℕ) (ts : List Operand) : Type 0 where
-  sides : List Side
+  sides : List ParsedSide
   worded : Worded bytes (spell_rest spell_side sides)
   means : map (argument exact) sides ≡ map restored_operand ts
   unmarked : list_any is_marked (map (argument marked) sides) ≡ false

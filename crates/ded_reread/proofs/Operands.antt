@@ -17,7 +17,7 @@ use Rattle.ded_print.specs.Tuples as turned
 use Rattle.ded_print.proofs.Signs.{plus}
 use Rattle.ded_dump.specs.Operands.{number_over, magnitude, later_products_text, later_constant_text, parts_text}
 use Rattle.ded_terminals.specs.Literals.{Literal, lowest}
-use Rattle.ded_terminals.specs.Operands.{Part, parts, literals_of}
+use Rattle.ded_terminals.specs.Operands.{SignedFactor, parts, literals_of}
 use Rattle.ded_reread.specs.ScriptWords.{IsName}
 use Rattle.ded_reread.proofs.Lowest.{factor_pos, lowest_all, gcd_last, lowest_apart}
 use Rattle.ded_reread.proofs.Products.{sign_codes, dash_codes, IsNumeral, numeral_by, IsMultiple, any_product, scaled_product, constant_product, AreMore, no_more, one_more, IsSide, sum_side}
@@ -76,17 +76,17 @@ later_text M a = ap (number_over (pos M)) (magnitude_is a)
 
 -- ---- the parts of a sum
 
-abbrev pub part_over : ℕ → List ℕ × ℤ → Part
+abbrev pub part_over : ℕ → List ℕ × ℤ → SignedFactor
 part_over M c = (int_lt c.1 (pos 0), (lowest (unsigned_abs c.1) M, Some c.0))
 
-abbrev pub parts_over : ℕ → List (List ℕ × ℤ) → List Part
+abbrev pub parts_over : ℕ → List (List ℕ × ℤ) → List SignedFactor
 parts_over M [] = []
 parts_over M (c ∷ cs) = part_over M c ∷ parts_over M cs
 
-abbrev pub constant_part : ℕ → ℤ → Part
+abbrev pub constant_part : ℕ → ℤ → SignedFactor
 constant_part M k = (int_lt k (pos 0), (lowest (unsigned_abs k) M, None))
 
-abbrev pub constant_parts : ℕ → ℤ → List Part
+abbrev pub constant_parts : ℕ → ℤ → List SignedFactor
 constant_parts M k = if int_eq k (pos 0) then [] else constant_part M k ∷ []
 
 abbrev pub HaveNames : List (List ℕ × ℤ) → Type 0
@@ -98,7 +98,7 @@ AreFine g = AllByRecursion (λ (c : List ℕ × ℤ). IsFine g c.1)
 multiple_of : (M g : ℕ) (c : List ℕ × ℤ) → IsOver M g → IsFine g c.1 → IsName c.0 → IsMultiple (magnitude_text (unsigned_abs c.1) M ++ (42 ∷ c.0)) (lowest (unsigned_abs c.1) M, Some c.0)
 multiple_of M g c over fine n = scaled_product (magnitude_text (unsigned_abs c.1) M) c.0 (lowest (unsigned_abs c.1) M) (numeral_of M g c.1 over fine) n
 
-later_more : (M g : ℕ) (cs : List (List ℕ × ℤ)) (rest : List ℕ) (ps : List Part) → IsOver M g → AreFine g cs → HaveNames cs → AreMore rest ps → AreMore (later_products_text (pos M) cs ++ rest) (parts_over M cs ++ ps)
+later_more : (M g : ℕ) (cs : List (List ℕ × ℤ)) (rest : List ℕ) (ps : List SignedFactor) → IsOver M g → AreFine g cs → HaveNames cs → AreMore rest ps → AreMore (later_products_text (pos M) cs ++ rest) (parts_over M cs ++ ps)
 later_more M g [] rest ps over fine names m = m
 later_more M g (c ∷ cs) rest ps over fine names m =
     let minus = int_lt c.1 (pos 0) in
@@ -125,7 +125,7 @@ constant_more M g k over fine = by (int_eq k (pos 0))
     by false = some
 
 -- which parts are read
-abbrev pub sum_parts : ℕ → ℤ → List (List ℕ × ℤ) → List Part
+abbrev pub sum_parts : ℕ → ℤ → List (List ℕ × ℤ) → List SignedFactor
 sum_parts M k [] = constant_part M k ∷ []
 sum_parts M k (c ∷ cs) = parts_over M (c ∷ cs) ++ constant_parts M k
 
@@ -149,7 +149,7 @@ sum_of M g k (c ∷ cs) over fine all names =
 
 -- ---- what they are over
 
-pub parts_literals : (M : ℕ) (cs : List (List ℕ × ℤ)) (ps : List Part) → literals_of (parts_over M cs ++ ps) ≡ lowest_all M (coefficients cs) ++ literals_of ps
+pub parts_literals : (M : ℕ) (cs : List (List ℕ × ℤ)) (ps : List SignedFactor) → literals_of (parts_over M cs ++ ps) ≡ lowest_all M (coefficients cs) ++ literals_of ps
 parts_literals M [] ps = refl
 parts_literals M (c ∷ cs) ps = ap (λ (ls : List Literal). lowest (unsigned_abs c.1) M ∷ ls) (parts_literals M cs ps)
 

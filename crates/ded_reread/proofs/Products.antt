@@ -9,7 +9,7 @@ use Rattle.ded_model.specs.Quoting.{quoted as quoted_bytes}
 use Rattle.ded_print.specs.Numbers.{number_text}
 use Rattle.ded_terminals.specs.Symbols.{Name, Number, Slash, Plus, Minus, Times}
 use Rattle.ded_terminals.specs.Literals.{Scalar, whole, quotient, spell_scalar, Literal, literal, lowest}
-use Rattle.ded_terminals.specs.Operands.{Product, scaled, constant, lone, Side, text, sum, spell_product, spell_sign, spell_more, spell_side, Factor, factor, Part, add_factor, add_all, Reading, quoted, named, parts, as_reading, single, reading_of}
+use Rattle.ded_terminals.specs.Operands.{Product, scaled, constant, lone, ParsedSide, text, sum, spell_product, spell_sign, spell_more, spell_side, Factor, factor, SignedFactor, add_factor, add_all, Reading, quoted, named, parts, as_reading, single, reading_of}
 use Rattle.ded_reread.specs.ScriptWords.{IsName, IsText}
 use Rattle.ded_reread.proofs.Digits.{number_worded, number_back, number_begins, some_number}
 use Rattle.ded_reread.proofs.Worded.{Worded, Loose, Fits, Any, append, then_fitting, then_any, nothing, blank, dash, lone_sign, name, quoted_text}
@@ -116,16 +116,16 @@ lone_product x h = record { product = lone x; worded = name x h; value = refl }
 
 -- ---- later products
 
-pub record AreMore (bytes : List ℕ) (ps : List Part) : Type 0 where
+pub record AreMore (bytes : List ℕ) (ps : List SignedFactor) : Type 0 where
   pub more : List (Bool × Product)
   pub worded : Worded bytes (spell_more more)
   pub fits : Fits bytes
-  pub value : (a : List Part) → add_all (λ n. n) a more ≡ a ++ ps
+  pub value : (a : List SignedFactor) → add_all (λ n. n) a more ≡ a ++ ps
 
 pub no_more : AreMore [] []
 no_more = record { more = []; worded = nothing Fits; fits = tt; value = λ a. sym (append-nil a) }
 
-pub one_more : (minus : Bool) (s t : List ℕ) (f : Factor) (ps : List Part) → IsProduct s f → AreMore t ps → AreMore (sign_codes minus ++ (s ++ t)) ((minus, f) ∷ ps)
+pub one_more : (minus : Bool) (s t : List ℕ) (f : Factor) (ps : List SignedFactor) → IsProduct s f → AreMore t ps → AreMore (sign_codes minus ++ (s ++ t)) ((minus, f) ∷ ps)
 one_more minus s t f ps p m = record {
   more = (minus, p.product) ∷ m.more;
   worded = then_any Fits (sign_codes minus) (s ++ t) (spell_sign minus ∷ []) (spell_product p.product ++ spell_more m.more) (sign_between minus)
@@ -140,7 +140,7 @@ one_more minus s t f ps p m = record {
 -- ---- sides
 
 pub record IsSide (bytes : List ℕ) (r : Reading) : Type 0 where
-  pub side : Side
+  pub side : ParsedSide
   pub worded : Worded bytes (spell_side side)
   pub value : reading_of (λ n. n) side ≡ r
 
@@ -156,7 +156,7 @@ not_single false (scaled s n) more h = refl
 not_single false (constant s) more h = refl
 not_single false (lone n) more h = absurd h
 
-sum_value : (minus : Bool) (p : Product) (more : List (Bool × Product)) (f : Factor) (ps : List Part) → single (sum minus p more) ≡ None → factor (λ n. n) p ≡ f → ((a : List Part) → add_all (λ n. n) a more ≡ a ++ ps)
+sum_value : (minus : Bool) (p : Product) (more : List (Bool × Product)) (f : Factor) (ps : List SignedFactor) → single (sum minus p more) ≡ None → factor (λ n. n) p ≡ f → ((a : List SignedFactor) → add_all (λ n. n) a more ≡ a ++ ps)
     → reading_of (λ n. n) (sum minus p more) ≡ parts ((minus, f) ∷ ps)
 sum_value minus p more f ps none e v =
     ap (λ (o : Option (List ℕ)). as_reading o (add_all (λ n. n) (add_factor [] minus (factor (λ n. n) p)) more)) none
@@ -173,7 +173,7 @@ digit_no_dash (b ∷ s) next h = no_dash b h
 abbrev pub dash_codes : Bool → List ℕ
 dash_codes b = if b then 45 ∷ [] else []
 
-pub sum_side : (minus : Bool) (s t : List ℕ) (f : Factor) (ps : List Part) → IsMultiple s f → AreMore t ps → IsSide (dash_codes minus ++ (s ++ t)) (parts ((minus, f) ∷ ps))
+pub sum_side : (minus : Bool) (s t : List ℕ) (f : Factor) (ps : List SignedFactor) → IsMultiple s f → AreMore t ps → IsSide (dash_codes minus ++ (s ++ t)) (parts ((minus, f) ∷ ps))
 sum_side true s t f ps p m = record {
   side = sum true p.product m.more;
   worded = append (BeginsNot dash_byte) Fits (45 ∷ []) (s ++ t) (Minus ∷ []) (spell_product p.product ++ spell_more m.more) dash
@@ -187,15 +187,15 @@ sum_side false s t f ps p m = record {
   value = sum_value false p.product m.more f ps (not_single false p.product m.more p.many) p.value m.value;
 }
 
-not_alone : (x : List ℕ) (more : List (Bool × Product)) (q : Part) (ps : List Part) → ((a : List Part) → add_all (λ n. n) a more ≡ a ++ q ∷ ps) → single (sum false (lone x) more) ≡ None
+not_alone : (x : List ℕ) (more : List (Bool × Product)) (q : SignedFactor) (ps : List SignedFactor) → ((a : List SignedFactor) → add_all (λ n. n) a more ≡ a ++ q ∷ ps) → single (sum false (lone x) more) ≡ None
 not_alone x [] q ps v = absurd (nothing_is q ps (v []))
   where
-    nothing_is : (q : Part) (ps : List Part) → [] ≡ q ∷ ps → ⊥
+    nothing_is : (q : SignedFactor) (ps : List SignedFactor) → [] ≡ q ∷ ps → ⊥
     nothing_is q ps e = cc
 not_alone x (p ∷ more) q ps v = refl
 
 -- a name, and more
-pub named_sum : (x t : List ℕ) (q : Part) (ps : List Part) → IsName x → AreMore t (q ∷ ps) → IsSide (x ++ t) (parts ((false, ((1, 1), Some x)) ∷ q ∷ ps))
+pub named_sum : (x t : List ℕ) (q : SignedFactor) (ps : List SignedFactor) → IsName x → AreMore t (q ∷ ps) → IsSide (x ++ t) (parts ((false, ((1, 1), Some x)) ∷ q ∷ ps))
 named_sum x t q ps h m = record {
   side = sum false (lone x) m.more;
   worded = then_fitting x t (Name x ∷ []) (spell_more m.more) (name x h) m.fits m.worded;

@@ -27,7 +27,7 @@ use Rattle.ded_print.proofs.Signs.{plus}
 use Rattle.ded_dump.specs.Comparisons.{compare_text}
 use Rattle.ded_terminals.specs.Symbols.{Symbol, Relation}
 use Rattle.ded_terminals.specs.Literals.{Literal, lcm, lcm_from, common, numerator_over, is_long_over, exact, marked}
-use Rattle.ded_terminals.specs.Operands.{Side, spell_side, Part, Reading, quoted, named, parts, reading_of, literals, literals_of, signed, as_sum, operand_over}
+use Rattle.ded_terminals.specs.Operands.{ParsedSide, spell_side, SignedFactor, Reading, quoted, named, parts, reading_of, literals, literals_of, signed, as_sum, operand_over}
 use Rattle.ded_terminals.specs.Atoms.{compared}
 use Rattle.ded_syntax.specs.Marks.{is_marked}
 use Rattle.ded_reread.specs.Operands.{whole_sum, terms_of, left_of}
@@ -69,7 +69,7 @@ whole_short (l ∷ ls) h =
 -- ---- sides
 
 pub record IsWholeSide (bytes : List ℕ) (o : Operand) : Type 0 where
-  pub side : Side
+  pub side : ParsedSide
   pub worded : Worded bytes (spell_side side)
   pub reading : Reading
   pub reads : reading_of (λ n. n) side ≡ reading
@@ -139,10 +139,10 @@ whole_comparison s t op x y l r = record {
 
 -- ---- terms
 
-abbrev whole_part : List ℕ × ℤ → Part
+abbrev whole_part : List ℕ × ℤ → SignedFactor
 whole_part c = (int_lt c.1 (pos 0), ((unsigned_abs c.1, 1), Some c.0))
 
-abbrev whole_parts : List (List ℕ × ℤ) → List Part
+abbrev whole_parts : List (List ℕ × ℤ) → List SignedFactor
 whole_parts [] = []
 whole_parts (c ∷ cs) = whole_part c ∷ whole_parts cs
 
@@ -222,7 +222,7 @@ one_side x n false e small h =
     (sum_side false (number_text n ++ (42 ∷ x)) [] ((n, 1), Some x) [] p no_more) ((refl, small), tt)
     (ap (λ (b : Bool). operand_over exact 1 (parts ((b, ((n, 1), Some x)) ∷ []))) (sym (plus n)) ∙ sum_means ((x, pos n) ∷ []) (refl, tt))
 
-many_side : (x : List ℕ) (n : ℕ) (b : Bool) (t : List ℕ) (q : Part) (ps : List Part) → (n == 1) ≡ b → n < 2 ^ 63 → IsName x → AreMore t (q ∷ ps) → IsSide ((if b then x else (number_text n ++ (42 ∷ x))) ++ t) (parts ((false, ((n, 1), Some x)) ∷ q ∷ ps))
+many_side : (x : List ℕ) (n : ℕ) (b : Bool) (t : List ℕ) (q : SignedFactor) (ps : List SignedFactor) → (n == 1) ≡ b → n < 2 ^ 63 → IsName x → AreMore t (q ∷ ps) → IsSide ((if b then x else (number_text n ++ (42 ∷ x))) ++ t) (parts ((false, ((n, 1), Some x)) ∷ q ∷ ps))
 many_side x n true t q ps e small h m = subst (λ (k : ℕ). IsSide (x ++ t) (parts ((false, ((k, 1), Some x)) ∷ q ∷ ps))) (sym (eqb-true n 1 e)) (named_sum x t q ps h m)
 many_side x n false t q ps e small h m = sum_side false (number_text n ++ (42 ∷ x)) t ((n, 1), Some x) (q ∷ ps) (scaled_product (number_text n) x (n, 1) (whole_numeral n small) h) m
 

@@ -6,7 +6,7 @@ use Rattle.ded_model.proofs.Lists.{Every, every-append, every-left, every-right}
 use Rattle.ded_model.specs.Logic.{AllAtomsOf, logics}
 use Rattle.ded_terminals.specs.Symbols.{Symbol, Name, Times, Open, Close, Relation}
 use Rattle.ded_terminals.specs.Literals.{Literal, Reader, spell_scalar}
-use Rattle.ded_terminals.specs.Operands.{Product, scaled, constant, lone, Side, text, sum, spell_product, spell_more, spell_side, factor, Part, add_factor, add_all, Reading, quoted, named, parts, as_reading, single, reading_of, Sums, signed, put, put_at, no_sums, total_from, operand_over}
+use Rattle.ded_terminals.specs.Operands.{Product, scaled, constant, lone, ParsedSide, text, sum, spell_product, spell_more, spell_side, factor, SignedFactor, add_factor, add_all, Reading, quoted, named, parts, as_reading, single, reading_of, Sums, signed, put, put_at, no_sums, total_from, operand_over}
 use Rattle.ded_terminals.specs.Atoms.{spell_rest, Comparison, spell_comparison, comparison_form, argument, Named, plain, closed, inner, spell_named, name_of, Atom, truth, relates, belongs, spell_atom, atom_form}
 use Rattle.ded_reread.specs.Words.{HasWords, HaveWords, AtomHasWords, IsWritten}
 use Rattle.ded_reread.specs.ScriptWords.{IsName, IsMember, IsText}
@@ -19,7 +19,7 @@ abbrev IsGoodName : Option (List ℕ) → Type 0
 IsGoodName None = Unit {0}
 IsGoodName (Some n) = IsName n
 
-abbrev IsGoodPart : Part → Type 0
+abbrev IsGoodPart : SignedFactor → Type 0
 IsGoodPart p = IsGoodName p.1.1
 
 abbrev IsGoodReading : Reading → Type 0
@@ -34,18 +34,18 @@ factor_good read (scaled s n) h = (every-right IsGoodSymbol (spell_scalar s) (Ti
 factor_good read (constant s) h = tt
 factor_good read (lone n) h = h.0
 
-all_good : (read : ℕ → ℕ) (a : List Part) (ps : List (Bool × Product)) → Every IsGoodPart a → AreGood (spell_more ps) → Every IsGoodPart (add_all read a ps)
+all_good : (read : ℕ → ℕ) (a : List SignedFactor) (ps : List (Bool × Product)) → Every IsGoodPart a → AreGood (spell_more ps) → Every IsGoodPart (add_all read a ps)
 all_good read a [] g h = g
 all_good read a (p ∷ ps) g h =
     all_good read (add_factor a p.0 (factor read p.1)) ps
     (every-append IsGoodPart a ((p.0, factor read p.1) ∷ []) g (factor_good read p.1 (every-left IsGoodSymbol (spell_product p.1) (spell_more ps) h.1), tt))
     (every-right IsGoodSymbol (spell_product p.1) (spell_more ps) h.1)
 
-as_good : (o : Option (List ℕ)) (a : List Part) → IsGoodName o → Every IsGoodPart a → IsGoodReading (as_reading o a)
+as_good : (o : Option (List ℕ)) (a : List SignedFactor) → IsGoodName o → Every IsGoodPart a → IsGoodReading (as_reading o a)
 as_good None a g h = h
 as_good (Some n) a g h = g
 
-single_good : (s : Side) → AreGood (spell_side s) → IsGoodName (single s)
+single_good : (s : ParsedSide) → AreGood (spell_side s) → IsGoodName (single s)
 single_good (text t) h = tt
 single_good (sum true p ps) h = tt
 single_good (sum false (scaled s n) ps) h = tt
@@ -58,7 +58,7 @@ summed_good read minus p ps g h =
     as_good (single (sum minus p ps)) (add_all read (add_factor [] minus (factor read p)) ps) g
     (all_good read (add_factor [] minus (factor read p)) ps (factor_good read p (every-left IsGoodSymbol (spell_product p) (spell_more ps) h), tt) (every-right IsGoodSymbol (spell_product p) (spell_more ps) h))
 
-reading_good : (read : ℕ → ℕ) (s : Side) → AreGood (spell_side s) → IsGoodReading (reading_of read s)
+reading_good : (read : ℕ → ℕ) (s : ParsedSide) → AreGood (spell_side s) → IsGoodReading (reading_of read s)
 reading_good read (text t) h = h.0
 reading_good read (sum true p ps) h = summed_good read true p ps (single_good (sum true p ps) h) h.1
 reading_good read (sum false p ps) h = summed_good read false p ps (single_good (sum false p ps) h) h
@@ -80,7 +80,7 @@ at_good : (a : Sums) (o : Option (List ℕ)) (z : ℤ) → AreNamedParts a.0 →
 at_good a None z g h = g
 at_good a (Some n) z g h = put_good a.0 n z g h
 
-total_good : (numerator : ℕ → Literal → ℕ) (m : ℕ) (a : Sums) (ps : List Part) → AreNamedParts a.0 → Every IsGoodPart ps → AreNamedParts (total_from numerator m a ps).0
+total_good : (numerator : ℕ → Literal → ℕ) (m : ℕ) (a : Sums) (ps : List SignedFactor) → AreNamedParts a.0 → Every IsGoodPart ps → AreNamedParts (total_from numerator m a ps).0
 total_good numerator m a [] g h = g
 total_good numerator m a (p ∷ ps) g h =
     total_good numerator m (put_at a p.1.1 (signed p.0 (numerator m p.1.0))) ps (at_good a p.1.1 (signed p.0 (numerator m p.1.0)) g h.0) h.1
@@ -92,10 +92,10 @@ operand_good value m (quoted t) h = h
 operand_good value m (named n) h = h
 operand_good value m (parts ps) h = total_good value.numerator m no_sums ps tt h
 
-argument_good : (value : Reader) (s : Side) → AreGood (spell_side s) → HasWords IsName IsText (argument value s)
+argument_good : (value : Reader) (s : ParsedSide) → AreGood (spell_side s) → HasWords IsName IsText (argument value s)
 argument_good value s h = operand_good value _ (reading_of value.number s) (reading_good value.number s h)
 
-arguments_good : (value : Reader) (ss : List Side) → AreGood (spell_rest spell_side ss) → HaveWords IsName IsText (map (argument value) ss)
+arguments_good : (value : Reader) (ss : List ParsedSide) → AreGood (spell_rest spell_side ss) → HaveWords IsName IsText (map (argument value) ss)
 arguments_good value [] h = tt
 arguments_good value (s ∷ ss) h =
     (argument_good value s (every-left IsGoodSymbol (spell_side s) (spell_rest spell_side ss) h.1), arguments_good value ss (every-right IsGoodSymbol (spell_side s) (spell_rest spell_side ss) h.1))

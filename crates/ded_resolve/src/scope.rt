@@ -12,12 +12,12 @@ use std::marker::Model;
 
 /// A name and its slot.
 #[derive(Drop)]
-pub struct Bound<'a> {
+pub struct BoundName<'a> {
     variable: &'a Name,
     slot: Slot,
 }
 
-impl<'a> Model for Bound<'a> {
+impl<'a> Model for BoundName<'a> {
     ghost use Rattle.ded_model.specs.declared.slot.Slot.{Slot};
     ghost use Rattle.ded_model.specs.Point.{Key, name};
 
@@ -29,7 +29,7 @@ impl<'a> Model for Bound<'a> {
 /// The columns and quantifiers around a place, each with its slot. Contracts see them with the nearest first.
 #[derive(Drop)]
 pub struct Scope<'a> {
-    names: Vec<Bound<'a>>,
+    names: Vec<BoundName<'a>>,
 }
 
 impl<'a> Model for Scope<'a> {
@@ -76,7 +76,7 @@ impl<'a> Scope<'a> {
     pub fn bind(&mut self, variable: &'a Name, slot: Slot) -> Result<(), NoMemory>
         ensures { OnOk result (self.new ≡ (name variable.now, slot) ∷ self.old) }
     {
-        self.names.push(Bound { variable, slot })?;
+        self.names.push(BoundName { variable, slot })?;
         Ok(())
     }
 

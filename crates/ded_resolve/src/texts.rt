@@ -19,19 +19,19 @@ use std::alloc::Global;
 
 /// A side of a comparison of texts: a slot, or the bytes of a quoted text.
 #[derive(Clone, Copy)]
-pub enum Side<'a> {
+pub enum ComparedText<'a> {
     At(Slot),
     Word(&'a [u8]),
 }
 
 /// The side that an operand is. A sum is no text, and counts as an empty one.
-pub fn text_side<'a>(scope: &Scope, operand: &'a Operand) -> Side<'a>
+pub fn text_side<'a>(scope: &Scope, operand: &'a Operand) -> ComparedText<'a>
     ensures { side_form result ≡ text_side scope.now operand.now }
 {
     match operand {
-        Operand::Single(name) => Side::At(scope.slot(name)),
-        Operand::Sum(_) => Side::Word(&[]),
-        Operand::Quoted(text) => Side::Word(text.bytes.as_slice()),
+        Operand::Single(name) => ComparedText::At(scope.slot(name)),
+        Operand::Sum(_) => ComparedText::Word(&[]),
+        Operand::Quoted(text) => ComparedText::Word(text.bytes.as_slice()),
     }
 }
 
@@ -39,7 +39,7 @@ pub fn text_side<'a>(scope: &Scope, operand: &'a Operand) -> Side<'a>
 ///
 /// # Errors
 /// Out of memory.
-pub fn texts(alloc: Global, left: Side, op: CompareOp, right: Side) -> Result<Goal, NoMemory>
+pub fn texts(alloc: Global, left: ComparedText, op: CompareOp, right: ComparedText) -> Result<Goal, NoMemory>
     ensures goal { IfOk result (λ g. goal_form g ≡ texts_goal (side_form left.entry) op (side_form right.entry)) }
     ensures normal { IsTextSide (side_form left.entry) → IsTextSide (side_form right.entry)
         → IfOk result (λ g. IsNormalComparison (goal_form g)) }
@@ -52,30 +52,30 @@ pub fn texts(alloc: Global, left: Side, op: CompareOp, right: Side) -> Result<Go
 }
 
 /// The goal that both sides are the same text.
-fn same_text(alloc: Global, left: Side, right: Side) -> Result<Goal, NoMemory>
+fn same_text(alloc: Global, left: ComparedText, right: ComparedText) -> Result<Goal, NoMemory>
     ensures goal { IfOk result (λ g. goal_form g ≡ same_text_goal (side_form left.entry) (side_form right.entry)) }
     ensures normal { IsTextSide (side_form left.entry) → IsTextSide (side_form right.entry)
         → IfOk result (λ g. IsNormalComparison (goal_form g)) }
 {
     match (left, right) {
-        (Side::At(s), Side::At(t)) => Ok(same_slots(s, t)),
-        (Side::At(s), Side::Word(t)) => Ok(Goal::Theme(ThemeAtom::EqText(s, quoted(alloc, t)?))),
-        (Side::Word(t), Side::At(s)) => Ok(Goal::Theme(ThemeAtom::EqText(s, quoted(alloc, t)?))),
-        (Side::Word(t), Side::Word(u)) => Ok(truth(t == u)),
+        (ComparedText::At(s), ComparedText::At(t)) => Ok(same_slots(s, t)),
+        (ComparedText::At(s), ComparedText::Word(t)) => Ok(Goal::Theme(ThemeAtom::EqText(s, quoted(alloc, t)?))),
+        (ComparedText::Word(t), ComparedText::At(s)) => Ok(Goal::Theme(ThemeAtom::EqText(s, quoted(alloc, t)?))),
+        (ComparedText::Word(t), ComparedText::Word(u)) => Ok(truth(t == u)),
     }
 }
 
 /// The goal that the sides are different texts.
-fn other_text(alloc: Global, left: Side, right: Side) -> Result<Goal, NoMemory>
+fn other_text(alloc: Global, left: ComparedText, right: ComparedText) -> Result<Goal, NoMemory>
     ensures goal { IfOk result (λ g. goal_form g ≡ other_text_goal (side_form left.entry) (side_form right.entry)) }
     ensures normal { IsTextSide (side_form left.entry) → IsTextSide (side_form right.entry)
         → IfOk result (λ g. IsNormalComparison (goal_form g)) }
 {
     match (left, right) {
-        (Side::At(s), Side::At(t)) => Ok(other_slots(s, t)),
-        (Side::At(s), Side::Word(t)) => Ok(Goal::Theme(ThemeAtom::NeText(s, quoted(alloc, t)?))),
-        (Side::Word(t), Side::At(s)) => Ok(Goal::Theme(ThemeAtom::NeText(s, quoted(alloc, t)?))),
-        (Side::Word(t), Side::Word(u)) => Ok(truth(t != u)),
+        (ComparedText::At(s), ComparedText::At(t)) => Ok(other_slots(s, t)),
+        (ComparedText::At(s), ComparedText::Word(t)) => Ok(Goal::Theme(ThemeAtom::NeText(s, quoted(alloc, t)?))),
+        (ComparedText::Word(t), ComparedText::At(s)) => Ok(Goal::Theme(ThemeAtom::NeText(s, quoted(alloc, t)?))),
+        (ComparedText::Word(t), ComparedText::Word(u)) => Ok(truth(t != u)),
     }
 }
 

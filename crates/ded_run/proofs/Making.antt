@@ -9,7 +9,7 @@ use Rattle.ded_dialogue.specs.declared.dialogue.Dialogue.{Dialogue}
 use Rattle.ded_dialogue.specs.Runs.{Answers}
 use Rattle.ded_dialogue.specs.Streams.{Grows, Breaks}
 use Rattle.ded_dialogue.proofs.Feeding.{grows_both, grows_breaks, breaks_on}
-use Rattle.ded_run.specs.declared.made.Part.{Part}
+use Rattle.ded_run.specs.declared.made.TextPart.{TextPart}
 use Rattle.ded_run.specs.Made.{below, line, lines, land_row, road_insert, corner_question, other_corner_question, made_setup, made_questions, made_script}
 use Rattle.ded_run.specs.Parts.{part_bytes, parts_bytes}
 
@@ -87,7 +87,7 @@ module _ {A M : Type 0} (R : Answers M) (state : A → M) where
   breaks_row g a b h0 h1 h2 i n lt p q = breaks_step a b h0 h1 h2 (λ k. lines (flat_map g (below k))) (λ k. lines (g k)) (rows_add g) i p n lt q
 
   -- the sink failed at one of the parts
-  pub breaks_part : (a b : Dialogue A) (h0 h1 h2 : Option (List ℕ)) (parts : List Part) (i : ℕ) (d : Part) → i < length parts → Grows R state a b h0 h1 (parts_bytes (take i parts)) → Breaks R state b h1 h2 (part_bytes (get_or parts i d)) → Breaks R state a h0 h2 (parts_bytes parts)
+  pub breaks_part : (a b : Dialogue A) (h0 h1 h2 : Option (List ℕ)) (parts : List TextPart) (i : ℕ) (d : TextPart) → i < length parts → Grows R state a b h0 h1 (parts_bytes (take i parts)) → Breaks R state b h1 h2 (part_bytes (get_or parts i d)) → Breaks R state a h0 h2 (parts_bytes parts)
   breaks_part a b h0 h1 h2 parts i d lt p q =
       let p_i = get_or parts i d in
       let here : parts_bytes (take (i + 1) parts) ≡ parts_bytes (take i parts) ++ part_bytes p_i =

@@ -13,7 +13,7 @@ use itoa::Buffer;
 
 /// A part of a statement: a text as it stands, or a number in decimal.
 #[derive(Clone, Copy)]
-enum Part<'a> {
+enum TextPart<'a> {
     Text(&'a [u8]),
     Number(u32),
 }
@@ -104,19 +104,19 @@ fn feed_land<A: Answering, K: Sink>(
     ensures cause { HasCause (K.faults sink.old) (K.faults sink.new) result }
 {
     let parts = [
-        Part::Text(b"insert Land { n = 'r"),
-        Part::Number(row),
-        Part::Text(b"c"),
-        Part::Number(column),
-        Part::Text(b"', x >= "),
-        Part::Number(10 * column),
-        Part::Text(b", x <= "),
-        Part::Number(10 * column + 10),
-        Part::Text(b", y >= "),
-        Part::Number(10 * row),
-        Part::Text(b", y <= "),
-        Part::Number(10 * row + 10),
-        Part::Text(b" }"),
+        TextPart::Text(b"insert Land { n = 'r"),
+        TextPart::Number(row),
+        TextPart::Text(b"c"),
+        TextPart::Number(column),
+        TextPart::Text(b"', x >= "),
+        TextPart::Number(10 * column),
+        TextPart::Text(b", x <= "),
+        TextPart::Number(10 * column + 10),
+        TextPart::Text(b", y >= "),
+        TextPart::Number(10 * row),
+        TextPart::Text(b", y <= "),
+        TextPart::Number(10 * row + 10),
+        TextPart::Text(b" }"),
     ];
     feed_statement(dialogue, &parts, sink)
 }
@@ -154,13 +154,13 @@ fn feed_road<A: Answering, K: Sink>(
     ensures cause { HasCause (K.faults sink.old) (K.faults sink.new) result }
 {
     let parts = [
-        Part::Text(b"insert Road { k = 's"),
-        Part::Number(band),
-        Part::Text(b"', y - x >= "),
-        Part::Number(10 * band),
-        Part::Text(b", y - x <= "),
-        Part::Number(10 * band + 1),
-        Part::Text(b" }"),
+        TextPart::Text(b"insert Road { k = 's"),
+        TextPart::Number(band),
+        TextPart::Text(b"', y - x >= "),
+        TextPart::Number(10 * band),
+        TextPart::Text(b", y - x <= "),
+        TextPart::Number(10 * band + 1),
+        TextPart::Text(b" }"),
     ];
     feed_statement(dialogue, &parts, sink)
 }
@@ -179,15 +179,15 @@ fn feed_questions<A: Answering, K: Sink>(
         (lines (made_questions size))) }
     ensures cause { HasCause (K.faults sink.old) (K.faults sink.new) result }
 {
-    let last = Part::Number(size - 1);
+    let last = TextPart::Number(size - 1);
     let corner = [
-        Part::Text(b"ask Cross('r"),
+        TextPart::Text(b"ask Cross('r"),
         last,
-        Part::Text(b"c0', 's"),
+        TextPart::Text(b"c0', 's"),
         last,
-        Part::Text(b"')"),
+        TextPart::Text(b"')"),
     ];
-    let other_corner = [Part::Text(b"ask Cross('r0c"), last, Part::Text(b"', 's0')")];
+    let other_corner = [TextPart::Text(b"ask Cross('r0c"), last, TextPart::Text(b"', 's0')")];
     dialogue.feed(b"ask exists n text exists k text (Cross(n, k));\n", sink)?;
     feed_statement(dialogue, &corner, sink)?;
     feed_statement(dialogue, &other_corner, sink)?;
@@ -197,7 +197,7 @@ fn feed_questions<A: Answering, K: Sink>(
 /// Feeds a statement of these parts, with a `;` and a line feed.
 fn feed_statement<A: Answering, K: Sink>(
     dialogue: &mut Dialogue<A>,
-    parts: &[Part<'_>],
+    parts: &[TextPart<'_>],
     sink: &mut K,
 ) -> Result<(), Failed>
     ensures grows { IfOk result (λ _. Grows A.answers A.state dialogue.old dialogue.new (K.contents sink.old)
@@ -213,7 +213,7 @@ fn feed_statement<A: Answering, K: Sink>(
 /// Feeds the parts of a statement in turn.
 fn feed_parts<A: Answering, K: Sink>(
     dialogue: &mut Dialogue<A>,
-    parts: &[Part<'_>],
+    parts: &[TextPart<'_>],
     sink: &mut K,
 ) -> Result<(), Failed>
     ensures grows { IfOk result (λ _. Grows A.answers A.state dialogue.old dialogue.new (K.contents sink.old)
@@ -231,7 +231,7 @@ fn feed_parts<A: Answering, K: Sink>(
 /// Feeds a part of a statement.
 fn feed_part<A: Answering, K: Sink>(
     dialogue: &mut Dialogue<A>,
-    part: Part<'_>,
+    part: TextPart<'_>,
     sink: &mut K,
 ) -> Result<(), Failed>
     ensures grows { IfOk result (λ _. Grows A.answers A.state dialogue.old dialogue.new (K.contents sink.old)
@@ -241,8 +241,8 @@ fn feed_part<A: Answering, K: Sink>(
     ensures cause { HasCause (K.faults sink.old) (K.faults sink.new) result }
 {
     match part {
-        Part::Text(bytes) => dialogue.feed(bytes, sink),
-        Part::Number(number) => {
+        TextPart::Text(bytes) => dialogue.feed(bytes, sink),
+        TextPart::Number(number) => {
             let mut buffer = Buffer::new();
             dialogue.feed(buffer.format(number).as_bytes(), sink)
         }

@@ -30,7 +30,7 @@ pub struct Transaction {
 
 /// How much a transaction remembers.
 #[derive(Clone, Copy)]
-struct Extent {
+struct Remembered {
     accepted: usize,
     touched: usize,
     changed: usize,
@@ -89,7 +89,7 @@ impl Transaction {
 
     /// Forgets what doesn't count behind so much, after the reply: what was touched, where it doesn't depend on names,
     /// and what was accepted and changed, where it is a refusal.
-    fn settle(&mut self, reply: &Reply, extent: Extent)
+    fn settle(&mut self, reply: &Reply, extent: Remembered)
         ensures own { self.new.own ≡ self.old.own }
         ensures since { self.new.since ≡ self.old.since }
         ensures accepted { self.new.accepted.items ≡ (if is_refusal
@@ -109,12 +109,12 @@ impl Transaction {
     }
 
     /// How much is remembered.
-    fn extent(&self) -> Extent
+    fn extent(&self) -> Remembered
         ensures accepted { result.accepted ≡ length self.now.accepted.items }
         ensures touched { result.touched ≡ length self.now.touched.items }
         ensures changed { result.changed ≡ length self.now.changed.items }
     {
-        Extent {
+        Remembered {
             accepted: self.accepted.len(),
             touched: self.touched.len(),
             changed: self.changed.len(),
@@ -122,7 +122,7 @@ impl Transaction {
     }
 
     /// Forgets all but so much.
-    fn shorten(&mut self, extent: Extent)
+    fn shorten(&mut self, extent: Remembered)
         ensures own { self.new.own ≡ self.old.own }
         ensures since { self.new.since ≡ self.old.since }
         ensures accepted { self.new.accepted.items ≡ take extent.accepted self.old.accepted.items }

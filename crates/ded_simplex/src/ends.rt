@@ -12,7 +12,7 @@ ghost use Rattle.ded_weighing.specs.Columns.{lent};
 ghost use Rattle.ded_weighing.specs.Meeting.{meets};
 ghost use Rattle.ded_simplex.specs.Ends.{beyond_row, goes};
 
-use crate::extremes::Reach;
+use crate::extremes::SlotReach;
 use crate::fraction::fraction;
 use crate::telling::lent;
 use ded_box::Side;
@@ -41,7 +41,7 @@ pub(crate) fn checked_end(
     inside: &Witness,
     slot: Slot,
     side: Side,
-    reach: &Reach,
+    reach: &SlotReach,
 ) -> Result<Option<Bound>, NoMemory>
     requires coefs { AllByRecursion (λ r. AreCoefs r.coefs) rows.now }
     requires inside { meets inside.now.values.items inside.now.denominator rows.now ≡ true }
@@ -50,18 +50,18 @@ pub(crate) fn checked_end(
 {
     let aim = Aim { slot, side };
     match reach {
-        Reach::To(point, multipliers) => attained(alloc, rows, point, aim, multipliers),
-        Reach::Near(corner, multipliers) => {
+        SlotReach::To(point, multipliers) => attained(alloc, rows, point, aim, multipliers),
+        SlotReach::Near(corner, multipliers) => {
             approached(alloc, rows, inside, corner, aim, multipliers)
         }
-        Reach::Endless(direction) => {
+        SlotReach::Endless(direction) => {
             if is_endless(alloc, rows, inside, direction, aim)? {
                 Ok(Some(Bound::Infinite))
             } else {
                 Ok(None)
             }
         }
-        Reach::Unknown => Ok(None),
+        SlotReach::Unknown => Ok(None),
     }
 }
 

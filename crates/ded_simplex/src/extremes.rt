@@ -5,8 +5,8 @@
 //! its line show it. Where no line stops the variable of a column, the slot has no end.
 
 use crate::reading::{corner, end_multipliers, multipliers, point, ray};
-use crate::search::{End, helping, solve};
-use crate::table::{Line, Table};
+use crate::search::{SearchEnd, helping, solve};
+use crate::table::{TableauLine, Tableau};
 use crate::variable::Variable;
 use ded_model::memory::NoMemory;
 use ded_model::row::Row;
@@ -17,7 +17,7 @@ use std::cmp::Ordering;
 
 /// How far the values of a slot go to one side.
 #[derive(Drop)]
-pub(crate) enum Reach {
+pub(crate) enum SlotReach {
     /// To the value at the point. Numbers, first that of the row which says that a value is beyond, may show that none
     /// is.
     To(Witness, Vec<i128>),
@@ -31,11 +31,11 @@ pub(crate) enum Reach {
 
 /// Between which values a slot stands.
 #[derive(Drop)]
-pub(crate) enum Range {
+pub(crate) enum SlotRange {
     /// Between none: numbers that may refute the rows.
     Nowhere(Vec<i128>),
     /// A point at which the rows may hold, and how far the slot reaches below and above.
-    Somewhere(Witness, Reach, Reach),
+    Somewhere(Witness, SlotReach, SlotReach),
     /// The search was given up.
     Unknown,
 }
@@ -44,7 +44,7 @@ pub(crate) enum Range {
 #[derive(Clone, Copy)]
 enum Stop {
     /// At this line, of the slot.
-    Line(usize),
+    TableauLine(usize),
     /// Nowhere: the variable of the column may leave 0 for this side without end.
     Column(usize, Ordering),
     /// At a step too many.
@@ -53,7 +53,7 @@ enum Stop {
 
 /// What is to be done next.
 #[derive(Clone, Copy)]
-enum Step {
+enum ExtremeStep {
     /// A pivot of a line with a column.
     Pivot(usize, usize),
     /// Nothing.
@@ -64,14 +64,14 @@ enum Step {
 ///
 /// # Errors
 /// Out of memory.
-pub(crate) fn find_range(alloc: Global, rows: &[&Row], slot: Slot) -> Result<Range, NoMemory> {
+pub(crate) fn find_range(alloc: Global, rows: &[&Row], slot: Slot) -> Result<SlotRange, NoMemory> {
     let slots = slots_of(alloc, rows)?;
-    let mut table = Table::new(alloc, rows, &slots)?;
+    let mut table = Tableau::new(alloc, rows, &slots)?;
     match solve(&mut table) {
-        End::Conflict(line, side) => {
-            Ok(Range::Nowhere(multipliers(alloc, &table, line, side, rows.len())?))
+        SearchEnd::Conflict(line, side) => {
+            Ok(SlotRange::Nowhere(multipliers(alloc, &table, line, side, rows.len())?))
         }
-        End::Feasible => {
+        SearchEnd::Feasible => {
             let inside = point(alloc, &table)?;
             let is_free = !stands_in(&slots, slot);
             let below = reached(
@@ -83,9 +83,9 @@ pub(crate) fn find_range(alloc: Global, rows: &[&Row], slot: Slot) -> Result<Ran
                 rows.len(),
             )?;
             let above = reached(alloc, &mut table, slot, is_free, Ordering::Less, rows.len())?;
-            Ok(Range::Somewhere(inside, below, above))
+            Ok(SlotRange::Somewhere(inside, below, above))
         }
-        End::Stuck => Ok(Range::Unknown),
+        SearchEnd::Stuck => Ok(SlotRange::Unknown),
     }
 }
 
@@ -95,26 +95,26 @@ pub(crate) fn find_range(alloc: Global, rows: &[&Row], slot: Slot) -> Result<Ran
 /// Out of memory.
 fn reached(
     alloc: Global,
-    table: &mut Table,
+    table: &mut Tableau,
     slot: Slot,
     is_free: bool,
     side: Ordering,
     count: usize,
-) -> Result<Reach, NoMemory> {
+) -> Result<SlotReach, NoMemory> {
     if is_free {
-        return Ok(Reach::Endless(alone(alloc, slot, side)?));
+        return Ok(SlotReach::Endless(alone(alloc, slot, side)?));
     }
     match pushed(table, slot, side) {
         Stop::Line(at) => {
             let numbers = end_multipliers(alloc, table, at, side, count)?;
             if is_attained(&table.lines, at) {
-                Ok(Reach::To(point(alloc, table)?, numbers))
+                Ok(SlotReach::To(point(alloc, table)?, numbers))
             } else {
-                Ok(Reach::Near(corner(alloc, table)?, numbers))
+                Ok(SlotReach::Near(corner(alloc, table)?, numbers))
             }
         }
-        Stop::Column(column, towards) => Ok(Reach::Endless(ray(alloc, table, column, towards)?)),
-        Stop::Stuck => Ok(Reach::Unknown),
+        Stop::Column(column, towards) => Ok(SlotReach::Endless(ray(alloc, table, column, towards)?)),
+        Stop::Stuck => Ok(SlotReach::Unknown),
     }
 }
 
@@ -132,7 +132,7 @@ fn alone(alloc: Global, slot: Slot, side: Ordering) -> Result<Witness, NoMemory>
 }
 
 /// Whether the value of the line has no arbitrarily small part.
-fn is_attained(lines: &[Line], at: usize) -> bool {
+fn is_attained(lines: &[TableauLine], at: usize) -> bool {
     match lines.get(at) {
         Some(line) => line.value.small == 0,
         None => false,
@@ -140,12 +140,12 @@ fn is_attained(lines: &[Line], at: usize) -> bool {
 }
 
 /// Pivots until the slot gets no further from this side to the other one.
-fn pushed(table: &mut Table, slot: Slot, side: Ordering) -> Stop {
+fn pushed(table: &mut Tableau, slot: Slot, side: Ordering) -> Stop {
     let size = table.lines.len().saturating_add(table.columns.len());
     for _ in 0..size.saturating_mul(20).saturating_add(200) {
         match next_step(table, slot, side) {
-            Step::Halt(stop) => return stop,
-            Step::Pivot(line, column) => {
+            ExtremeStep::Halt(stop) => return stop,
+            ExtremeStep::Pivot(line, column) => {
                 if !table.pivot(line, column) {
                     return Stop::Stuck;
                 }
@@ -156,21 +156,21 @@ fn pushed(table: &mut Table, slot: Slot, side: Ordering) -> Stop {
 }
 
 /// What is to be done next.
-fn next_step(table: &Table, slot: Slot, side: Ordering) -> Step {
+fn next_step(table: &Tableau, slot: Slot, side: Ordering) -> ExtremeStep {
     let Some((at, line)) = line_of(&table.lines, slot) else {
         return match column_of(&table.columns, slot) {
             Some(column) => stopped(table, column, side.reverse()),
-            None => Step::Halt(Stop::Stuck),
+            None => ExtremeStep::Halt(Stop::Stuck),
         };
     };
     match helping(&table.columns, line, side) {
         Some(column) => stopped(table, column, towards(line, column, side)),
-        None => Step::Halt(Stop::Line(at)),
+        None => ExtremeStep::Halt(Stop::Line(at)),
     }
 }
 
 /// To which side of 0 the variable of the column goes where the line's value is to get away from this side.
-fn towards(line: &Line, column: usize, side: Ordering) -> Ordering {
+fn towards(line: &TableauLine, column: usize, side: Ordering) -> Ordering {
     match line.coefs.get(column) {
         Some(a) if a.cmp(&0) == side => Ordering::Less,
         _ => Ordering::Greater,
@@ -179,15 +179,15 @@ fn towards(line: &Line, column: usize, side: Ordering) -> Ordering {
 
 /// A pivot of the column with the first line that stops its variable on the way to this side, or the end where none
 /// does.
-fn stopped(table: &Table, column: usize, towards: Ordering) -> Step {
+fn stopped(table: &Tableau, column: usize, towards: Ordering) -> ExtremeStep {
     match stopping(&table.lines, column, towards) {
-        Some(line) => Step::Pivot(line, column),
-        None => Step::Halt(Stop::Column(column, towards)),
+        Some(line) => ExtremeStep::Pivot(line, column),
+        None => ExtremeStep::Halt(Stop::Column(column, towards)),
     }
 }
 
 /// The line of the slot, and its place.
-fn line_of(lines: &[Line], slot: Slot) -> Option<(usize, &Line)> {
+fn line_of(lines: &[TableauLine], slot: Slot) -> Option<(usize, &TableauLine)> {
     lines
         .iter()
         .enumerate()
@@ -201,7 +201,7 @@ fn column_of(columns: &[Variable], slot: Slot) -> Option<usize> {
 
 /// The place of the line whose variable first gets to where it may go no further, as that of the column goes to this
 /// side.
-fn stopping(lines: &[Line], column: usize, towards: Ordering) -> Option<usize> {
+fn stopping(lines: &[TableauLine], column: usize, towards: Ordering) -> Option<usize> {
     let mut first = None;
     for (at, line) in lines.iter().enumerate() {
         if line.stops(column, towards) && is_stopped_before(line, first, column) {
@@ -212,7 +212,7 @@ fn stopping(lines: &[Line], column: usize, towards: Ordering) -> Option<usize> {
 }
 
 /// Whether the line stops the variable of the column before the line found so far, if there is one.
-fn is_stopped_before(line: &Line, found: Option<(usize, &Line)>, column: usize) -> bool {
+fn is_stopped_before(line: &TableauLine, found: Option<(usize, &TableauLine)>, column: usize) -> bool {
     match found {
         Some((_, other)) => line.stops_before(other, column),
         None => true,

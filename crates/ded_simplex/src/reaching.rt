@@ -7,7 +7,7 @@ ghost use Rattle.ded_weighing.specs.Meeting.{meets};
 ghost use Rattle.ded_simplex.specs.Sure.{IsSureSpan};
 
 use crate::ends::checked_end;
-use crate::extremes::{Range, Reach, find_range};
+use crate::extremes::{SlotRange, SlotReach, find_range};
 use crate::telling::lent;
 use ded_box::Side;
 use ded_model::bound::Bound;
@@ -29,11 +29,11 @@ pub fn extent(alloc: Global, rows: &[Row], slot: Slot) -> Result<Span, NoMemory>
 {
     let lent = lent(alloc, rows)?;
     match find_range(alloc, &lent, slot)? {
-        Range::Nowhere(multipliers) => checked_nothing(alloc, &lent, slot, &multipliers),
-        Range::Somewhere(inside, below, above) => {
+        SlotRange::Nowhere(multipliers) => checked_nothing(alloc, &lent, slot, &multipliers),
+        SlotRange::Somewhere(inside, below, above) => {
             checked_ends(alloc, rows, slot, &inside, &below, &above)
         }
-        Range::Unknown => Ok(Span::Around(Bound::Infinite, Bound::Infinite)),
+        SlotRange::Unknown => Ok(Span::Around(Bound::Infinite, Bound::Infinite)),
     }
 }
 
@@ -66,8 +66,8 @@ fn checked_ends(
     rows: &[Row],
     slot: Slot,
     inside: &Witness,
-    below: &Reach,
-    above: &Reach,
+    below: &SlotReach,
+    above: &SlotReach,
 ) -> Result<Span, NoMemory>
     requires { AllByRecursion (λ r. AreCoefs r.coefs) rows.now }
     ensures { IfOk result (λ s. IsSureSpan rows.now slot s) }

@@ -1,6 +1,6 @@
 //! What the table shows where the search ends: a point, or numbers of rows.
 
-use crate::table::{Line, Table};
+use crate::table::{TableauLine, Tableau};
 use crate::variable::Variable;
 use ded_model::memory::NoMemory;
 use ded_num::gcd;
@@ -13,7 +13,7 @@ use std::cmp::Ordering;
 ///
 /// # Errors
 /// Out of memory.
-pub(crate) fn point(alloc: Global, table: &Table) -> Result<Witness, NoMemory> {
+pub(crate) fn point(alloc: Global, table: &Tableau) -> Result<Witness, NoMemory> {
     let scale = scale(&table.lines);
     let mut values = Vec::new(alloc);
     for line in &table.lines {
@@ -33,7 +33,7 @@ pub(crate) fn point(alloc: Global, table: &Table) -> Result<Witness, NoMemory> {
 ///
 /// # Errors
 /// Out of memory.
-pub(crate) fn corner(alloc: Global, table: &Table) -> Result<Witness, NoMemory> {
+pub(crate) fn corner(alloc: Global, table: &Tableau) -> Result<Witness, NoMemory> {
     let mut values = Vec::new(alloc);
     for line in &table.lines {
         if let Variable::Slot(slot) = line.variable {
@@ -54,7 +54,7 @@ pub(crate) fn corner(alloc: Global, table: &Table) -> Result<Witness, NoMemory> 
 /// Out of memory.
 pub(crate) fn ray(
     alloc: Global,
-    table: &Table,
+    table: &Tableau,
     column: usize,
     side: Ordering,
 ) -> Result<Witness, NoMemory> {
@@ -82,7 +82,7 @@ pub(crate) fn ray(
 /// Out of memory.
 pub(crate) fn end_multipliers(
     alloc: Global,
-    table: &Table,
+    table: &Tableau,
     at: usize,
     side: Ordering,
     count: usize,
@@ -99,7 +99,7 @@ pub(crate) fn end_multipliers(
 
 /// Into how many parts 1 has to be divided, so that with such a part as the arbitrarily small number no sum of a row
 /// gets above 0.
-fn scale(lines: &[Line]) -> i128 {
+fn scale(lines: &[TableauLine]) -> i128 {
     let mut scale = 1;
     for line in lines {
         if let Variable::Row(_, _) = line.variable {
@@ -130,7 +130,7 @@ fn shorten_point(witness: &mut Witness) {
 /// Out of memory.
 pub(crate) fn multipliers(
     alloc: Global,
-    table: &Table,
+    table: &Tableau,
     at: usize,
     side: Ordering,
     count: usize,
@@ -146,7 +146,7 @@ pub(crate) fn multipliers(
 /// Out of memory.
 fn multipliers_of(
     alloc: Global,
-    table: &Table,
+    table: &Tableau,
     at: usize,
     side: Ordering,
     count: usize,
@@ -164,7 +164,7 @@ fn multipliers_of(
 }
 
 /// Puts the numbers of the line to the rows that the variables of the columns are.
-fn put_columns(numbers: &mut [i128], columns: &[Variable], line: &Line, side: Ordering) {
+fn put_columns(numbers: &mut [i128], columns: &[Variable], line: &TableauLine, side: Ordering) {
     for (variable, a) in columns.iter().zip(&line.coefs) {
         put(numbers, *variable, on_side(a.wrapping_neg(), side));
     }

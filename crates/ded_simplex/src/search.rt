@@ -8,7 +8,7 @@
 use crate::few::find_by_few;
 use crate::hint::Hint;
 use crate::reading::{multipliers, point};
-use crate::table::{Line, Table};
+use crate::table::{TableauLine, Tableau};
 use crate::variable::Variable;
 use ded_model::memory::NoMemory;
 use ded_model::row::Row;
@@ -29,7 +29,7 @@ pub enum Found {
 
 /// How the search ends.
 #[derive(Clone, Copy)]
-pub(crate) enum End {
+pub(crate) enum SearchEnd {
     /// All variables may have their values.
     Feasible,
     /// The variable of the line may not have its value, which lies on this side of 0, and can't get another one.
@@ -40,11 +40,11 @@ pub(crate) enum End {
 
 /// What is to be done next.
 #[derive(Clone, Copy)]
-enum Step {
+enum SearchStep {
     /// A pivot of a line with a column.
     Pivot(usize, usize),
     /// Nothing.
-    Halt(End),
+    Halt(SearchEnd),
 }
 
 /// How many rows at most are searched all at once. A pivot goes through the lines of all rows, and of many rows most
@@ -80,52 +80,52 @@ pub(crate) fn find_from(alloc: Global, rows: &[&Row], hint: &mut Hint) -> Result
 /// Out of memory.
 pub(crate) fn find_at_once(alloc: Global, rows: &[&Row]) -> Result<Found, NoMemory> {
     let slots = slots_of(alloc, rows)?;
-    let mut table = Table::new(alloc, rows, &slots)?;
+    let mut table = Tableau::new(alloc, rows, &slots)?;
     match solve(&mut table) {
-        End::Feasible => Ok(Found::Point(point(alloc, &table)?)),
-        End::Conflict(line, side) => {
+        SearchEnd::Feasible => Ok(Found::Point(point(alloc, &table)?)),
+        SearchEnd::Conflict(line, side) => {
             Ok(Found::Multipliers(multipliers(alloc, &table, line, side, rows.len())?))
         }
-        End::Stuck => Ok(Found::Nothing),
+        SearchEnd::Stuck => Ok(Found::Nothing),
     }
 }
 
 /// Pivots until the search ends.
-pub(crate) fn solve(table: &mut Table) -> End {
+pub(crate) fn solve(table: &mut Tableau) -> SearchEnd {
     let size = table.lines.len().saturating_add(table.columns.len());
     let greedy = size.saturating_mul(3);
     for count in 0..size.saturating_mul(20).saturating_add(200) {
         match next_step(table, count < greedy) {
-            Step::Halt(end) => return end,
-            Step::Pivot(line, column) => {
+            SearchStep::Halt(end) => return end,
+            SearchStep::Pivot(line, column) => {
                 if !table.pivot(line, column) {
-                    return End::Stuck;
+                    return SearchEnd::Stuck;
                 }
             }
         }
     }
-    End::Stuck
+    SearchEnd::Stuck
 }
 
 /// What is to be done next: a pivot of the line with the greatest violated value, or of that with the first variable.
-fn next_step(table: &Table, greedy: bool) -> Step {
+fn next_step(table: &Tableau, greedy: bool) -> SearchStep {
     let found = if greedy {
         greatest_violated(&table.lines)
     } else {
         first_violated(&table.lines)
     };
     let Some((at, line)) = found else {
-        return Step::Halt(End::Feasible);
+        return SearchStep::Halt(SearchEnd::Feasible);
     };
     let side = line.value.sign();
     match helping(&table.columns, line, side) {
-        Some(column) => Step::Pivot(at, column),
-        None => Step::Halt(End::Conflict(at, side)),
+        Some(column) => SearchStep::Pivot(at, column),
+        None => SearchStep::Halt(SearchEnd::Conflict(at, side)),
     }
 }
 
 /// Of the lines whose variables may not have their values, the last one with the greatest value, and its place.
-fn greatest_violated(lines: &[Line]) -> Option<(usize, &Line)> {
+fn greatest_violated(lines: &[TableauLine]) -> Option<(usize, &TableauLine)> {
     let mut greatest = None;
     let mut most = 0;
     for (at, line) in lines.iter().enumerate() {
@@ -139,7 +139,7 @@ fn greatest_violated(lines: &[Line]) -> Option<(usize, &Line)> {
 }
 
 /// Of the lines whose variables may not have their values, that of the first variable, and its place.
-fn first_violated(lines: &[Line]) -> Option<(usize, &Line)> {
+fn first_violated(lines: &[TableauLine]) -> Option<(usize, &TableauLine)> {
     let mut first = None;
     for (at, line) in lines.iter().enumerate() {
         if line.is_violated() && is_line_before(line, first) {
@@ -150,7 +150,7 @@ fn first_violated(lines: &[Line]) -> Option<(usize, &Line)> {
 }
 
 /// Whether the variable of the line comes before that of the line found so far, if there is one.
-fn is_line_before(line: &Line, found: Option<(usize, &Line)>) -> bool {
+fn is_line_before(line: &TableauLine, found: Option<(usize, &TableauLine)>) -> bool {
     match found {
         Some((_, other)) => line.variable.is_before(other.variable),
         None => true,
@@ -159,7 +159,7 @@ fn is_line_before(line: &Line, found: Option<(usize, &Line)>) -> bool {
 
 /// The place of the first variable among those of the columns that may change so that the value of the line comes
 /// nearer to 0.
-pub(crate) fn helping(columns: &[Variable], line: &Line, side: Ordering) -> Option<usize> {
+pub(crate) fn helping(columns: &[Variable], line: &TableauLine, side: Ordering) -> Option<usize> {
     let mut first = None;
     for (place, (variable, a)) in columns.iter().zip(&line.coefs).enumerate() {
         if variable.may_help(*a, side) && is_column_before(*variable, first) {

@@ -20,20 +20,20 @@ use std::mem;
 
 /// A variable as a sum of those of the columns, and its value, over the denominator of the table.
 #[derive(Drop)]
-pub(crate) struct Line {
+pub(crate) struct TableauLine {
     pub variable: Variable,
     pub coefs: Vec<i128>,
     pub value: Value,
 }
 
-impl Line {
+impl TableauLine {
     /// The line of the row, the i-th one.
-    fn new(alloc: Global, i: usize, row: &Row, slots: &[Slot]) -> Result<Line, NoMemory> {
+    fn new(alloc: Global, i: usize, row: &Row, slots: &[Slot]) -> Result<TableauLine, NoMemory> {
         let mut coefs = Vec::with_capacity(alloc, slots.len())?;
         for slot in slots {
             coefs.push(row.coefs.at(*slot))?;
         }
-        Ok(Line {
+        Ok(TableauLine {
             variable: Variable::Row(i, row.op),
             coefs,
             value: Value {
@@ -57,7 +57,7 @@ impl Line {
     }
 
     /// Whether it is stopped before that of another line, or at once with it and comes first.
-    pub fn stops_before(&self, other: &Line, column: usize) -> bool {
+    pub fn stops_before(&self, other: &TableauLine, column: usize) -> bool {
         let (Some(a), Some(b)) = (self.coefs.get(column), other.coefs.get(column)) else {
             return false;
         };
@@ -92,7 +92,7 @@ impl Line {
     }
 
     /// Puts the solved line in the place of the variable of the column.
-    fn replace(&mut self, solved: &Line, exchange: &Exchange) {
+    fn replace(&mut self, solved: &TableauLine, exchange: &Exchange) {
         let Some(entry) = self.coefs.get_mut(exchange.column) else {
             return;
         };
@@ -143,16 +143,16 @@ impl Exchange {
 
 /// The lines, and the variables of the columns.
 #[derive(Drop)]
-pub(crate) struct Table {
+pub(crate) struct Tableau {
     pub columns: Vec<Variable>,
-    pub lines: Vec<Line>,
+    pub lines: Vec<TableauLine>,
     pub denominator: i128,
 }
 
-impl Table {
+impl Tableau {
     /// The table of the rows over the slots, a line for each.
-    pub fn new(alloc: Global, rows: &[&Row], slots: &[Slot]) -> Result<Table, NoMemory> {
-        Ok(Table {
+    pub fn new(alloc: Global, rows: &[&Row], slots: &[Slot]) -> Result<Tableau, NoMemory> {
+        Ok(Tableau {
             columns: columns_of(alloc, slots)?,
             lines: lines_of(alloc, rows, slots)?,
             denominator: 1,
@@ -195,16 +195,16 @@ fn columns_of(alloc: Global, slots: &[Slot]) -> Result<Vec<Variable>, NoMemory> 
     Ok(columns)
 }
 
-fn lines_of(alloc: Global, rows: &[&Row], slots: &[Slot]) -> Result<Vec<Line>, NoMemory> {
+fn lines_of(alloc: Global, rows: &[&Row], slots: &[Slot]) -> Result<Vec<TableauLine>, NoMemory> {
     let mut lines = Vec::with_capacity(alloc, rows.len())?;
     for (i, row) in rows.iter().enumerate() {
-        lines.push(Line::new(alloc, i, row, slots)?)?;
+        lines.push(TableauLine::new(alloc, i, row, slots)?)?;
     }
     Ok(lines)
 }
 
 /// Puts the solved line in the place of its variable in each of the lines.
-fn replace_in(lines: &mut [Line], solved: &Line, exchange: &Exchange) {
+fn replace_in(lines: &mut [TableauLine], solved: &TableauLine, exchange: &Exchange) {
     for line in lines.iter_mut() {
         line.replace(solved, exchange);
     }

@@ -4,7 +4,7 @@ ghost use Rattle.ded_model.specs.Form.{form, forms};
 ghost use Rattle.ded_model.specs.Logic.{some_below, some_below_of};
 ghost use Rattle.ded_sorts.specs.Scopes.{scope_form};
 
-use crate::scope::Scope;
+use crate::scope::SortScope;
 use ded_model::formula::{CompareOp, Formula, Operand, Operands};
 use ded_model::memory::NoMemory;
 use ded_model::name::Name;
@@ -24,7 +24,7 @@ pub(crate) trait AtomTest {
     /// Out of memory.
     fn on_comparison(
         &self,
-        scope: &Scope<'_>,
+        scope: &SortScope<'_>,
         left: &Operand,
         op: CompareOp,
         right: &Operand,
@@ -37,7 +37,7 @@ pub(crate) trait AtomTest {
     /// Out of memory.
     fn on_member(
         &self,
-        scope: &Scope<'_>,
+        scope: &SortScope<'_>,
         name: &Name,
         operands: &Operands,
     ) -> Result<bool, NoMemory>
@@ -51,7 +51,7 @@ pub(crate) trait AtomTest {
 #[cycle(atoms)]
 pub(crate) fn some_atom<T: AtomTest>(
     test: &T,
-    scope: &Scope<'_>,
+    scope: &SortScope<'_>,
     formula: &Formula,
 ) -> Result<bool, NoMemory>
     ensures { IfOk result (λ b. b ≡ some_below (T.passes test.now) (scope_form scope.now) (form formula.now)) }
@@ -66,7 +66,7 @@ pub(crate) fn some_atom<T: AtomTest>(
             Ok(some_atom(test, scope, left)? || some_atom(test, scope, right)?)
         }
         Formula::Exists(column, part) | Formula::Forall(column, part) => {
-            some_atom(test, &Scope::Within(column, scope), part)
+            some_atom(test, &SortScope::Within(column, scope), part)
         }
     }
 }
@@ -78,7 +78,7 @@ pub(crate) fn some_atom<T: AtomTest>(
 #[cycle(atoms)]
 pub(crate) fn some_atom_of<T: AtomTest>(
     test: &T,
-    scope: &Scope<'_>,
+    scope: &SortScope<'_>,
     formulas: &Vec<Formula>,
 ) -> Result<bool, NoMemory>
     ensures { IfOk result (λ b. b ≡ some_below_of (T.passes test.now) (scope_form scope.now)

@@ -13,7 +13,7 @@ ghost use Rattle.ded_sorts.specs.Facts.{AreFacts};
 use crate::atoms::{some_atom, some_atom_of};
 use crate::facts::{Facts, columns_of, some_in_command};
 use crate::names::{Known, Names};
-use crate::scope::Scope;
+use crate::scope::SortScope;
 use crate::shape::{has_twice, is_many};
 use crate::sorts::{Missorted, RationalInequality, Unbound, do_columns_differ};
 use crate::uses::{OtherArity, Undefined, greatest_level};
@@ -384,7 +384,7 @@ fn do_headings_differ(facts: Facts<'_>) -> bool
 fn uses_undefined<N: Names>(formula: &Formula, names: &N) -> Result<bool, NoMemory>
     ensures { IfOk result (λ b. b ≡ uses_unknown (known (N.catalogue names.now)) (form formula.now)) }
 {
-    some_atom(&Undefined { names }, &Scope::Heading(&[]), formula)
+    some_atom(&Undefined { names }, &SortScope::Heading(&[]), formula)
 }
 
 /// Whether the command is an insert with `!=` between numbers.
@@ -418,7 +418,7 @@ fn some_in_insert(formulas: &Vec<Formula>, facts: Facts<'_>) -> Result<bool, NoM
 {
     some_atom_of(
         &RationalInequality,
-        &Scope::Heading(columns_of(facts.first)),
+        &SortScope::Heading(columns_of(facts.first)),
         formulas,
     )
 }

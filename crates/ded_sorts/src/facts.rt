@@ -12,7 +12,7 @@ ghost use Rattle.ded_sorts.specs.Facts.{AreFacts, IsSound, first_known, second_k
 
 use crate::atoms::{AtomTest, some_atom, some_atom_of};
 use crate::names::{Known, Names};
-use crate::scope::Scope;
+use crate::scope::SortScope;
 use crate::sorts::Faulty;
 use ded_model::command::Command;
 use ded_model::memory::NoMemory;
@@ -122,15 +122,15 @@ pub(crate) fn some_in_command<T: AtomTest>(
         (some_below (T.passes test.now) (scope_of (heading_with columns.now (command_form command.now))))) }
 {
     match command {
-        Command::Insert(_, formulas) => some_atom_of(test, &Scope::Heading(columns), formulas),
+        Command::Insert(_, formulas) => some_atom_of(test, &SortScope::Heading(columns), formulas),
         Command::View(_, heading, formula)
         | Command::Query(heading, formula)
         | Command::Explain(heading, formula) => some_atom(
             test,
-            &Scope::Heading(&heading.columns),
+            &SortScope::Heading(&heading.columns),
             formula,
         ),
-        Command::Ask(formula) => some_atom(test, &Scope::Heading(&[]), formula),
+        Command::Ask(formula) => some_atom(test, &SortScope::Heading(&[]), formula),
         Command::Header
         | Command::Relation(_, _)
         | Command::Delete(_, _)

@@ -10,19 +10,19 @@ use ded_model::slot::Sort;
 
 /// The columns of a heading, or the column of a quantifier within what is round it.
 #[derive(Clone, Copy)]
-pub(crate) enum Scope<'a> {
+pub(crate) enum SortScope<'a> {
     Heading(&'a [Column]),
-    Within(&'a Column, &'a Scope<'a>),
+    Within(&'a Column, &'a SortScope<'a>),
 }
 
-impl Scope<'_> {
+impl SortScope<'_> {
     /// What the nearest column of the name ranges over, none where no column has the name.
     pub(crate) fn sort_of(&self, name: &Name) -> Option<Sort>
         ensures { result ≡ nearest (scope_form self.now) (point.name name.now) }
     {
         match self {
-            Scope::Heading(columns) => sort_among(columns, name),
-            Scope::Within(column, outer) => {
+            SortScope::Heading(columns) => sort_among(columns, name),
+            SortScope::Within(column, outer) => {
                 if column.name.is_same(name) {
                     Some(column.sort)
                 } else {

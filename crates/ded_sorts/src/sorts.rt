@@ -12,7 +12,7 @@ ghost use Rattle.ded_sorts.specs.Scopes.{scope_form};
 
 use crate::atoms::AtomTest;
 use crate::names::{Names, known_base};
-use crate::scope::Scope;
+use crate::scope::SortScope;
 use ded_model::formula::{CompareOp, Operand, Operands};
 use ded_model::memory::NoMemory;
 use ded_model::name::{Column, Name};
@@ -26,7 +26,7 @@ impl AtomTest for Unbound {
 
     fn on_comparison(
         &self,
-        scope: &Scope<'_>,
+        scope: &SortScope<'_>,
         left: &Operand,
         _: CompareOp,
         right: &Operand,
@@ -36,7 +36,7 @@ impl AtomTest for Unbound {
 
     fn on_member(
         &self,
-        scope: &Scope<'_>,
+        scope: &SortScope<'_>,
         _: &Name,
         operands: &Operands,
     ) -> Result<bool, NoMemory> {
@@ -55,7 +55,7 @@ impl<N: Names> AtomTest for Missorted<'_, N> {
 
     fn on_comparison(
         &self,
-        scope: &Scope<'_>,
+        scope: &SortScope<'_>,
         left: &Operand,
         op: CompareOp,
         right: &Operand,
@@ -65,7 +65,7 @@ impl<N: Names> AtomTest for Missorted<'_, N> {
 
     fn on_member(
         &self,
-        scope: &Scope<'_>,
+        scope: &SortScope<'_>,
         name: &Name,
         operands: &Operands,
     ) -> Result<bool, NoMemory> {
@@ -88,7 +88,7 @@ impl<N: Names> AtomTest for Faulty<'_, N> {
 
     fn on_comparison(
         &self,
-        scope: &Scope<'_>,
+        scope: &SortScope<'_>,
         left: &Operand,
         op: CompareOp,
         right: &Operand,
@@ -102,7 +102,7 @@ impl<N: Names> AtomTest for Faulty<'_, N> {
 
     fn on_member(
         &self,
-        scope: &Scope<'_>,
+        scope: &SortScope<'_>,
         name: &Name,
         operands: &Operands,
     ) -> Result<bool, NoMemory> {
@@ -128,7 +128,7 @@ impl AtomTest for RationalInequality {
 
     fn on_comparison(
         &self,
-        scope: &Scope<'_>,
+        scope: &SortScope<'_>,
         left: &Operand,
         op: CompareOp,
         right: &Operand,
@@ -144,13 +144,13 @@ impl AtomTest for RationalInequality {
         }
     }
 
-    fn on_member(&self, _: &Scope<'_>, _: &Name, _: &Operands) -> Result<bool, NoMemory> {
+    fn on_member(&self, _: &SortScope<'_>, _: &Name, _: &Operands) -> Result<bool, NoMemory> {
         Ok(false)
     }
 }
 
 /// Whether a variable of the operand has no column in the scope.
-fn is_unbound(scope: &Scope<'_>, operand: &Operand) -> bool
+fn is_unbound(scope: &SortScope<'_>, operand: &Operand) -> bool
     ensures { result ≡ is_unbound_operand (scope_form scope.now) operand.now }
 {
     match operand {
@@ -161,21 +161,21 @@ fn is_unbound(scope: &Scope<'_>, operand: &Operand) -> bool
 }
 
 /// Whether one of the names with coefficients has no column in the scope.
-fn have_unbound(scope: &Scope<'_>, parts: &[(Name, i128)]) -> bool
+fn have_unbound(scope: &SortScope<'_>, parts: &[(Name, i128)]) -> bool
     ensures { result ≡ list_any (λ c. model.is_unbound_name (scope_form scope.now) c.0) parts.now }
 {
     parts.iter().any(|part| scope.sort_of(&part.0).is_none())
 }
 
 /// Whether one of the operands has a variable with no column in the scope.
-fn have_unbound_operand(scope: &Scope<'_>, operands: &[Operand]) -> bool
+fn have_unbound_operand(scope: &SortScope<'_>, operands: &[Operand]) -> bool
     ensures { result ≡ list_any (is_unbound_operand (scope_form scope.now)) operands.now }
 {
     operands.iter().any(|operand| is_unbound(scope, operand))
 }
 
 /// What the variable ranges over; one that nothing binds counts as a number.
-fn sort_in(scope: &Scope<'_>, name: &Name) -> Sort
+fn sort_in(scope: &SortScope<'_>, name: &Name) -> Sort
     ensures { result ≡ model.sort_in (scope_form scope.now) name.now }
 {
     match scope.sort_of(name) {
@@ -185,7 +185,7 @@ fn sort_in(scope: &Scope<'_>, name: &Name) -> Sort
 }
 
 /// What the operand is: a text, or a number.
-fn sort_of(scope: &Scope<'_>, operand: &Operand) -> Sort
+fn sort_of(scope: &SortScope<'_>, operand: &Operand) -> Sort
     ensures { result ≡ model.operand_sort (scope_form scope.now) operand.now }
 {
     match operand {
@@ -203,7 +203,7 @@ fn is_same(left: Sort, right: Sort) -> bool
 }
 
 /// Whether one of the names with coefficients is a text variable.
-fn have_text(scope: &Scope<'_>, parts: &[(Name, i128)]) -> bool
+fn have_text(scope: &SortScope<'_>, parts: &[(Name, i128)]) -> bool
     ensures { result ≡ list_any (λ c. same_sort (model.sort_in (scope_form scope.now) c.0) Text) parts.now }
 {
     parts
@@ -212,7 +212,7 @@ fn have_text(scope: &Scope<'_>, parts: &[(Name, i128)]) -> bool
 }
 
 /// Whether the operand is a sum with a text variable.
-fn is_text_sum(scope: &Scope<'_>, operand: &Operand) -> bool
+fn is_text_sum(scope: &SortScope<'_>, operand: &Operand) -> bool
     ensures { result ≡ model.is_text_sum (scope_form scope.now) operand.now }
 {
     match operand {
@@ -222,14 +222,14 @@ fn is_text_sum(scope: &Scope<'_>, operand: &Operand) -> bool
 }
 
 /// Whether one of the operands is a sum with a text variable.
-fn have_text_sum(scope: &Scope<'_>, operands: &[Operand]) -> bool
+fn have_text_sum(scope: &SortScope<'_>, operands: &[Operand]) -> bool
     ensures { result ≡ list_any (model.is_text_sum (scope_form scope.now)) operands.now }
 {
     operands.iter().any(|operand| is_text_sum(scope, operand))
 }
 
 /// Whether the comparison has a text where a number has to stand, or a number where a text has to.
-fn is_missorted(scope: &Scope<'_>, left: &Operand, op: CompareOp, right: &Operand) -> bool
+fn is_missorted(scope: &SortScope<'_>, left: &Operand, op: CompareOp, right: &Operand) -> bool
     ensures { result ≡ (model.is_text_sum (scope_form scope.now) left.now
         || model.is_text_sum (scope_form scope.now) right.now
         || model.sorts_differ op (model.operand_sort (scope_form scope.now) left.now)
@@ -242,7 +242,7 @@ fn is_missorted(scope: &Scope<'_>, left: &Operand, op: CompareOp, right: &Operan
 
 /// Whether the operands have a text where a number has to stand for one of the columns, or a number where a text has
 /// to.
-fn are_missorted(scope: &Scope<'_>, columns: &[Column], operands: &[Operand]) -> bool
+fn are_missorted(scope: &SortScope<'_>, columns: &[Column], operands: &[Operand]) -> bool
     ensures { result ≡ (list_any (model.is_text_sum (scope_form scope.now)) operands.now
         || model.arguments_differ (scope_form scope.now) columns.now operands.now) }
 {
@@ -262,7 +262,7 @@ fn do_sorts_differ(op: CompareOp, left: Sort, right: Sort) -> bool
 }
 
 /// Whether one of the arguments is a text for a column of numbers, or a number for a column of texts.
-fn do_arguments_differ(scope: &Scope<'_>, columns: &[Column], operands: &[Operand]) -> bool
+fn do_arguments_differ(scope: &SortScope<'_>, columns: &[Column], operands: &[Operand]) -> bool
     ensures { result ≡ model.arguments_differ (scope_form scope.now) columns.now operands.now }
 {
     for (i, column) in columns.iter().enumerate() {

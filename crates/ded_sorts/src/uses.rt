@@ -8,7 +8,7 @@ ghost use Rattle.ded_model.specs.Made.{base};
 
 use crate::atoms::AtomTest;
 use crate::names::{Names, known_base};
-use crate::scope::Scope;
+use crate::scope::SortScope;
 use ded_model::formula::{CompareOp, Formula, Operand, Operands};
 use ded_model::memory::NoMemory;
 use ded_model::name::Name;
@@ -24,7 +24,7 @@ impl<N: Names> AtomTest for Undefined<'_, N> {
 
     fn on_comparison(
         &self,
-        _: &Scope<'_>,
+        _: &SortScope<'_>,
         _: &Operand,
         _: CompareOp,
         _: &Operand,
@@ -32,7 +32,7 @@ impl<N: Names> AtomTest for Undefined<'_, N> {
         Ok(false)
     }
 
-    fn on_member(&self, _: &Scope<'_>, name: &Name, _: &Operands) -> Result<bool, NoMemory> {
+    fn on_member(&self, _: &SortScope<'_>, name: &Name, _: &Operands) -> Result<bool, NoMemory> {
         Ok(known_base(self.names, name)?.is_none())
     }
 }
@@ -48,7 +48,7 @@ impl<N: Names> AtomTest for OtherArity<'_, N> {
 
     fn on_comparison(
         &self,
-        _: &Scope<'_>,
+        _: &SortScope<'_>,
         _: &Operand,
         _: CompareOp,
         _: &Operand,
@@ -56,7 +56,7 @@ impl<N: Names> AtomTest for OtherArity<'_, N> {
         Ok(false)
     }
 
-    fn on_member(&self, _: &Scope<'_>, name: &Name, operands: &Operands) -> Result<bool, NoMemory> {
+    fn on_member(&self, _: &SortScope<'_>, name: &Name, operands: &Operands) -> Result<bool, NoMemory> {
         match known_base(self.names, name)? {
             None => Ok(false),
             Some(entry) => Ok(operands.list.len() != entry.columns().len()),

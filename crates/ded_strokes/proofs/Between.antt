@@ -13,7 +13,7 @@ use Rattle.ded_model.proofs.Core.{zero_scale}
 use Rattle.ded_polygon.specs.Plane.{HalfPlane, Spot, level}
 use Rattle.ded_polygon.proofs.Polynomials.{plus, times, var, identity}
 use Rattle.ded_polygon.proofs.Signs.{above_above, above_below, above_most}
-use Rattle.ded_strokes.specs.Bounds.{Limit, piece_holds, union_holds}
+use Rattle.ded_strokes.specs.Bounds.{PlaneLimit, piece_holds, union_holds}
 use Rattle.ded_strokes.specs.Near.{Direction, Near, turned, growth, soon, piece_soon}
 use Rattle.ded_strokes.specs.Strokes.{between, IsSeam, HasStroke, HaveStroke, parts_levels, is_parted, first_level, level_between, union_between, union_soon}
 use Rattle.ded_strokes.specs.declared.stretch.Stroke.TheVariants.{Seam, Solid, Dashed}
@@ -97,11 +97,11 @@ module _ (i j : ℕ) (hi : 0 < i) (hj : 0 < j) where
       sum_above b k = let m = above_above (pos i) z pi b in let n = product_above (pos j) y pj k in omega (arith, ints)
 
   module _ (p q : Spot) where
-    pub limit_sign : (b : Limit) → parts_levels (level b.plane p) (level b.plane q) ≡ false → SameSign (level b.plane (between p q i j)) (level_between b p q)
+    pub limit_sign : (b : PlaneLimit) → parts_levels (level b.plane p) (level b.plane q) ≡ false → SameSign (level b.plane (between p q i j)) (level_between b p q)
     limit_sign b h = subst (λ z. SameSign z (level_between b p q)) (sym (level_is b.plane p q i j)) (sign_is (level b.plane p) (level b.plane q) h)
 
     -- the tests are the same
-    piece_is : (bs : List Limit) → list_any (λ b. parts_levels (level b.plane p) (level b.plane q)) bs ≡ false
+    piece_is : (bs : List PlaneLimit) → list_any (λ b. parts_levels (level b.plane p) (level b.plane q)) bs ≡ false
         → piece_holds bs (between p q i j) ≡ list_all (λ b. sign_meets b.op (level_between b p q)) bs
     piece_is [] h = refl
     piece_is (b ∷ bs) h =
@@ -109,7 +109,7 @@ module _ (i j : ℕ) (hi : 0 < i) (hj : 0 < j) where
         let rest = or_false_right (parts_levels (level b.plane p) (level b.plane q)) (list_any (λ d. parts_levels (level d.plane p) (level d.plane q)) bs) h in
         ap₂ (λ x y. x && y) (same_meets b.op (level b.plane (between p q i j)) (level_between b p q) (limit_sign b here)) (piece_is bs rest)
 
-    piece_soon_is : (w : Direction) (bs : List Limit) → list_any (λ b. parts_levels (level b.plane p) (level b.plane q)) bs ≡ false
+    piece_soon_is : (w : Direction) (bs : List PlaneLimit) → list_any (λ b. parts_levels (level b.plane p) (level b.plane q)) bs ≡ false
         → piece_soon bs (between p q i j) w ≡ list_all (λ b. soon b.op (level_between b p q) (growth b.plane w)) bs
     piece_soon_is w [] h = refl
     piece_soon_is w (b ∷ bs) h =
@@ -117,14 +117,14 @@ module _ (i j : ℕ) (hi : 0 < i) (hj : 0 < j) where
         let rest = or_false_right (parts_levels (level b.plane p) (level b.plane q)) (list_any (λ d. parts_levels (level d.plane p) (level d.plane q)) bs) h in
         ap₂ (λ x y. x && y) (same_soon b.op (level b.plane (between p q i j)) (level_between b p q) (growth b.plane w) (limit_sign b here)) (piece_soon_is w bs rest)
 
-    union_is : (pieces : List (List Limit)) → is_parted pieces p q ≡ false → union_holds pieces (between p q i j) ≡ union_between pieces p q
+    union_is : (pieces : List (List PlaneLimit)) → is_parted pieces p q ≡ false → union_holds pieces (between p q i j) ≡ union_between pieces p q
     union_is [] h = refl
     union_is (bs ∷ pieces) h =
         let here = or_false_left (list_any (λ b. parts_levels (level b.plane p) (level b.plane q)) bs) (is_parted pieces p q) h in
         let rest = or_false_right (list_any (λ b. parts_levels (level b.plane p) (level b.plane q)) bs) (is_parted pieces p q) h in
         ap₂ (λ x y. x || y) (piece_is bs here) (union_is pieces rest)
 
-    union_soon_is : (w : Direction) (pieces : List (List Limit)) → is_parted pieces p q ≡ false
+    union_soon_is : (w : Direction) (pieces : List (List PlaneLimit)) → is_parted pieces p q ≡ false
         → list_any (λ bs. piece_soon bs (between p q i j) w) pieces ≡ union_soon pieces p q w
     union_soon_is w [] h = refl
     union_soon_is w (bs ∷ pieces) h =
@@ -132,7 +132,7 @@ module _ (i j : ℕ) (hi : 0 < i) (hj : 0 < j) where
         let rest = or_false_right (list_any (λ b. parts_levels (level b.plane p) (level b.plane q)) bs) (is_parted pieces p q) h in
         ap₂ (λ x y. x || y) (piece_soon_is w bs here) (union_soon_is w pieces rest)
 
-    module _ (hp : pos 0 <ℤ p.den) (hq : pos 0 <ℤ q.den) (pieces : List (List Limit)) (whole : is_parted pieces p q ≡ false) where
+    module _ (hp : pos 0 <ℤ p.den) (hq : pos 0 <ℤ q.den) (pieces : List (List PlaneLimit)) (whole : is_parted pieces p q ≡ false) where
       near_is : (w : Direction) → union_soon pieces p q w ≡ true → Near (union_holds pieces) (between p q i j) w
       near_is w h =
           near_of (union_holds pieces) (list_any (λ bs. piece_soon bs (between p q i j) w) pieces) (between p q i j) w
@@ -159,7 +159,7 @@ module _ (i j : ℕ) (hi : 0 < i) (hj : 0 < j) where
       dashed_is h = union_is pieces whole ∙ h
 
 -- ---- whole stretches
-module _ (pieces : List (List Limit)) (w : Direction) (p q : Spot) (hp : pos 0 <ℤ p.den) (hq : pos 0 <ℤ q.den) (whole : is_parted pieces p q ≡ false) where
+module _ (pieces : List (List PlaneLimit)) (w : Direction) (p q : Spot) (hp : pos 0 <ℤ p.den) (hq : pos 0 <ℤ q.den) (whole : is_parted pieces p q ≡ false) where
   pub all_seam : union_between pieces p q ≡ true → union_soon pieces p q w ≡ true → union_soon pieces p q (turned w) ≡ true → HaveStroke pieces w p q Seam
   all_seam h a b = λ i j hi hj. seam_is i j hi hj p q hp hq pieces whole w h a b
 

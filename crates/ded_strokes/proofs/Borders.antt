@@ -9,7 +9,7 @@ use Rattle.ded_polygon.specs.Plane.{HalfPlane, Spot, In, level, bend}
 use Rattle.ded_polygon.proofs.Polynomials.{plus, minus, times, var, identity}
 use Rattle.ded_polygon.proofs.Signs.{above_above, above_below, unscale_zero}
 use Rattle.ded_polygon.proofs.RowPlanes.{in_left, in_right, in_either}
-use Rattle.ded_strokes.specs.Bounds.{Limit}
+use Rattle.ded_strokes.specs.Bounds.{PlaneLimit}
 use Rattle.ded_strokes.specs.Strokes.{parts_levels, is_parted}
 use Rattle.ded_strokes.specs.Stretches.{IsProper, crossed, all_crossed, AreBorders}
 use Rattle.ded_strokes.proofs.Cuts.{AreOpposite, opposite_of}
@@ -91,9 +91,9 @@ module _ (s t : HalfPlane) (level_along : bend s t ≡ pos 0) where
 
 -- ---- those of a list
 module _ (p q : Spot) where
-  in_crossed : (bs : List Limit) (b : Limit) → In b bs → parts_levels (level b.plane p) (level b.plane q) ≡ true → In b (crossed p q bs)
+  in_crossed : (bs : List PlaneLimit) (b : PlaneLimit) → In b bs → parts_levels (level b.plane p) (level b.plane q) ≡ true → In b (crossed p q bs)
   in_crossed [] b i h = i
-  in_crossed (d ∷ bs) b (inl e) h = first (parts_levels (level d.plane p) (level d.plane q)) (ap (λ (l : Limit). parts_levels (level l.plane p) (level l.plane q)) (sym e) ∙ h)
+  in_crossed (d ∷ bs) b (inl e) h = first (parts_levels (level d.plane p) (level d.plane q)) (ap (λ (l : PlaneLimit). parts_levels (level l.plane p) (level l.plane q)) (sym e) ∙ h)
     where
       first : (t : Bool) → t ≡ true → In b (if t then d ∷ crossed p q bs else crossed p q bs)
       first true k = inl e
@@ -104,17 +104,17 @@ module _ (p q : Spot) where
       later true k = inr k
       later false k = k
 
-  of_crossed : (bs : List Limit) (b : Limit) → In b (crossed p q bs) → In b bs × (parts_levels (level b.plane p) (level b.plane q) ≡ true)
+  of_crossed : (bs : List PlaneLimit) (b : PlaneLimit) → In b (crossed p q bs) → In b bs × (parts_levels (level b.plane p) (level b.plane q) ≡ true)
   of_crossed [] b i = absurd i
   of_crossed (d ∷ bs) b i = by (parts_levels (level d.plane p) (level d.plane q)) refl i (λ j. of_crossed bs b j)
     where
       by : (t : Bool) → parts_levels (level d.plane p) (level d.plane q) ≡ t → In b (if t then d ∷ crossed p q bs else crossed p q bs)
           → (In b (crossed p q bs) → In b bs × (parts_levels (level b.plane p) (level b.plane q) ≡ true)) → In b (d ∷ bs) × (parts_levels (level b.plane p) (level b.plane q) ≡ true)
-      by true e (inl j) k = (inl j, ap (λ (l : Limit). parts_levels (level l.plane p) (level l.plane q)) j ∙ e)
+      by true e (inl j) k = (inl j, ap (λ (l : PlaneLimit). parts_levels (level l.plane p) (level l.plane q)) j ∙ e)
       by true e (inr j) k = (inr (k j).0, (k j).1)
       by false e j k = (inr (k j).0, (k j).1)
 
-  most_crossed : (bs : List Limit) → length (crossed p q bs) ≤ length bs
+  most_crossed : (bs : List PlaneLimit) → length (crossed p q bs) ≤ length bs
   most_crossed [] = omega arith
   most_crossed (d ∷ bs) = by (parts_levels (level d.plane p) (level d.plane q)) (most_crossed bs)
     where
@@ -123,9 +123,9 @@ module _ (p q : Spot) where
       by false h = omega (arith, h)
 
   -- fewer, where one of them is not crossed
-  pub fewer_crossed : (bs : List Limit) (b : Limit) → In b bs → parts_levels (level b.plane p) (level b.plane q) ≡ false → length (crossed p q bs) < length bs
+  pub fewer_crossed : (bs : List PlaneLimit) (b : PlaneLimit) → In b bs → parts_levels (level b.plane p) (level b.plane q) ≡ false → length (crossed p q bs) < length bs
   fewer_crossed [] b i h = absurd i
-  fewer_crossed (d ∷ bs) b (inl e) h = by (parts_levels (level d.plane p) (level d.plane q)) (ap (λ (l : Limit). parts_levels (level l.plane p) (level l.plane q)) (sym e) ∙ h)
+  fewer_crossed (d ∷ bs) b (inl e) h = by (parts_levels (level d.plane p) (level d.plane q)) (ap (λ (l : PlaneLimit). parts_levels (level l.plane p) (level l.plane q)) (sym e) ∙ h)
     where
       by : (t : Bool) → t ≡ false → length (if t then d ∷ crossed p q bs else crossed p q bs) < length (d ∷ bs)
       by true k = absurd (true≢false k)
@@ -137,35 +137,35 @@ module _ (p q : Spot) where
       by false k = omega (arith, k)
 
 -- ---- those of pieces
-pub are_borders : (p q : Spot) (pieces : List (List Limit)) → AreBorders pieces p q (all_crossed p q pieces)
+pub are_borders : (p q : Spot) (pieces : List (List PlaneLimit)) → AreBorders pieces p q (all_crossed p q pieces)
 are_borders p q pieces = record { crossed = is pieces; all = has pieces }
   where
-    is : (ps : List (List Limit)) (b : Limit) → In b (all_crossed p q ps) → parts_levels (level b.plane p) (level b.plane q) ≡ true
+    is : (ps : List (List PlaneLimit)) (b : PlaneLimit) → In b (all_crossed p q ps) → parts_levels (level b.plane p) (level b.plane q) ≡ true
     is [] b i = absurd i
     is (bs ∷ ps) b i = elim (in_either b (crossed p q bs) (all_crossed p q ps) i) [ inl j ↦ (of_crossed p q bs b j).1 | inr j ↦ is ps b j ]
 
-    has : (ps : List (List Limit)) (bs : List Limit) → In bs ps → (b : Limit) → In b bs → parts_levels (level b.plane p) (level b.plane q) ≡ true → In b (all_crossed p q ps)
+    has : (ps : List (List PlaneLimit)) (bs : List PlaneLimit) → In bs ps → (b : PlaneLimit) → In b bs → parts_levels (level b.plane p) (level b.plane q) ≡ true → In b (all_crossed p q ps)
     has [] bs i b j h = absurd i
     has (cs ∷ ps) bs (inl e) b j h = in_left b (crossed p q cs) (all_crossed p q ps) (in_crossed p q cs b (subst (In b) e j) h)
     has (cs ∷ ps) bs (inr i) b j h = in_right b (crossed p q cs) (all_crossed p q ps) (has ps bs i b j h)
 
 -- of a part of the way, where a border that is not crossed on the way is not crossed either
-pub part_borders : (pieces : List (List Limit)) (p q u v : Spot) (borders : List Limit) → AreBorders pieces p q borders
-    → ((r : Limit) → parts_levels (level r.plane p) (level r.plane q) ≡ false → parts_levels (level r.plane u) (level r.plane v) ≡ false) → AreBorders pieces u v (crossed u v borders)
+pub part_borders : (pieces : List (List PlaneLimit)) (p q u v : Spot) (borders : List PlaneLimit) → AreBorders pieces p q borders
+    → ((r : PlaneLimit) → parts_levels (level r.plane p) (level r.plane q) ≡ false → parts_levels (level r.plane u) (level r.plane v) ≡ false) → AreBorders pieces u v (crossed u v borders)
 part_borders pieces p q u v borders are narrow = record {
   crossed = λ b i. (of_crossed u v borders b i).1;
   all = λ bs i b j h. in_crossed u v borders b (are.all bs i b j (wide b h (parts_levels (level b.plane p) (level b.plane q)) refl)) h;
 }
   where
-    wide : (b : Limit) → parts_levels (level b.plane u) (level b.plane v) ≡ true → (t : Bool) → parts_levels (level b.plane p) (level b.plane q) ≡ t → parts_levels (level b.plane p) (level b.plane q) ≡ true
+    wide : (b : PlaneLimit) → parts_levels (level b.plane u) (level b.plane v) ≡ true → (t : Bool) → parts_levels (level b.plane p) (level b.plane q) ≡ t → parts_levels (level b.plane p) (level b.plane q) ≡ true
     wide b h true e = e
     wide b h false e = absurd (true≢false (sym h ∙ narrow b e))
 
 -- without borders nothing is crossed
-pub not_parted : (pieces : List (List Limit)) (p q : Spot) → AreBorders pieces p q [] → is_parted pieces p q ≡ false
+pub not_parted : (pieces : List (List PlaneLimit)) (p q : Spot) → AreBorders pieces p q [] → is_parted pieces p q ≡ false
 not_parted pieces p q are = by pieces (λ bs i b j h. are.all bs i b j h)
   where
-    within : (bs : List Limit) → ((b : Limit) → In b bs → parts_levels (level b.plane p) (level b.plane q) ≡ true → ⊥) → list_any (λ b. parts_levels (level b.plane p) (level b.plane q)) bs ≡ false
+    within : (bs : List PlaneLimit) → ((b : PlaneLimit) → In b bs → parts_levels (level b.plane p) (level b.plane q) ≡ true → ⊥) → list_any (λ b. parts_levels (level b.plane p) (level b.plane q)) bs ≡ false
     within [] h = refl
     within (b ∷ bs) h = ap₂ (λ x y. x || y) (not_so (parts_levels (level b.plane p) (level b.plane q)) (h b (inl refl))) (within bs (λ d i. h d (inr i)))
       where
@@ -173,7 +173,7 @@ not_parted pieces p q are = by pieces (λ bs i b j h. are.all bs i b j h)
         not_so true k = absurd (k refl)
         not_so false k = refl
 
-    by : (ps : List (List Limit)) → ((bs : List Limit) → In bs ps → (b : Limit) → In b bs → parts_levels (level b.plane p) (level b.plane q) ≡ true → ⊥) → is_parted ps p q ≡ false
+    by : (ps : List (List PlaneLimit)) → ((bs : List PlaneLimit) → In bs ps → (b : PlaneLimit) → In b bs → parts_levels (level b.plane p) (level b.plane q) ≡ true → ⊥) → is_parted ps p q ≡ false
     by [] h = refl
     by (bs ∷ ps) h = ap₂ (λ x y. x || y) (within bs (h bs (inl refl))) (by ps (λ cs i. h cs (inr i)))
 
@@ -187,8 +187,8 @@ starts_on z y h = ap (parts_levels z) h ∙ never z
 ends_on : (z y : ℤ) → z ≡ pos 0 → parts_levels z y ≡ false
 ends_on z y h = ap (λ x. parts_levels x y) h
 
-pub fewer_before : (p d : Spot) (bs : List Limit) (b : Limit) → In b bs → level b.plane d ≡ pos 0 → length (crossed p d bs) < length bs
+pub fewer_before : (p d : Spot) (bs : List PlaneLimit) (b : PlaneLimit) → In b bs → level b.plane d ≡ pos 0 → length (crossed p d bs) < length bs
 fewer_before p d bs b i h = fewer_crossed p d bs b i (starts_on (level b.plane p) (level b.plane d) h)
 
-pub fewer_behind : (q d : Spot) (bs : List Limit) (b : Limit) → In b bs → level b.plane d ≡ pos 0 → length (crossed d q bs) < length bs
+pub fewer_behind : (q d : Spot) (bs : List PlaneLimit) (b : PlaneLimit) → In b bs → level b.plane d ≡ pos 0 → length (crossed d q bs) < length bs
 fewer_behind q d bs b i h = fewer_crossed d q bs b i (ends_on (level b.plane d) (level b.plane q) h)

@@ -14,7 +14,7 @@ use Rattle.ded_polygon.proofs.Sameness.{same_by, zero_same, below_same}
 use Rattle.ded_polygon.proofs.RowPlanes.{level_opposite}
 use Rattle.ded_polygon.specs.Rows.{opposite}
 use Rattle.ded_strokes.specs.Strokes.{between, parts_levels}
-use Rattle.ded_strokes.specs.Bounds.{Limit}
+use Rattle.ded_strokes.specs.Bounds.{PlaneLimit}
 use Rattle.ded_strokes.specs.Cuts.{LiesBetween, IsCut}
 use Rattle.ded_strokes.proofs.Soon.{SameSign, both_below, both_none, both_above}
 use Rattle.ded_strokes.proofs.Between.{level_is, between_positive, parted_up, parted_down}
@@ -159,7 +159,7 @@ module _ (r : HalfPlane) (p q c : Spot) (hp : pos 0 <ℤ p.den) (hq : pos 0 <ℤ
       by false e = e
 
 -- ---- cuts
-pub is_cut : (side other : Limit) (p q c : Spot) → pos 0 <ℤ p.den → pos 0 <ℤ q.den → pos 0 <ℤ c.den → level side.plane p ≡ pos 0 → level side.plane q ≡ pos 0
+pub is_cut : (side other : PlaneLimit) (p q c : Spot) → pos 0 <ℤ p.den → pos 0 <ℤ q.den → pos 0 <ℤ c.den → level side.plane p ≡ pos 0 → level side.plane q ≡ pos 0
     → level side.plane c ≡ pos 0 → level other.plane c ≡ pos 0 → (pos 0 <ℤ bend side.plane other.plane) ⊎ (pos 0 <ℤ bend other.plane side.plane)
     → parts_levels (level other.plane p) (level other.plane q) ≡ true → IsCut side other p q c
 is_cut side other p q c hp hq hc sp sq sc oc bent h =
@@ -173,7 +173,7 @@ is_cut side other p q c hp hq hc sp sq sc oc bent h =
     }
 
 -- at the crossing of the one with the other
-pub cut_first : (side other : Limit) (p q c : Spot) → pos 0 <ℤ p.den → pos 0 <ℤ q.den → level side.plane p ≡ pos 0 → level side.plane q ≡ pos 0
+pub cut_first : (side other : PlaneLimit) (p q c : Spot) → pos 0 <ℤ p.den → pos 0 <ℤ q.den → level side.plane p ≡ pos 0 → level side.plane q ≡ pos 0
     → (c ≡ crossing side.plane other.plane) × (pos 0 <ℤ bend side.plane other.plane) → parts_levels (level other.plane p) (level other.plane q) ≡ true → IsCut side other p q c
 cut_first side other p q c hp hq sp sq h k =
     is_cut side other p q c hp hq (subst (λ (d : Spot). pos 0 <ℤ d.den) (sym h.0) (subst (λ z. pos 0 <ℤ z) (sym (crossing_den side.plane other.plane)) h.1)) sp sq
@@ -182,7 +182,7 @@ cut_first side other p q c hp hq sp sq h k =
     (inl h.1)
     k
 
-pub cut_second : (side other : Limit) (p q c : Spot) → pos 0 <ℤ p.den → pos 0 <ℤ q.den → level side.plane p ≡ pos 0 → level side.plane q ≡ pos 0
+pub cut_second : (side other : PlaneLimit) (p q c : Spot) → pos 0 <ℤ p.den → pos 0 <ℤ q.den → level side.plane p ≡ pos 0 → level side.plane q ≡ pos 0
     → (c ≡ crossing other.plane side.plane) × (pos 0 <ℤ bend other.plane side.plane) → parts_levels (level other.plane p) (level other.plane q) ≡ true → IsCut side other p q c
 cut_second side other p q c hp hq sp sq h k =
     is_cut side other p q c hp hq (subst (λ (d : Spot). pos 0 <ℤ d.den) (sym h.0) (subst (λ z. pos 0 <ℤ z) (sym (crossing_den other.plane side.plane)) h.1)) sp sq
@@ -192,5 +192,5 @@ cut_second side other p q c hp hq sp sq h k =
     k
 
 -- and if none is above 0
-pub no_bend : (side other : Limit) → bend side.plane other.plane ≤ℤ pos 0 → bend other.plane side.plane ≤ℤ pos 0 → bend side.plane other.plane ≡ pos 0
+pub no_bend : (side other : PlaneLimit) → bend side.plane other.plane ≤ℤ pos 0 → bend other.plane side.plane ≤ℤ pos 0 → bend side.plane other.plane ≡ pos 0
 no_bend side other h k = let e = bend_swap side.plane other.plane in omega (arith, ints)

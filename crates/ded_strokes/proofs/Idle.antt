@@ -14,7 +14,7 @@ use Rattle.ded_model.proofs.Members.{or_split}
 use Rattle.ded_polygon.specs.Plane.{Spot, In, IsSameSpot, level}
 use Rattle.ded_polygon.proofs.Polynomials.{plus, times, var, identity}
 use Rattle.ded_polygon.proofs.Signs.{above_above}
-use Rattle.ded_strokes.specs.Bounds.{Limit, piece_holds, union_holds}
+use Rattle.ded_strokes.specs.Bounds.{PlaneLimit, piece_holds, union_holds}
 use Rattle.ded_strokes.specs.Near.{Direction, Near, turned, growth, soon, piece_soon}
 use Rattle.ded_strokes.specs.Strokes.{between, IsSeam, HasStroke, HaveStroke, parts_levels, level_between}
 use Rattle.ded_strokes.specs.Cuts.{LiesBetween}
@@ -52,22 +52,22 @@ same_off Below z y (both_above h k) = above_test z h ∙ sym (above_test y k)
 -- ---- idle pieces
 module _ (m : Spot) where
   -- a test that no limit which is off passes
-  none_pass : (test : Limit → Bool) → ((b : Limit) → is_off b.op (level b.plane m) ≡ true → test b ≡ false) → (bs : List Limit) → is_idle bs m ≡ true → list_all test bs ≡ false
+  none_pass : (test : PlaneLimit → Bool) → ((b : PlaneLimit) → is_off b.op (level b.plane m) ≡ true → test b ≡ false) → (bs : List PlaneLimit) → is_idle bs m ≡ true → list_all test bs ≡ false
   none_pass test fails [] h = absurd (true≢false (sym h))
   none_pass test fails (b ∷ bs) h = elim (or_split (is_off b.op (level b.plane m)) (is_idle bs m) h) [
     | inl e ↦ ap (λ x. x && list_all test bs) (fails b e)
     | inr e ↦ and_false (test b) (list_all test bs) (none_pass test fails bs e)
   ]
 
-  pub idle_holds : (bs : List Limit) → is_idle bs m ≡ true → piece_holds bs m ≡ false
+  pub idle_holds : (bs : List PlaneLimit) → is_idle bs m ≡ true → piece_holds bs m ≡ false
   idle_holds bs h = none_pass (λ b. sign_meets b.op (level b.plane m)) (λ b e. off_meets b.op (level b.plane m) e) bs h
 
-  pub idle_soon : (w : Direction) (bs : List Limit) → is_idle bs m ≡ true → piece_soon bs m w ≡ false
+  pub idle_soon : (w : Direction) (bs : List PlaneLimit) → is_idle bs m ≡ true → piece_soon bs m w ≡ false
   idle_soon w bs h = none_pass (λ b. soon b.op (level b.plane m) (growth b.plane w)) (λ b e. off_soon b.op (level b.plane m) (growth b.plane w) e) bs h
 
 -- ---- where a piece misses a way
 module _ (p q : Spot) (hp : pos 0 <ℤ p.den) (hq : pos 0 <ℤ q.den) where
-  keeps_is : (b : Limit) → keeps_off b.op (level b.plane p) (level b.plane q) ≡ true → (m : Spot) → pos 0 <ℤ m.den → LiesBetween p q m → is_off b.op (level b.plane m) ≡ true
+  keeps_is : (b : PlaneLimit) → keeps_off b.op (level b.plane p) (level b.plane q) ≡ true → (m : Spot) → pos 0 <ℤ m.den → LiesBetween p q m → is_off b.op (level b.plane m) ≡ true
   keeps_is b h m hm l =
       let a = first (parts_levels (level b.plane p) (level b.plane q)) (is_off b.op (level_between b p q)) h in
       same_off b.op (level b.plane m) (level b.plane (between p q l.i l.j)) (sign_same b.plane m (between p q l.i l.j) hm (between_positive p q l.i l.j hp hq l.some_i l.some_j) l.is)
@@ -78,17 +78,17 @@ module _ (p q : Spot) (hp : pos 0 <ℤ p.den) (hq : pos 0 <ℤ q.den) where
       first true y k = absurd (true≢false (sym k))
       first false y k = (refl, k)
 
-  pub misses_idle : (bs : List Limit) → misses p q bs ≡ true → IsIdle p q bs
+  pub misses_idle : (bs : List PlaneLimit) → misses p q bs ≡ true → IsIdle p q bs
   misses_idle [] h = λ m hm l. h
   misses_idle (b ∷ bs) h = λ m hm l. elim (or_split (keeps_off b.op (level b.plane p) (level b.plane q)) (misses p q bs) h) [
     | inl e ↦ ap (λ x. x || is_idle bs m) (keeps_is b e m hm l)
     | inr e ↦ or_right (is_off b.op (level b.plane m)) (is_idle bs m) (misses_idle bs e m hm l)
   ]
 
-  pub near_enough : (pieces : List (List Limit)) → AreEnough p q (near_pieces p q pieces) pieces
+  pub near_enough : (pieces : List (List PlaneLimit)) → AreEnough p q (near_pieces p q pieces) pieces
   near_enough pieces = record { some = of_near_pieces pieces; others = others pieces }
     where
-      of_near_pieces : (ps : List (List Limit)) (bs : List Limit) → In bs (near_pieces p q ps) → In bs ps
+      of_near_pieces : (ps : List (List PlaneLimit)) (bs : List PlaneLimit) → In bs (near_pieces p q ps) → In bs ps
       of_near_pieces [] bs i = i
       of_near_pieces (cs ∷ ps) bs i = by (misses p q cs) i (λ j. of_near_pieces ps bs j)
         where
@@ -97,7 +97,7 @@ module _ (p q : Spot) (hp : pos 0 <ℤ p.den) (hq : pos 0 <ℤ q.den) where
           by false (inl e) k = inl e
           by false (inr j) k = inr (k j)
 
-      others : (ps : List (List Limit)) (bs : List Limit) → In bs ps → IsIdle p q bs ⊎ In bs (near_pieces p q ps)
+      others : (ps : List (List PlaneLimit)) (bs : List PlaneLimit) → In bs ps → IsIdle p q bs ⊎ In bs (near_pieces p q ps)
       others [] bs i = absurd i
       others (cs ∷ ps) bs (inl e) = by (misses p q cs) refl
         where
@@ -111,27 +111,27 @@ module _ (p q : Spot) (hp : pos 0 <ℤ p.den) (hq : pos 0 <ℤ q.den) where
           by false k = inr k
 
 -- some of some
-pub enough_more : (p q : Spot) (few some pieces : List (List Limit)) → AreEnough p q few some → AreEnough p q some pieces → AreEnough p q few pieces
+pub enough_more : (p q : Spot) (few some pieces : List (List PlaneLimit)) → AreEnough p q few some → AreEnough p q some pieces → AreEnough p q few pieces
 enough_more p q few some pieces a b = record {
   some = λ bs i. b.some bs (a.some bs i);
   others = λ bs i. elim (b.others bs i) [ inl k ↦ inl k | inr j ↦ a.others bs j ];
 }
 
 -- ---- unions at a point between
-any_in : (f : List Limit → Bool) (ps : List (List Limit)) → list_any f ps ≡ true → (bs : List Limit) × In bs ps × (f bs ≡ true)
+any_in : (f : List PlaneLimit → Bool) (ps : List (List PlaneLimit)) → list_any f ps ≡ true → (bs : List PlaneLimit) × In bs ps × (f bs ≡ true)
 any_in f [] h = absurd (true≢false (sym h))
 any_in f (bs ∷ ps) h = elim (or_split (f bs) (list_any f ps) h) [
   | inl e ↦ (bs, inl refl, e)
   | inr e ↦ (let k = any_in f ps e in (k.0, inr k.1, k.2))
 ]
 
-in_any : (f : List Limit → Bool) (ps : List (List Limit)) (bs : List Limit) → In bs ps → f bs ≡ true → list_any f ps ≡ true
+in_any : (f : List PlaneLimit → Bool) (ps : List (List PlaneLimit)) (bs : List PlaneLimit) → In bs ps → f bs ≡ true → list_any f ps ≡ true
 in_any f [] bs i h = absurd i
 in_any f (cs ∷ ps) bs (inl e) h = ap (λ x. x || list_any f ps) (ap f (sym e) ∙ h)
 in_any f (cs ∷ ps) bs (inr i) h = or_right (f cs) (list_any f ps) (in_any f ps bs i h)
 
-module _ (p q : Spot) (few pieces : List (List Limit)) (enough : AreEnough p q few pieces) where
-  any_same : (f : List Limit → Bool) → ((bs : List Limit) → IsIdle p q bs → f bs ≡ false) → list_any f few ≡ list_any f pieces
+module _ (p q : Spot) (few pieces : List (List PlaneLimit)) (enough : AreEnough p q few pieces) where
+  any_same : (f : List PlaneLimit → Bool) → ((bs : List PlaneLimit) → IsIdle p q bs → f bs ≡ false) → list_any f few ≡ list_any f pieces
   any_same f fails =
       same_tests (list_any f few) (list_any f pieces)
       (λ h. let k = any_in f few h in in_any f pieces k.0 (enough.some k.0 k.1) k.2)
@@ -168,7 +168,7 @@ module _ (p q : Spot) (few pieces : List (List Limit)) (enough : AreEnough p q f
 same_self : (m : Spot) → IsSameSpot m m
 same_self m = record { x = refl; y = refl }
 
-pub have_all : (p q : Spot) → pos 0 <ℤ p.den → pos 0 <ℤ q.den → (few pieces : List (List Limit)) → AreEnough p q few pieces → (w : Direction) (s : Stroke) → HaveStroke few w p q s → HaveStroke pieces w p q s
+pub have_all : (p q : Spot) → pos 0 <ℤ p.den → pos 0 <ℤ q.den → (few pieces : List (List PlaneLimit)) → AreEnough p q few pieces → (w : Direction) (s : Stroke) → HaveStroke few w p q s → HaveStroke pieces w p q s
 have_all p q hp hq few pieces enough w s h = λ i j hi hj.
     stroke_all p q few pieces enough (between p q i j) (between_positive p q i j hp hq hi hj) (record { i = i; j = j; some_i = hi; some_j = hj; is = same_self (between p q i j) }) w s (h i j hi hj)
 
@@ -278,13 +278,13 @@ module _ (p q c : Spot) (hp : pos 0 <ℤ p.den) (hq : pos 0 <ℤ q.den) (hc : po
 pub lies_behind : (p q c : Spot) → pos 0 <ℤ p.den → pos 0 <ℤ q.den → pos 0 <ℤ c.den → LiesBetween p q c → (m : Spot) → LiesBetween c q m → LiesBetween p q m
 lies_behind p q c hp hq hc b m l = swap q p m (lies_before q p c hq hp hc (swap p q c b) m (swap c q m l))
 
-pub enough_before : (p q c : Spot) → pos 0 <ℤ p.den → pos 0 <ℤ q.den → pos 0 <ℤ c.den → LiesBetween p q c → (few pieces : List (List Limit)) → AreEnough p q few pieces → AreEnough p c few pieces
+pub enough_before : (p q c : Spot) → pos 0 <ℤ p.den → pos 0 <ℤ q.den → pos 0 <ℤ c.den → LiesBetween p q c → (few pieces : List (List PlaneLimit)) → AreEnough p q few pieces → AreEnough p c few pieces
 enough_before p q c hp hq hc b few pieces e = record {
   some = e.some;
   others = λ bs i. elim (e.others bs i) [ inl k ↦ inl (λ m hm l. k m hm (lies_before p q c hp hq hc b m l)) | inr j ↦ inr j ];
 }
 
-pub enough_behind : (p q c : Spot) → pos 0 <ℤ p.den → pos 0 <ℤ q.den → pos 0 <ℤ c.den → LiesBetween p q c → (few pieces : List (List Limit)) → AreEnough p q few pieces → AreEnough c q few pieces
+pub enough_behind : (p q c : Spot) → pos 0 <ℤ p.den → pos 0 <ℤ q.den → pos 0 <ℤ c.den → LiesBetween p q c → (few pieces : List (List PlaneLimit)) → AreEnough p q few pieces → AreEnough c q few pieces
 enough_behind p q c hp hq hc b few pieces e = record {
   some = e.some;
   others = λ bs i. elim (e.others bs i) [ inl k ↦ inl (λ m hm l. k m hm (lies_behind p q c hp hq hc b m l)) | inr j ↦ inr j ];

@@ -14,7 +14,7 @@ use Rattle.ded_model.proofs.Core.{meets_scale, zero_scale}
 use Rattle.ded_polygon.specs.Plane.{HalfPlane, Spot, level}
 use Rattle.ded_polygon.proofs.Polynomials.{plus, times, var, identity}
 use Rattle.ded_polygon.proofs.Signs.{above_above, above_below}
-use Rattle.ded_strokes.specs.Bounds.{Limit, limit_holds}
+use Rattle.ded_strokes.specs.Bounds.{PlaneLimit, limit_holds}
 use Rattle.ded_strokes.specs.Near.{Direction, moved, growth, soon, limit_soon}
 
 -- ---- signs as tests
@@ -177,6 +177,6 @@ level_moved s p w n k = law s.a s.b s.c p.x p.y p.den w.u w.v (pos n) (pos k)
         refl
 
 -- a limit holds near exactly where it does soon
-pub limit_is : (b : Limit) (p : Spot) (w : Direction) (n k : ℕ) → pos 0 <ℤ p.den → 0 < n → n * (unsigned_abs (growth b.plane w *ℤ p.den) + 1) ≤ k
+pub limit_is : (b : PlaneLimit) (p : Spot) (w : Direction) (n k : ℕ) → pos 0 <ℤ p.den → 0 < n → n * (unsigned_abs (growth b.plane w *ℤ p.den) + 1) ≤ k
     → limit_holds b (moved p w n k) ≡ limit_soon b p w
 limit_is b p w n k q h l = ap (sign_meets b.op) (level_moved b.plane p w n k) ∙ soon_is b.op (level b.plane p) (growth b.plane w) p.den n k q h l

@@ -3,7 +3,7 @@ use Rattle.std.proofs.Common.{◌≡◌, ℕ, ◌+◌, ◌*◌, ◌<◌, ◌≤�
 use Rattle.std.specs.Prelude.{pos, ◌*ℤ◌, ◌<ℤ◌, unsigned_abs}
 use Rattle.std.specs.List.{list_any}
 use Rattle.ded_polygon.specs.Plane.{Spot}
-use Rattle.ded_strokes.specs.Bounds.{Limit, limit_holds, piece_holds, union_holds}
+use Rattle.ded_strokes.specs.Bounds.{PlaneLimit, limit_holds, piece_holds, union_holds}
 use Rattle.ded_strokes.specs.Near.{Direction, Near, moved, growth, limit_soon, piece_soon}
 use Rattle.ded_strokes.proofs.Soon.{limit_is}
 
@@ -41,21 +41,21 @@ module _ (p : Spot) (w : Direction) where
       }
 
   module _ (q : pos 0 <ℤ p.den) where
-    limit_settles : (b : Limit) → Settles (limit_holds b) (limit_soon b p w) p w
+    limit_settles : (b : PlaneLimit) → Settles (limit_holds b) (limit_soon b p w) p w
     limit_settles b = record { reach = unsigned_abs (growth b.plane w *ℤ p.den) + 1; positive = omega arith; is = λ n k h l. limit_is b p w n k q h l }
 
-    pub piece_settles : (bs : List Limit) → Settles (piece_holds bs) (piece_soon bs p w) p w
+    pub piece_settles : (bs : List PlaneLimit) → Settles (piece_holds bs) (piece_soon bs p w) p w
     piece_settles [] = always true
     piece_settles (b ∷ bs) = joined (limit_holds b) (piece_holds bs) (limit_soon b p w) (piece_soon bs p w) (λ x y. x && y) (limit_settles b) (piece_settles bs)
 
-    pub union_settles : (pieces : List (List Limit)) → Settles (union_holds pieces) (list_any (λ bs. piece_soon bs p w) pieces) p w
+    pub union_settles : (pieces : List (List PlaneLimit)) → Settles (union_holds pieces) (list_any (λ bs. piece_soon bs p w) pieces) p w
     union_settles [] = always false
     union_settles (bs ∷ pieces) =
         joined (piece_holds bs) (union_holds pieces) (piece_soon bs p w) (list_any (λ cs. piece_soon cs p w) pieces) (λ x y. x || y) (piece_settles bs) (union_settles pieces)
 
 -- a piece near a spot
-pub piece_near : (bs : List Limit) (p : Spot) (w : Direction) → pos 0 <ℤ p.den → piece_soon bs p w ≡ true → Near (piece_holds bs) p w
+pub piece_near : (bs : List PlaneLimit) (p : Spot) (w : Direction) → pos 0 <ℤ p.den → piece_soon bs p w ≡ true → Near (piece_holds bs) p w
 piece_near bs p w q h = near_of (piece_holds bs) (piece_soon bs p w) p w (piece_settles p w q bs) h
 
-pub near_piece : (bs : List Limit) (p : Spot) (w : Direction) → pos 0 <ℤ p.den → Near (piece_holds bs) p w → piece_soon bs p w ≡ true
+pub near_piece : (bs : List PlaneLimit) (p : Spot) (w : Direction) → pos 0 <ℤ p.den → Near (piece_holds bs) p w → piece_soon bs p w ≡ true
 near_piece bs p w q h = of_near (piece_holds bs) (piece_soon bs p w) p w (piece_settles p w q bs) h

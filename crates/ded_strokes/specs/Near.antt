@@ -7,7 +7,7 @@ use Rattle.ded_model.specs.declared.row.RowOp.{RowOp}
 use Rattle.ded_model.specs.declared.row.RowOp.TheVariants.{Zero, AtMost, Below}
 use Rattle.ded_num.specs.Length.{IsWithin}
 use Rattle.ded_polygon.specs.Plane.{HalfPlane, Spot, level}
-use Rattle.ded_strokes.specs.Bounds.{Limit}
+use Rattle.ded_strokes.specs.Bounds.{PlaneLimit}
 
 -- a direction, by whole numbers
 pub record Direction : Type 0 where
@@ -49,9 +49,9 @@ soon AtMost z g = int_lt z (pos 0) || (int_eq z (pos 0) && int_le g (pos 0))
 soon Below z g = int_lt z (pos 0) || (int_eq z (pos 0) && int_lt g (pos 0))
 
 -- the limit holds soon after the spot
-abbrev pub limit_soon : Limit → Spot → Direction → Bool
+abbrev pub limit_soon : PlaneLimit → Spot → Direction → Bool
 limit_soon b p w = soon b.op (level b.plane p) (growth b.plane w)
 
 -- all limits of the piece hold soon after the spot, as is so where it has none
-abbrev pub piece_soon : List Limit → Spot → Direction → Bool
+abbrev pub piece_soon : List PlaneLimit → Spot → Direction → Bool
 piece_soon bs p w = list_all (λ b. limit_soon b p w) bs

@@ -5,7 +5,7 @@ use Rattle.std.specs.Ordering.{int_eq}
 use Rattle.ded_model.specs.declared.row.RowOp.{RowOp}
 use Rattle.ded_model.specs.declared.row.RowOp.TheVariants.{Zero, AtMost, Below}
 use Rattle.ded_polygon.specs.Plane.{HalfPlane, Spot, In, level}
-use Rattle.ded_strokes.specs.Bounds.{Limit}
+use Rattle.ded_strokes.specs.Bounds.{PlaneLimit}
 use Rattle.ded_strokes.specs.Near.{Direction}
 use Rattle.ded_strokes.specs.Strokes.{HaveStroke, parts_levels, first_level}
 use Rattle.ded_strokes.specs.Cuts.{LiesBetween}
@@ -21,24 +21,24 @@ pub data Cutting : Type 0 where
   at : Cutting → Spot → Cutting → Cutting
 
 -- the stretch leads from the one spot to the other, and tells how each point between them is drawn
-pub record IsStretch (pieces : List (List Limit)) (w : Direction) (p q : Spot) (s : Stretch) : Type 0 where
+pub record IsStretch (pieces : List (List PlaneLimit)) (w : Direction) (p q : Spot) (s : Stretch) : Type 0 where
   pub begins : s.from ≡ p
   pub ends : s.to ≡ q
   pub drawn : HaveStroke pieces w p q s.stroke
 
 -- the way between the two spots is cut like this, and these are the stretches of its parts, in order
-abbrev pub AreStretches : List (List Limit) → Direction → Cutting → Spot → Spot → List Stretch → Type 0
+abbrev pub AreStretches : List (List PlaneLimit) → Direction → Cutting → Spot → Spot → List Stretch → Type 0
 AreStretches pieces w whole p q ss = (s : Stretch) × (ss ≡ s ∷ []) × IsStretch pieces w p q s
 AreStretches pieces w (at l c r) p q ss =
     (pos 0 <ℤ c.den) × LiesBetween p q c × (front : List Stretch) × (back : List Stretch) × (ss ≡ front ++ back) × AreStretches pieces w l p c front × AreStretches pieces w r c q back
 
 -- the way between the two spots is cut in some way, and these are the stretches of its parts
-pub record AreCut (pieces : List (List Limit)) (w : Direction) (p q : Spot) (ss : List Stretch) : Type 0 where
+pub record AreCut (pieces : List (List PlaneLimit)) (w : Direction) (p q : Spot) (ss : List Stretch) : Type 0 where
   pub cutting : Cutting
   pub stretches : AreStretches pieces w cutting p q ss
 
 -- the new list has such stretches more than the old one
-pub record AddsCut (pieces : List (List Limit)) (w : Direction) (p q : Spot) (old new : List Stretch) : Type 0 where
+pub record AddsCut (pieces : List (List PlaneLimit)) (w : Direction) (p q : Spot) (old new : List Stretch) : Type 0 where
   pub added : List Stretch
   pub cut : AreCut pieces w p q added
   pub is : new ≡ old ++ added
@@ -88,17 +88,17 @@ is_off AtMost z = int_lt (pos 0) z
 is_off Below z = int_lt (pos 0) z
 
 -- some limit of the piece is off at the spot, so that neither the spot nor what is near it is in the piece
-abbrev pub is_idle : List Limit → Spot → Bool
+abbrev pub is_idle : List PlaneLimit → Spot → Bool
 is_idle bs m = list_any (λ b. is_off b.op (level b.plane m)) bs
 
 -- it is so at each point between the two spots
-abbrev pub IsIdle : Spot → Spot → List Limit → Type 0
+abbrev pub IsIdle : Spot → Spot → List PlaneLimit → Type 0
 IsIdle p q bs = (m : Spot) → pos 0 <ℤ m.den → LiesBetween p q m → is_idle bs m ≡ true
 
 -- the few are some of the pieces, and all others are idle between the two spots
-pub record AreEnough (p q : Spot) (few pieces : List (List Limit)) : Type 0 where
-  pub some : (bs : List Limit) → In bs few → In bs pieces
-  pub others : (bs : List Limit) → In bs pieces → IsIdle p q bs ⊎ In bs few
+pub record AreEnough (p q : Spot) (few pieces : List (List PlaneLimit)) : Type 0 where
+  pub some : (bs : List PlaneLimit) → In bs few → In bs pieces
+  pub others : (bs : List PlaneLimit) → In bs pieces → IsIdle p q bs ⊎ In bs few
 
 -- ---- how it is told
 
@@ -107,25 +107,25 @@ abbrev pub keeps_off : RowOp → ℤ → ℤ → Bool
 keeps_off op z y = not (parts_levels z y) && is_off op (first_level z y)
 
 -- some limit of the piece is off at all points between the two spots, so that the piece is idle there
-abbrev pub misses : Spot → Spot → List Limit → Bool
+abbrev pub misses : Spot → Spot → List PlaneLimit → Bool
 misses p q bs = list_any (λ b. keeps_off b.op (level b.plane p) (level b.plane q)) bs
 
 -- the limits whose borders are crossed between the two spots
-abbrev pub crossed : Spot → Spot → List Limit → List Limit
+abbrev pub crossed : Spot → Spot → List PlaneLimit → List PlaneLimit
 crossed p q [] = []
 crossed p q (b ∷ bs) = if parts_levels (level b.plane p) (level b.plane q) then b ∷ crossed p q bs else crossed p q bs
 
 -- the limits of all pieces whose borders are crossed between the two spots, piece after piece
-abbrev pub all_crossed : Spot → Spot → List (List Limit) → List Limit
+abbrev pub all_crossed : Spot → Spot → List (List PlaneLimit) → List PlaneLimit
 all_crossed p q [] = []
 all_crossed p q (bs ∷ pieces) = crossed p q bs ++ all_crossed p q pieces
 
 -- the pieces that do not miss the way between the two spots
-abbrev pub near_pieces : Spot → Spot → List (List Limit) → List (List Limit)
+abbrev pub near_pieces : Spot → Spot → List (List PlaneLimit) → List (List PlaneLimit)
 near_pieces p q [] = []
 near_pieces p q (bs ∷ pieces) = if misses p q bs then near_pieces p q pieces else bs ∷ near_pieces p q pieces
 
 -- each of the borders is crossed between the two spots, and each border of the pieces that is crossed there is one of them
-pub record AreBorders (pieces : List (List Limit)) (p q : Spot) (borders : List Limit) : Type 0 where
-  pub crossed : (b : Limit) → In b borders → parts_levels (level b.plane p) (level b.plane q) ≡ true
-  pub all : (bs : List Limit) → In bs pieces → (b : Limit) → In b bs → parts_levels (level b.plane p) (level b.plane q) ≡ true → In b borders
+pub record AreBorders (pieces : List (List PlaneLimit)) (p q : Spot) (borders : List PlaneLimit) : Type 0 where
+  pub crossed : (b : PlaneLimit) → In b borders → parts_levels (level b.plane p) (level b.plane q) ≡ true
+  pub all : (bs : List PlaneLimit) → In bs pieces → (b : PlaneLimit) → In b bs → parts_levels (level b.plane p) (level b.plane q) ≡ true → In b borders

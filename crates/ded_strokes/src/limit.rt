@@ -19,23 +19,23 @@ use crate::direction::{Direction, is_coefficient};
 use crate::number::{cross, product, sum};
 use ded_model::row::{Row, RowOp};
 use ded_model::slot::Slot;
-use ded_polygon::{Corner, Window};
+use ded_polygon::{Corner, PlaneWindow};
 use std::marker::Model;
 
 /// The points at which `a * x + b * y + c` is 0, at most 0, or below 0. The coefficients are below 2 ^ 31 in size, the
 /// constant is below 2 ^ 62.
 #[derive(Clone, Copy, Debug)]
-pub struct Limit {
+pub struct PlaneLimit {
     a: i128,
     b: i128,
     c: i128,
     op: RowOp,
 }
 
-impl Model for Limit {
-    ghost use Rattle.ded_strokes.specs.Bounds.{Limit};
+impl Model for PlaneLimit {
+    ghost use Rattle.ded_strokes.specs.Bounds.{PlaneLimit};
 
-    ghost Value = { Limit };
+    ghost Value = { PlaneLimit };
 
     ghost use Rattle.ded_polygon.specs.Ranges.{IsShortSide};
 
@@ -46,9 +46,9 @@ impl Model for Limit {
     ghost invariant = { λ b. IsShortSide (record { a = b.a; b = b.b; c = b.c }) };
 }
 
-impl Limit {
+impl PlaneLimit {
     /// The limit of a row over two slots. None where a number is beyond the exact range.
-    pub fn new(row: &Row, x: Slot, y: Slot) -> Option<Limit>
+    pub fn new(row: &Row, x: Slot, y: Slot) -> Option<PlaneLimit>
         ensures { MatchOption result (IsInRange x y row.now → ⊥) (λ b. b ≡ limit_of x y row.now) }
     {
         short_limit(row.coefs.at(x), row.coefs.at(y), row.constant, row.op)
@@ -69,20 +69,20 @@ impl Limit {
     }
 
     /// The half plane with its border.
-    pub fn closed(self) -> Limit
+    pub fn closed(self) -> PlaneLimit
         ensures { result ≡ record { plane = self.plane; op = AtMost } }
     {
-        Limit {
+        PlaneLimit {
             op: RowOp::AtMost,
             ..self
         }
     }
 
     /// The limit with the half plane on the other side of the border.
-    pub fn opposite(self) -> Limit
+    pub fn opposite(self) -> PlaneLimit
         ensures { result ≡ record { plane = opposite self.plane; op = self.op } }
     {
-        Limit {
+        PlaneLimit {
             a: -self.a,
             b: -self.b,
             c: -self.c,
@@ -133,14 +133,14 @@ impl Limit {
 
     /// Above 0 where the way along the border, with the inside to its left, leads out of the other half plane, and 0
     /// where both run alike.
-    pub fn bend(self, other: Limit) -> i128
+    pub fn bend(self, other: PlaneLimit) -> i128
         ensures { result ≡ bend self.plane other.plane }
     {
         cross(self.a, other.b, self.b, other.a)
     }
 
     /// Where the borders cross, if the way along the first one leads out of the other half plane there.
-    fn crossing(self, other: Limit) -> Option<Corner>
+    fn crossing(self, other: PlaneLimit) -> Option<Corner>
         ensures { MatchOption result (bend self.plane other.plane ≤ℤ pos 0) (λ c. (c ≡ crossing self.plane other.plane)
             × (pos 0 <ℤ bend self.plane other.plane)) }
     {
@@ -166,7 +166,7 @@ impl Limit {
     /// between the two, and a border that is not crossed between the two is not crossed between one of them and that
     /// corner. None only where the border of the other limit is not crossed between the corners, or the two borders are
     /// parallel.
-    pub fn cut(self, other: Limit, from: Corner, to: Corner) -> Option<Corner>
+    pub fn cut(self, other: PlaneLimit, from: Corner, to: Corner) -> Option<Corner>
         requires from { level self.plane from ≡ pos 0 }
         requires to { level self.plane to ≡ pos 0 }
         ensures { MatchOption result
@@ -220,7 +220,7 @@ impl Limit {
 }
 
 /// The half planes of the window with their borders: left, right, below and above.
-pub fn window_limits(window: Window) -> [Limit; 4]
+pub fn window_limits(window: PlaneWindow) -> [PlaneLimit; 4]
     ensures { result ≡ closed_limits (window_planes window) }
 {
     [
@@ -232,11 +232,11 @@ pub fn window_limits(window: Window) -> [Limit; 4]
 }
 
 /// The half plane of these numbers with its border.
-fn at_most(a: i128, b: i128, c: i128) -> Limit
+fn at_most(a: i128, b: i128, c: i128) -> PlaneLimit
     requires { IsShortSide (record { a = a; b = b; c = c }) }
     ensures { result ≡ record { plane = record { a = a; b = b; c = c }; op = AtMost } }
 {
-    Limit {
+    PlaneLimit {
         a,
         b,
         c,
@@ -245,7 +245,7 @@ fn at_most(a: i128, b: i128, c: i128) -> Limit
 }
 
 /// The limit of these numbers. None where one is beyond the exact range.
-fn short_limit(a: i128, b: i128, c: i128, op: RowOp) -> Option<Limit>
+fn short_limit(a: i128, b: i128, c: i128, op: RowOp) -> Option<PlaneLimit>
     ensures { MatchOption result (IsShortSide (record { a = a; b = b; c = c })
         → ⊥) (λ s. s ≡ record { plane = record { a = a; b = b; c = c }; op = op }) }
 {
@@ -258,7 +258,7 @@ fn short_limit(a: i128, b: i128, c: i128, op: RowOp) -> Option<Limit>
     if !is_constant(c) {
         return None;
     }
-    Some(Limit { a, b, c, op })
+    Some(PlaneLimit { a, b, c, op })
 }
 
 /// Whether the number is below 2 ^ 62 in size.

@@ -1,14 +1,14 @@
 //! Sides, cut where borders cross them.
 ghost use Rattle.std.specs.Prelude.{◌≡◌, ◌++◌, [], true, false, pos, IfOk, OnOk, MatchOption};
 ghost use Rattle.ded_polygon.specs.Plane.{In, level};
-ghost use Rattle.ded_strokes.specs.Bounds.{Limit};
+ghost use Rattle.ded_strokes.specs.Bounds.{PlaneLimit};
 ghost use Rattle.ded_strokes.specs.Near.{outward};
 ghost use Rattle.ded_strokes.specs.Strokes.{parts_levels, is_parted};
 ghost use Rattle.ded_strokes.specs.Cuts.{IsCut};
 ghost use Rattle.ded_strokes.specs.Stretches.{IsProper, AreCut, AddsCut, AreBorders, crossed, all_crossed, near_pieces};
 
-use crate::limit::Limit;
-use crate::piece::Piece;
+use crate::limit::PlaneLimit;
+use crate::piece::PlanePiece;
 use crate::stretch::{Stroke, told};
 use ded_model::memory::NoMemory;
 use ded_polygon::Corner;
@@ -29,8 +29,8 @@ pub struct Stretch {
 /// Out of memory.
 pub fn stretches(
     alloc: Global,
-    pieces: &[Piece],
-    side: Limit,
+    pieces: &[PlanePiece],
+    side: PlaneLimit,
     from: Corner,
     to: Corner,
 ) -> Result<Vec<Stretch>, NoMemory>
@@ -52,9 +52,9 @@ pub fn stretches(
 /// # Errors
 /// Out of memory.
 fn add_stretches(
-    pieces: &[Piece],
-    side: Limit,
-    borders: &[Limit],
+    pieces: &[PlanePiece],
+    side: PlaneLimit,
+    borders: &[PlaneLimit],
     from: Corner,
     to: Corner,
     out: &mut Vec<Stretch>,
@@ -77,12 +77,12 @@ fn add_stretches(
 }
 
 /// Where the middle one of the borders crosses the side, if there is one.
-fn parting(side: Limit, borders: &[Limit], from: Corner, to: Corner) -> Option<Corner>
+fn parting(side: PlaneLimit, borders: &[PlaneLimit], from: Corner, to: Corner) -> Option<Corner>
     requires proper { IsProper side.plane }
     requires from { level side.plane from ≡ pos 0 }
     requires to { level side.plane to ≡ pos 0 }
-    requires crossed { (b : Limit) → In b borders.now → parts_levels (level b.plane from) (level b.plane to) ≡ true }
-    ensures { MatchOption result (borders.now ≡ []) (λ c. (b : Limit) × In b borders.now × IsCut side b from to c) }
+    requires crossed { (b : PlaneLimit) → In b borders.now → parts_levels (level b.plane from) (level b.plane to) ≡ true }
+    ensures { MatchOption result (borders.now ≡ []) (λ c. (b : PlaneLimit) × In b borders.now × IsCut side b from to c) }
 {
     if borders.is_empty() {
         return None;
@@ -96,8 +96,8 @@ fn parting(side: Limit, borders: &[Limit], from: Corner, to: Corner) -> Option<C
 /// # Errors
 /// Out of memory.
 fn add_whole(
-    pieces: &[Piece],
-    side: Limit,
+    pieces: &[PlanePiece],
+    side: PlaneLimit,
     from: Corner,
     to: Corner,
     out: &mut Vec<Stretch>,
@@ -116,10 +116,10 @@ fn add_whole(
 /// Out of memory.
 fn all_crossed(
     alloc: Global,
-    pieces: &[Piece],
+    pieces: &[PlanePiece],
     from: Corner,
     to: Corner,
-) -> Result<Vec<Limit>, NoMemory>
+) -> Result<Vec<PlaneLimit>, NoMemory>
     ensures { IfOk result (λ bs. bs.items ≡ all_crossed from to pieces.now) }
 {
     let mut borders = Vec::new(alloc);
@@ -135,10 +135,10 @@ fn all_crossed(
 /// Out of memory.
 fn crossed(
     alloc: Global,
-    limits: &[Limit],
+    limits: &[PlaneLimit],
     from: Corner,
     to: Corner,
-) -> Result<Vec<Limit>, NoMemory>
+) -> Result<Vec<PlaneLimit>, NoMemory>
     ensures { IfOk result (λ bs. bs.items ≡ crossed from to limits.now) }
 {
     let mut borders = Vec::new(alloc);
@@ -151,8 +151,8 @@ fn crossed(
 /// # Errors
 /// Out of memory.
 fn add_crossed(
-    borders: &mut Vec<Limit>,
-    limits: &[Limit],
+    borders: &mut Vec<PlaneLimit>,
+    limits: &[PlaneLimit],
     from: Corner,
     to: Corner,
 ) -> Result<(), NoMemory>
@@ -172,10 +172,10 @@ fn add_crossed(
 /// Out of memory.
 fn near_pieces(
     alloc: Global,
-    pieces: &[Piece],
+    pieces: &[PlanePiece],
     from: Corner,
     to: Corner,
-) -> Result<Vec<Piece>, NoMemory>
+) -> Result<Vec<PlanePiece>, NoMemory>
     ensures { IfOk result (λ ps. ps.items ≡ near_pieces from to pieces.now) }
 {
     let mut near = Vec::new(alloc);

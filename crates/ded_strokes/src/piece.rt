@@ -13,7 +13,7 @@ ghost use Rattle.ded_strokes.specs.Strokes.{parts_levels, level_between};
 ghost use Rattle.ded_strokes.specs.Stretches.{misses};
 
 use crate::direction::Direction;
-use crate::limit::Limit;
+use crate::limit::PlaneLimit;
 use ded_model::memory::{NoMemory, Refused};
 use ded_model::row::Row;
 use ded_model::slot::Slot;
@@ -23,51 +23,51 @@ use std::marker::Model;
 
 /// A conjunction over two slots. Contracts see the list of its limits.
 #[derive(Drop)]
-pub struct Piece {
-    limits: Vec<Limit>,
+pub struct PlanePiece {
+    limits: Vec<PlaneLimit>,
 }
 
-impl Model for Piece {
+impl Model for PlanePiece {
     ghost use Rattle.std.specs.Prelude.{List};
-    ghost use Rattle.ded_strokes.specs.Bounds.{Limit};
+    ghost use Rattle.ded_strokes.specs.Bounds.{PlaneLimit};
 
-    ghost Value = { List Limit };
+    ghost Value = { List PlaneLimit };
 
     ghost view = { λ p. p.limits.items };
 }
 
-impl Piece {
+impl PlanePiece {
     /// The piece of rows over two slots, with one limit for each row.
     ///
     /// # Errors
     /// `Wide` only where a number of a row is beyond the exact range; otherwise out of memory.
-    pub fn new(alloc: Global, rows: &[Row], x: Slot, y: Slot) -> Result<Piece, Refused>
+    pub fn new(alloc: Global, rows: &[Row], x: Slot, y: Slot) -> Result<PlanePiece, Refused>
         ensures limits { IfOk result (λ p. p ≡ limits_of x y rows.now) }
         ensures wide { IsErrOf result Wide → AreInRange x y rows.now → ⊥ }
     {
         let mut limits = Vec::new(alloc);
         for row in rows {
-            let Some(limit) = Limit::new(row, x, y) else {
+            let Some(limit) = PlaneLimit::new(row, x, y) else {
                 return Err(Refused::Wide);
             };
             limits.push(limit)?;
         }
-        Ok(Piece { limits })
+        Ok(PlanePiece { limits })
     }
 
     /// An equal piece.
     ///
     /// # Errors
     /// Out of memory.
-    pub fn copy(&self, alloc: Global) -> Result<Piece, NoMemory>
+    pub fn copy(&self, alloc: Global) -> Result<PlanePiece, NoMemory>
         ensures { IfOk result (λ p. p ≡ self.now) }
     {
         let limits = Vec::from_slice(alloc, self.limits())?;
-        Ok(Piece { limits })
+        Ok(PlanePiece { limits })
     }
 
     /// The limits, one for each row.
-    pub fn limits(&self) -> &[Limit]
+    pub fn limits(&self) -> &[PlaneLimit]
         ensures { result.now ≡ self.now }
     {
         self.limits.as_slice()

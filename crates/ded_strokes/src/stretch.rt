@@ -3,7 +3,7 @@ ghost use Rattle.std.specs.Prelude.{◌≡◌, true, false, MatchOption};
 ghost use Rattle.ded_strokes.specs.Strokes.{HaveStroke, is_parted, union_between, union_soon};
 
 use crate::direction::Direction;
-use crate::piece::Piece;
+use crate::piece::PlanePiece;
 use ded_polygon::Corner;
 
 /// How the points of a stretch of a border are drawn.
@@ -22,7 +22,7 @@ pub enum Stroke {
 /// solid exactly where it is in a piece, and dashed exactly where it is in none. None only where a border of a piece is
 /// crossed between the corners.
 pub fn stroke_between(
-    pieces: &[Piece],
+    pieces: &[PlanePiece],
     from: Corner,
     to: Corner,
     across: Direction,
@@ -36,7 +36,7 @@ pub fn stroke_between(
 }
 
 /// The same, where no border is crossed between the corners.
-pub(crate) fn told(pieces: &[Piece], from: Corner, to: Corner, across: Direction) -> Stroke
+pub(crate) fn told(pieces: &[PlanePiece], from: Corner, to: Corner, across: Direction) -> Stroke
     requires { is_parted pieces.now from to ≡ false }
     ensures { HaveStroke pieces.now across from to result }
 {
@@ -55,21 +55,21 @@ pub(crate) fn told(pieces: &[Piece], from: Corner, to: Corner, across: Direction
 }
 
 /// Whether a border of a piece is crossed between the corners.
-fn is_parted(pieces: &[Piece], from: Corner, to: Corner) -> bool
+fn is_parted(pieces: &[PlanePiece], from: Corner, to: Corner) -> bool
     ensures { result ≡ is_parted pieces.now from to }
 {
     pieces.iter().any(|piece| piece.is_parted(from, to))
 }
 
 /// Whether some piece holds between the corners, if no border is crossed there.
-fn union_between(pieces: &[Piece], from: Corner, to: Corner) -> bool
+fn union_between(pieces: &[PlanePiece], from: Corner, to: Corner) -> bool
     ensures { result ≡ union_between pieces.now from to }
 {
     pieces.iter().any(|piece| piece.holds_between(from, to))
 }
 
 /// Whether some piece holds soon after each point between the corners, if no border is crossed there.
-fn union_soon(pieces: &[Piece], from: Corner, to: Corner, direction: Direction) -> bool
+fn union_soon(pieces: &[PlanePiece], from: Corner, to: Corner, direction: Direction) -> bool
     ensures { result ≡ union_soon pieces.now from to direction }
 {
     pieces

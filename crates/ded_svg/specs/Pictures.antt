@@ -5,15 +5,15 @@ use Rattle.ded_svg.specs.Coordinates.{coordinate_text}
 use Rattle.ded_svg.specs.Markup.{Markup, empty, character_data, line_end, element, sequence, markup_text}
 use Rattle.ded_svg.specs.Palette.{hatch, ink, pattern_name, pattern_reference, tint}
 use Rattle.ded_svg.specs.declared.coordinate.Coordinate.{Coordinate}
-use Rattle.ded_svg.specs.declared.picture.Entry.{Entry}
+use Rattle.ded_svg.specs.declared.picture.LegendEntry.{LegendEntry}
 use Rattle.ded_svg.specs.declared.picture.Line.{Line}
 use Rattle.ded_svg.specs.declared.picture.Line.TheVariants.{Solid, Dashed}
-use Rattle.ded_svg.specs.declared.picture.Mark.{Mark}
+use Rattle.ded_svg.specs.declared.picture.ColouredShape.{ColouredShape}
 use Rattle.ded_svg.specs.declared.picture.Picture.{Picture}
 use Rattle.ded_svg.specs.declared.picture.Point.{Point}
 use Rattle.ded_svg.specs.declared.picture.Shape.{Shape}
 use Rattle.ded_svg.specs.declared.picture.Shape.TheVariants.{Polygon, Segment, Disc}
-use Rattle.ded_svg.specs.declared.picture.Stroke.{Stroke}
+use Rattle.ded_svg.specs.declared.picture.ColouredLine.{ColouredLine}
 use Rattle.ded_svg.specs.declared.picture.Tick.{Tick}
 
 -- ---- elements
@@ -69,11 +69,11 @@ shape_paint (Segment p q) colour = ink colour
 shape_paint (Disc p) colour = ink colour
 
 -- a shape in its colour, with its title
-abbrev pub mark_markup : Mark → Markup
+abbrev pub mark_markup : ColouredShape → Markup
 mark_markup m = painted_markup (shape_kind m.shape) (shape_paint m.shape m.colour) (shape_data m.shape) m.title
 
 -- those of all, in order
-abbrev pub marks_markup : List Mark → Markup
+abbrev pub marks_markup : List ColouredShape → Markup
 marks_markup [] = empty
 marks_markup (m ∷ ms) = sequence (mark_markup m) (marks_markup ms)
 
@@ -85,12 +85,12 @@ dashes_text Solid = codes "none"
 dashes_text Dashed = codes "5 4"
 
 -- a stroke: a line in the ink of its colour, solid or dashed
-abbrev pub stroke_markup : Stroke → Markup
+abbrev pub stroke_markup : ColouredLine → Markup
 stroke_markup s =
     element (codes "path") ((codes "class", codes "stroke") ∷ (codes "stroke", ink s.colour) ∷ (codes "stroke-dasharray", dashes_text s.line) ∷ (codes "d", segment_data s.start s.end) ∷ []) empty
 
 -- those of all, in order
-abbrev pub strokes_markup : List Stroke → Markup
+abbrev pub strokes_markup : List ColouredLine → Markup
 strokes_markup [] = empty
 strokes_markup (s ∷ ss) = sequence (stroke_markup s) (strokes_markup ss)
 
@@ -146,7 +146,7 @@ abbrev pub pattern_markup : ℕ → Markup
 pattern_markup colour = tile_markup (pattern_name colour) colour
 
 -- one for each colour of the legend
-abbrev pub patterns_markup : List Entry → Markup
+abbrev pub patterns_markup : List LegendEntry → Markup
 patterns_markup [] = empty
 patterns_markup (e ∷ es) = sequence (pattern_markup e.colour) (patterns_markup es)
 
@@ -159,19 +159,19 @@ abbrev pub swatch_data : ℕ → List ℕ
 swatch_data top = codes "M0," ++ (number_text top ++ codes "h16v16h-16z")
 
 -- a square with the pattern of the entry, and its words as the title
-abbrev pub swatch_markup : ℕ → Entry → Markup
+abbrev pub swatch_markup : ℕ → LegendEntry → Markup
 swatch_markup top e = painted_markup (codes "area") (pattern_reference e.colour) (swatch_data top) e.words
 
 -- the words of the entry, beside the square
-abbrev pub entry_words_markup : ℕ → Entry → Markup
+abbrev pub entry_words_markup : ℕ → LegendEntry → Markup
 entry_words_markup top e = label_markup (codes "entry") (codes "24") (number_text (top + 13)) e.words
 
 -- an entry from this height down: the square, and the words beside it
-abbrev pub entry_markup : ℕ → Entry → Markup
+abbrev pub entry_markup : ℕ → LegendEntry → Markup
 entry_markup top e = sequence (swatch_markup top e) (entry_words_markup top e)
 
 -- the entries from this number on
-abbrev pub legend_markup : ℕ → ℕ → List Entry → Markup
+abbrev pub legend_markup : ℕ → ℕ → List LegendEntry → Markup
 legend_markup height number [] = empty
 legend_markup height number (e ∷ es) = sequence (entry_markup (entry_top height number) e) (legend_markup height (number + 1) es)
 
@@ -204,7 +204,7 @@ abbrev pub description_markup : List (List ℕ) → Markup
 description_markup lines = element (codes "desc") [] (lines_markup lines)
 
 -- the patterns of the legend's colours, as definitions
-abbrev pub definitions_markup : List Entry → Markup
+abbrev pub definitions_markup : List LegendEntry → Markup
 definitions_markup legend = element (codes "defs") [] (patterns_markup legend)
 
 -- title, description, style and patterns, and then what is drawn

@@ -11,7 +11,7 @@ use crate::element::{
     coordinate_alone, number_alone, number_between, put_attribute, put_label, put_painted, put_path,
 };
 use crate::palette::{hatch, pattern_name, pattern_reference, tint};
-use crate::picture::{Entry, Picture, Tick};
+use crate::picture::{LegendEntry, Picture, Tick};
 use ded_dump::Text;
 use ded_model::memory::NoMemory;
 use ded_model::name::Name;
@@ -131,7 +131,7 @@ fn left_tick_data(alloc: Global, place: Coordinate) -> Result<Name, NoMemory>
 ///
 /// # Errors
 /// Out of memory.
-pub(crate) fn put_patterns(alloc: Global, text: &mut Text, legend: &[Entry]) -> Result<(), NoMemory>
+pub(crate) fn put_patterns(alloc: Global, text: &mut Text, legend: &[LegendEntry]) -> Result<(), NoMemory>
     ensures { OnOk result (text.new ≡ text.old ++ markup_text (patterns_markup legend.now)) }
 {
     for entry in legend {
@@ -181,7 +181,7 @@ fn put_filled(alloc: Global, text: &mut Text, paint: &[u8], outline: &[u8]) -> R
 }
 
 /// Puts the entries of a legend below a picture of this height.
-fn put_legend(alloc: Global, text: &mut Text, height: u32, legend: &[Entry]) -> Result<(), NoMemory>
+fn put_legend(alloc: Global, text: &mut Text, height: u32, legend: &[LegendEntry]) -> Result<(), NoMemory>
     ensures { OnOk result (text.new ≡ text.old ++ markup_text (legend_markup height 0 legend.now)) }
 {
     for (number, entry) in legend.iter().enumerate() {
@@ -198,7 +198,7 @@ fn entry_top(height: u32, number: usize) -> u128
 }
 
 /// Puts an entry that begins at this height.
-fn put_entry(alloc: Global, text: &mut Text, top: u128, entry: &Entry) -> Result<(), NoMemory>
+fn put_entry(alloc: Global, text: &mut Text, top: u128, entry: &LegendEntry) -> Result<(), NoMemory>
     requires { top < 1000000000000000000000000 }
     ensures { OnOk result (text.new ≡ text.old ++ markup_text (entry_markup top entry.now)) }
 {
@@ -207,7 +207,7 @@ fn put_entry(alloc: Global, text: &mut Text, top: u128, entry: &Entry) -> Result
 }
 
 /// Puts a square with the pattern of an entry.
-fn put_swatch(alloc: Global, text: &mut Text, top: u128, entry: &Entry) -> Result<(), NoMemory>
+fn put_swatch(alloc: Global, text: &mut Text, top: u128, entry: &LegendEntry) -> Result<(), NoMemory>
     ensures { OnOk result (text.new ≡ text.old ++ markup_text (swatch_markup top entry.now)) }
 {
     let paint = pattern_reference(alloc, entry.colour)?;
@@ -223,7 +223,7 @@ fn put_swatch(alloc: Global, text: &mut Text, top: u128, entry: &Entry) -> Resul
 }
 
 /// Puts the words of an entry.
-fn put_entry_words(alloc: Global, text: &mut Text, top: u128, entry: &Entry) -> Result<(), NoMemory>
+fn put_entry_words(alloc: Global, text: &mut Text, top: u128, entry: &LegendEntry) -> Result<(), NoMemory>
     requires { top < 1000000000000000000000000 }
     ensures { OnOk result (text.new ≡ text.old ++ markup_text (entry_words_markup top entry.now)) }
 {

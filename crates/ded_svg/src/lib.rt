@@ -22,5 +22,5 @@ mod picture;
 mod svg;
 
 pub use coordinate::Coordinate;
-pub use picture::{Corners, Entry, Line, Mark, Picture, Point, Shape, Stroke, Tick};
+pub use picture::{Corners, LegendEntry, Line, ColouredShape, Picture, Point, Shape, ColouredLine, Tick};
 pub use svg::picture_text;

@@ -9,7 +9,7 @@ ghost use Rattle.ded_svg.specs.Pictures.{strokes_markup};
 use crate::coordinate::put_coordinate;
 use crate::element::{put_attribute, put_painted};
 use crate::palette::{ink, pattern_reference};
-use crate::picture::{Line, Mark, Point, Shape, Stroke};
+use crate::picture::{Line, ColouredShape, Point, Shape, ColouredLine};
 use ded_dump::Text;
 use ded_model::memory::NoMemory;
 use ded_model::name::Name;
@@ -19,7 +19,7 @@ use std::alloc::Global;
 ///
 /// # Errors
 /// Out of memory.
-pub(crate) fn put_marks(alloc: Global, text: &mut Text, marks: &[Mark]) -> Result<(), NoMemory>
+pub(crate) fn put_marks(alloc: Global, text: &mut Text, marks: &[ColouredShape]) -> Result<(), NoMemory>
     ensures { OnOk result (text.new ≡ text.old ++ markup_text (marks_markup marks.now)) }
 {
     for mark in marks {
@@ -29,7 +29,7 @@ pub(crate) fn put_marks(alloc: Global, text: &mut Text, marks: &[Mark]) -> Resul
 }
 
 /// Puts a shape.
-fn put_mark(alloc: Global, text: &mut Text, mark: &Mark) -> Result<(), NoMemory>
+fn put_mark(alloc: Global, text: &mut Text, mark: &ColouredShape) -> Result<(), NoMemory>
     ensures { OnOk result (text.new ≡ text.old ++ markup_text (mark_markup mark.now)) }
 {
     let paint = shape_paint(alloc, &mark.shape, mark.colour)?;
@@ -147,7 +147,7 @@ fn disc_data(alloc: Global, point: Point) -> Result<Name, NoMemory>
 pub(crate) fn put_strokes(
     alloc: Global,
     text: &mut Text,
-    strokes: &[Stroke],
+    strokes: &[ColouredLine],
 ) -> Result<(), NoMemory>
     ensures { OnOk result (text.new ≡ text.old ++ markup_text (strokes_markup strokes.now)) }
 {
@@ -158,7 +158,7 @@ pub(crate) fn put_strokes(
 }
 
 /// Puts a stroke.
-fn put_stroke(alloc: Global, text: &mut Text, stroke: Stroke) -> Result<(), NoMemory>
+fn put_stroke(alloc: Global, text: &mut Text, stroke: ColouredLine) -> Result<(), NoMemory>
     ensures { OnOk result (text.new ≡ text.old ++ markup_text (stroke_markup stroke)) }
 {
     let data = segment_data(alloc, stroke.start, stroke.end)?;

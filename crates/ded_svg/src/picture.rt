@@ -37,7 +37,7 @@ pub enum Shape {
 
 /// A shape in the colour of this number, with its title.
 #[derive(Drop)]
-pub struct Mark {
+pub struct ColouredShape {
     pub shape: Shape,
     pub colour: u32,
     pub title: Name,
@@ -52,7 +52,7 @@ pub enum Line {
 
 /// A line over the shapes in the colour of this number.
 #[derive(Clone, Copy, PartialEq, Eq, Debug)]
-pub struct Stroke {
+pub struct ColouredLine {
     pub start: Point,
     pub end: Point,
     pub line: Line,
@@ -68,7 +68,7 @@ pub struct Tick {
 
 /// What the colour of this number stands for.
 #[derive(Drop)]
-pub struct Entry {
+pub struct LegendEntry {
     pub colour: u32,
     pub words: Name,
 }
@@ -84,13 +84,13 @@ pub struct Picture {
     /// The lines of its description, for readers who don't see it.
     pub description: Vec<Name>,
     /// The shapes, later ones over earlier ones.
-    pub marks: Vec<Mark>,
+    pub marks: Vec<ColouredShape>,
     /// The lines over the shapes.
-    pub strokes: Vec<Stroke>,
+    pub strokes: Vec<ColouredLine>,
     /// The ticks of the lower border, placed to the right.
     pub lower_ticks: Vec<Tick>,
     /// The ticks of the left border, placed downwards.
     pub left_ticks: Vec<Tick>,
     /// The entries below the picture, from top to bottom.
-    pub legend: Vec<Entry>,
+    pub legend: Vec<LegendEntry>,
 }

@@ -9,7 +9,7 @@ use crate::coordinate::put_number;
 use crate::element::{put_attribute, put_words};
 use crate::escape::put_escaped;
 use crate::mark::{put_marks, put_strokes};
-use crate::picture::{Entry, Picture};
+use crate::picture::{LegendEntry, Picture};
 use ded_dump::Text;
 use ded_model::memory::NoMemory;
 use ded_model::name::Name;
@@ -80,7 +80,7 @@ fn put_description(alloc: Global, text: &mut Text, lines: &[Name]) -> Result<(),
 }
 
 /// Puts what shapes refer to.
-fn put_definitions(alloc: Global, text: &mut Text, legend: &[Entry]) -> Result<(), NoMemory>
+fn put_definitions(alloc: Global, text: &mut Text, legend: &[LegendEntry]) -> Result<(), NoMemory>
     ensures { OnOk result (text.new ≡ text.old ++ markup_text (definitions_markup legend.now)) }
 {
     text.put(b"<defs>")?;

@@ -12,7 +12,7 @@ use Rattle.ded_model.specs.Logic.{atom, logics}
 use Rattle.ded_grammar.specs.Trees.{TerminalForm, nay, conjunct, disjunct, arrow, opening, closing, binder, leaf}
 use Rattle.ded_terminals.specs.Symbols.{Symbol, Name, Number, Decimal, Times, Open, Close, CloseBrace, Relation, number_of, decimal_number, decimal_power}
 use Rattle.ded_terminals.specs.Literals.{Scalar, whole, quotient, decimal, spell_scalar, Literal, lowest, literal, marked, capped, capped_reader}
-use Rattle.ded_terminals.specs.Operands.{Product, scaled, constant, lone, Side, text, sum, spell_product, spell_more, spell_side, Part, Factor, factor, add_factor, add_all, Reading, as_reading, single, reading_of, literals, signed, operand_over, argument_of}
+use Rattle.ded_terminals.specs.Operands.{Product, scaled, constant, lone, ParsedSide, text, sum, spell_product, spell_more, spell_side, SignedFactor, Factor, factor, add_factor, add_all, Reading, as_reading, single, reading_of, literals, signed, operand_over, argument_of}
 use Rattle.ded_terminals.specs.Atoms.{compared, argument, spell_rest, Comparison, spell_comparison, comparison_form, spell_named, name_of, Atom, truth, relates, belongs, spell_atom, atom_form, IsTerminal, AreTerminals}
 use Rattle.ded_syntax.specs.Certificates.{Integer, spell_integers, integer_of, ProofTree, by_text, by_rows, spell_proof, proof_of, EntryTree, spell_entry, entry_of}
 use Rattle.ded_syntax.specs.Commands.{Plain, opens, defines, inserts_none, inserts, deletes, drops, keeps, shows, boxes, dumps, certifies, verifies_none, verifies, spell_plain, plain_form, spell_prefix, SpellsCommand}
@@ -47,7 +47,7 @@ module _ (read other : ℕ → ℕ) where
   product_alike (constant s) h = ap (λ (l : Literal). (l, None)) (literal_alike s h)
   product_alike (lone n) h = refl
 
-  more_alike : (ps : List (Bool × Product)) (a : List Part) → AllAlike read other (spell_more ps) → add_all read a ps ≡ add_all other a ps
+  more_alike : (ps : List (Bool × Product)) (a : List SignedFactor) → AllAlike read other (spell_more ps) → add_all read a ps ≡ add_all other a ps
   more_alike [] a h = refl
   more_alike (p ∷ ps) a h =
       let both = split (Alike read other) (spell_product p.1) (spell_more ps) h.1 in
@@ -59,7 +59,7 @@ module _ (read other : ℕ → ℕ) where
       ap (as_reading (single (sum m p ps)))
       (more_alike ps (add_factor [] m (factor read p)) both.1 ∙ ap (λ (q : Factor). add_all other (add_factor [] m q) ps) (product_alike p both.0))
 
-  side_alike : (s : Side) → AllAlike read other (spell_side s) → reading_of read s ≡ reading_of other s
+  side_alike : (s : ParsedSide) → AllAlike read other (spell_side s) → reading_of read s ≡ reading_of other s
   side_alike (text t) h = refl
   side_alike (sum true p ps) h = sum_alike true p ps h.1
   side_alike (sum false p ps) h = sum_alike false p ps h
@@ -91,7 +91,7 @@ comparison_alike c h =
     ∙ ap (λ (m : ℕ). atom (compare (operand_over marked m (reading_of (λ n. n) c.left)) c.op (operand_over marked m (reading_of (λ n. n) c.right))))
     (denominators_same (literals (reading_of (λ n. n) c.left) ++ literals (reading_of (λ n. n) c.right)) (both_some _ _ (side_some c.left) (side_some c.right)))
 
-argument_alike : (s : Side) → Agree (spell_side s) → argument capped_reader s ≡ argument marked s
+argument_alike : (s : ParsedSide) → Agree (spell_side s) → argument capped_reader s ≡ argument marked s
 argument_alike s h =
     ap (argument_of capped_reader) (side_alike capped (λ n. n) s h)
     ∙ ap (λ (m : ℕ). operand_over marked m (reading_of (λ n. n) s)) (denominators_same (literals (reading_of (λ n. n) s)) (side_some s))

@@ -11,7 +11,7 @@ use Rattle.ded_grammar.specs.Trees.{TerminalForm}
 use Rattle.ded_grammar.specs.Building.{◌>>=◌}
 use Rattle.ded_terminals.specs.Symbols.{Symbol, Open, Close, OpenBrace, CloseBrace, Colon, Define, Relation}
 use Rattle.ded_terminals.specs.Literals.{whole, quotient, decimal, Reader}
-use Rattle.ded_terminals.specs.Operands.{scaled, constant, lone, Side, text, sum, spell_side}
+use Rattle.ded_terminals.specs.Operands.{scaled, constant, lone, ParsedSide, text, sum, spell_side}
 use Rattle.ded_terminals.specs.Atoms.{spell_rest, Comparison, spell_comparison, comparison_form, spell_column}
 use Rattle.ded_syntax.specs.Commands.{Columns, spell_heading, heading, Plain, opens, defines, inserts_none, inserts, deletes, drops, keeps, shows, boxes, dumps, certifies, verifies_none, verifies, spell_plain, plain_form, Prefix, views, asks, queries, explains, spell_prefix, prefix_form, SpellsCommand}
 use Rattle.ded_terminals.specs.AtomReading.{comma_at, brace_at, list_at, compare_at, column_at, terminals_at}
@@ -38,7 +38,7 @@ whole_heading_read : (h : Columns) → heading_at (spell_heading h) ≡ Some (he
 whole_heading_read h = ap heading_at (sym (append-nil (spell_heading h))) ∙ heading_read h []
 
 -- a comparison doesn't begin with a brace
-sides_begin : (value : Reader) (l : Side) (us ts : List Symbol) → braces_at value (OpenBrace ∷ (spell_side l ++ us) ++ ts) ≡ list_at (compare_at value) brace_at (length ((spell_side l ++ us) ++ ts)) ((spell_side l ++ us) ++ ts)
+sides_begin : (value : Reader) (l : ParsedSide) (us ts : List Symbol) → braces_at value (OpenBrace ∷ (spell_side l ++ us) ++ ts) ≡ list_at (compare_at value) brace_at (length ((spell_side l ++ us) ++ ts)) ((spell_side l ++ us) ++ ts)
 sides_begin value (text s) us ts = refl
 sides_begin value (sum true p ps) us ts = refl
 sides_begin value (sum false (scaled (whole d) n) ps) us ts = refl

@@ -12,14 +12,14 @@ use Rattle.ded_grammar.specs.Trees.{TerminalForm, nay, conjunct, disjunct, arrow
 use Rattle.ded_grammar.proofs.Leaves.{spelled_atoms}
 use Rattle.ded_terminals.specs.Symbols.{Symbol}
 use Rattle.ded_terminals.specs.Literals.{Literal, common, exact, marked, are_long_over, numerator_over, marked_numerator}
-use Rattle.ded_terminals.specs.Operands.{Side, Part, Reading, quoted, named, parts, literals, Sums, signed, put_at, no_sums, total_from, as_sum, operand_over, reading_of}
+use Rattle.ded_terminals.specs.Operands.{ParsedSide, SignedFactor, Reading, quoted, named, parts, literals, Sums, signed, put_at, no_sums, total_from, as_sum, operand_over, reading_of}
 use Rattle.ded_terminals.specs.Atoms.{compared, Comparison, comparison_form, argument, name_of, Atom, truth, relates, belongs, atom_form, IsTerminal, AreTerminals}
 use Rattle.ded_syntax.specs.Commands.{Plain, opens, defines, inserts_none, inserts, deletes, drops, keeps, shows, boxes, dumps, certifies, verifies_none, verifies, plain_form, views, asks, queries, explains, prefix_form, SpellsCommand}
 use Rattle.ded_syntax.specs.Marks.{is_marked, is_marked_atom, has_mark}
 
 -- ---- over a denominator that isn't a mark
 
-total_same : (m : ℕ) → nat_le (2 ^ 63) m ≡ false → (a : Sums) (ps : List Part) → total_from marked_numerator m a ps ≡ total_from numerator_over m a ps
+total_same : (m : ℕ) → nat_le (2 ^ 63) m ≡ false → (a : Sums) (ps : List SignedFactor) → total_from marked_numerator m a ps ≡ total_from numerator_over m a ps
 total_same m low a [] = refl
 total_same m low a (p ∷ ps) =
     ap (λ (b : Bool). total_from marked_numerator m (put_at a p.1.1 (signed p.0 (if b then 0 else numerator_over m p.1.0))) ps) low
@@ -78,7 +78,7 @@ compared_exact l r op free = by (are_long_over (common ls) ls) refl
 pub comparison_exact : (c : Comparison) → some_atom is_marked_atom (comparison_form marked c) ≡ false → comparison_form marked c ≡ comparison_form exact c
 comparison_exact c free = compared_exact (reading_of (λ n. n) c.left) (reading_of (λ n. n) c.right) c.op free
 
-pub argument_exact : (s : Side) → is_marked (argument marked s) ≡ false → argument marked s ≡ argument exact s
+pub argument_exact : (s : ParsedSide) → is_marked (argument marked s) ≡ false → argument marked s ≡ argument exact s
 argument_exact s free = by (are_long_over (common ls) ls) refl
   where
     r : Reading
@@ -95,7 +95,7 @@ argument_exact s free = by (are_long_over (common ls) ls) refl
     by true e = absurd (true≢false (sym (one ls refl e) ∙ ap (λ (m : ℕ). is_marked (operand_over marked m r)) (sym (marks ls e)) ∙ free))
     by false e = ap (λ (m : ℕ). operand_over marked m r) (unmarked ls e) ∙ operand_same (common ls) (low_of ls e) r
 
-pub arguments_exact : (ss : List Side) → list_any is_marked (map (argument marked) ss) ≡ false → map (argument marked) ss ≡ map (argument exact) ss
+pub arguments_exact : (ss : List ParsedSide) → list_any is_marked (map (argument marked) ss) ≡ false → map (argument marked) ss ≡ map (argument exact) ss
 arguments_exact [] free = refl
 arguments_exact (s ∷ ss) free =
     let both = or_parts _ _ free in

@@ -15,7 +15,7 @@ use Rattle.ded_grammar.specs.Trees.{TerminalForm, nay, conjunct, disjunct, arrow
 use Rattle.ded_grammar.proofs.Carried.{TerminalHas, TerminalsHave, spelled_has}
 use Rattle.ded_terminals.specs.Symbols.{Symbol}
 use Rattle.ded_terminals.specs.Literals.{common, exact, numerator_over}
-use Rattle.ded_terminals.specs.Operands.{Side, Part, Reading, quoted, named, parts, reading_of, literals, Sums, signed, put, put_at, no_sums, total_from, operand_over}
+use Rattle.ded_terminals.specs.Operands.{ParsedSide, SignedFactor, Reading, quoted, named, parts, reading_of, literals, Sums, signed, put, put_at, no_sums, total_from, operand_over}
 use Rattle.ded_terminals.specs.Atoms.{argument, Comparison, comparison_form, Atom, truth, relates, belongs, atom_form, IsTerminal, AreTerminals, SpellsFormula}
 use Rattle.ded_syntax.specs.Commands.{Plain, opens, defines, inserts_none, inserts, deletes, drops, keeps, shows, boxes, dumps, certifies, verifies_none, verifies, plain_form, Prefix, views, asks, queries, explains, prefix_form, SpellsCommand}
 use Rattle.ded_syntax.specs.Spelling.{Spells}
@@ -46,7 +46,7 @@ once_at : (a : Sums) (o : Option (List ℕ)) (z : ℤ) → AreOnce a.0 → AreOn
 once_at a None z h = h
 once_at a (Some n) z h = once_put a.0 n z h
 
-once_all : (m : ℕ) (a : Sums) (ps : List Part) → AreOnce a.0 → AreOnce (total_from numerator_over m a ps).0
+once_all : (m : ℕ) (a : Sums) (ps : List SignedFactor) → AreOnce a.0 → AreOnce (total_from numerator_over m a ps).0
 once_all m a [] h = h
 once_all m a (p ∷ ps) h = once_all m (put_at a p.1.1 (signed p.0 (numerator_over m p.1.0))) ps (once_at a p.1.1 (signed p.0 (numerator_over m p.1.0)) h)
 
@@ -64,10 +64,10 @@ share_over m (parts ps) (quoted t) = tt
 share_over m (named n) r = tt
 share_over m (quoted t) r = tt
 
-plain_argument : (s : Side) → IsPlainOperand (argument exact s)
+plain_argument : (s : ParsedSide) → IsPlainOperand (argument exact s)
 plain_argument s = plain_over _ (common_some _ (side_some s)) (reading_of (λ n. n) s)
 
-plain_arguments : (ss : List Side) → ArePlainOperands (map (argument exact) ss)
+plain_arguments : (ss : List ParsedSide) → ArePlainOperands (map (argument exact) ss)
 plain_arguments [] = tt
 plain_arguments (s ∷ ss) = (plain_argument s, plain_arguments ss)
 

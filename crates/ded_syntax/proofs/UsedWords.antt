@@ -17,7 +17,7 @@ use Rattle.ded_grammar.specs.Trees.{TerminalForm, nay, conjunct, disjunct, arrow
 use Rattle.ded_terminals.specs.declared.item.Keyword.TheVariants as words
 use Rattle.ded_terminals.specs.Symbols.{Symbol, Word, Name, Plus, Minus, Times, Open, Close, OpenBrace, CloseBrace, Comma, Colon, Define, Relation, is_unused, unused_word, dedale_symbol, dump_symbol, word_symbol, slash_symbol, sign_symbol, symbol}
 use Rattle.ded_terminals.specs.Literals.{Reader, Scalar, whole, quotient, decimal, spell_scalar}
-use Rattle.ded_terminals.specs.Operands.{Product, scaled, constant, lone, Side, text, sum, spell_product, spell_sign, spell_more, spell_side}
+use Rattle.ded_terminals.specs.Operands.{Product, scaled, constant, lone, ParsedSide, text, sum, spell_product, spell_sign, spell_more, spell_side}
 use Rattle.ded_terminals.specs.Atoms.{spell_rest, Comparison, spell_comparison, Named, plain, closed, inner, spell_named, Atom, truth, relates, belongs, spell_atom, spell_column, sort_symbols, quantifier_symbol, IsTerminal, AreTerminals}
 use Rattle.ded_syntax.specs.Certificates.{Integer, spell_integers, ProofTree, by_text, by_rows, spell_proof, EntryTree, spell_entry}
 use Rattle.ded_syntax.specs.Commands.{Columns, spell_heading, Plain, opens, defines, inserts_none, inserts, deletes, drops, keeps, shows, boxes, dumps, certifies, verifies_none, verifies, spell_plain, Prefix, views, asks, queries, explains, spell_prefix, SpellsCommand}
@@ -54,7 +54,7 @@ more_used : (ps : List (Bool × Product)) → AreUsed (spell_more ps)
 more_used [] = tt
 more_used (p ∷ ps) = (sign_used p.0, both (spell_product p.1) (spell_more ps) (product_used p.1) (more_used ps))
 
-side_used : (s : Side) → AreUsed (spell_side s)
+side_used : (s : ParsedSide) → AreUsed (spell_side s)
 side_used (text s) = (tt, tt)
 side_used (sum true p ps) = (tt, both (spell_product p) (spell_more ps) (product_used p) (more_used ps))
 side_used (sum false p ps) = both (spell_product p) (spell_more ps) (product_used p) (more_used ps)

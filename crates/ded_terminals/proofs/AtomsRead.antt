@@ -12,14 +12,14 @@ use Rattle.ded_grammar.specs.Trees.{leaf}
 use Rattle.ded_grammar.specs.Building.{◌>>=◌}
 use Rattle.ded_terminals.specs.Symbols.{Symbol, Name, Open, Close, CloseBrace, Comma, Relation}
 use Rattle.ded_terminals.specs.Literals.{whole, quotient, decimal, Reader}
-use Rattle.ded_terminals.specs.Operands.{scaled, constant, lone, Side, text, sum, spell_side, Reading, reading_of, argument_of}
+use Rattle.ded_terminals.specs.Operands.{scaled, constant, lone, ParsedSide, text, sum, spell_side, Reading, reading_of, argument_of}
 use Rattle.ded_terminals.specs.Atoms.{compared, argument, spell_rest, Comparison, spell_comparison, comparison_form, Named, plain, closed, inner, spell_named, name_of, Atom, truth, relates, belongs, spell_atom, atom_form, spell_column}
 use Rattle.ded_terminals.specs.OperandReading.{side_at}
 use Rattle.ded_terminals.specs.AtomReading.{comma_at, brace_at, relation_at, compare_at, argument_at, operands_at, called_at, atom_by_call, atom_at, column_at, as_leaf, terminal_at}
 use Rattle.ded_terminals.proofs.OperandsRead.{Stops, side_read}
 use Rattle.ded_terminals.proofs.ListsRead.{ReadsItems, list_read, few_items, list_tail}
 
-sides_read : (value : Reader) (l r : Side) (op : CompareOp) (rest : List Symbol) → Stops rest → compare_at value (spell_side l ++ (Relation op ∷ (spell_side r ++ rest))) ≡ Some (compared value (reading_of value.number l) op (reading_of value.number r), rest)
+sides_read : (value : Reader) (l r : ParsedSide) (op : CompareOp) (rest : List Symbol) → Stops rest → compare_at value (spell_side l ++ (Relation op ∷ (spell_side r ++ rest))) ≡ Some (compared value (reading_of value.number l) op (reading_of value.number r), rest)
 sides_read value l r op rest h =
     ap (λ (o : Option (Reading × List Symbol)). o >>= λ l. relation_at l.1 >>= λ o. side_at value.number o.1 >>= λ r. Some (compared value l.0 o.0 r.0, r.1)) (side_read value.number l (Relation op ∷ (spell_side r ++ rest)) tt)
     ∙ ap (λ (o : Option (Reading × List Symbol)). o >>= λ r. Some (compared value (reading_of value.number l) op r.0, r.1)) (side_read value.number r rest h)
@@ -63,7 +63,7 @@ columns_listed = record {
   stops = λ rest. refl;
 }
 
-pub operands_read : (value : Reader) (s : Side) (ss : List Side) (rest : List Symbol) → operands_at value (spell_side s ++ (spell_rest spell_side ss ++ (Close ∷ rest))) ≡ Some (argument value s ∷ map (argument value) ss, rest)
+pub operands_read : (value : Reader) (s : ParsedSide) (ss : List ParsedSide) (rest : List Symbol) → operands_at value (spell_side s ++ (spell_rest spell_side ss ++ (Close ∷ rest))) ≡ Some (argument value s ∷ map (argument value) ss, rest)
 operands_read value s ss rest =
     list_read spell_side (argument value) (argument_at value) comma_at Close (operands_listed value) ss s rest
     (length (spell_side s ++ (spell_rest spell_side ss ++ (Close ∷ rest))))
@@ -72,7 +72,7 @@ operands_read value s ss rest =
 -- ---- atoms
 
 -- a comparison is read as a terminal, whatever its first symbol
-begins : (value : Reader) (l : Side) (op : CompareOp) (ts : List Symbol) → terminal_at value (spell_side l ++ (Relation op ∷ ts)) ≡ as_leaf (compare_at value (spell_side l ++ (Relation op ∷ ts)))
+begins : (value : Reader) (l : ParsedSide) (op : CompareOp) (ts : List Symbol) → terminal_at value (spell_side l ++ (Relation op ∷ ts)) ≡ as_leaf (compare_at value (spell_side l ++ (Relation op ∷ ts)))
 begins value (text s) op ts = refl
 begins value (sum true p ps) op ts = refl
 begins value (sum false (scaled (whole d) n) ps) op ts = refl

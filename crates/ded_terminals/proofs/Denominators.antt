@@ -10,8 +10,8 @@ use Rattle.ded_num.specs.Gcd.{nat_gcd}
 use Rattle.ded_num.proofs.Gcds.{IsGcd-nat_gcd}
 use Rattle.ded_terminals.specs.Symbols.{number_of, decimal_power}
 use Rattle.ded_terminals.specs.Literals.{Scalar, whole, quotient, decimal, Literal, literal, lcm, lcm_from, common, is_long_over, are_long_over, marked_by, marked_numerator, numerator_over, capped, capped_from}
-use Rattle.ded_terminals.specs.Operands.{Product, scaled, constant, lone, Side, text, sum, Factor, factor, Part, add_factor, add_all, as_reading, single, reading_of, literals_of, literals, Sums, added, total_from}
-use Rattle.ded_terminals.specs.declared.side.Part.{Part as ReadPart}
+use Rattle.ded_terminals.specs.Operands.{Product, scaled, constant, lone, ParsedSide, text, sum, Factor, factor, SignedFactor, add_factor, add_all, as_reading, single, reading_of, literals_of, literals, Sums, added, total_from}
+use Rattle.ded_terminals.specs.declared.side.SignedFactor.{SignedFactor as ReadPart}
 use Rattle.ded_terminals.specs.Views.{seen_literal, seen_part, seen_parts, AreSmall}
 use Rattle.ded_terminals.proofs.Tests.{any_split}
 use Rattle.std.proofs.lemmas.Bool.{or_parts}
@@ -43,19 +43,19 @@ factor_some (scaled s n) = literal_some s
 factor_some (constant s) = literal_some s
 factor_some (lone n) = omega arith
 
-pushed : (a : List Part) (minus : Bool) (f : Factor) → HaveDenominators (literals_of a) → 0 < f.0.1 → HaveDenominators (literals_of (add_factor a minus f))
+pushed : (a : List SignedFactor) (minus : Bool) (f : Factor) → HaveDenominators (literals_of a) → 0 < f.0.1 → HaveDenominators (literals_of (add_factor a minus f))
 pushed [] minus f h k = (k, tt)
 pushed (p ∷ ps) minus f h k = (h.0, pushed ps minus f h.1 k)
 
-all_some : (a : List Part) (ps : List (Bool × Product)) → HaveDenominators (literals_of a) → HaveDenominators (literals_of (add_all (λ n. n) a ps))
+all_some : (a : List SignedFactor) (ps : List (Bool × Product)) → HaveDenominators (literals_of a) → HaveDenominators (literals_of (add_all (λ n. n) a ps))
 all_some a [] h = h
 all_some a (p ∷ ps) h = all_some (add_factor a p.0 (factor (λ n. n) p.1)) ps (pushed a p.0 (factor (λ n. n) p.1) h (factor_some p.1))
 
-as_some : (o : Option (List ℕ)) (a : List Part) → HaveDenominators (literals_of a) → HaveDenominators (literals (as_reading o a))
+as_some : (o : Option (List ℕ)) (a : List SignedFactor) → HaveDenominators (literals_of a) → HaveDenominators (literals (as_reading o a))
 as_some (Some n) a h = tt
 as_some None a h = h
 
-pub side_some : (s : Side) → HaveDenominators (literals (reading_of (λ n. n) s))
+pub side_some : (s : ParsedSide) → HaveDenominators (literals (reading_of (λ n. n) s))
 side_some (text t) = tt
 side_some (sum minus p ps) =
     as_some (single (sum minus p ps)) (add_all (λ n. n) (add_factor [] minus (factor (λ n. n) p)) ps) (all_some (add_factor [] minus (factor (λ n. n) p)) ps (factor_some p, tt))

@@ -4,7 +4,7 @@ use Rattle.std.specs.Prelude.{Option, Some, None, if◌then◌else◌}
 use Rattle.ded_grammar.specs.Building.{◌>>=◌}
 use Rattle.ded_terminals.specs.Symbols.{Symbol, Word, Name, Number, Decimal, Quoted, Plus, Minus, Times, Slash, number_of, Open, Close, OpenBrace, CloseBrace, Comma, Colon, Define, Relation}
 use Rattle.ded_terminals.specs.Literals.{Scalar, whole, quotient, decimal, spell_scalar, Literal, lowest, literal}
-use Rattle.ded_terminals.specs.Operands.{Product, scaled, constant, lone, Side, text, sum, spell_product, spell_sign, spell_more, spell_side, Part, Factor, factor, add_factor, add_all, Reading, parts, reading_of}
+use Rattle.ded_terminals.specs.Operands.{Product, scaled, constant, lone, ParsedSide, text, sum, spell_product, spell_sign, spell_more, spell_side, SignedFactor, Factor, factor, add_factor, add_all, Reading, parts, reading_of}
 use Rattle.ded_terminals.specs.OperandReading.{scalar_at, behind_scalar, product_by_scalar, product_at, sign_at, after_sign, more_at, sum_at, behind_name, side_at}
 use Rattle.ded_terminals.proofs.Binds.{some_same}
 
@@ -117,11 +117,11 @@ no_sign (Plus ∷ ts) h = absurd h
 no_sign (Minus ∷ ts) h = absurd h
 no_sign (t ∷ ts) h = refl
 
-more_step : (value : ℕ → ℕ) (k : ℕ) (a : List Part) (minus : Bool) (ts : List Symbol) → more_at value (suc k) a (spell_sign minus ∷ ts) ≡ (product_at value ts >>= λ p. more_at value k (add_factor a minus p.0) p.1)
+more_step : (value : ℕ → ℕ) (k : ℕ) (a : List SignedFactor) (minus : Bool) (ts : List Symbol) → more_at value (suc k) a (spell_sign minus ∷ ts) ≡ (product_at value ts >>= λ p. more_at value k (add_factor a minus p.0) p.1)
 more_step value k a true ts = refl
 more_step value k a false ts = refl
 
-more_read : (ps : List (Bool × Product)) (value : ℕ → ℕ) (a : List Part) (rest : List Symbol) (k : ℕ) → Stops rest → length ps < k → more_at value k a (spell_more ps ++ rest) ≡ Some (add_all value a ps, rest)
+more_read : (ps : List (Bool × Product)) (value : ℕ → ℕ) (a : List SignedFactor) (rest : List Symbol) (k : ℕ) → Stops rest → length ps < k → more_at value k a (spell_more ps ++ rest) ≡ Some (add_all value a ps, rest)
 more_read ps value a rest zero h lt = absurd (omega (arith, lt))
 more_read [] value a rest (suc k) h lt = ap (after_sign value (more_at value k) a rest) (no_sign rest h)
 more_read (p ∷ ps) value a rest (suc k) h lt =
@@ -134,7 +134,7 @@ short : (ps : List (Bool × Product)) → length ps ≤ length (spell_more ps)
 short [] = omega arith
 short (p ∷ ps) = omega (arith, short ps, length-append (spell_product p.1) (spell_more ps))
 
-abbrev pub made : Option (List Part × List Symbol) → Option (Reading × List Symbol)
+abbrev pub made : Option (List SignedFactor × List Symbol) → Option (Reading × List Symbol)
 made o = o >>= λ x. Some (parts x.0, x.1)
 
 sum_read : (value : ℕ → ℕ) (minus : Bool) (p : Product) (ps : List (Bool × Product)) (rest : List Symbol) → Stops rest → sum_at value minus (spell_product p ++ (spell_more ps ++ rest)) ≡ Some (add_all value (add_factor [] minus (factor value p)) ps, rest)
@@ -152,7 +152,7 @@ literal_step value (whole d) ts = refl
 literal_step value (quotient d e n) ts = refl
 literal_step value (decimal t) ts = refl
 
-pub side_read : (value : ℕ → ℕ) (s : Side) (rest : List Symbol) → Stops rest → side_at value (spell_side s ++ rest) ≡ Some (reading_of value s, rest)
+pub side_read : (value : ℕ → ℕ) (s : ParsedSide) (rest : List Symbol) → Stops rest → side_at value (spell_side s ++ rest) ≡ Some (reading_of value s, rest)
 side_read value (text s) rest h = refl
 side_read value (sum true p ps) rest h =
     ap (λ (l : List Symbol). made (sum_at value true l)) (append_assoc (spell_product p) (spell_more ps) rest)
@@ -172,5 +172,5 @@ side_read value (sum false (lone n) (p ∷ ps)) rest h =
     name_step value n p.0 ((spell_product p.1 ++ spell_more ps) ++ rest)
     ∙ ap made (sum_read value false (lone n) (p ∷ ps) rest h)
 
-pub one_side : (value : ℕ → ℕ) (s r : Side) → spell_side s ≡ spell_side r → reading_of value s ≡ reading_of value r
+pub one_side : (value : ℕ → ℕ) (s r : ParsedSide) → spell_side s ≡ spell_side r → reading_of value s ≡ reading_of value r
 one_side value s r e = ap (λ (x : Reading × List Symbol). x.0) (some_same _ _ (sym (side_read value s [] tt) ∙ ap (λ (l : List Symbol). side_at value (l ++ [])) e ∙ side_read value r [] tt))

@@ -4,7 +4,7 @@ use Rattle.std.specs.Prelude.{Option, Some, None, ◌==◌, if◌then◌else◌}
 use Rattle.ded_grammar.specs.Building.{◌>>=◌}
 use Rattle.ded_terminals.specs.Symbols.{Symbol, Name, Number, Decimal, Quoted, Plus, Minus, Times, Slash, number_of}
 use Rattle.ded_terminals.specs.Literals.{Scalar, whole, quotient, decimal, spell_scalar, Literal, lowest, literal}
-use Rattle.ded_terminals.specs.Operands.{Product, scaled, constant, lone, Side, text, sum, spell_product, spell_sign, spell_more, spell_side, Part, Factor, factor, add_factor, add_all, Reading, parts, as_reading, single, reading_of}
+use Rattle.ded_terminals.specs.Operands.{Product, scaled, constant, lone, ParsedSide, text, sum, spell_product, spell_sign, spell_more, spell_side, SignedFactor, Factor, factor, add_factor, add_all, Reading, parts, as_reading, single, reading_of}
 use Rattle.ded_terminals.specs.OperandReading.{name_at, quotient_at, scalar_at, behind_scalar, product_by_scalar, product_at, sign_at, more_at, sum_at, behind_name, side_at}
 use Rattle.ded_terminals.proofs.Binds.{bind_some, some_same}
 use Rattle.ded_terminals.proofs.OperandsRead.{made}
@@ -55,10 +55,10 @@ product_sound value ts x e = by (scalar_at value ts) refl e
         subst (λ (us : List Symbol). IsProduct value us x) (sym s.1)
         (behind_sound value s.0 l.1 x (ap (λ (y : Literal). behind_scalar y l.1) (sym s.2) ∙ f))
 
-abbrev IsMore : (ℕ → ℕ) → List Part → List Symbol → List Part × List Symbol → Type 0
+abbrev IsMore : (ℕ → ℕ) → List SignedFactor → List Symbol → List SignedFactor × List Symbol → Type 0
 IsMore value a ts x = (ps : List (Bool × Product)) × (ts ≡ spell_more ps ++ x.1) × (x.0 ≡ add_all value a ps) × (sign_at x.1 ≡ None)
 
-module _ (value : ℕ → ℕ) (k : ℕ) (again : (b : List Part) (us : List Symbol) (y : List Part × List Symbol) → more_at value k b us ≡ Some y → IsMore value b us y) (a : List Part) (x : List Part × List Symbol) where
+module _ (value : ℕ → ℕ) (k : ℕ) (again : (b : List SignedFactor) (us : List Symbol) (y : List SignedFactor × List Symbol) → more_at value k b us ≡ Some y → IsMore value b us y) (a : List SignedFactor) (x : List SignedFactor × List Symbol) where
   goes_on : (minus : Bool) (rest : List Symbol) → (product_at value rest >>= λ p. more_at value k (add_factor a minus p.0) p.1) ≡ Some x → IsMore value a (spell_sign minus ∷ rest) x
   goes_on minus rest f =
       let b = bind_some (product_at value rest) (λ p. more_at value k (add_factor a minus p.0) p.1) x f in
@@ -79,31 +79,31 @@ module _ (value : ℕ → ℕ) (k : ℕ) (again : (b : List Part) (us : List Sym
   more_here (Minus ∷ vs) f = goes_on true vs f
   more_here (t ∷ vs) f = stops (t ∷ vs) refl f
 
-more_sound : (k : ℕ) (value : ℕ → ℕ) (a : List Part) (ts : List Symbol) (x : List Part × List Symbol) → more_at value k a ts ≡ Some x → IsMore value a ts x
+more_sound : (k : ℕ) (value : ℕ → ℕ) (a : List SignedFactor) (ts : List Symbol) (x : List SignedFactor × List Symbol) → more_at value k a ts ≡ Some x → IsMore value a ts x
 more_sound zero value a ts x e = absurd cc
 more_sound (suc k) value a ts x e = more_here value k (λ b us y. more_sound k value b us y) a x ts e
 
 -- an operand that is read is spelled
 abbrev pub IsSide : (ℕ → ℕ) → List Symbol → Reading × List Symbol → Type 0
-IsSide value ts x = (s : Side) × (ts ≡ spell_side s ++ x.1) × (x.0 ≡ reading_of value s)
+IsSide value ts x = (s : ParsedSide) × (ts ≡ spell_side s ++ x.1) × (x.0 ≡ reading_of value s)
 
-abbrev IsSum : (ℕ → ℕ) → Bool → List Symbol → List Part × List Symbol → Type 0
+abbrev IsSum : (ℕ → ℕ) → Bool → List Symbol → List SignedFactor × List Symbol → Type 0
 IsSum value minus ts x = (p : Product) × (ps : List (Bool × Product)) × (ts ≡ spell_product p ++ (spell_more ps ++ x.1)) × (x.0 ≡ add_all value (add_factor [] minus (factor value p)) ps) × (sign_at x.1 ≡ None)
 
-sum_sound : (value : ℕ → ℕ) (minus : Bool) (ts : List Symbol) (x : List Part × List Symbol) → sum_at value minus ts ≡ Some x → IsSum value minus ts x
+sum_sound : (value : ℕ → ℕ) (minus : Bool) (ts : List Symbol) (x : List SignedFactor × List Symbol) → sum_at value minus ts ≡ Some x → IsSum value minus ts x
 sum_sound value minus ts x e =
     let b = bind_some (product_at value ts) (λ p. more_at value (suc (length p.1)) (add_factor [] minus p.0) p.1) x e in
     let p = product_sound value ts b.0 b.1 in
     let m = more_sound (suc (length b.0.1)) value (add_factor [] minus b.0.0) b.0.1 x b.2 in
     (p.0, m.0, p.1 ∙ ap (λ (l : List Symbol). spell_product p.0 ++ l) m.1, m.2 ∙ ap (λ (q : Factor). add_all value (add_factor [] minus q) m.0) p.2, m.3)
 
-made_sound : (o : Option (List Part × List Symbol)) (x : Reading × List Symbol) → made o ≡ Some x → (y : List Part × List Symbol) × (o ≡ Some y) × (x ≡ (parts y.0, y.1))
+made_sound : (o : Option (List SignedFactor × List Symbol)) (x : Reading × List Symbol) → made o ≡ Some x → (y : List SignedFactor × List Symbol) × (o ≡ Some y) × (x ≡ (parts y.0, y.1))
 made_sound o x e =
     let b = bind_some o (λ y. Some (parts y.0, y.1)) x e in
     (b.0, b.1, sym (some_same _ x b.2))
 
 -- a sum of several products, or of one that isn't a name alone, is no single name
-several : (value : ℕ → ℕ) (minus : Bool) (p : Product) (ps : List (Bool × Product)) (ts : List Symbol) (x : Reading × List Symbol) (y : List Part × List Symbol) → single (sum minus p ps) ≡ None → ts ≡ spell_side (sum minus p ps) ++ y.1 → y.0 ≡ add_all value (add_factor [] minus (factor value p)) ps → x ≡ (parts y.0, y.1) → IsSide value ts x
+several : (value : ℕ → ℕ) (minus : Bool) (p : Product) (ps : List (Bool × Product)) (ts : List Symbol) (x : Reading × List Symbol) (y : List SignedFactor × List Symbol) → single (sum minus p ps) ≡ None → ts ≡ spell_side (sum minus p ps) ++ y.1 → y.0 ≡ add_all value (add_factor [] minus (factor value p)) ps → x ≡ (parts y.0, y.1) → IsSide value ts x
 several value minus p ps ts x y none e f g = (
   sum minus p ps,
   e ∙ ap (λ (z : Reading × List Symbol). spell_side (sum minus p ps) ++ z.1) (sym g),

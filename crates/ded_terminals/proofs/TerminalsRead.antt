@@ -16,7 +16,7 @@ use Rattle.ded_grammar.proofs.Tells.{scanned}
 use Rattle.ded_grammar.proofs.Told.{one_spelled}
 use Rattle.ded_terminals.specs.Symbols.{Symbol, Name, Relation}
 use Rattle.ded_terminals.specs.Literals.{whole, quotient, decimal, Reader}
-use Rattle.ded_terminals.specs.Operands.{scaled, constant, lone, Side, text, sum, spell_side}
+use Rattle.ded_terminals.specs.Operands.{scaled, constant, lone, ParsedSide, text, sum, spell_side}
 use Rattle.ded_terminals.specs.Atoms.{plain, closed, inner, Atom, truth, relates, belongs, spell_atom, sort_symbols, quantifier_symbol, IsTerminal, AreTerminals, SpellsFormula}
 use Rattle.ded_terminals.specs.AtomReading.{sort_at, terminal_at, terminals_within, terminals_at}
 use Rattle.ded_terminals.proofs.Binds.{some_same}
@@ -97,7 +97,7 @@ within_read (p ∷ ps) value ts s n (suc k) h are le =
 
 -- ---- there are no more terminals than symbols
 
-side_some : (s : Side) → 0 < length (spell_side s)
+side_some : (s : ParsedSide) → 0 < length (spell_side s)
 side_some (text s) = omega arith
 side_some (sum true p ps) = omega arith
 side_some (sum false (scaled (whole d) n) ps) = omega arith

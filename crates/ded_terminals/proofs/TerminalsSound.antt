@@ -14,7 +14,7 @@ use Rattle.ded_terminals.specs.declared.item.Keyword.{Keyword}
 use Rattle.ded_terminals.specs.declared.item.Keyword.TheVariants as words
 use Rattle.ded_terminals.specs.Symbols.{Symbol, Word, Name, Open, Close, CloseBrace, Comma, Relation}
 use Rattle.ded_terminals.specs.Literals.{Reader}
-use Rattle.ded_terminals.specs.Operands.{Side, spell_side, Reading, reading_of, argument_of}
+use Rattle.ded_terminals.specs.Operands.{ParsedSide, spell_side, Reading, reading_of, argument_of}
 use Rattle.ded_terminals.specs.Atoms.{compared, argument, spell_rest, Comparison, spell_comparison, comparison_form, Named, closed, inner, spell_named, name_of, Atom, truth, relates, belongs, spell_atom, atom_form, spell_column, sort_symbols, quantifier_symbol, IsTerminal, AreTerminals}
 use Rattle.ded_terminals.specs.OperandReading.{side_at}
 use Rattle.ded_terminals.specs.AtomReading.{comma_at, brace_at, relation_at, compare_at, argument_at, operands_at, enclosed_at, named_at, call_at, called_at, atom_by_call, atom_at, sort_at, column_at, binder_at, as_leaf, terminal_at, terminals_within, terminals_at}
@@ -57,7 +57,7 @@ brace_end (Comma ∷ ts) x e = ap (λ (y : Bool × List Symbol). sign_of CloseBr
 brace_end (CloseBrace ∷ ts) x e = ap (λ (y : Bool × List Symbol). sign_of CloseBrace y.0 ∷ y.1) (some_same _ x e)
 brace_end ts x e = absurd cc
 
-argument_sound : (value : Reader) (ts : List Symbol) (x : Operand × List Symbol) → argument_at value ts ≡ Some x → (s : Side) × (ts ≡ spell_side s ++ x.1) × (x.0 ≡ argument value s)
+argument_sound : (value : Reader) (ts : List Symbol) (x : Operand × List Symbol) → argument_at value ts ≡ Some x → (s : ParsedSide) × (ts ≡ spell_side s ++ x.1) × (x.0 ≡ argument value s)
 argument_sound value ts x e =
     let b = bind_some (side_at value.number ts) (λ s. Some (argument_of value s.0, s.1)) x e in
     let s = side_sound value.number ts b.0 b.1 in

@@ -8,7 +8,7 @@ use Rattle.ded_model.specs.Sum.{ArePartsWithin, IsSum}
 use Rattle.ded_grammar.specs.Building.{◌>>=◌}
 use Rattle.ded_terminals.specs.Symbols.{Symbol, Name, Plus, Minus, Times}
 use Rattle.ded_terminals.specs.Literals.{Scalar, whole, quotient, decimal, spell_scalar}
-use Rattle.ded_terminals.specs.Operands.{Product, scaled, constant, lone, spell_product, Part, Sums, Factor, signed, put, put_at, add_factor}
+use Rattle.ded_terminals.specs.Operands.{Product, scaled, constant, lone, spell_product, SignedFactor, Sums, Factor, signed, put, put_at, add_factor}
 use Rattle.ded_terminals.specs.OperandReading.{product_at, sign_at, after_sign, more_at, all_parts}
 use Rattle.ded_terminals.specs.Views.{IsBounded}
 use Rattle.ded_terminals.proofs.OperandsSound.{product_sound}
@@ -77,32 +77,32 @@ sign_short (Minus ∷ ts) x e = subst (λ (y : Bool × List Symbol). length y.1 
     same e = cc
 sign_short ts x e = absurd cc
 
-module _ (k j : ℕ) (value : ℕ → ℕ) (again : (a : List Part) (ts : List Symbol) → length ts < k → length ts < j → more_at value k a ts ≡ more_at value j a ts) where
-  products : (a : List Part) (s : Bool × List Symbol) → length s.1 ≤ k → length s.1 ≤ j → (o : Option (Factor × List Symbol)) → product_at value s.1 ≡ o → (o >>= λ p. more_at value k (add_factor a s.0 p.0) p.1) ≡ (o >>= λ p. more_at value j (add_factor a s.0 p.0) p.1)
+module _ (k j : ℕ) (value : ℕ → ℕ) (again : (a : List SignedFactor) (ts : List Symbol) → length ts < k → length ts < j → more_at value k a ts ≡ more_at value j a ts) where
+  products : (a : List SignedFactor) (s : Bool × List Symbol) → length s.1 ≤ k → length s.1 ≤ j → (o : Option (Factor × List Symbol)) → product_at value s.1 ≡ o → (o >>= λ p. more_at value k (add_factor a s.0 p.0) p.1) ≡ (o >>= λ p. more_at value j (add_factor a s.0 p.0) p.1)
   products a s short less None e = refl
   products a s short less (Some p) e = again (add_factor a s.0 p.0) p.1 (omega (arith, product_short value s.1 p e, short)) (omega (arith, product_short value s.1 p e, less))
 
-  signs : (a : List Part) (ts : List Symbol) → length ts ≤ k → length ts ≤ j → (o : Option (Bool × List Symbol)) → sign_at ts ≡ o → after_sign value (more_at value k) a ts o ≡ after_sign value (more_at value j) a ts o
+  signs : (a : List SignedFactor) (ts : List Symbol) → length ts ≤ k → length ts ≤ j → (o : Option (Bool × List Symbol)) → sign_at ts ≡ o → after_sign value (more_at value k) a ts o ≡ after_sign value (more_at value j) a ts o
   signs a ts short less None e = refl
   signs a ts short less (Some s) e = products a s (omega (arith, sign_short ts s e, short)) (omega (arith, sign_short ts s e, less)) (product_at value s.1) refl
 
 -- how many products are allowed is no matter, where it is more than there are symbols
-more_enough : (k j : ℕ) (value : ℕ → ℕ) (a : List Part) (ts : List Symbol) → length ts < k → length ts < j → more_at value k a ts ≡ more_at value j a ts
+more_enough : (k j : ℕ) (value : ℕ → ℕ) (a : List SignedFactor) (ts : List Symbol) → length ts < k → length ts < j → more_at value k a ts ≡ more_at value j a ts
 more_enough zero j value a ts lt less = absurd (omega (arith, lt))
 more_enough (suc k) zero value a ts lt less = absurd (omega (arith, less))
 more_enough (suc k) (suc j) value a ts lt less = signs k j value (λ b us. more_enough k j value b us) a ts (omega (arith, lt)) (omega (arith, less)) (sign_at ts) refl
 
-pub all_parts_off : (value : ℕ → ℕ) (a : List Part) (ts : List Symbol) → sign_at ts ≡ None → all_parts value a ts ≡ Some (a, ts)
+pub all_parts_off : (value : ℕ → ℕ) (a : List SignedFactor) (ts : List Symbol) → sign_at ts ≡ None → all_parts value a ts ≡ Some (a, ts)
 all_parts_off value a ts e = ap (after_sign value (more_at value (length ts)) a ts) e
 
-pub all_parts_on : (value : ℕ → ℕ) (a b : List Part) (ts : List Symbol) (s : Bool × List Symbol) (p : Factor × List Symbol) → sign_at ts ≡ Some s → product_at value s.1 ≡ Some p → b ≡ add_factor a s.0 p.0 → all_parts value a ts ≡ all_parts value b p.1
+pub all_parts_on : (value : ℕ → ℕ) (a b : List SignedFactor) (ts : List Symbol) (s : Bool × List Symbol) (p : Factor × List Symbol) → sign_at ts ≡ Some s → product_at value s.1 ≡ Some p → b ≡ add_factor a s.0 p.0 → all_parts value a ts ≡ all_parts value b p.1
 all_parts_on value a b ts s p e f g =
     ap (after_sign value (more_at value (length ts)) a ts) e
     ∙ ap (λ (o : Option (Factor × List Symbol)). o >>= λ p. more_at value (length ts) (add_factor a s.0 p.0) p.1) f
     ∙ more_enough (length ts) (suc (length p.1)) value (add_factor a s.0 p.0) p.1 (omega (arith, sign_short ts s e, product_short value s.1 p f)) (omega arith)
-    ∙ ap (λ (c : List Part). all_parts value c p.1) (sym g)
+    ∙ ap (λ (c : List SignedFactor). all_parts value c p.1) (sym g)
 
-pub all_parts_fails : (value : ℕ → ℕ) (a : List Part) (ts : List Symbol) (s : Bool × List Symbol) → sign_at ts ≡ Some s → product_at value s.1 ≡ None → all_parts value a ts ≡ None
+pub all_parts_fails : (value : ℕ → ℕ) (a : List SignedFactor) (ts : List Symbol) (s : Bool × List Symbol) → sign_at ts ≡ Some s → product_at value s.1 ≡ None → all_parts value a ts ≡ None
 all_parts_fails value a ts s e f =
     ap (after_sign value (more_at value (length ts)) a ts) e
     ∙ ap (λ (o : Option (Factor × List Symbol)). o >>= λ p. more_at value (length ts) (add_factor a s.0 p.0) p.1) f

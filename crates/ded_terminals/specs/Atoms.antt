@@ -15,7 +15,7 @@ use Rattle.ded_grammar.specs.Spelling.{Spells}
 use Rattle.ded_terminals.specs.declared.item.Keyword.TheVariants as words
 use Rattle.ded_terminals.specs.Symbols.{Symbol, Word, Name, Open, Close, Comma, Relation}
 use Rattle.ded_terminals.specs.Literals.{Reader}
-use Rattle.ded_terminals.specs.Operands.{Side, spell_side, Reading, reading_of, operand_over, denominator_of, argument_of}
+use Rattle.ded_terminals.specs.Operands.{ParsedSide, spell_side, Reading, reading_of, operand_over, denominator_of, argument_of}
 
 -- ---- lists
 
@@ -28,9 +28,9 @@ spell_rest spell (x ∷ xs) = Comma ∷ spell x ++ spell_rest spell xs
 
 -- compare = operand relop operand
 pub record Comparison : Type 0 where
-  pub left : Side
+  pub left : ParsedSide
   pub op : CompareOp
-  pub right : Side
+  pub right : ParsedSide
 
 -- the symbols of a comparison
 abbrev pub spell_comparison : Comparison → List Symbol
@@ -45,7 +45,7 @@ abbrev pub comparison_form : Reader → Comparison → Form
 comparison_form value c = compared value (reading_of value.number c.left) c.op (reading_of value.number c.right)
 
 -- the operand that a side is in a member
-abbrev pub argument : Reader → Side → Operand
+abbrev pub argument : Reader → ParsedSide → Operand
 argument value s = argument_of value (reading_of value.number s)
 
 -- the name of a member: that of a relation or view, or of its closure or its interior
@@ -75,7 +75,7 @@ name_of (inner n) = interior_name n
 pub data Atom : Type 0 where
   truth : Bool → Atom
   relates : Comparison → Atom
-  belongs : Named → Side → List Side → Atom
+  belongs : Named → ParsedSide → List ParsedSide → Atom
 
 -- the symbols of an atom
 abbrev pub spell_atom : Atom → List Symbol

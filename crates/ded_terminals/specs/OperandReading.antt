@@ -4,7 +4,7 @@ use Rattle.std.proofs.Common.{zero}
 use Rattle.ded_grammar.specs.Building.{◌>>=◌}
 use Rattle.ded_terminals.specs.Symbols.{Symbol, Name, Number, Decimal, Quoted, Plus, Minus, Times, Slash, number_of, decimal_number, decimal_power}
 use Rattle.ded_terminals.specs.Literals.{Literal, lowest}
-use Rattle.ded_terminals.specs.Operands.{Factor, Part, add_factor, Reading, quoted, named, parts}
+use Rattle.ded_terminals.specs.Operands.{Factor, SignedFactor, add_factor, Reading, quoted, named, parts}
 
 -- reads a number, as its digits
 abbrev pub number_at : List Symbol → Option (List ℕ × List Symbol)
@@ -50,22 +50,22 @@ sign_at (Minus ∷ ts) = Some (true, ts)
 sign_at ts = None
 
 -- behind the parts so far: no further product, or one more, and then the rest
-abbrev pub after_sign : (ℕ → ℕ) → (List Part → List Symbol → Option (List Part × List Symbol)) → List Part → List Symbol → Option (Bool × List Symbol) → Option (List Part × List Symbol)
+abbrev pub after_sign : (ℕ → ℕ) → (List SignedFactor → List Symbol → Option (List SignedFactor × List Symbol)) → List SignedFactor → List Symbol → Option (Bool × List Symbol) → Option (List SignedFactor × List Symbol)
 after_sign read more a ts None = Some (a, ts)
 after_sign read more a ts (Some s) = product_at read s.1 >>= λ p. more (add_factor a s.0 p.0) p.1
 
 -- the parts so far with all further products of a sum behind them, or none where one is missing behind its sign, or
 -- these aren't fewer than so many
-abbrev pub more_at : (ℕ → ℕ) → ℕ → List Part → List Symbol → Option (List Part × List Symbol)
+abbrev pub more_at : (ℕ → ℕ) → ℕ → List SignedFactor → List Symbol → Option (List SignedFactor × List Symbol)
 more_at read zero a ts = None
 more_at read (suc k) a ts = after_sign read (more_at read k) a ts (sign_at ts)
 
 -- the parts so far with all that follow
-abbrev pub all_parts : (ℕ → ℕ) → List Part → List Symbol → Option (List Part × List Symbol)
+abbrev pub all_parts : (ℕ → ℕ) → List SignedFactor → List Symbol → Option (List SignedFactor × List Symbol)
 all_parts read a ts = more_at read (suc (length ts)) a ts
 
 -- a sum whose first product is taken away or not
-abbrev pub sum_at : (ℕ → ℕ) → Bool → List Symbol → Option (List Part × List Symbol)
+abbrev pub sum_at : (ℕ → ℕ) → Bool → List Symbol → Option (List SignedFactor × List Symbol)
 sum_at read minus ts = product_at read ts >>= λ p. more_at read (suc (length p.1)) (add_factor [] minus p.0) p.1
 
 -- reads a sum, whose first product is taken away or not, as what is read of it

@@ -16,9 +16,9 @@ pub data Product : Type 0 where
 -- operand = text | sum
 -- sum = [ "-" ] product ( ( "+" | "-" ) product )*
 -- A product with true is taken away.
-pub data Side : Type 0 where
-  text : List ℕ → Side
-  sum : Bool → Product → List (Bool × Product) → Side
+pub data ParsedSide : Type 0 where
+  text : List ℕ → ParsedSide
+  sum : Bool → Product → List (Bool × Product) → ParsedSide
 
 -- ---- how they are spelled
 
@@ -39,7 +39,7 @@ spell_more [] = []
 spell_more (p ∷ ps) = spell_sign p.0 ∷ spell_product p.1 ++ spell_more ps
 
 -- the symbols of a side or operand
-abbrev pub spell_side : Side → List Symbol
+abbrev pub spell_side : ParsedSide → List Symbol
 spell_side (text s) = Quoted s ∷ []
 spell_side (sum true p ps) = Minus ∷ spell_product p ++ spell_more ps
 spell_side (sum false p ps) = spell_product p ++ spell_more ps
@@ -57,15 +57,15 @@ factor read (constant s) = (literal read s, None)
 factor read (lone n) = ((1, 1), Some n)
 
 -- a factor, which is taken away or not
-abbrev pub Part : Type 0
-Part = Bool × Factor
+abbrev pub SignedFactor : Type 0
+SignedFactor = Bool × Factor
 
 -- the parts so far, with one more behind them
-abbrev pub add_factor : List Part → Bool → Factor → List Part
+abbrev pub add_factor : List SignedFactor → Bool → Factor → List SignedFactor
 add_factor a minus f = a ++ (minus, f) ∷ []
 
 -- the parts so far, with those of further products behind them
-abbrev pub add_all : (ℕ → ℕ) → List Part → List (Bool × Product) → List Part
+abbrev pub add_all : (ℕ → ℕ) → List SignedFactor → List (Bool × Product) → List SignedFactor
 add_all read a [] = a
 add_all read a (p ∷ ps) = add_all read (add_factor a p.0 (factor read p.1)) ps
 
@@ -73,27 +73,27 @@ add_all read a (p ∷ ps) = add_all read (add_factor a p.0 (factor read p.1)) ps
 pub data Reading : Type 0 where
   quoted : List ℕ → Reading
   named : List ℕ → Reading
-  parts : List Part → Reading
+  parts : List SignedFactor → Reading
 
 -- a sum that is one name without a sign is that name
-abbrev pub as_reading : Option (List ℕ) → List Part → Reading
+abbrev pub as_reading : Option (List ℕ) → List SignedFactor → Reading
 as_reading (Some n) a = named n
 as_reading None a = parts a
 
 -- the name that the side is, where it is one name without a sign
-abbrev pub single : Side → Option (List ℕ)
+abbrev pub single : ParsedSide → Option (List ℕ)
 single (sum false (lone n) []) = Some n
 single s = None
 
 -- what is read of a side, where numbers are read by the function
-abbrev pub reading_of : (ℕ → ℕ) → Side → Reading
+abbrev pub reading_of : (ℕ → ℕ) → ParsedSide → Reading
 reading_of read (text s) = quoted s
 reading_of read (sum minus p ps) = as_reading (single (sum minus p ps)) (add_all read (add_factor [] minus (factor read p)) ps)
 
 -- ---- what they mean
 
 -- the literals of parts, in order
-abbrev pub literals_of : List Part → List Literal
+abbrev pub literals_of : List SignedFactor → List Literal
 literals_of ps = map (λ p. p.1.0) ps
 
 -- the literals of what is read of a side; a text and a name alone have none
@@ -126,11 +126,11 @@ abbrev pub no_sums : Sums
 no_sums = ([], pos 0)
 
 -- with one part more, over m
-abbrev pub added : (ℕ → Literal → ℕ) → ℕ → Sums → Part → Sums
+abbrev pub added : (ℕ → Literal → ℕ) → ℕ → Sums → SignedFactor → Sums
 added numerator m a p = put_at a p.1.1 (signed p.0 (numerator m p.1.0))
 
 -- the parts are added up over m
-abbrev pub total_from : (ℕ → Literal → ℕ) → ℕ → Sums → List Part → Sums
+abbrev pub total_from : (ℕ → Literal → ℕ) → ℕ → Sums → List SignedFactor → Sums
 total_from numerator m a [] = a
 total_from numerator m a (p ∷ ps) = total_from numerator m (added numerator m a p) ps
 

@@ -10,7 +10,7 @@ ghost use Rattle.ded_terminals.specs.Views.{seen_literal, seen_part, seen_parts,
 ghost use Rattle.ded_terminals.specs.Views.{ArePositive, IsFit, IsBounded};
 
 use crate::scalar::{Literal, divided};
-use crate::side::{Part, Side};
+use crate::side::{SignedFactor, ParsedSide};
 use crate::sum::{Totals, add, as_sum};
 use ded_model::formula::Operand;
 use ded_model::limits;
@@ -65,7 +65,7 @@ fn lcm(a: u64, b: u64) -> u64
 }
 
 /// The least common multiple of the number and the denominators of the parts, or 2^63 where it is above that.
-fn lcm_with(over: u64, parts: &[Part<'_>]) -> u64
+fn lcm_with(over: u64, parts: &[SignedFactor<'_>]) -> u64
     requires over { 0 < over }
     requires parts { ArePositive parts.now }
     ensures positive { 0 < result }
@@ -97,7 +97,7 @@ fn is_long_over(over: u64, literal: Literal) -> bool
 }
 
 /// Whether the numerator of a literal of the parts over the number is above 2^96.
-fn some_long_over(over: u64, parts: &[Part<'_>]) -> bool
+fn some_long_over(over: u64, parts: &[SignedFactor<'_>]) -> bool
     ensures { result ≡ list_any (is_long_over over) (literals_of (seen_parts parts.now)) }
 {
     for part in parts {
@@ -109,19 +109,19 @@ fn some_long_over(over: u64, parts: &[Part<'_>]) -> bool
 }
 
 /// The parts of a sum; none of another side.
-fn parts_of<'a, 'b>(side: &'a Side<'b>) -> &'a [Part<'b>]
+fn parts_of<'a, 'b>(side: &'a ParsedSide<'b>) -> &'a [SignedFactor<'b>]
     ensures literals { literals_of (seen_parts result.now) ≡ literals (seen_side side.now) }
     ensures positive { (n : ℕ) → IsFit side.now n → ArePositive result.now }
 {
     match side {
-        Side::Sum(parts) => parts,
-        Side::Quoted(_) | Side::Name(_) => &[],
+        ParsedSide::Sum(parts) => parts,
+        ParsedSide::Quoted(_) | ParsedSide::Name(_) => &[],
     }
 }
 
 /// Whether the number is above 2^63 - 1, or the numerator of a literal of the parts over it is above 2^96.
 #[tactic(auto, using(crate::proofs::Tests::any_split))]
-fn are_long_over(over: u64, first: &[Part<'_>], second: &[Part<'_>]) -> bool
+fn are_long_over(over: u64, first: &[SignedFactor<'_>], second: &[SignedFactor<'_>]) -> bool
     ensures { result ≡ are_long_over over (literals_of (seen_parts first.now) ++ literals_of (seen_parts second.now)) }
 {
     over >= TOO_GREAT || some_long_over(over, first) || some_long_over(over, second)
@@ -129,7 +129,7 @@ fn are_long_over(over: u64, first: &[Part<'_>], second: &[Part<'_>]) -> bool
 
 /// What sums are over that have the literals of both sides: their common denominator, or 2^63 where that is above 2^63
 /// - 1 or a literal over it is too long.
-fn denominator_of(left: &Side<'_>, right: &Side<'_>) -> u64
+fn denominator_of(left: &ParsedSide<'_>, right: &ParsedSide<'_>) -> u64
     requires left { IsFit left.now 65536 }
     requires right { IsFit right.now 65536 }
     ensures positive { 0 < result }
@@ -148,7 +148,7 @@ fn denominator_of(left: &Side<'_>, right: &Side<'_>) -> u64
 // ---- operands
 
 /// Adds the part to the totals over the number, or takes it away from them.
-fn add_part(alloc: Global, totals: &mut Totals, over: u64, part: &Part<'_>) -> Result<(), NoMemory>
+fn add_part(alloc: Global, totals: &mut Totals, over: u64, part: &SignedFactor<'_>) -> Result<(), NoMemory>
     requires bounded { IsBounded (2 ^ 111) (seen_totals totals.now) }
     requires small { marked_numerator over (seen_literal part.now.factor.literal) ≤ 2 ^ 96 }
     ensures { IfOk result (λ _. seen_totals totals.new
@@ -159,7 +159,7 @@ fn add_part(alloc: Global, totals: &mut Totals, over: u64, part: &Part<'_>) -> R
 }
 
 /// The sum of the parts over the number.
-fn summed(alloc: Global, over: u64, parts: &[Part<'_>]) -> Result<Totals, NoMemory>
+fn summed(alloc: Global, over: u64, parts: &[SignedFactor<'_>]) -> Result<Totals, NoMemory>
     requires small { AreSmall over (literals_of (seen_parts parts.now)) }
     requires few { length parts.now ≤ 2 ^ 15 }
     ensures value { IfOk result (λ t. seen_totals t ≡ total_from marked_numerator over no_sums (seen_parts parts.now)) }
@@ -176,16 +176,16 @@ fn summed(alloc: Global, over: u64, parts: &[Part<'_>]) -> Result<Totals, NoMemo
 }
 
 /// The operand that the side is, with its sum over the number.
-fn operand_over(alloc: Global, over: u64, side: &Side<'_>) -> Result<Operand, NoMemory>
+fn operand_over(alloc: Global, over: u64, side: &ParsedSide<'_>) -> Result<Operand, NoMemory>
     requires small { AreSmall over (literals (seen_side side.now)) }
     requires positive { 0 < over }
     requires fit { IsFit side.now 65536 }
     ensures { IfOk result (λ o. o ≡ operand_over capped_reader over (seen_side side.now)) }
 {
     match side {
-        Side::Quoted(text) => Ok(Operand::Quoted(quoted_of(alloc, text)?)),
-        Side::Name(name) => Ok(Operand::Single(name_of(alloc, name)?)),
-        Side::Sum(parts) => Ok(as_sum(over, summed(alloc, over, parts)?)),
+        ParsedSide::Quoted(text) => Ok(Operand::Quoted(quoted_of(alloc, text)?)),
+        ParsedSide::Name(name) => Ok(Operand::Single(name_of(alloc, name)?)),
+        ParsedSide::Sum(parts) => Ok(as_sum(over, summed(alloc, over, parts)?)),
     }
 }
 
@@ -195,8 +195,8 @@ fn operand_over(alloc: Global, over: u64, side: &Side<'_>) -> Result<Operand, No
 /// Out of memory.
 pub(crate) fn operands_of(
     alloc: Global,
-    left: &Side<'_>,
-    right: &Side<'_>,
+    left: &ParsedSide<'_>,
+    right: &ParsedSide<'_>,
 ) -> Result<(Operand, Operand), NoMemory>
     requires left { IsFit left.now 65536 }
     requires right { IsFit right.now 65536 }
@@ -216,10 +216,10 @@ pub(crate) fn operands_of(
 ///
 /// # Errors
 /// Out of memory.
-pub(crate) fn argument_of(alloc: Global, side: &Side<'_>) -> Result<Operand, NoMemory>
+pub(crate) fn argument_of(alloc: Global, side: &ParsedSide<'_>) -> Result<Operand, NoMemory>
     requires fit { IsFit side.now 65536 }
     ensures { IfOk result (λ o. o ≡ argument_of capped_reader (seen_side side.now)) }
 {
-    let none = Side::Sum(Vec::new(alloc));
+    let none = ParsedSide::Sum(Vec::new(alloc));
     operand_over(alloc, denominator_of(side, &none), side)
 }

@@ -24,17 +24,17 @@ pub struct Factor<'a> {
 
 /// A factor that is added, or taken away.
 #[derive(Clone, Copy, Debug)]
-pub struct Part<'a> {
+pub struct SignedFactor<'a> {
     pub minus: bool,
     pub factor: Factor<'a>,
 }
 
 /// A text with its quotes, a name alone, or the parts of a sum.
 #[derive(Drop)]
-pub enum Side<'a> {
+pub enum ParsedSide<'a> {
     Quoted(&'a [u8]),
     Name(&'a [u8]),
-    Sum(Vec<Part<'a>>),
+    Sum(Vec<SignedFactor<'a>>),
 }
 
 /// The name with which the rest begins, and what stands behind it; none where the rest begins with no name.
@@ -153,7 +153,7 @@ fn product(rest: Rest<'_>) -> Option<(Factor<'_>, Rest<'_>)>
 }
 
 /// Sets the product with which the rest begins at the end of the parts, and gives what stands behind it.
-fn next<'a>(parts: &mut Vec<Part<'a>>, minus: bool, rest: Rest<'a>) -> Result<Rest<'a>, ReadFault>
+fn next<'a>(parts: &mut Vec<SignedFactor<'a>>, minus: bool, rest: Rest<'a>) -> Result<Rest<'a>, ReadFault>
     ensures read { IfOk result (λ x. AddsProduct minus (left rest.entry) (seen_parts parts.old.items)
         (seen_parts parts.new.items) (left x)) }
     ensures unread { IfErr result (λ e. e ≡ NotRead → product_at capped (left rest.entry) ≡ None) }
@@ -164,12 +164,12 @@ fn next<'a>(parts: &mut Vec<Part<'a>>, minus: bool, rest: Rest<'a>) -> Result<Re
     let Some((factor, rest)) = product(rest) else {
         return Err(ReadFault::NotRead);
     };
-    parts.push(Part { minus, factor })?;
+    parts.push(SignedFactor { minus, factor })?;
     Ok(rest)
 }
 
 /// Sets all further products at the end of the parts, and gives what stands behind them.
-fn more<'a>(parts: &mut Vec<Part<'a>>, items: Rest<'a>) -> Result<Rest<'a>, ReadFault>
+fn more<'a>(parts: &mut Vec<SignedFactor<'a>>, items: Rest<'a>) -> Result<Rest<'a>, ReadFault>
     ensures read { IfOk result (λ x. all_parts capped (seen_parts parts.old.items) (left items.entry)
         ≡ Some (seen_parts parts.new.items, left x)) }
     ensures unread { IfErr result (λ e. e ≡ NotRead
@@ -187,7 +187,7 @@ fn more<'a>(parts: &mut Vec<Part<'a>>, items: Rest<'a>) -> Result<Rest<'a>, Read
 }
 
 /// The sum with which the rest begins, whose first product is taken away or not, and what stands behind it.
-fn summed(alloc: Global, minus: bool, rest: Rest<'_>) -> Result<(Side<'_>, Rest<'_>), ReadFault>
+fn summed(alloc: Global, minus: bool, rest: Rest<'_>) -> Result<(ParsedSide<'_>, Rest<'_>), ReadFault>
     ensures read { IfOk result (λ x. summed_at capped minus (left rest.entry) ≡ Some (seen_side x.0, left x.1)) }
     ensures unread { IfErr result (λ e. e ≡ NotRead → summed_at capped minus (left rest.entry) ≡ None) }
     ensures low { IfOk result (λ x. length (left x.1) < length (left rest.entry)) }
@@ -196,7 +196,7 @@ fn summed(alloc: Global, minus: bool, rest: Rest<'_>) -> Result<(Side<'_>, Rest<
     let mut parts = Vec::new(alloc);
     let rest = next(&mut parts, minus, rest)?;
     let rest = more(&mut parts, rest)?;
-    Ok((Side::Sum(parts), rest))
+    Ok((ParsedSide::Sum(parts), rest))
 }
 
 /// The name alone, with which the items begin, where no sign follows it, and otherwise the sum that it begins; then
@@ -206,7 +206,7 @@ fn behind_name<'a>(
     items: Rest<'a>,
     name: &'a [u8],
     rest: Rest<'a>,
-) -> Result<(Side<'a>, Rest<'a>), ReadFault>
+) -> Result<(ParsedSide<'a>, Rest<'a>), ReadFault>
     requires low { length (left rest) < length (left items) }
     ensures read { IfOk result (λ x. behind_name capped (left items.entry) (name.now,
         left rest.entry) (sign_at (left rest.entry)) ≡ Some (seen_side x.0, left x.1)) }
@@ -217,12 +217,12 @@ fn behind_name<'a>(
 {
     match sign(rest) {
         Some(_) => summed(alloc, false, items),
-        None => Ok((Side::Name(name), rest)),
+        None => Ok((ParsedSide::Name(name), rest)),
     }
 }
 
 /// The side with which the rest begins, which is no quoted text, and what stands behind it.
-fn unquoted(alloc: Global, rest: Rest<'_>) -> Result<(Side<'_>, Rest<'_>), ReadFault>
+fn unquoted(alloc: Global, rest: Rest<'_>) -> Result<(ParsedSide<'_>, Rest<'_>), ReadFault>
     ensures read { IfOk result (λ x. side_by_minus capped (left rest.entry) (minus_at (left rest.entry))
         ≡ Some (seen_side x.0, left x.1)) }
     ensures unread { IfErr result (λ e. e ≡ NotRead
@@ -244,14 +244,14 @@ fn unquoted(alloc: Global, rest: Rest<'_>) -> Result<(Side<'_>, Rest<'_>), ReadF
 ///
 /// # Errors
 /// `NotRead` only where the rest begins with no side, otherwise out of memory.
-pub(crate) fn read_side(alloc: Global, rest: Rest<'_>) -> Result<(Side<'_>, Rest<'_>), ReadFault>
+pub(crate) fn read_side(alloc: Global, rest: Rest<'_>) -> Result<(ParsedSide<'_>, Rest<'_>), ReadFault>
     ensures read { IfOk result (λ x. side_at capped (left rest.entry) ≡ Some (seen_side x.0, left x.1)) }
     ensures unread { IfErr result (λ e. e ≡ NotRead → side_at capped (left rest.entry) ≡ None) }
     ensures low { IfOk result (λ x. length (left x.1) < length (left rest.entry)) }
     ensures fit { IfOk result (λ x. IsFit x.0 (length (left rest.entry))) }
 {
     match quoted(rest) {
-        Some((text, behind)) => Ok((Side::Quoted(text), behind)),
+        Some((text, behind)) => Ok((ParsedSide::Quoted(text), behind)),
         None => unquoted(alloc, rest),
     }
 }

@@ -11,7 +11,7 @@ use ded_dump::Text;
 use ded_model::bound::Frac;
 use ded_model::memory::NoMemory;
 use ded_model::name::Name;
-use ded_polygon::Window;
+use ded_polygon::PlaneWindow;
 use std::alloc::Global;
 
 /// The label of a value.
@@ -21,7 +21,7 @@ use std::alloc::Global;
 pub(crate) fn label(
     alloc: Global,
     axis: Axis,
-    window: Window,
+    window: PlaneWindow,
     value: i128,
 ) -> Result<Name, NoMemory>
     requires { IsWithin 64 value }

@@ -5,7 +5,7 @@ ghost use Rattle.ded_ticks.specs.Scales.{offset_of, place_of};
 
 use crate::scale::{Axis, Scale, extent};
 use ded_axes::portion;
-use ded_polygon::Window;
+use ded_polygon::PlaneWindow;
 use ded_svg::Coordinate;
 
 /// Where a value is on its border.
@@ -21,7 +21,7 @@ pub(crate) fn place(scale: Scale, value: i128) -> Coordinate
 }
 
 /// How far a value is from the start of its border.
-fn offset(axis: Axis, window: Window, value: i128) -> i128
+fn offset(axis: Axis, window: PlaneWindow, value: i128) -> i128
     requires { IsWithin 64 value }
     ensures { result ≡ offset_of axis window value }
 {

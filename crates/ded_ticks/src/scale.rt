@@ -3,7 +3,7 @@ ghost use Rattle.std.specs.Prelude.{◌≡◌, pos, ◌<ℤ◌, ◌-ℤ◌};
 ghost use Rattle.ded_num.specs.Length.{IsWithin};
 ghost use Rattle.ded_ticks.specs.Scales.{extent_of, high_of, low_of};
 
-use ded_polygon::Window;
+use ded_polygon::PlaneWindow;
 
 /// Which border a scale is along, and what its values are.
 #[derive(Clone, Copy, Debug)]
@@ -20,12 +20,12 @@ pub(crate) enum Axis {
 #[derive(Clone, Copy, Debug)]
 pub(crate) struct Scale {
     pub axis: Axis,
-    pub window: Window,
+    pub window: PlaneWindow,
     pub units: u32,
 }
 
 /// The least value.
-pub(crate) fn low(axis: Axis, window: Window) -> i128
+pub(crate) fn low(axis: Axis, window: PlaneWindow) -> i128
     ensures value { result ≡ low_of axis window }
     ensures short { IsWithin 62 result }
 {
@@ -37,7 +37,7 @@ pub(crate) fn low(axis: Axis, window: Window) -> i128
 }
 
 /// The greatest value.
-pub(crate) fn high(axis: Axis, window: Window) -> i128
+pub(crate) fn high(axis: Axis, window: PlaneWindow) -> i128
     ensures value { result ≡ high_of axis window }
     ensures short { IsWithin 62 result }
 {
@@ -49,7 +49,7 @@ pub(crate) fn high(axis: Axis, window: Window) -> i128
 }
 
 /// How far the least value is below the greatest one.
-pub(crate) fn extent(axis: Axis, window: Window) -> i128
+pub(crate) fn extent(axis: Axis, window: PlaneWindow) -> i128
     ensures value { result ≡ extent_of axis window }
     ensures short { IsWithin 63 result }
     ensures positive { pos 0 <ℤ result }

@@ -6,10 +6,10 @@ ghost use Rattle.ded_ticks.specs.Scales.{magnitude_of, step_of};
 ghost use Rattle.ded_ticks.specs.Steps.{clock_step, clock_step_from, first_multiple, round_step, round_step_from};
 
 use crate::scale::{Axis, extent};
-use ded_polygon::Window;
+use ded_polygon::PlaneWindow;
 
 /// How far the ticks are from each other.
-pub(crate) fn step(axis: Axis, window: Window) -> i128
+pub(crate) fn step(axis: Axis, window: PlaneWindow) -> i128
     ensures value { result ≡ pos (step_of axis window) }
     ensures short { IsWithin 63 result }
     ensures positive { pos 0 <ℤ result }

@@ -8,7 +8,7 @@ use crate::place::place;
 use crate::scale::{Axis, Scale, high, low};
 use crate::step::{first_multiple, step};
 use ded_model::memory::NoMemory;
-use ded_polygon::Window;
+use ded_polygon::PlaneWindow;
 use ded_svg::Tick;
 use std::alloc::Global;
 
@@ -17,7 +17,7 @@ use std::alloc::Global;
 ///
 /// # Errors
 /// Out of memory.
-pub fn lower_ticks(alloc: Global, window: Window, width: u32) -> Result<Vec<Tick>, NoMemory>
+pub fn lower_ticks(alloc: Global, window: PlaneWindow, width: u32) -> Result<Vec<Tick>, NoMemory>
     ensures { IfOk result (λ ticks. ticks.items ≡ lower_ticks_of window width) }
 {
     ticks(alloc, Axis::Lower, window, width)
@@ -28,7 +28,7 @@ pub fn lower_ticks(alloc: Global, window: Window, width: u32) -> Result<Vec<Tick
 ///
 /// # Errors
 /// Out of memory.
-pub fn left_ticks(alloc: Global, window: Window, height: u32) -> Result<Vec<Tick>, NoMemory>
+pub fn left_ticks(alloc: Global, window: PlaneWindow, height: u32) -> Result<Vec<Tick>, NoMemory>
     ensures { IfOk result (λ ticks. ticks.items ≡ left_ticks_of window height) }
 {
     ticks(alloc, Axis::Left, window, height)
@@ -39,14 +39,14 @@ pub fn left_ticks(alloc: Global, window: Window, height: u32) -> Result<Vec<Tick
 ///
 /// # Errors
 /// Out of memory.
-pub fn clock_ticks(alloc: Global, window: Window, width: u32) -> Result<Vec<Tick>, NoMemory>
+pub fn clock_ticks(alloc: Global, window: PlaneWindow, width: u32) -> Result<Vec<Tick>, NoMemory>
     ensures { IfOk result (λ ticks. ticks.items ≡ clock_ticks_of window width) }
 {
     ticks(alloc, Axis::Clock, window, width)
 }
 
 /// The ticks of a border of so many units.
-fn ticks(alloc: Global, axis: Axis, window: Window, units: u32) -> Result<Vec<Tick>, NoMemory>
+fn ticks(alloc: Global, axis: Axis, window: PlaneWindow, units: u32) -> Result<Vec<Tick>, NoMemory>
     ensures { IfOk result (λ ticks. ticks.items ≡ ticks_of (record { axis = axis; window = window; units = units })) }
 {
     let mut ticks = Vec::new(alloc);

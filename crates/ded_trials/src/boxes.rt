@@ -9,13 +9,13 @@ use std::alloc::Global;
 use std::test::Fail;
 
 /// An end of an interval: a whole number, and whether it is attained.
-type End = (i8, bool);
+type BoxEnd = (i8, bool);
 
 /// The ends of an interval.
-type Ends = (End, End);
+type Ends = (BoxEnd, BoxEnd);
 
 /// The end as a bound.
-fn bound(end: End) -> Bound {
+fn bound(end: BoxEnd) -> Bound {
     let fraction = Frac {
         num: i128::from(end.0),
         den: 1,
@@ -40,7 +40,7 @@ fn closed(alloc: Global, low: i8, high: i8) -> Result<BoundBox, NoMemory> {
 }
 
 /// Whether the bound is that end.
-fn is_end(bound: &Bound, end: End) -> bool {
+fn is_end(bound: &Bound, end: BoxEnd) -> bool {
     match bound {
         Bound::Included(f) => f.den == 1 && f.num == i128::from(end.0) && end.1,
         Bound::Excluded(f) => f.den == 1 && f.num == i128::from(end.0) && !end.1,

@@ -9,7 +9,7 @@ use std::test::Fail;
 
 /// What is answered of a pair.
 #[derive(Clone, Copy, Debug, PartialEq, Eq)]
-enum Answer {
+enum PairAnswer {
     Common,
     /// A certificate by texts, which is checked.
     Texts,
@@ -21,56 +21,56 @@ enum Answer {
 }
 
 /// Two tuples, and what is answered of them.
-type Pair = (&'static str, Answer);
+type Pair = (&'static str, PairAnswer);
 
 /// Rows that touch, cross and miss each other, equalities, texts, and numbers that are too long.
 const PAIRS: [Pair; 13] = [
-    ("{ }\n{ }\n", Answer::Common),
-    ("{ x < 1 }\n{ x >= 1 }\n", Answer::Numbers(2)),
-    ("{ x <= 1 }\n{ x >= 1 }\n", Answer::Common),
-    ("{ x = 1 }\n{ x = 2 }\n", Answer::Numbers(2)),
-    ("{ 2*x = 1 }\n{ 3*x = 1 }\n", Answer::Numbers(5)),
-    ("{ n = 'a' }\n{ n = 'b' }\n", Answer::Texts),
-    ("{ n = 'a', x < 0 }\n{ n = 'b', x > 0 }\n", Answer::Texts),
+    ("{ }\n{ }\n", PairAnswer::Common),
+    ("{ x < 1 }\n{ x >= 1 }\n", PairAnswer::Numbers(2)),
+    ("{ x <= 1 }\n{ x >= 1 }\n", PairAnswer::Common),
+    ("{ x = 1 }\n{ x = 2 }\n", PairAnswer::Numbers(2)),
+    ("{ 2*x = 1 }\n{ 3*x = 1 }\n", PairAnswer::Numbers(5)),
+    ("{ n = 'a' }\n{ n = 'b' }\n", PairAnswer::Texts),
+    ("{ n = 'a', x < 0 }\n{ n = 'b', x > 0 }\n", PairAnswer::Texts),
     (
         "{ n = 'a', x < 0 }\n{ n != 'b', x > 0 }\n",
-        Answer::Numbers(2),
+        PairAnswer::Numbers(2),
     ),
-    ("{ n = 'a', x < 1 }\n{ n != 'b', x > 0 }\n", Answer::Common),
+    ("{ n = 'a', x < 1 }\n{ n != 'b', x > 0 }\n", PairAnswer::Common),
     (
         "{ x - y <= 1, x + y <= 1 }\n{ x > 1 }\n",
-        Answer::Numbers(4),
+        PairAnswer::Numbers(4),
     ),
     (
         "{ x >= 0, 3*x + 2*y <= 6 }\n{ x - y > -3, y >= 3 }\n",
-        Answer::Numbers(9),
+        PairAnswer::Numbers(9),
     ),
     (
         "{ x >= 0, 3*x + 2*y <= 6 }\n{ x - y >= -3, y >= 3 }\n",
-        Answer::Common,
+        PairAnswer::Common,
     ),
     (
         "{ 1267650600228229401496703205379*x + 1267650600228229401496703205375*y >= 1 }\n{ 1267650600228229401496703205376*x + 1267650600228229401496703205377*y <= -1 }\n",
-        Answer::Wide,
+        PairAnswer::Wide,
     ),
 ];
 
 /// What is answered of two tuples, and whether it is checked.
-fn certified(alloc: Global, first: &Tuple, second: &Tuple) -> Result<Answer, Fail> {
+fn certified(alloc: Global, first: &Tuple, second: &Tuple) -> Result<PairAnswer, Fail> {
     match certify(alloc, first, second) {
-        Ok(Outcome::Common) => Ok(Answer::Common),
+        Ok(Outcome::Common) => Ok(PairAnswer::Common),
         Ok(Outcome::Apart(proof)) => checked(alloc, first, second, &proof),
-        Err(Refused::Wide) => Ok(Answer::Wide),
+        Err(Refused::Wide) => Ok(PairAnswer::Wide),
         Err(Refused::Memory) => Err(Fail::from(std::alloc::AllocError)),
     }
 }
 
 /// What is answered where a certificate was found.
-fn checked(alloc: Global, first: &Tuple, second: &Tuple, proof: &Proof) -> Result<Answer, Fail> {
+fn checked(alloc: Global, first: &Tuple, second: &Tuple, proof: &Proof) -> Result<PairAnswer, Fail> {
     match (check(alloc, first, second, proof), proof) {
-        (Ok(true), Proof::Text) => Ok(Answer::Texts),
-        (Ok(true), Proof::Multipliers(numbers)) => Ok(Answer::Numbers(sum(&numbers.list))),
-        _ => Ok(Answer::Refuted),
+        (Ok(true), Proof::Text) => Ok(PairAnswer::Texts),
+        (Ok(true), Proof::Multipliers(numbers)) => Ok(PairAnswer::Numbers(sum(&numbers.list))),
+        _ => Ok(PairAnswer::Refuted),
     }
 }
 
@@ -84,7 +84,7 @@ fn sum(numbers: &[i128]) -> u128 {
 }
 
 /// What is answered of the two tuples that the lines spell.
-fn answer_of(alloc: Global, lines: &str) -> Result<Option<Answer>, Fail> {
+fn answer_of(alloc: Global, lines: &str) -> Result<Option<PairAnswer>, Fail> {
     let tuples = read(alloc, lines)?.tuples.list;
     match tuples.as_slice() {
         [first, second] => Ok(Some(certified(alloc, first, second)?)),

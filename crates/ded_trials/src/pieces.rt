@@ -1,5 +1,5 @@
 //! Inputs cut into pieces, byte by byte.
-use ded_lex::{Fed, Rest, Splitter};
+use ded_lex::{Fed, Unended, Splitter};
 use ded_model::memory::NoMemory;
 use std::alloc::Global;
 use std::test::Fail;
@@ -28,11 +28,11 @@ const INPUTS: [(&str, &str); 18] = [
 ];
 
 /// The sign of a rest.
-fn sign(rest: Rest) -> u8 {
+fn sign(rest: Unended) -> u8 {
     match rest {
-        Rest::Blank => b'.',
-        Rest::Cut => b'?',
-        Rest::CutLong => b'!',
+        Unended::Blank => b'.',
+        Unended::Cut => b'?',
+        Unended::CutLong => b'!',
     }
 }
 
@@ -67,7 +67,7 @@ fn inputs_are_cut(rt: HostRuntime) -> Result<(), Fail> {
 #[derive(Clone, Copy, Debug, PartialEq, Eq)]
 struct Seen {
     is_whole: bool,
-    rest: Rest,
+    rest: Unended,
     ended: Fed,
     length: usize,
 }
@@ -82,7 +82,7 @@ fn fed(splitter: &mut Splitter, byte: u8, count: usize) -> Seen {
     let rest = splitter.finish();
     let ended = splitter.feed(b';');
     Seen {
-        is_whole: is_whole && splitter.finish() == Rest::Blank,
+        is_whole: is_whole && splitter.finish() == Unended::Blank,
         rest,
         ended,
         length: splitter.piece().len(),
@@ -94,11 +94,11 @@ fn fed(splitter: &mut Splitter, byte: u8, count: usize) -> Seen {
 fn long_pieces_are_counted(rt: HostRuntime) -> Result<(), Fail> {
     let mut splitter = Splitter::new(rt.alloc())?;
     for (byte, count, rest, ended) in [
-        (b'a', 65_536, Rest::Cut, Fed::Ended),
-        (b'a', 65_537, Rest::CutLong, Fed::EndedLong),
-        (b'b', 2, Rest::Cut, Fed::Ended),
-        (b' ', 65_537, Rest::Blank, Fed::EndedLong),
-        (b'c', 3, Rest::Cut, Fed::Ended),
+        (b'a', 65_536, Unended::Cut, Fed::Ended),
+        (b'a', 65_537, Unended::CutLong, Fed::EndedLong),
+        (b'b', 2, Unended::Cut, Fed::Ended),
+        (b' ', 65_537, Unended::Blank, Fed::EndedLong),
+        (b'c', 3, Unended::Cut, Fed::Ended),
     ] {
         let seen = fed(&mut splitter, byte, count);
         assert!(rt;

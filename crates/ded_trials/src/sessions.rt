@@ -8,7 +8,7 @@ use std::alloc::Global;
 use std::test::Fail;
 
 /// Statements, each on a line, and what is seen behind them.
-struct Case {
+struct SessionCase {
     statements: &'static str,
     /// The text of the last reply.
     reply: &'static str,
@@ -19,7 +19,7 @@ struct Case {
 }
 
 /// A view that is a projection: its list follows inserts and deletes.
-const PROJECTED: Case = Case {
+const PROJECTED: SessionCase = SessionCase {
     statements: "\
 relation T(x, y)
 insert T { x = 1, y = 1 }
@@ -32,7 +32,7 @@ insert T { x = 2, y = 5 }",
     kept: "{ x = 1 }\n{ x = 2 }\n",
 };
 
-const DELETED: Case = Case {
+const DELETED: SessionCase = SessionCase {
     statements: "\
 relation T(x, y)
 insert T { x = 1, y = 1 }
@@ -48,7 +48,7 @@ ask V(1)",
 
 /// The part of a union that stands in the list already comes first, and then the one that was inserted, without that
 /// part again. An answer that is read from the list has the same order.
-const READ: Case = Case {
+const READ: SessionCase = SessionCase {
     statements: "\
 relation T(x)
 view V(x) := T(x) or x = 9
@@ -61,7 +61,7 @@ query (x) : V(x)",
 };
 
 /// The formula itself has its parts in their order.
-const EVALUATED: Case = Case {
+const EVALUATED: SessionCase = SessionCase {
     statements: "\
 relation T(x)
 view V(x) := T(x) or x = 9
@@ -123,7 +123,7 @@ fn is_kept(alloc: Global, session: &Session, kept: &str) -> Result<bool, Fail> {
 }
 
 /// Whether the last reply and the list that is held are those, and how often a list was extended.
-fn outcome(alloc: Global, case: &Case) -> Result<(bool, bool, u64), Fail> {
+fn outcome(alloc: Global, case: &SessionCase) -> Result<(bool, bool, u64), Fail> {
     let mut session = Session::new(alloc, 5)?;
     let is_answered = is_answered(alloc, &mut session, case.statements, case.reply)?;
     let is_kept = is_kept(alloc, &session, case.kept)?;

@@ -11,7 +11,7 @@ use std::test::Fail;
 
 /// What kind of bounds there are.
 #[derive(Clone, Copy, Debug, PartialEq, Eq)]
-enum Kind {
+enum BoundKind {
     Nothing,
     Exact,
     /// No end is known, as numbers get too long for the exact ones.
@@ -22,68 +22,68 @@ enum Kind {
 
 /// A list of one conjunction or none, whether it holds somewhere, what bounds `x` has in the conjunction, and what is
 /// left without `x`: nothing where numbers get too long.
-type Case = (&'static str, Verdict, Option<Kind>, Option<&'static str>);
+type VerdictCase = (&'static str, Verdict, Option<BoundKind>, Option<&'static str>);
 
-const CASES: [Case; 8] = [
+const CASES: [VerdictCase; 8] = [
     ("", Verdict::Empty, None, Some("")),
     (
         "{ }\n",
         Verdict::Inhabited,
-        Some(Kind::Exact),
+        Some(BoundKind::Exact),
         Some("{ }\n"),
     ),
     (
         "{ x > 0, x < 0 }\n",
         Verdict::Empty,
-        Some(Kind::Nothing),
+        Some(BoundKind::Nothing),
         Some(""),
     ),
     (
         "{ n = 'a', x = 1 }\n",
         Verdict::Inhabited,
-        Some(Kind::Exact),
+        Some(BoundKind::Exact),
         Some("{ n = 'a' }\n"),
     ),
     (
         "{ 1267650600228229401496703205376*x <= -1 }\n",
         Verdict::Inhabited,
-        Some(Kind::Exact),
+        Some(BoundKind::Exact),
         Some("{ }\n"),
     ),
     (
         "{ 1267650600228229401496703205379*x + 1267650600228229401496703205375*y >= 1, 1267650600228229401496703205376*x + 1267650600228229401496703205377*y <= -1 }\n",
         Verdict::Unknown,
-        Some(Kind::Open),
+        Some(BoundKind::Open),
         None,
     ),
     (
         "{ 1267650600228229401496703205376*x + y = 0, 1267650600228229401496703205376*x + 1267650600228229401496703205377*y <= 0 }\n",
         Verdict::Unknown,
-        Some(Kind::Open),
+        Some(BoundKind::Open),
         None,
     ),
     (
         "{ x - y = 0, 1267650600228229401496703205376*x + y = 0, 1267650600228229401496703205377*x <= -3 }\n",
         Verdict::Empty,
-        Some(Kind::Nothing),
+        Some(BoundKind::Nothing),
         Some("{ y = 0, 1267650600228229401496703205377*y <= -3 }\n"),
     ),
 ];
 
 /// The kind of the bounds of `x` over a conjunction.
-fn kind_over(alloc: Global, tuple: &Tuple) -> Result<Kind, NoMemory> {
+fn kind_over(alloc: Global, tuple: &Tuple) -> Result<BoundKind, NoMemory> {
     let atoms = conj(alloc, tuple)?;
     match <Atoms as Theory>::bounds(alloc, &atoms, X) {
-        Ok(Span::Nothing) => Ok(Kind::Nothing),
-        Ok(Span::Exact(_, _)) => Ok(Kind::Exact),
-        Ok(Span::Around(Bound::Infinite, Bound::Infinite)) => Ok(Kind::Open),
-        Ok(Span::Around(_, _)) => Ok(Kind::Around),
+        Ok(Span::Nothing) => Ok(BoundKind::Nothing),
+        Ok(Span::Exact(_, _)) => Ok(BoundKind::Exact),
+        Ok(Span::Around(Bound::Infinite, Bound::Infinite)) => Ok(BoundKind::Open),
+        Ok(Span::Around(_, _)) => Ok(BoundKind::Around),
         Err(error) => Err(error),
     }
 }
 
 /// The same over the last one of the lines.
-fn last_kind(alloc: Global, lines: &str) -> Result<Option<Kind>, Fail> {
+fn last_kind(alloc: Global, lines: &str) -> Result<Option<BoundKind>, Fail> {
     let mut last = None;
     for tuple in &read(alloc, lines)?.tuples.list {
         last = Some(kind_over(alloc, tuple)?);
@@ -101,7 +101,7 @@ fn leaves(alloc: Global, list: &GenRel<Atoms>, wanted: Option<&str>) -> Result<b
 }
 
 /// The verdict and the bounds, and whether the right conjunction is left.
-fn seen(alloc: Global, case: &Case) -> Result<(Verdict, Option<Kind>, bool), Fail> {
+fn seen(alloc: Global, case: &VerdictCase) -> Result<(Verdict, Option<BoundKind>, bool), Fail> {
     let list = list(alloc, case.0)?;
     Ok((
         list.is_empty(alloc)?,

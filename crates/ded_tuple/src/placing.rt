@@ -26,14 +26,14 @@ pub fn put(tuple: &mut Tuple, atom: Atom) -> Result<(), NoMemory>
 
 /// Where an atom stands in a list, or would have to stand.
 #[derive(Clone, Copy)]
-struct Position {
+struct AtomPosition {
     at: usize,
     /// Whether the atom stands there.
     taken: bool,
 }
 
 /// The place of an atom in a list in order, found by halving what is left of the list.
-fn find(atoms: &[Atom], atom: &Atom) -> Position
+fn find(atoms: &[Atom], atom: &Atom) -> AtomPosition
     requires { AreOrdered atoms.now }
     ensures at { result.at ≡ atom_place atom.now atoms.now }
     ensures taken { result.taken ≡ is_placed atom.now atoms.now }
@@ -45,7 +45,7 @@ fn find(atoms: &[Atom], atom: &Atom) -> Position
         match order(atom, &atoms[middle]) {
             Ordering::Less => high = middle,
             Ordering::Equal => {
-                return Position {
+                return AtomPosition {
                     at: middle,
                     taken: true,
                 };
@@ -53,7 +53,7 @@ fn find(atoms: &[Atom], atom: &Atom) -> Position
             Ordering::Greater => low = middle + 1,
         }
     }
-    Position {
+    AtomPosition {
         at: low,
         taken: false,
     }

@@ -7,15 +7,15 @@ use Rattle.ded_model.specs.declared.slot.Slot.{Slot}
 use Rattle.ded_model.specs.Constraint.{LinearConstraint}
 use Rattle.ded_model.specs.Coefs.{coef_at}
 use Rattle.ded_model.specs.Point.{same_slot, stands_in}
-use Rattle.ded_weighing.specs.declared.weighing.Column.{Column}
-use Rattle.ded_weighing.specs.declared.weighing.Column.TheVariants.{Constants, At}
+use Rattle.ded_weighing.specs.declared.weighing.SummedColumn.{SummedColumn}
+use Rattle.ded_weighing.specs.declared.weighing.SummedColumn.TheVariants.{Constants, At}
 
 -- the rows behind references
 abbrev pub lent : List (Bor LinearConstraint) → List LinearConstraint
 lent rs = map (λ r. r.now) rs
 
 -- the number of a row in the column
-abbrev pub number_in : Column → LinearConstraint → ℤ
+abbrev pub number_in : SummedColumn → LinearConstraint → ℤ
 number_in Constants r = r.constant
 number_in (At s) r = coef_at r.coefs s
 

@@ -20,7 +20,7 @@ use std::alloc::{AllocError, Global};
 
 /// Which numbers of rows are summed up.
 #[derive(Clone, Copy)]
-enum Column {
+enum SummedColumn {
     /// Their constants.
     Constants,
     /// Their coefficients of a slot.
@@ -76,7 +76,7 @@ fn sum_refutes(multipliers: &[i128], rows: &[&Row], slots: &[Slot]) -> Option<bo
     if !all_vanish(multipliers, rows, slots)? {
         return Some(false);
     }
-    let constant = column_sum(multipliers, rows, Column::Constants)?;
+    let constant = column_sum(multipliers, rows, SummedColumn::Constants)?;
     let strict = is_strict(multipliers, rows);
     let weak = is_weak(multipliers, rows);
     Some(constant_refutes(strict, weak, constant))
@@ -97,7 +97,7 @@ fn all_vanish(multipliers: &[i128], rows: &[&Row], slots: &[Slot]) -> Option<boo
         ≡ all_vanish multipliers.now (lent rows.now) slots.now) }
 {
     for slot in slots {
-        if column_sum(multipliers, rows, Column::At(*slot))? != 0 {
+        if column_sum(multipliers, rows, SummedColumn::At(*slot))? != 0 {
             return Some(false);
         }
     }
@@ -105,7 +105,7 @@ fn all_vanish(multipliers: &[i128], rows: &[&Row], slots: &[Slot]) -> Option<boo
 }
 
 /// The sum of the numbers of a column, each times that of its row; none where a number on the way is too long.
-fn column_sum(multipliers: &[i128], rows: &[&Row], column: Column) -> Option<i128>
+fn column_sum(multipliers: &[i128], rows: &[&Row], column: SummedColumn) -> Option<i128>
     requires { length multipliers.now ≡ length rows.now }
     ensures { MatchOption result (column_is_long (number_in column) (pos 0) multipliers.now (lent rows.now) ≡ true)
         (λ z. z ≡ sum_from (number_in column) (pos 0) multipliers.now (lent rows.now)) }
@@ -118,12 +118,12 @@ fn column_sum(multipliers: &[i128], rows: &[&Row], column: Column) -> Option<i12
 }
 
 /// The number of the row in the column.
-fn number_in(row: &Row, column: Column) -> i128
+fn number_in(row: &Row, column: SummedColumn) -> i128
     ensures { result ≡ number_in column row.now }
 {
     match column {
-        Column::Constants => row.constant,
-        Column::At(slot) => row.coefs.at(slot),
+        SummedColumn::Constants => row.constant,
+        SummedColumn::At(slot) => row.coefs.at(slot),
     }
 }
 

@@ -1,5 +1,5 @@
 use Rattle.std.proofs.Common.{sym, ap, subst, ◌∙◌}
-use Rattle.ded_database.specs.declared.change.Step.TheVariants.{Deleted}
+use Rattle.ded_database.specs.declared.change.TupleStep.TheVariants.{Deleted}
 use Rattle.ded_database.specs.Changes.{before, after, inserted_in, IsDelete}
 use Rattle.ded_database.proofs.Told.{step_told, step_inserts}
 use Rattle.ded_database.proofs.renewing.followed.Goals as goal

@@ -1,6 +1,6 @@
 use Rattle.std.proofs.Common.{rules, ◌≡◌, ◌∙◌, ◌++◌, ◌<◌, length, take, ap, sym, subst}
 use Rattle.std.proofs.lemmas.List.{take_all}
-use Rattle.ded_hull.specs.declared.entry.Entry.{Entry}
+use Rattle.ded_hull.specs.declared.entry.ReachEntry.{ReachEntry}
 use Rattle.ded_ranges.specs.Reaches.{IsWithin, hull}
 use Rattle.ded_hull.specs.Segments.{AreSegments, IsHull}
 use Rattle.ded_hull.proofs.Found.{covers_more}
@@ -13,8 +13,8 @@ loop-i-preserved c =
     let es = c.args.entries.now in
     let i = c.loop-i.i in
     let e = c.index-entries-i.result in
-    let value : c.widen.new.self ≡ hull c.loop-i.hull e.reach = c.widen.ensures.value ∙ ap (λ (e : Entry). hull c.loop-i.hull e.reach) (sym c.index-entries-i.is) in (
-      covers_more c.loop-i.hull c.widen.new.self es i e inside (sym c.index-entries-i.is) c.widen.ensures.own (subst (λ (e : Entry). IsWithin e.reach c.widen.new.self) (sym c.index-entries-i.is) c.widen.ensures.other) c.loop-i.invariant.0,
+    let value : c.widen.new.self ≡ hull c.loop-i.hull e.reach = c.widen.ensures.value ∙ ap (λ (e : ReachEntry). hull c.loop-i.hull e.reach) (sym c.index-entries-i.is) in (
+      covers_more c.loop-i.hull c.widen.new.self es i e inside (sym c.index-entries-i.is) c.widen.ensures.own (subst (λ (e : ReachEntry). IsWithin e.reach c.widen.new.self) (sym c.index-entries-i.is) c.widen.ensures.other) c.loop-i.invariant.0,
       λ xs h s. hull_more c.loop-i.hull c.widen.new.self xs es i e inside (sym c.index-entries-i.is) value s (c.loop-i.invariant.1 xs h (front_segments i es e inside (sym c.index-entries-i.is) s)),
     )
 

@@ -2,7 +2,7 @@ use Rattle.std.proofs.Common.{rules, ℕ, subst, ◌≡◌, ◌+◌, ◌<◌, []
 use Rattle.std.proofs.lemmas.Result.{IfOk-weaker}
 use Rattle.std.specs.List.Sorted.{IsPermutation}
 use Rattle.std.proofs.lemmas.List.Sorted.{IsPermutation-refl, length_permutation}
-use Rattle.ded_hull.specs.declared.tree.Node.{Node}
+use Rattle.ded_hull.specs.declared.tree.HullNode.{HullNode}
 use Rattle.ded_hull.specs.Entries.{Covers}
 use Rattle.ded_hull.specs.Trees.{IsOver, HullsJoined}
 use Rattle.ded_hull.proofs.Halved.{promise_leaf, promise_fork}
@@ -40,7 +40,7 @@ returns-clause-tree t c =
     let ys = c.build-2.new.entries in
     let ns = c.in_ok-first.first.items in
     let ms = c.in_ok-second.second.items in
-    let n : Node = record { hull = c.in_ok-hull-2.hull; below = length ns + length ms; count = length c.args.entries.now } in
+    let n : HullNode = record { hull = c.in_ok-hull-2.hull; below = length ns + length ms; count = length c.args.entries.now } in
     let all : IsPermutation c.args.entries.now (xs ++ ys) = halves c.args.entries.now c.arrange.new.entries c.split_at_mut-front.result.0.now c.split_at_mut-front.result.1.now xs ys c.arrange.ensures.entries c.split_at_mut-front.ensures.value c.build.ensures.entries c.build-2.ensures.entries in
     let count : length c.args.entries.now ≡ length (xs ++ ys) = sym (length_permutation _ _ all) in
     let covers : Covers n.hull (xs ++ ys) = covered t c in
@@ -53,7 +53,7 @@ returns-clause-entries t c =
 pub returns-then-count-le-LEAF-clause-halved : goal.returns-then-count-le-LEAF-clause-halved
 returns-then-count-le-LEAF-clause-halved t c =
     let es = c.args.entries.now in
-    let n : Node = record { hull = c.in_ok-hull.hull; below = 0; count = length es } in
+    let n : HullNode = record { hull = c.in_ok-hull.hull; below = 0; count = length es } in
     IfOk-weaker c.one.result (λ ns. ns.items ≡ n ∷ []) _ (λ ns e. promise_leaf _ es n ns.items e refl c.in_ok-hull.ensures.hull) c.one.ensures
 
 pub returns-clause-halved : goal.returns-clause-halved
@@ -65,7 +65,7 @@ returns-clause-halved t c =
     let ys = c.build-2.new.entries in
     let ns = c.in_ok-first.first.items in
     let ms = c.in_ok-second.second.items in
-    let n : Node = record { hull = c.in_ok-hull-2.hull; below = length ns + length ms; count = length old } in
+    let n : HullNode = record { hull = c.in_ok-hull-2.hull; below = length ns + length ms; count = length old } in
     let many : 8 < length old = search rules in
     let first : c.deref.result.now ≡ ns = search rules in
     let second : c.deref-2.result.now ≡ ms = search rules in

@@ -3,10 +3,10 @@ use Rattle.std.proofs.lemmas.List.{length-take, length-drop}
 use Rattle.std.specs.Option.{MatchOption}
 use Rattle.std.specs.Prelude.{slice_set}
 use borrow.Rule.Slice.PartMut.{put_mid}
-use Rattle.ded_index.specs.declared.tree.Node.{Node}
+use Rattle.ded_index.specs.declared.tree.BoxNode.{BoxNode}
 use Rattle.ded_model.specs.Bound.{upper}
 use Rattle.ded_box.specs.Intervals.{wider}
-use Rattle.ded_index.specs.declared.entry.Entry.{Entry}
+use Rattle.ded_index.specs.declared.entry.BoxEntry.{BoxEntry}
 use Rattle.ded_index.specs.Entries.{high}
 use Rattle.ded_index.specs.Trees.{entries_of, IsGreatest}
 use Rattle.ded_index.proofs.Filled.{IsFilled, filled, filled_entries, filled_greatest, filled_ends, no_ends, sound_take, sound_right_any, right_part, place_of, half_below}
@@ -31,7 +31,7 @@ fill-right-requires t c =
     )
 
 -- the list with both halves put back and the node closed
-abbrev out : (t : ℕ) → After-close t → List Node
+abbrev out : (t : ℕ) → After-close t → List BoxNode
 out t c =
     let ns = c.args.nodes.now in
     let m : ℕ = length ns / 2 in
@@ -39,7 +39,7 @@ out t c =
     slice_set (put_mid (m + 1) (length nodes - (m + 1)) nodes c.fill-right.new.nodes) m c.close.new.node
 
 done : (t : ℕ) (c : After-close t) → IsFilled c.args.nodes.now (out t c) (length c.args.nodes.now / 2) c.fill-left.new.nodes c.close.new.node c.fill-right.new.nodes
-done t c = filled c.args.nodes.now c.fill-left.new.nodes c.fill-right.new.nodes (length c.args.nodes.now / 2) c.index-nodes-middle.result c.close.new.node (half_below (length c.args.nodes.now) (search rules)) c.fill-left.ensures.entries c.fill-right.ensures.entries c.index-nodes-middle.is (c.close.ensures.entry ∙ ap (λ (n : Node). n.entry) (sym c.index-nodes-middle.is))
+done t c = filled c.args.nodes.now c.fill-left.new.nodes c.fill-right.new.nodes (length c.args.nodes.now / 2) c.index-nodes-middle.result c.close.new.node (half_below (length c.args.nodes.now) (search rules)) c.fill-left.ensures.entries c.fill-right.ensures.entries c.index-nodes-middle.is (c.close.ensures.entry ∙ ap (λ (n : BoxNode). n.entry) (sym c.index-nodes-middle.is))
 
 greatest : (t : ℕ) (c : After-close t) → IsGreatest (entries_of c.args.nodes.now) c.close.result
 greatest t c =
@@ -51,7 +51,7 @@ greatest t c =
     filled_greatest ns (out t c) m c.fill-left.new.nodes c.close.new.node c.fill-right.new.nodes (done t c) l.0 c.close.result c.fill-left.result c.fill-right.result c.requires.sound
     c.fill-left.ensures.greatest
     (subst (λ xs. MatchOption c.fill-right.result (length (entries_of xs) ≡ 0) (λ b. IsGreatest (entries_of xs) b)) (right_part ns c.fill-left.new.nodes m c.index-nodes-middle.result inside place) c.fill-right.ensures.greatest)
-    (subst (λ (e : Entry). MatchOption c.fill-left.result (l.0 ≡ high e) (λ b. l.0 ≡ wider upper (high e) b)) (sym c.close.ensures.entry) l.1) l.2
+    (subst (λ (e : BoxEntry). MatchOption c.fill-left.result (l.0 ≡ high e) (λ b. l.0 ≡ wider upper (high e) b)) (sym c.close.ensures.entry) l.1) l.2
 
 pub returns-clause-entries : goal.returns-clause-entries
 returns-clause-entries t c = filled_entries c.args.nodes.now (out t c) (length c.args.nodes.now / 2) c.fill-left.new.nodes c.close.new.node c.fill-right.new.nodes (done t c)

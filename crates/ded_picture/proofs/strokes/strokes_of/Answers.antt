@@ -1,5 +1,5 @@
 use Rattle.std.proofs.Common.{List, sym, subst, ◌∙◌}
-use Rattle.ded_svg.specs.declared.picture.Stroke.{Stroke}
+use Rattle.ded_svg.specs.declared.picture.ColouredLine.{ColouredLine}
 use Rattle.ded_picture.specs.Layers.{AddStrokes, AreLayersWithin}
 use Rattle.ded_picture.proofs.Stroked.{all_strokes}
 use Rattle.ded_picture.proofs.Within.{layers_within}
@@ -11,4 +11,4 @@ add_layers-requires c =
 
 pub returns : goal.returns
 returns c =
-    all_strokes c.args.sheet.now c.deref.result.now _ _ (c.deref.ensures.value ∙ c.in_ok-layers.ensures) (subst (λ (old : List Stroke). AddStrokes c.args.sheet.now 0 c.deref.result.now old c.add_layers.new.strokes.items) c.new-strokes.ensures.items c.in_ok-add_layers.ensures)
+    all_strokes c.args.sheet.now c.deref.result.now _ _ (c.deref.ensures.value ∙ c.in_ok-layers.ensures) (subst (λ (old : List ColouredLine). AddStrokes c.args.sheet.now 0 c.deref.result.now old c.add_layers.new.strokes.items) c.new-strokes.ensures.items c.in_ok-add_layers.ensures)

@@ -1,7 +1,7 @@
 use Rattle.std.proofs.Common.{List, ◌<◌, length, ◌∙◌, sym, subst}
 use Rattle.std.specs.Prelude.{pos, ◌<ℤ◌}
 use Rattle.ded_polygon.specs.Plane.{Spot}
-use Rattle.ded_strokes.specs.Bounds.{Limit}
+use Rattle.ded_strokes.specs.Bounds.{PlaneLimit}
 use Rattle.ded_strokes.specs.Stretches.{AreBorders}
 use Rattle.ded_strokes.proofs.Borders.{not_parted, fewer_before, fewer_behind, part_borders}
 use Rattle.ded_strokes.proofs.Stretched.{adds_next}
@@ -17,7 +17,7 @@ add_stretches-requires t c =
     let d = c.in-Some.corner in
     let cut = c.in-Some.ensures in
     let is = sym (c.deref.ensures.value ∙ c.in_ok-front.ensures) in
-    let less : length c.deref.result.now < length c.args.borders.now = subst (λ (bs : List Limit). length bs < length c.args.borders.now) is (fewer_before p d c.args.borders.now cut.0 cut.1 cut.2.on_other) in (
+    let less : length c.deref.result.now < length c.args.borders.now = subst (λ (bs : List PlaneLimit). length bs < length c.args.borders.now) is (fewer_before p d c.args.borders.now cut.0 cut.1 cut.2.on_other) in (
       subst (λ n. length c.deref.result.now < n) c.decreases less,
       (
         c.requires.proper,
@@ -37,7 +37,7 @@ add_stretches-requires-2 t c =
     let d = c.in-Some.corner in
     let cut = c.in-Some.ensures in
     let is = sym (c.deref-2.ensures.value ∙ c.in_ok-back.ensures) in
-    let less : length c.deref-2.result.now < length c.args.borders.now = subst (λ (bs : List Limit). length bs < length c.args.borders.now) is (fewer_behind q d c.args.borders.now cut.0 cut.1 cut.2.on_other) in (
+    let less : length c.deref-2.result.now < length c.args.borders.now = subst (λ (bs : List PlaneLimit). length bs < length c.args.borders.now) is (fewer_behind q d c.args.borders.now cut.0 cut.1 cut.2.on_other) in (
       subst (λ n. length c.deref-2.result.now < n) c.decreases less,
       (
         c.requires.proper,

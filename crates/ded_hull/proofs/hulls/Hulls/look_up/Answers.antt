@@ -1,7 +1,7 @@
 use Rattle.std.proofs.Common.{rules, arith, ℕ, ◌≡◌, ◌≤◌, ◌+◌, ◌∙◌, List, ◌++◌, length, ap, sym, subst}
 use Rattle.std.proofs.lemmas.List.Filters.{dedup_is}
 use Rattle.std.proofs.lemmas.List.Sorted.{length_permutation}
-use Rattle.ded_hull.specs.declared.entry.Entry.{Entry}
+use Rattle.ded_hull.specs.declared.entry.ReachEntry.{ReachEntry}
 use Rattle.ded_hull.specs.Entries.{ids_in, AreFound, Hulls}
 use Rattle.ded_hull.specs.Trees.{all_of, IsCostOfAll}
 use Rattle.ded_hull.proofs.Falling.{few_steps}
@@ -49,9 +49,9 @@ pub returns-in_err-push_passing-clause-steps : goal.returns-in_err-push_passing-
 returns-in_err-push_passing-clause-steps g c =
     few_steps c.args.limits.now c.self.inside.trees.items c.self.inside.tail.items c.args.self.now c.args.steps.now c.find_in.new.steps c.push_passing.new.steps c.self.view_is c.self.invariant
     (subst (λ ls. IsCostOfAll ls c.self.inside.trees.items c.args.steps.now c.find_in.new.steps) c.in_ok-probe.ensures (subst (λ ts. IsCostOfAll c.in_ok-probe.probe ts c.args.steps.now c.find_in.new.steps) c.deref.ensures.value c.find_in.ensures.steps))
-    (subst (λ (es : List Entry). c.push_passing.new.steps ≤ c.find_in.new.steps + length es) c.deref-2.ensures.value c.push_passing.ensures.steps)
+    (subst (λ (es : List ReachEntry). c.push_passing.new.steps ≤ c.find_in.new.steps + length es) c.deref-2.ensures.value c.push_passing.ensures.steps)
 
 pub returns-clause-steps : goal.returns-clause-steps
 returns-clause-steps g c =
     few_steps c.args.limits.now c.self.inside.trees.items c.self.inside.tail.items c.args.self.now c.args.steps.now c.find_in.new.steps c.push_passing.new.steps c.self.view_is c.self.invariant (cost g c)
-    (subst (λ (es : List Entry). c.push_passing.new.steps ≤ c.find_in.new.steps + length es) c.deref-2.ensures.value c.push_passing.ensures.steps)
+    (subst (λ (es : List ReachEntry). c.push_passing.new.steps ≤ c.find_in.new.steps + length es) c.deref-2.ensures.value c.push_passing.ensures.steps)

@@ -1,6 +1,6 @@
 use Rattle.std.proofs.Common.{◌≡◌, ◌∙◌, ◌+◌, ◌≤◌, ◌++◌, ap₂, subst, List, ℕ}
 use Rattle.std.proofs.lemmas.List.Filters.{dedup_is}
-use Rattle.ded_index.specs.declared.tree.Node.{Node}
+use Rattle.ded_index.specs.declared.tree.BoxNode.{BoxNode}
 use Rattle.ded_index.specs.Entries.{most_steps, ids_in}
 use Rattle.ded_index.specs.Trees.{entries_of}
 use Rattle.ded_index.specs.Costs.{IsCost}
@@ -25,6 +25,6 @@ pub returns-clause-found : goal.returns-clause-found
 returns-clause-found g c =
     let w = c.args.window.now in
     let is : c.visit_all.new.found.items ≡ ids_in w (entries_of c.self.inside.tree.items) =
-    c.in_ok-visit_all.ensures.found ∙ ap₂ (λ (xs : List ℕ) (ns : List Node). xs ++ ids_in w (entries_of ns)) c.new-found.ensures.items c.deref.ensures.value in
+    c.in_ok-visit_all.ensures.found ∙ ap₂ (λ (xs : List ℕ) (ns : List BoxNode). xs ++ ids_in w (entries_of ns)) c.new-found.ensures.items c.deref.ensures.value in
     answer w c.self.inside.tree.items c.self.inside.apart.items c.args.self.now c.self.invariant c.in_ok-visit_all.ensures.sound c.self.view_is c.visit_all.new.found.items c.sort_unstable.new.self.items c.dedup.new.self.items is
     c.sort_unstable.ensures.permutation c.sort_unstable.ensures.sorted (dedup_is _ _ _ c.dedup.ensures.filtered)

@@ -2,8 +2,8 @@ use Rattle.std.proofs.Common.{rules, ◌≡◌, ◌∙◌, ap, ap₂, sym, subst
 use Rattle.std.specs.List.{list_any}
 use Rattle.std.proofs.lemmas.Fn.{filter_same}
 use Rattle.ded_box.specs.Boxes.{AreIntervals}
-use Rattle.ded_index.specs.declared.entry.Entry.{Entry}
-use Rattle.ded_index.specs.declared.tree.Node.{Node}
+use Rattle.ded_index.specs.declared.entry.BoxEntry.{BoxEntry}
+use Rattle.ded_index.specs.declared.tree.BoxNode.{BoxNode}
 use Rattle.ded_index.specs.Entries.{has_id, without}
 use Rattle.ded_index.specs.Trees.{entries_of, AreSound, IsIndex}
 use Rattle.ded_index.proofs.Kept.{other_node, without-nodes, without-all, without-both, index_without, written, same_count, has_id-both}
@@ -34,11 +34,11 @@ invariant_of-self c =
 
 pub returns-clause-value : goal.returns-clause-value
 returns-clause-value c =
-    c.has_number-there.ensures ∙ ap₂ (λ (ns : List Node) (es : List Entry). list_any (λ n. nat_eq n.entry.id c.args.id) ns || list_any (λ e. nat_eq e.id c.args.id) es) c.deref.ensures.value c.deref-2.ensures.value
+    c.has_number-there.ensures ∙ ap₂ (λ (ns : List BoxNode) (es : List BoxEntry). list_any (λ n. nat_eq n.entry.id c.args.id) ns || list_any (λ e. nat_eq e.id c.args.id) es) c.deref.ensures.value c.deref-2.ensures.value
     ∙ has_id-both c.args.id c.self.inside.tree.items c.self.inside.apart.items ∙ ap (has_id c.args.id) c.self.view_is
 
 pub returns-clause-removed : goal.returns-clause-removed
 returns-clause-removed c =
     let whole : take c.retain.new.self.len (c.fill.new.nodes ++ drop (length c.fill.new.nodes) c.retain.new.self.items) ≡ c.fill.new.nodes =
     written c.fill.new.nodes c.retain.new.self.items c.retain.new.self.len (same_count c.fill.new.nodes c.retain.new.self.items (c.fill.ensures.entries ∙ ap entries_of c.deref_mut.ensures.value)) (search rules) in
-    ap₂ (λ (ns : List Node) (es : List Entry). entries_of ns ++ es) whole (kept_apart c) ∙ without-both c.args.id c.self.inside.tree.items c.fill.new.nodes c.self.inside.apart.items (kept c) ∙ ap (without c.args.id) c.self.view_is
+    ap₂ (λ (ns : List BoxNode) (es : List BoxEntry). entries_of ns ++ es) whole (kept_apart c) ∙ without-both c.args.id c.self.inside.tree.items c.fill.new.nodes c.self.inside.apart.items (kept c) ∙ ap (without c.args.id) c.self.view_is
