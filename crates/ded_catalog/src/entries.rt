@@ -214,7 +214,12 @@ impl Entries {
 ///
 /// # Errors
 /// The entry, where memory runs out.
-fn first(alloc: Global, hashing: NameHashing, name: Name, entry: NameEntry) -> Result<Linked, NameEntry>
+fn first(
+    alloc: Global,
+    hashing: NameHashing,
+    name: Name,
+    entry: NameEntry,
+) -> Result<Linked, NameEntry>
     ensures ok { IfOk result (λ c. c.entries ≡ (name, entry) ∷ []) }
     ensures cap { IfOk result (λ c. c.cap ≡ 2 ^ 64 - 1) }
     ensures back { IfErr result (λ e. e ≡ entry) }

@@ -21,6 +21,7 @@ ghost use Rattle.ded_cert.specs.Tracing.{tag, multipliers, is_refuting, AreWideR
 use crate::projecting::without_slots;
 use crate::tracing::{first_free, tag, traces};
 use ded_model::certificate::Multipliers;
+use ded_model::limits;
 use ded_model::memory::{NoMemory, Refused};
 use ded_model::row::Row;
 use ded_weighing::slots_of;
@@ -52,7 +53,7 @@ pub(crate) fn refutation(alloc: Global, rows: &[&Row]) -> Result<Multipliers, Re
     let Some(row) = find_refuting(&left, first) else {
         return Err(Refused::Wide); // some row is, where the rows hold nowhere
     };
-    if row.coefs.at(tag(first)) >= 1 << 63 {
+    if row.coefs.at(tag(first)) >= i128::from(limits::TOO_GREAT) {
         return Err(Refused::Wide);
     }
     Ok(multipliers_of(alloc, row, rows.len(), first + 2)?)

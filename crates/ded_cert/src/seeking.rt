@@ -7,6 +7,7 @@ ghost use Rattle.ded_cert.specs.Certified.{magnitudes};
 ghost use Rattle.ded_cert.specs.Seeking.{IsSought};
 
 use ded_model::certificate::Multipliers;
+use ded_model::limits;
 use ded_model::memory::{NoMemory, Refused};
 use ded_model::row::Row;
 use ded_simplex::{Found, find};
@@ -70,7 +71,7 @@ fn by_numbers(alloc: Global, rows: &[&Row], numbers: Vec<i128>) -> Result<Sought
 fn are_small(numbers: &[i128]) -> bool
     ensures { result ≡ true → magnitudes numbers.now < 2 ^ 63 }
 {
-    let mut room: u128 = 1 << 63;
+    let mut room = u128::from(limits::TOO_GREAT);
     for number in numbers {
         let size = number.unsigned_abs();
         if size >= room {

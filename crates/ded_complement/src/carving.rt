@@ -10,7 +10,7 @@ ghost use Rattle.ded_complement.specs.Pieces.{all_atoms, IsAmong, IsMadeOf, IsMo
 
 use crate::boxed::{Boxed, unboxed};
 use crate::lessening::without;
-use crate::parts::{Halves, BoxedPiece, half};
+use crate::parts::{BoxedPiece, Halves, half};
 use crate::splitting::splitter;
 use ded_genrel::GenRel;
 use ded_model::memory::NoMemory;

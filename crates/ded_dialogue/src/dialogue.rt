@@ -7,7 +7,7 @@ ghost use Rattle.ded_dialogue.specs.Streams.{IsReplied};
 use crate::answering::Answering;
 use crate::pending::{Pending, put};
 use ded_io::{Failed, Sink};
-use ded_lex::{Fed, Piece, Unended, Splitter};
+use ded_lex::{Fed, Piece, Splitter, Unended};
 use ded_model::memory::NoMemory;
 use std::alloc::Global;
 

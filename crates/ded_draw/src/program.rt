@@ -12,8 +12,9 @@ use crate::words::{DrawOptions, options_in};
 use ded_dialogue::{Dialogue, serve_dialogue};
 use ded_drawing::{Style, drawing_of};
 use ded_io::{Failed, Sink, Source, SureSink, send};
+use ded_model::fault::ParseFault;
 use ded_model::limits;
-use ded_run::{Setup, Status, WordFault, Words};
+use ded_run::{Setup, Status, Words};
 use ded_session::Reply;
 use ded_svg::picture_text;
 use std::alloc::Global;
@@ -133,8 +134,8 @@ pub fn run<S: Source, K: Sink>(
 {
     let options = match options_in(alloc, &words.list) {
         Ok(options) => options,
-        Err(WordFault::Bad) => return Status::BadWords,
-        Err(WordFault::Memory) => return Status::NoMemory,
+        Err(ParseFault::NotRead) => return Status::BadWords,
+        Err(ParseFault::Memory) => return Status::NoMemory,
     };
     let setup = Setup {
         limit: options.limit,

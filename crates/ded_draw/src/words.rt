@@ -16,10 +16,11 @@ use clap::{Arg, ArgAction, Command};
 use ded_axes::window_of;
 use ded_drawing::Style;
 use ded_figures::Look;
+use ded_model::fault::ParseFault;
 use ded_model::memory::NoMemory;
 use ded_model::name::Name;
 use ded_polygon::PlaneWindow;
-use ded_run::{WordFault, has_dashes, limit_of, number_of};
+use ded_run::{has_dashes, limit_of, number_of};
 use std::alloc::Global;
 
 /// What the words ask for.
@@ -50,27 +51,27 @@ struct DrawValues<'a> {
 /// The options that the words give.
 ///
 /// # Errors
-/// `Bad` only where the words are no accepted list, otherwise out of memory.
-pub(crate) fn options_in(alloc: Global, words: &[String]) -> Result<DrawOptions, WordFault>
+/// `NotRead` only where the words are no accepted list, otherwise out of memory.
+pub(crate) fn options_in(alloc: Global, words: &[String]) -> Result<DrawOptions, ParseFault>
     ensures accepted { IfOk result (λ options. AcceptedWords (map string_bytes words.now) options) }
-    ensures bad { result ≡ Err WordFault.Bad →
+    ensures bad { result ≡ Err ParseFault.NotRead →
         (options : DrawOptions) → AcceptedWords (map string_bytes words.now) options → ⊥ }
 {
     if has_dashes(words) {
-        return Err(WordFault::Bad);
+        return Err(ParseFault::NotRead);
     }
     let values = values_in(alloc, words)?;
     let Some(limit) = limit_of(values.limit) else {
-        return Err(WordFault::Bad);
+        return Err(ParseFault::NotRead);
     };
     let Some(width) = width_of(values.size) else {
-        return Err(WordFault::Bad);
+        return Err(ParseFault::NotRead);
     };
     let Some(window) = window_in(values.window) else {
-        return Err(WordFault::Bad);
+        return Err(ParseFault::NotRead);
     };
     let Some(look) = look_of(alloc, values.columns, values.time)? else {
-        return Err(WordFault::Bad);
+        return Err(ParseFault::NotRead);
     };
     Ok(DrawOptions {
         limit,
@@ -118,8 +119,8 @@ fn with_option<'a>(
     command.arg(Arg::new(alloc, name).long(name).action(ArgAction::Set))
 }
 
-/// The values of the options, where the words have them. `Bad` only where `clap` finds a fault in the words.
-fn values_in<'a>(alloc: Global, words: &'a [String]) -> Result<DrawValues<'a>, WordFault>
+/// The values of the options, where the words have them. `NotRead` only where `clap` finds a fault in the words.
+fn values_in<'a>(alloc: Global, words: &'a [String]) -> Result<DrawValues<'a>, ParseFault>
     ensures none { IfOk result (λ _. fault_of drawing (map string_bytes words.entry.now) ≡ []) }
     ensures limit { IfOk result (λ values. option_map (λ t. t.now) values.limit
         ≡ value_of (codes "limit") (map string_bytes words.entry.now)) }
@@ -131,7 +132,7 @@ fn values_in<'a>(alloc: Global, words: &'a [String]) -> Result<DrawValues<'a>, W
         ≡ value_of (codes "size") (map string_bytes words.entry.now)) }
     ensures time { IfOk result (λ values. option_map (λ t. t.now) values.time
         ≡ value_of (codes "time") (map string_bytes words.entry.now)) }
-    ensures bad { result ≡ Err WordFault.Bad → fault_of drawing (map string_bytes words.entry.now) ≢ [] }
+    ensures bad { result ≡ Err ParseFault.NotRead → fault_of drawing (map string_bytes words.entry.now) ≢ [] }
 {
     match command(alloc)?.try_get_matches_from(words) {
         Ok(matches) => Ok(DrawValues {
@@ -141,8 +142,8 @@ fn values_in<'a>(alloc: Global, words: &'a [String]) -> Result<DrawValues<'a>, W
             size: matches.get_str("size"),
             time: matches.get_str("time"),
         }),
-        Err(error) if error.kind() == ErrorKind::OutOfMemory => Err(WordFault::Memory),
-        Err(_) => Err(WordFault::Bad),
+        Err(error) if error.kind() == ErrorKind::OutOfMemory => Err(ParseFault::Memory),
+        Err(_) => Err(ParseFault::NotRead),
     }
 }
 

@@ -6,9 +6,9 @@
 //! constant or op alone only the stronger is kept, but that of many rows both stay where the hash of another row hides
 //! one; true rows are left out, and a false row ends the work.
 //!
-//! How two rows are combined is a parameter, a [`Mixing`]; [`CheckedCombination`] is that of `ded_row`, for any rows. No row of
-//! the answer mentions the slot, and its lines are among those that an elimination makes of the lines of the given
-//! rows. `Wide` comes only where two of these lines clash, and never of a mixing that decides.
+//! How two rows are combined is a parameter, a [`Mixing`]; [`CheckedCombination`] is that of `ded_row`, for any rows.
+//! No row of the answer mentions the slot, and its lines are among those that an elimination makes of the lines of the
+//! given rows. `Wide` comes only where two of these lines clash, and never of a mixing that decides.
 #![tactic(auto)]
 
 ghost use Rattle.std.specs.Prelude.{◌≡◌, ◌↔◌, true, false, IsTrue, IfOk, IsErrOf};

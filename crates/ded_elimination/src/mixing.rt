@@ -2,9 +2,9 @@
 //!
 //! An elimination combines rows two by two. What two rows give is fixed; how it is computed, and whether it is ever
 //! refused because a number gets too long, depends on the rows. So an elimination takes the combination as a parameter,
-//! a [`Mixing`], and so does what is built on it. [`CheckedCombination`] combines any two rows. Rows of a kind whose combinations
-//! multiply nothing can have a mixing of their own, which is never refused; whatever is written over any [`Mixing`] is
-//! then exact for them.
+//! a [`Mixing`], and so does what is built on it. [`CheckedCombination`] combines any two rows. Rows of a kind whose
+//! combinations multiply nothing can have a mixing of their own, which is never refused; whatever is written over any
+//! [`Mixing`] is then exact for them.
 ghost use Rattle.std.specs.Prelude.{◌≡◌, true, false, IfOk, IsErrOf};
 ghost use Rattle.ded_model.specs.declared.memory.Refused.TheVariants.{Wide};
 ghost use Rattle.ded_model.specs.Constraint.{LinearConstraint};

@@ -4,8 +4,8 @@ use Rattle.std.specs.Prelude.{Option, Some, None, max}
 use Rattle.ded_num.proofs.Tests.{minus_step}
 use Rattle.ded_model.specs.Form.{Form}
 use Rattle.ded_grammar.specs.Trees.{TerminalForm}
-use Rattle.ded_grammar.specs.declared.fault.ReadFault.{ReadFault}
-use Rattle.ded_grammar.specs.declared.fault.ReadFault.TheVariants.{NotRead, Memory}
+use Rattle.ded_model.specs.declared.fault.ParseFault.{ParseFault}
+use Rattle.ded_model.specs.declared.fault.ParseFault.TheVariants.{NotRead, Memory}
 use Rattle.ded_grammar.specs.Gives.{Fails}
 use Rattle.ded_grammar.specs.Building.{◌>>=◌, Found, Reader, Chain, onto, chain}
 
@@ -33,7 +33,7 @@ pub chain_done : (read : Reader) (sign : List TerminalForm → Option (List Term
 chain_done read sign l i n a top fs f ps here t lt r s m inv =
     sym inv ∙ ap (with_front fs n) (one_done read sign l i a f ps here lt r s) ∙ ap (λ (k : ℕ). Some (fs ++ f ∷ [], k, here)) (omega (arith, m))
 
-pub chain_fails : (read : Reader) (sign : List TerminalForm → Option (List TerminalForm)) (l i n : ℕ) (fs : List Form) (ps : List TerminalForm) (t : Option Chain) (e : ReadFault) (make : Chain → Option Found) → i < l → Fails e (read ps) → with_front fs n (chain read sign (l - i) ps) ≡ t → Fails e (t >>= make)
+pub chain_fails : (read : Reader) (sign : List TerminalForm → Option (List TerminalForm)) (l i n : ℕ) (fs : List Form) (ps : List TerminalForm) (t : Option Chain) (e : ParseFault) (make : Chain → Option Found) → i < l → Fails e (read ps) → with_front fs n (chain read sign (l - i) ps) ≡ t → Fails e (t >>= make)
 chain_fails read sign l i n fs ps t Memory make lt r inv = tt
 chain_fails read sign l i n fs ps t NotRead make lt r inv =
     ap (λ o. o >>= make) (sym inv ∙ ap (with_front fs n) (none_done read sign l i ps lt r))

@@ -8,8 +8,8 @@ use Rattle.ded_model.specs.Form.{Form}
 use Rattle.ded_model.specs.declared.formula.Formula.{Formula}
 use Rattle.ded_model.specs.Logic.{negation, implies}
 use Rattle.ded_grammar.specs.declared.terminal.Quantifier.{Quantifier}
-use Rattle.ded_grammar.specs.declared.fault.ReadFault.{ReadFault}
-use Rattle.ded_grammar.specs.declared.fault.ReadFault.TheVariants.{NotRead, Memory}
+use Rattle.ded_model.specs.declared.fault.ParseFault.{ParseFault}
+use Rattle.ded_model.specs.declared.fault.ParseFault.TheVariants.{NotRead, Memory}
 use Rattle.ded_grammar.specs.Gives.{Fails}
 use Rattle.ded_grammar.specs.declared.terminal.Terminal.{Terminal}
 use Rattle.ded_grammar.specs.declared.terminal.Terminal.TheVariants.{Not, And, Or, Implies, Close, Atom}
@@ -80,7 +80,7 @@ pub body_end : (k : ℕ) (ps : List TerminalForm) → k ≢ 0 → ps ≡ [] → 
 body_end k ps n e = body_at k ps n ∙ ap (body_by (read_body (k - 1)) (read_whole k)) e
 
 -- what comes after a step
-pub passes : {Y Z : Type 0} (e : ReadFault) (o : Option Y) (g : Y → Option Z) (r : Option Z) → r ≡ (o >>= g) → Fails e o → Fails e r
+pub passes : {Y Z : Type 0} (e : ParseFault) (o : Option Y) (g : Y → Option Z) (r : Option Z) → r ≡ (o >>= g) → Fails e o → Fails e r
 passes NotRead o g r is h = is ∙ ap (λ p. p >>= g) h
 passes Memory o g r is h = tt
 
@@ -123,5 +123,5 @@ no_body k items rest i n e (inr (inr (inr (inl f)))) = body_at k (terminal_forms
 no_body k items rest i n e (inr (inr (inr (inr (inl f))))) = body_at k (terminal_forms items) n ∙ ap (body_by (read_body (k - 1)) (read_whole k)) (head items rest i Close e f)
 no_body k items rest i n e (inr (inr (inr (inr (inr x))))) = body_at k (terminal_forms items) n ∙ ap (body_by (read_body (k - 1)) (read_whole k)) (head items rest i (Atom x.0) e x.1)
 
-pub not_read : {Y : Type 0} (e : ReadFault) (o : Option Y) → e ≡ NotRead → Fails e o → o ≡ None
-not_read e o is h = subst (λ (x : ReadFault). Fails x o) is h
+pub not_read : {Y : Type 0} (e : ParseFault) (o : Option Y) → e ≡ NotRead → Fails e o → o ≡ None
+not_read e o is h = subst (λ (x : ParseFault). Fails x o) is h

@@ -1,6 +1,6 @@
 //! The tree of a formula, where its nesting leaves room.
 ghost use Rattle.std.specs.Prelude.{◌≡◌, ◌<◌, IfOk, IfSome, IfNone, OnErr, Err, map, [], ◌∷◌};
-ghost use Rattle.ded_grammar.specs.declared.fault.ReadFault.TheVariants as faults;
+ghost use Rattle.ded_model.specs.declared.fault.ParseFault.TheVariants as faults;
 ghost use Rattle.ded_model.specs.Form.{form};
 ghost use Rattle.ded_model.specs.Logic.{negation, implies};
 ghost use Rattle.ded_grammar.specs.Forms.{terminal_form, terminal_forms};
@@ -9,8 +9,8 @@ ghost use Rattle.ded_grammar.specs.Building.{after_closing, after_conjunct, afte
 ghost use Rattle.ded_grammar.specs.Building.{both_by, either_by, read_one, read_body, read_whole};
 ghost use Rattle.ded_grammar.specs.Gives.{Gives, GivesAfter};
 
-use crate::fault::ReadFault;
 use crate::terminal::{Quantifier, Terminal};
+use ded_model::fault::ParseFault;
 use ded_model::formula::Formula;
 use ded_model::name::Column;
 use std::alloc::Global;
@@ -69,14 +69,14 @@ fn closed(
     part: Formula,
     nesting: u32,
     rest: &[Terminal],
-) -> Result<(Formula, u32, &[Terminal]), ReadFault>
+) -> Result<(Formula, u32, &[Terminal]), ParseFault>
     ensures read { Gives (λ x. (form x.0, x.1, terminal_forms x.2.now)) result
         (closed (form part, nesting, terminal_forms rest.now)) }
     ensures same { IfOk result (λ x. x.1 ≡ nesting) }
 {
     match after_closing(rest) {
         Some(rest) => Ok((part, nesting, rest)),
-        None => Err(ReadFault::NotRead),
+        None => Err(ParseFault::NotRead),
     }
 }
 
@@ -111,7 +111,7 @@ fn any_of(mut parts: Vec<Formula>) -> Formula
 }
 
 /// The negation of the formula. It fails only where there is no memory.
-fn negated(alloc: Global, part: Formula) -> Result<Formula, ReadFault>
+fn negated(alloc: Global, part: Formula) -> Result<Formula, ParseFault>
     ensures negated { IfOk result (λ f. form f ≡ negation (form part)) }
     ensures memory { OnErr result (result ≡ Err faults.Memory) }
 {
@@ -119,7 +119,7 @@ fn negated(alloc: Global, part: Formula) -> Result<Formula, ReadFault>
 }
 
 /// The implication from the left formula to the right one. It fails only where there is no memory.
-fn implied(alloc: Global, left: Formula, right: Formula) -> Result<Formula, ReadFault>
+fn implied(alloc: Global, left: Formula, right: Formula) -> Result<Formula, ParseFault>
     ensures implied { IfOk result (λ f. form f ≡ implies (form left) (form right)) }
     ensures memory { OnErr result (result ≡ Err faults.Memory) }
 {
@@ -132,7 +132,7 @@ fn quantified(
     quantifier: Quantifier,
     column: &Column,
     body: Formula,
-) -> Result<Formula, ReadFault>
+) -> Result<Formula, ParseFault>
     ensures quantified { IfOk result (λ f. form f ≡ quantified quantifier column.now (form body)) }
     ensures memory { OnErr result (result ≡ Err faults.Memory) }
 {
@@ -150,16 +150,16 @@ fn one(
     alloc: Global,
     terminals: &[Terminal],
     room: u32,
-) -> Result<(Formula, u32, &[Terminal]), ReadFault>
+) -> Result<(Formula, u32, &[Terminal]), ParseFault>
     ensures read { Gives (λ x. (form x.0, x.1, terminal_forms x.2.now)) result
         (read_one room (terminal_forms terminals.now)) }
     ensures low { IfOk result (λ x. x.1 < room) }
 {
     if room == 0 {
-        return Err(ReadFault::NotRead);
+        return Err(ParseFault::NotRead);
     }
     let Some((terminal, rest)) = first(terminals) else {
-        return Err(ReadFault::NotRead);
+        return Err(ParseFault::NotRead);
     };
     match terminal {
         Terminal::Not => {
@@ -181,7 +181,7 @@ fn one(
         }
         Terminal::Atom(atom) => Ok((atom.copy()?, 0, rest)),
         Terminal::And | Terminal::Or | Terminal::Implies | Terminal::Close => Err(
-            ReadFault::NotRead,
+            ParseFault::NotRead,
         ),
     }
 }
@@ -192,16 +192,16 @@ fn body(
     alloc: Global,
     terminals: &[Terminal],
     room: u32,
-) -> Result<(Formula, u32, &[Terminal]), ReadFault>
+) -> Result<(Formula, u32, &[Terminal]), ParseFault>
     ensures read { Gives (λ x. (form x.0, x.1, terminal_forms x.2.now)) result
         (read_body room (terminal_forms terminals.now)) }
     ensures low { IfOk result (λ x. x.1 < room) }
 {
     if room == 0 {
-        return Err(ReadFault::NotRead);
+        return Err(ParseFault::NotRead);
     }
     let Some((terminal, rest)) = first(terminals) else {
-        return Err(ReadFault::NotRead);
+        return Err(ParseFault::NotRead);
     };
     match terminal {
         Terminal::Open => {
@@ -221,7 +221,7 @@ fn body(
         | Terminal::Or
         | Terminal::Implies
         | Terminal::Close
-        | Terminal::Atom(_) => { Err(ReadFault::NotRead) }
+        | Terminal::Atom(_) => { Err(ParseFault::NotRead) }
     }
 }
 
@@ -232,7 +232,7 @@ fn both(
     alloc: Global,
     terminals: &[Terminal],
     room: u32,
-) -> Result<(Formula, u32, &[Terminal]), ReadFault>
+) -> Result<(Formula, u32, &[Terminal]), ParseFault>
     ensures read { Gives (λ x. (form x.0, x.1, terminal_forms x.2.now)) result
         (both_by (read_one room) (terminal_forms terminals.now)) }
     ensures low { IfOk result (λ x. x.1 < room) }
@@ -250,7 +250,7 @@ fn both(
         };
         rest = more;
     }
-    Err(ReadFault::NotRead)
+    Err(ParseFault::NotRead)
 }
 
 /// Reads conjunctions with `or` between them, of nestings below the room: their disjunction, its nesting, and the
@@ -260,7 +260,7 @@ fn either(
     alloc: Global,
     terminals: &[Terminal],
     room: u32,
-) -> Result<(Formula, u32, &[Terminal]), ReadFault>
+) -> Result<(Formula, u32, &[Terminal]), ParseFault>
     ensures read { Gives (λ x. (form x.0, x.1, terminal_forms x.2.now)) result
         (either_by (read_one room) (terminal_forms terminals.now)) }
     ensures low { IfOk result (λ x. x.1 < room) }
@@ -278,7 +278,7 @@ fn either(
         };
         rest = more;
     }
-    Err(ReadFault::NotRead)
+    Err(ParseFault::NotRead)
 }
 
 /// Reads a formula, of a nesting below the room: the formula, its nesting, and the terminals behind it.
@@ -290,20 +290,20 @@ pub fn whole(
     alloc: Global,
     terminals: &[Terminal],
     room: u32,
-) -> Result<(Formula, u32, &[Terminal]), ReadFault>
+) -> Result<(Formula, u32, &[Terminal]), ParseFault>
     ensures read { Gives (λ x. (form x.0, x.1, terminal_forms x.2.now)) result
         (read_whole room (terminal_forms terminals.now)) }
     ensures low { IfOk result (λ x. x.1 < room) }
 {
     if room == 0 {
-        return Err(ReadFault::NotRead);
+        return Err(ParseFault::NotRead);
     }
     let (left, outer, rest) = either(alloc, terminals, room)?;
     let Some(more) = after_arrow(rest) else {
         return Ok((left, outer, rest));
     };
     if outer + 1 >= room {
-        return Err(ReadFault::NotRead);
+        return Err(ParseFault::NotRead);
     }
     let (right, inner, rest) = whole(alloc, more, room - 1)?;
     Ok((implied(alloc, left, right)?, outer.max(inner) + 1, rest))

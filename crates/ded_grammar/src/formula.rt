@@ -7,9 +7,9 @@ ghost use Rattle.ded_grammar.specs.Trees.{Whole, spell};
 ghost use Rattle.ded_grammar.specs.Spelling.{Spells, SpellsDeep};
 
 use crate::build::whole;
-use crate::fault::ReadFault;
 use crate::terminal::Terminal;
 use ded_model::command::Refusal;
+use ded_model::fault::ParseFault;
 use ded_model::formula::Formula;
 use std::alloc::Global;
 
@@ -26,7 +26,7 @@ pub fn formula_of(alloc: Global, terminals: &[Terminal]) -> Result<Formula, Refu
 {
     match whole(alloc, terminals, 65) {
         Ok((formula, _, _)) => Ok(formula),
-        Err(ReadFault::NotRead) => Err(Refusal::Deep),
-        Err(ReadFault::Memory) => Err(Refusal::Memory),
+        Err(ParseFault::NotRead) => Err(Refusal::Deep),
+        Err(ParseFault::Memory) => Err(Refusal::Memory),
     }
 }

@@ -10,13 +10,11 @@
 #![tactic(auto)]
 
 mod build;
-mod fault;
 mod formula;
 mod laws;
 mod scan;
 mod terminal;
 
-pub use fault::ReadFault;
 pub use formula::formula_of;
 pub use laws::{atoms_stand_in_terminals, one_formula};
 pub use scan::is_formula;

@@ -136,7 +136,11 @@ impl Tree {
 ///
 /// # Errors
 /// Out of memory; the entries are in another order then.
-pub(crate) fn build(alloc: Global, entries: &mut [ReachEntry], level: u32) -> Result<Vec<HullNode>, NoMemory>
+pub(crate) fn build(
+    alloc: Global,
+    entries: &mut [ReachEntry],
+    level: u32,
+) -> Result<Vec<HullNode>, NoMemory>
     ensures tree { IfOk result (λ ns. IsTree ns.items entries.new) }
     ensures over { IfOk result (λ ns. IsOver ns.items entries.new) }
     ensures entries { IsPermutation entries.old entries.new }
@@ -201,8 +205,12 @@ fn joined(
     first: Vec<HullNode>,
     mut second: Vec<HullNode>,
 ) -> Result<Vec<HullNode>, NoMemory>
-    ensures { IfOk result (λ ns. ns.items ≡ record { hull = hull; below = length first.items
-        + length second.items; count = count } ∷ (first.items ++ second.items)) }
+    ensures { IfOk result (λ ns. ns.items ≡ record {
+      hull = hull;
+      below = length first.items
+          + length second.items;
+      count = count;
+    } ∷ (first.items ++ second.items)) }
 {
     let below = first.len() + second.len();
     let mut nodes = first;

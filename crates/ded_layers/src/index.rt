@@ -21,7 +21,11 @@ use std::alloc::Global;
 ///
 /// # Errors
 /// Out of memory.
-pub(crate) fn index_of(alloc: Global, parts: &[Part], window: PlaneWindow) -> Result<Hulls, NoMemory>
+pub(crate) fn index_of(
+    alloc: Global,
+    parts: &[Part],
+    window: PlaneWindow,
+) -> Result<Hulls, NoMemory>
     ensures { IfOk result (λ h. IsIndex window parts.now h.entries) }
 {
     let mut index = Hulls::new(alloc);
@@ -62,7 +66,11 @@ fn reach_of(alloc: Global, part: &Part, window: PlaneWindow) -> Result<Reach, No
 ///
 /// # Errors
 /// Out of memory.
-fn closed_planes(alloc: Global, piece: &PlanePiece, window: PlaneWindow) -> Result<Vec<PlaneLimit>, NoMemory>
+fn closed_planes(
+    alloc: Global,
+    piece: &PlanePiece,
+    window: PlaneWindow,
+) -> Result<Vec<PlaneLimit>, NoMemory>
     ensures { IfOk result (λ ps. ps.items ≡ closed_of piece.now ++ closed_limits (window_planes window)) }
 {
     let mut planes = Vec::new(alloc);

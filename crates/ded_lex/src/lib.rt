@@ -31,5 +31,5 @@ pub use laws::{
 };
 pub use lexer::tokens;
 pub use piece::Piece;
-pub use splitter::{Fed, Unended, Splitter};
-pub use token::{LexFault, Token, TokenKind, TokenList};
+pub use splitter::{Fed, Splitter, Unended};
+pub use token::{Token, TokenKind, TokenList};

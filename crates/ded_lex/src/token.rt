@@ -1,8 +1,6 @@
 //! Tokens and where they stand.
 ghost use Rattle.std.specs.Prelude.{◌≡◌, List};
-ghost use Rattle.ded_lex.specs.declared.token.LexFault.TheVariants.{Memory};
 
-use std::alloc::{AllocError, AllocFailed};
 use std::marker::Model;
 
 /// What a token is.
@@ -26,31 +24,6 @@ pub struct Token {
     pub kind: TokenKind,
     pub start: u32,
     pub end: u32,
-}
-
-/// Why bytes have no list of tokens.
-#[derive(Clone, Copy, Debug, PartialEq, Eq)]
-pub enum LexFault {
-    /// The bytes aren't tokens, blanks and comments.
-    NoToken,
-    /// Out of memory.
-    Memory,
-}
-
-impl From<AllocError> for LexFault {
-    ghost from_gives = { λ _ e. e ≡ Memory };
-
-    fn from(_error: AllocError) -> LexFault {
-        LexFault::Memory
-    }
-}
-
-impl<T: Drop> From<AllocFailed<T>> for LexFault {
-    ghost from_gives = { λ _ e. e ≡ Memory };
-
-    fn from(_error: AllocFailed<T>) -> LexFault {
-        LexFault::Memory
-    }
 }
 
 /// The tokens of some bytes, in order.

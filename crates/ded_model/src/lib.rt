@@ -14,6 +14,7 @@ pub mod bound;
 pub mod certificate;
 pub mod command;
 mod equality;
+pub mod fault;
 pub mod formula;
 pub mod goal;
 pub mod laws;

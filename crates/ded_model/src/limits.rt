@@ -9,6 +9,9 @@ pub const NAME_BYTES: usize = 64;
 /// The greatest magnitude of a number that is written.
 pub const GREATEST_NUMBER: u64 = 9_223_372_036_854_775_807;
 
+/// The least magnitude that no written number has.
+pub const TOO_GREAT: u64 = GREATEST_NUMBER + 1;
+
 /// The nested formulas of a formula, at most.
 pub const NESTING: usize = 64;
 
@@ -26,6 +29,9 @@ pub const INSERTS: u32 = u32::MAX;
 
 /// The tuples that a relation may be allowed to hold, at most.
 pub const TUPLES: u32 = 1_000_000;
+
+/// The tuples that a relation holds at most where the command line says nothing.
+pub const DEFAULT_TUPLES: u32 = 100_000;
 
 /// The bytes of an input, at most.
 pub const INPUT_BYTES: u64 = 1 << 40;

@@ -21,7 +21,7 @@ mod windowing;
 
 pub use colours::{labels_of, legend_of};
 pub use marks::marks_of;
-pub use parts::{ShownParts, Shown, parts_of};
+pub use parts::{Shown, ShownParts, parts_of};
 pub use sheet::Sheet;
 pub use strokes::strokes_of;
 pub use windowing::window_of;

@@ -6,14 +6,18 @@ use crate::parts::Shown;
 use crate::sheet::{Sheet, point_on};
 use ded_model::memory::NoMemory;
 use ded_polygon::Corner;
-use ded_svg::{Corners, ColouredShape, Point, Shape};
+use ded_svg::{ColouredShape, Corners, Point, Shape};
 use std::alloc::Global;
 
 /// The shapes of what is shown, in order.
 ///
 /// # Errors
 /// Out of memory.
-pub fn marks_of(alloc: Global, sheet: &Sheet, list: &[Shown]) -> Result<Vec<ColouredShape>, NoMemory>
+pub fn marks_of(
+    alloc: Global,
+    sheet: &Sheet,
+    list: &[Shown],
+) -> Result<Vec<ColouredShape>, NoMemory>
     ensures { IfOk result (λ marks. marks.items ≡ marks_of sheet.now list.now) }
 {
     let mut marks = Vec::new(alloc);

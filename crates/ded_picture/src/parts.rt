@@ -160,7 +160,11 @@ fn piece_of(alloc: Global, figure: &Figure) -> Result<PlanePiece, Refused>
 ///
 /// # Errors
 /// As [`part_of`].
-fn corners_within(alloc: Global, figure: &Figure, window: PlaneWindow) -> Result<Vec<Corner>, Refused>
+fn corners_within(
+    alloc: Global,
+    figure: &Figure,
+    window: PlaneWindow,
+) -> Result<Vec<Corner>, Refused>
     ensures corners { IfOk result (λ cs. AreCorners figure.now.axes.x figure.now.axes.y
         (figure.now.rows ++ window_rows figure.now.axes.x figure.now.axes.y window) cs.items) }
     ensures around { IfOk result (λ cs. GoAround figure.now.axes.x figure.now.axes.y

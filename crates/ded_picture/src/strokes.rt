@@ -10,7 +10,7 @@ use crate::sheet::{Sheet, point_on};
 use ded_atoms::following;
 use ded_model::memory::NoMemory;
 use ded_strokes::Stretch;
-use ded_svg::{Line, ColouredLine};
+use ded_svg::{ColouredLine, Line};
 use std::alloc::Global;
 
 /// The lines of the sides of what is shown, colour after colour, of which there are so many.

@@ -15,7 +15,11 @@ use std::alloc::{AllocError, Global};
 ///
 /// # Errors
 /// Out of memory.
-pub fn window_of(alloc: Global, asked: Option<PlaneWindow>, sights: &[Sight]) -> Result<PlaneWindow, NoMemory>
+pub fn window_of(
+    alloc: Global,
+    asked: Option<PlaneWindow>,
+    sights: &[Sight],
+) -> Result<PlaneWindow, NoMemory>
     ensures { IfOk result (IsWindow asked sights.now) }
 {
     match asked {

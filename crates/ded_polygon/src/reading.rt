@@ -45,7 +45,12 @@ fn are_of(list: &[(Slot, i128)], x: Slot, y: Slot) -> bool
 ///
 /// # Errors
 /// `Wide` only where a number of a row is beyond the exact range; otherwise out of memory.
-pub(crate) fn sides(alloc: Global, rows: &[Row], x: Slot, y: Slot) -> Result<Vec<PlaneSide>, Refused>
+pub(crate) fn sides(
+    alloc: Global,
+    rows: &[Row],
+    x: Slot,
+    y: Slot,
+) -> Result<Vec<PlaneSide>, Refused>
     ensures sides { IfOk result (λ sides. sides.items ≡ half_planes x y rows.now) }
     ensures wide { IsErrOf result Wide → AreInRange x y rows.now → ⊥ }
 {

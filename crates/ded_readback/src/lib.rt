@@ -1,6 +1,6 @@
 //! Printed answers, read back.
 //!
-//! [`read_answer`] gives the one answer over a heading that bytes spell, and `NoAnswer` exactly where they spell none.
+//! [`read_answer`] gives the one answer over a heading that bytes spell, and `NotRead` exactly where they spell none.
 //! `specs/Spelling.antt` says what they spell: tuples in normal form over the heading, with numbers of at most 127
 //! digits, whose text the bytes are. The text is that of `ded_print`, so what prints an answer says what is read, and
 //! there is no second grammar. The heading must have distinct words for names; a word may also be one that the language
@@ -18,7 +18,6 @@
 
 mod answer;
 mod bytes;
-mod fault;
 pub mod laws;
 mod over;
 mod printed;
@@ -29,4 +28,3 @@ mod theme;
 mod tuple;
 
 pub use answer::read_answer;
-pub use fault::AnswerFault;

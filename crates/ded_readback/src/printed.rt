@@ -2,12 +2,12 @@
 ghost use Rattle.std.specs.Prelude.{◌≡◌, Some, IfOk, IfErr};
 ghost use Rattle.std.specs.Str.{bytes_eq};
 ghost use Rattle.ded_print.specs.Tuples.{answer_text};
-ghost use Rattle.ded_readback.specs.declared.fault.AnswerFault.TheVariants.{Memory};
+ghost use Rattle.ded_model.specs.declared.fault.ParseFault.TheVariants.{Memory};
 ghost use Rattle.ded_readback.specs.Texts.{text_bytes, text_faults};
 
-use crate::fault::AnswerFault;
 use ded_io::{Failed, Sink};
 use ded_model::answer::Answer;
+use ded_model::fault::ParseFault;
 use ded_print::print_answer;
 use std::alloc::Global;
 
@@ -36,7 +36,7 @@ impl Sink for PrintedText {
 ///
 /// # Errors
 /// Out of memory.
-pub(crate) fn is_printed(alloc: Global, answer: &Answer, bytes: &[u8]) -> Result<bool, AnswerFault>
+pub(crate) fn is_printed(alloc: Global, answer: &Answer, bytes: &[u8]) -> Result<bool, ParseFault>
     ensures same { IfOk result (λ b. b ≡ bytes_eq (answer_text answer.now.heading answer.now.tuples) bytes.now) }
     ensures memory { IfErr result (λ e. e ≡ Memory) }
 {
@@ -46,6 +46,6 @@ pub(crate) fn is_printed(alloc: Global, answer: &Answer, bytes: &[u8]) -> Result
     };
     match print_answer(answer, &mut text) {
         Ok(()) => Ok(text.bytes.as_slice() == bytes),
-        Err(_) => Err(AnswerFault::Memory),
+        Err(_) => Err(ParseFault::Memory),
     }
 }

@@ -3,12 +3,12 @@ ghost use Rattle.std.specs.Prelude.{◌≡◌, ◌<◌, ◌^◌, [], Some, None,
 ghost use Rattle.ded_num.specs.Length.{IsShort};
 ghost use Rattle.ded_model.specs.Coefs.{AreCoefs};
 ghost use Rattle.ded_model.specs.Normal.{IsNormalRow};
-ghost use Rattle.ded_readback.specs.declared.fault.AnswerFault.TheVariants.{NoAnswer};
+ghost use Rattle.ded_model.specs.declared.fault.ParseFault.TheVariants.{NotRead};
 ghost use Rattle.ded_readback.specs.Reading.{comparison_at, is_short, number_of, with_term, coefs_from, row_of, row_at};
 
 use crate::bytes::{behind, integer};
-use crate::fault::AnswerFault;
 use crate::terms::{Summand, terms};
+use ded_model::fault::ParseFault;
 use ded_model::name::Column;
 use ded_model::row::{Coefs, Row, RowOp};
 use ded_model::slot::Sort;
@@ -54,23 +54,23 @@ fn number_of(turned: bool, minus: bool, magnitude: u128) -> i128
     if turned == minus { number } else { -number }
 }
 
-/// Sets the coefficient of the term's slot, with all signs turned or not. `NoAnswer` where the slot isn't rational or
+/// Sets the coefficient of the term's slot, with all signs turned or not. `NotRead` where the slot isn't rational or
 /// the magnitude has more than 127 binary digits.
-fn put_term(coefs: &mut Coefs, turned: bool, term: Summand) -> Result<(), AnswerFault>
+fn put_term(coefs: &mut Coefs, turned: bool, term: Summand) -> Result<(), ParseFault>
     ensures read { IfOk result (λ _. with_term turned coefs.old term ≡ Some coefs.new) }
-    ensures unread { IfErr result (λ e. e ≡ NoAnswer → with_term turned coefs.old term ≡ None) }
+    ensures unread { IfErr result (λ e. e ≡ NotRead → with_term turned coefs.old term ≡ None) }
 {
     if term.slot.sort != Sort::Rat || !is_short(term.magnitude) {
-        return Err(AnswerFault::NoAnswer);
+        return Err(ParseFault::NotRead);
     }
     coefs.put(term.slot, number_of(turned, term.minus, term.magnitude))?;
     Ok(())
 }
 
 /// The coefficients of the terms, with all signs turned or not.
-fn coefs_of(alloc: Global, turned: bool, terms: &[Summand]) -> Result<Coefs, AnswerFault>
+fn coefs_of(alloc: Global, turned: bool, terms: &[Summand]) -> Result<Coefs, ParseFault>
     ensures read { IfOk result (λ cs. coefs_from turned [] terms.now ≡ Some cs) }
-    ensures unread { IfErr result (λ e. e ≡ NoAnswer → coefs_from turned [] terms.now ≡ None) }
+    ensures unread { IfErr result (λ e. e ≡ NotRead → coefs_from turned [] terms.now ≡ None) }
 {
     let mut coefs = Coefs::new(alloc);
     for term in terms {
@@ -87,14 +87,14 @@ fn row_of(
     turned: bool,
     minus: bool,
     magnitude: u128,
-) -> Result<Row, AnswerFault>
+) -> Result<Row, ParseFault>
     ensures read { IfOk result (λ r. row_of op turned minus magnitude terms.now ≡ Some r) }
-    ensures unread { IfErr result (λ e. e ≡ NoAnswer → row_of op turned minus magnitude terms.now ≡ None) }
+    ensures unread { IfErr result (λ e. e ≡ NotRead → row_of op turned minus magnitude terms.now ≡ None) }
     ensures normal { IfOk result (λ r. IsNormalRow r) }
 {
     let coefs = coefs_of(alloc, turned, terms)?;
     if !is_short(magnitude) {
-        return Err(AnswerFault::NoAnswer);
+        return Err(ParseFault::NotRead);
     }
     Ok(normal(Row {
         coefs,
@@ -106,21 +106,21 @@ fn row_of(
 /// The row that begins with this term, and what stands behind it.
 ///
 /// # Errors
-/// `NoAnswer` only where the term and the bytes behind it begin with no row, otherwise out of memory.
+/// `NotRead` only where the term and the bytes behind it begin with no row, otherwise out of memory.
 pub(crate) fn row<'a>(
     alloc: Global,
     columns: &[Column],
     first: Summand,
     bytes: &'a [u8],
-) -> Result<(Row, &'a [u8]), AnswerFault>
+) -> Result<(Row, &'a [u8]), ParseFault>
     ensures read { IfOk result (λ x. row_at columns.now first bytes.now ≡ Some (x.0, x.1.now)) }
-    ensures unread { IfErr result (λ e. e ≡ NoAnswer → row_at columns.now first bytes.now ≡ None) }
+    ensures unread { IfErr result (λ e. e ≡ NotRead → row_at columns.now first bytes.now ≡ None) }
     ensures normal { IfOk result (λ x. IsNormalRow x.0) }
     ensures coefs { IfOk result (λ x. AreCoefs x.0.coefs) }
 {
     let (terms, rest) = terms(alloc, columns, first, bytes)?;
     let Some(((op, turned), rest)) = comparison(rest) else {
-        return Err(AnswerFault::NoAnswer);
+        return Err(ParseFault::NotRead);
     };
     let (minus, magnitude, rest) = integer(rest);
     let row = row_of(alloc, terms.as_slice(), op, turned, minus, magnitude)?;

@@ -3,21 +3,21 @@ ghost use Rattle.std.specs.Prelude.{◌≡◌, [], Some, None, false, IfSome, If
 ghost use Rattle.ded_model.specs.declared.slot.Sort.TheVariants.{Text};
 ghost use Rattle.ded_model.specs.Point.{AllBytes};
 ghost use Rattle.ded_model.specs.Normal.{IsNormalTheme};
-ghost use Rattle.ded_readback.specs.declared.fault.AnswerFault.TheVariants.{NoAnswer};
+ghost use Rattle.ded_model.specs.declared.fault.ParseFault.TheVariants.{NotRead};
 ghost use Rattle.ded_readback.specs.Reading.{unquoted, equality_at, text_atom, text_at, slots_atom, slots_at, theme_at};
 
 use crate::bytes::behind;
-use crate::fault::AnswerFault;
 use crate::slot::slot;
+use ded_model::fault::ParseFault;
 use ded_model::name::{Column, Name};
 use ded_model::slot::{Slot, Sort};
 use ded_model::tuple::ThemeAtom;
 use std::alloc::Global;
 
 /// The text up to its closing quote, where the opening one is behind, and what stands behind it.
-fn unquoted(alloc: Global, bytes: &[u8]) -> Result<(Name, &[u8]), AnswerFault>
+fn unquoted(alloc: Global, bytes: &[u8]) -> Result<(Name, &[u8]), ParseFault>
     ensures read { IfOk result (λ x. unquoted [] false bytes.now ≡ Some (x.0, x.1.now)) }
-    ensures unread { IfErr result (λ e. e ≡ NoAnswer → unquoted [] false bytes.now ≡ None) }
+    ensures unread { IfErr result (λ e. e ≡ NotRead → unquoted [] false bytes.now ≡ None) }
     ensures bytes { IfOk result (λ x. AllBytes x.0) }
 {
     let mut text = Vec::new(alloc);
@@ -35,7 +35,7 @@ fn unquoted(alloc: Global, bytes: &[u8]) -> Result<(Name, &[u8]), AnswerFault>
         closed = true;
     }
     if !closed {
-        return Err(AnswerFault::NoAnswer);
+        return Err(ParseFault::NotRead);
     }
     Ok((Name { bytes: text }, &[]))
 }
@@ -84,10 +84,10 @@ fn with_text<'a>(
     slot: Slot,
     equal: bool,
     bytes: &'a [u8],
-) -> Result<(ThemeAtom, &'a [u8]), AnswerFault>
+) -> Result<(ThemeAtom, &'a [u8]), ParseFault>
     requires { slot.sort ≡ Text }
     ensures read { IfOk result (λ x. text_at equal slot bytes.now ≡ Some (x.0, x.1.now)) }
-    ensures unread { IfErr result (λ e. e ≡ NoAnswer → text_at equal slot bytes.now ≡ None) }
+    ensures unread { IfErr result (λ e. e ≡ NotRead → text_at equal slot bytes.now ≡ None) }
     ensures normal { IfOk result (λ x. IsNormalTheme x.0) }
 {
     let (text, rest) = unquoted(alloc, bytes)?;
@@ -115,26 +115,26 @@ fn with_slot<'a>(
 /// The text atom that begins with this slot, and what stands behind it.
 ///
 /// # Errors
-/// `NoAnswer` only where the slot and the bytes behind it begin with no text atom, otherwise out of memory.
+/// `NotRead` only where the slot and the bytes behind it begin with no text atom, otherwise out of memory.
 pub(crate) fn theme<'a>(
     alloc: Global,
     columns: &[Column],
     slot: Slot,
     bytes: &'a [u8],
-) -> Result<(ThemeAtom, &'a [u8]), AnswerFault>
+) -> Result<(ThemeAtom, &'a [u8]), ParseFault>
     requires { slot.sort ≡ Text }
     ensures read { IfOk result (λ x. theme_at columns.now slot bytes.now ≡ Some (x.0, x.1.now)) }
-    ensures unread { IfErr result (λ e. e ≡ NoAnswer → theme_at columns.now slot bytes.now ≡ None) }
+    ensures unread { IfErr result (λ e. e ≡ NotRead → theme_at columns.now slot bytes.now ≡ None) }
     ensures normal { IfOk result (λ x. IsNormalTheme x.0) }
 {
     let Some((equal, rest)) = equality(bytes) else {
-        return Err(AnswerFault::NoAnswer);
+        return Err(ParseFault::NotRead);
     };
     if let Some(quoted) = behind(rest, b"'") {
         return with_text(alloc, slot, equal, quoted);
     }
     match with_slot(columns, slot, equal, rest) {
         Some(read) => Ok(read),
-        None => Err(AnswerFault::NoAnswer),
+        None => Err(ParseFault::NotRead),
     }
 }

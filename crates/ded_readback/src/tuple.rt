@@ -4,15 +4,15 @@ ghost use Rattle.std.specs.List.{AllByRecursion};
 ghost use Rattle.ded_model.specs.declared.tuple.BothAtom.TheVariants.{First};
 ghost use Rattle.ded_model.specs.Normal.{constant_row};
 ghost use Rattle.ded_tuple.specs.TrueRows.{IsNormalOrTrue};
-ghost use Rattle.ded_readback.specs.declared.fault.AnswerFault.TheVariants.{NoAnswer};
+ghost use Rattle.ded_model.specs.declared.fault.ParseFault.TheVariants.{NotRead};
 ghost use Rattle.ded_readback.specs.Reading.{behind, false_at, atom_at, separated, next_atom, atoms_from, tuple_at};
 ghost use Rattle.ded_readback.specs.Reading.{tuples_at, answer_at};
 
 use crate::bytes::{behind, behind_line};
-use crate::fault::AnswerFault;
 use crate::row::row;
 use crate::terms::term;
 use crate::theme::theme;
+use ded_model::fault::ParseFault;
 use ded_model::name::Column;
 use ded_model::row::{Coefs, Row, RowOp};
 use ded_model::slot::Sort;
@@ -51,13 +51,13 @@ fn atom<'a>(
     alloc: Global,
     columns: &[Column],
     bytes: &'a [u8],
-) -> Result<(Atom, &'a [u8]), AnswerFault>
+) -> Result<(Atom, &'a [u8]), ParseFault>
     ensures read { IfOk result (λ x. atom_at columns.now bytes.now ≡ Some (x.0, x.1.now)) }
-    ensures unread { IfErr result (λ e. e ≡ NoAnswer → atom_at columns.now bytes.now ≡ None) }
+    ensures unread { IfErr result (λ e. e ≡ NotRead → atom_at columns.now bytes.now ≡ None) }
     ensures normal { IfOk result (λ x. IsNormalOrTrue x.0) }
 {
     let Some((first, rest)) = term(columns, false, bytes) else {
-        return falsehood(alloc, bytes).ok_or(AnswerFault::NoAnswer);
+        return falsehood(alloc, bytes).ok_or(ParseFault::NotRead);
     };
     if first.slot.sort == Sort::Text {
         let (atom, rest) = theme(alloc, columns, first.slot, rest)?;
@@ -83,13 +83,13 @@ fn next_atom<'a>(
     alloc: Global,
     columns: &[Column],
     bytes: &'a [u8],
-) -> Result<(Atom, &'a [u8]), AnswerFault>
+) -> Result<(Atom, &'a [u8]), ParseFault>
     ensures read { IfOk result (λ x. next_atom columns.now bytes.now ≡ Some (x.0, x.1.now)) }
-    ensures unread { IfErr result (λ e. e ≡ NoAnswer → next_atom columns.now bytes.now ≡ None) }
+    ensures unread { IfErr result (λ e. e ≡ NotRead → next_atom columns.now bytes.now ≡ None) }
     ensures normal { IfOk result (λ x. IsNormalOrTrue x.0) }
 {
     let Some(rest) = separated(bytes) else {
-        return Err(AnswerFault::NoAnswer);
+        return Err(ParseFault::NotRead);
     };
     atom(alloc, columns, rest)
 }
@@ -99,10 +99,10 @@ fn atoms<'a>(
     alloc: Global,
     columns: &[Column],
     bytes: &'a [u8],
-) -> Result<(Vec<Atom>, &'a [u8]), AnswerFault>
+) -> Result<(Vec<Atom>, &'a [u8]), ParseFault>
     ensures read { IfOk result (λ x. atoms_from columns.now (length bytes.now) [] bytes.now
         ≡ Some (x.0.items, x.1.now)) }
-    ensures unread { IfErr result (λ e. e ≡ NoAnswer → atoms_from columns.now (length bytes.now) [] bytes.now ≡ None) }
+    ensures unread { IfErr result (λ e. e ≡ NotRead → atoms_from columns.now (length bytes.now) [] bytes.now ≡ None) }
     ensures normal { IfOk result (λ x. AllByRecursion IsNormalOrTrue x.0.items) }
 {
     let mut atoms = Vec::new(alloc);
@@ -116,7 +116,7 @@ fn atoms<'a>(
         atoms.push(atom)?;
         rest = after;
     }
-    Err(AnswerFault::NoAnswer)
+    Err(ParseFault::NotRead)
 }
 
 /// The tuple behind its opening brace, up to the end of the line, and what stands behind that.
@@ -124,9 +124,9 @@ fn tuple<'a>(
     alloc: Global,
     columns: &[Column],
     bytes: &'a [u8],
-) -> Result<(Tuple, &'a [u8]), AnswerFault>
+) -> Result<(Tuple, &'a [u8]), ParseFault>
     ensures read { IfOk result (λ x. tuple_at columns.now bytes.now ≡ Some (x.0, x.1.now)) }
-    ensures unread { IfErr result (λ e. e ≡ NoAnswer → tuple_at columns.now bytes.now ≡ None) }
+    ensures unread { IfErr result (λ e. e ≡ NotRead → tuple_at columns.now bytes.now ≡ None) }
 {
     let (atoms, rest) = atoms(alloc, columns, bytes)?;
     let tuple = normal_tuple(alloc, atoms)?;
@@ -136,22 +136,22 @@ fn tuple<'a>(
 /// The tuples on the lines behind the first one. The first line, and what stands behind the tuples, isn't looked at.
 ///
 /// # Errors
-/// `NoAnswer` only where what stands behind the first line doesn't begin with tuples, otherwise out of memory.
+/// `NotRead` only where what stands behind the first line doesn't begin with tuples, otherwise out of memory.
 pub(crate) fn answer_tuples(
     alloc: Global,
     columns: &[Column],
     bytes: &[u8],
-) -> Result<Vec<Tuple>, AnswerFault>
+) -> Result<Vec<Tuple>, ParseFault>
     ensures read { IfOk result (λ list. answer_at columns.now bytes.now ≡ Some list.items) }
-    ensures unread { IfErr result (λ e. e ≡ NoAnswer → answer_at columns.now bytes.now ≡ None) }
+    ensures unread { IfErr result (λ e. e ≡ NotRead → answer_at columns.now bytes.now ≡ None) }
 {
     tuples(alloc, columns, behind_line(bytes))
 }
 
 /// The tuples on the lines in front that begin with a brace.
-fn tuples(alloc: Global, columns: &[Column], bytes: &[u8]) -> Result<Vec<Tuple>, AnswerFault>
+fn tuples(alloc: Global, columns: &[Column], bytes: &[u8]) -> Result<Vec<Tuple>, ParseFault>
     ensures read { IfOk result (λ list. tuples_at columns.now bytes.now ≡ Some list.items) }
-    ensures unread { IfErr result (λ e. e ≡ NoAnswer → tuples_at columns.now bytes.now ≡ None) }
+    ensures unread { IfErr result (λ e. e ≡ NotRead → tuples_at columns.now bytes.now ≡ None) }
 {
     let mut tuples = Vec::new(alloc);
     let mut rest = bytes;
@@ -164,5 +164,5 @@ fn tuples(alloc: Global, columns: &[Column], bytes: &[u8]) -> Result<Vec<Tuple>,
         tuples.push(tuple)?;
         rest = after;
     }
-    Err(AnswerFault::NoAnswer)
+    Err(ParseFault::NotRead)
 }

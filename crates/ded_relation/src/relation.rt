@@ -44,8 +44,13 @@ impl Model for Relation {
 
     ghost Value = { Relation };
 
-    ghost view = { λ r. record { heading = r.heading; inserts = r.inserts; tuples = record
-        { entries = r.tuples.entries }; reaches = r.index.hulls } };
+    ghost view = { λ r. record {
+      heading = r.heading;
+      inserts = r.inserts;
+      tuples = record
+          { entries = r.tuples.entries };
+      reaches = r.index.hulls;
+    } };
 
     ghost invariant = { λ r. IsIndexOf r.heading r.index r.tuples.entries };
 }
@@ -55,8 +60,13 @@ impl Relation {
     /// its tuples will be hashed.
     pub fn new(alloc: Global, heading: Heading, inserts: u32, hashing: NameHashing) -> Relation
         ensures { result
-            ≡ record { heading = heading; inserts = inserts; tuples = record { entries = [] }; reaches = record
-            { entries = []; loose = 0 } } }
+            ≡ record {
+              heading = heading;
+              inserts = inserts;
+              tuples = record { entries = [] };
+              reaches = record
+                  { entries = []; loose = 0 };
+            } }
     {
         Relation {
             heading,

@@ -109,8 +109,10 @@ fn quantify<'a>(scope: &mut Scope<'a>, next: &mut u32, column: &'a Column) -> Re
     requires { next.old + 1 < 2 ^ 32 }
     ensures slot { IfOk result (λ s. s ≡ record { number = next.old; sort = column.now.sort }) }
     ensures next { OnOk result (next.new ≡ next.old + 1) }
-    ensures scope { OnOk result (scope.new ≡ (name column.now.name,
-        record { number = next.old; sort = column.now.sort }) ∷ scope.old) }
+    ensures scope { OnOk result (scope.new ≡ (
+      name column.now.name,
+      record { number = next.old; sort = column.now.sort },
+    ) ∷ scope.old) }
 {
     let slot = Slot {
         number: *next,

@@ -39,7 +39,12 @@ pub fn text_side<'a>(scope: &Scope, operand: &'a Operand) -> ComparedText<'a>
 ///
 /// # Errors
 /// Out of memory.
-pub fn texts(alloc: Global, left: ComparedText, op: CompareOp, right: ComparedText) -> Result<Goal, NoMemory>
+pub fn texts(
+    alloc: Global,
+    left: ComparedText,
+    op: CompareOp,
+    right: ComparedText,
+) -> Result<Goal, NoMemory>
     ensures goal { IfOk result (λ g. goal_form g ≡ texts_goal (side_form left.entry) op (side_form right.entry)) }
     ensures normal { IsTextSide (side_form left.entry) → IsTextSide (side_form right.entry)
         → IfOk result (λ g. IsNormalComparison (goal_form g)) }
@@ -59,8 +64,14 @@ fn same_text(alloc: Global, left: ComparedText, right: ComparedText) -> Result<G
 {
     match (left, right) {
         (ComparedText::At(s), ComparedText::At(t)) => Ok(same_slots(s, t)),
-        (ComparedText::At(s), ComparedText::Word(t)) => Ok(Goal::Theme(ThemeAtom::EqText(s, quoted(alloc, t)?))),
-        (ComparedText::Word(t), ComparedText::At(s)) => Ok(Goal::Theme(ThemeAtom::EqText(s, quoted(alloc, t)?))),
+        (ComparedText::At(s), ComparedText::Word(t)) => Ok(Goal::Theme(ThemeAtom::EqText(
+            s,
+            quoted(alloc, t)?,
+        ))),
+        (ComparedText::Word(t), ComparedText::At(s)) => Ok(Goal::Theme(ThemeAtom::EqText(
+            s,
+            quoted(alloc, t)?,
+        ))),
         (ComparedText::Word(t), ComparedText::Word(u)) => Ok(truth(t == u)),
     }
 }
@@ -73,8 +84,14 @@ fn other_text(alloc: Global, left: ComparedText, right: ComparedText) -> Result<
 {
     match (left, right) {
         (ComparedText::At(s), ComparedText::At(t)) => Ok(other_slots(s, t)),
-        (ComparedText::At(s), ComparedText::Word(t)) => Ok(Goal::Theme(ThemeAtom::NeText(s, quoted(alloc, t)?))),
-        (ComparedText::Word(t), ComparedText::At(s)) => Ok(Goal::Theme(ThemeAtom::NeText(s, quoted(alloc, t)?))),
+        (ComparedText::At(s), ComparedText::Word(t)) => Ok(Goal::Theme(ThemeAtom::NeText(
+            s,
+            quoted(alloc, t)?,
+        ))),
+        (ComparedText::Word(t), ComparedText::At(s)) => Ok(Goal::Theme(ThemeAtom::NeText(
+            s,
+            quoted(alloc, t)?,
+        ))),
         (ComparedText::Word(t), ComparedText::Word(u)) => Ok(truth(t != u)),
     }
 }

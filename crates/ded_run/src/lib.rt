@@ -19,4 +19,4 @@ mod words;
 
 pub use ded_dialogue::Status;
 pub use program::{Setup, make, run, serve};
-pub use words::{Options, WordFault, Words, has_dashes, limit_of, number_of, options_in};
+pub use words::{Options, Words, has_dashes, limit_of, number_of, options_in};

@@ -187,7 +187,11 @@ fn feed_questions<A: Answering, K: Sink>(
         last,
         TextPart::Text(b"')"),
     ];
-    let other_corner = [TextPart::Text(b"ask Cross('r0c"), last, TextPart::Text(b"', 's0')")];
+    let other_corner = [
+        TextPart::Text(b"ask Cross('r0c"),
+        last,
+        TextPart::Text(b"', 's0')"),
+    ];
     dialogue.feed(b"ask exists n text exists k text (Cross(n, k));\n", sink)?;
     feed_statement(dialogue, &corner, sink)?;
     feed_statement(dialogue, &other_corner, sink)?;

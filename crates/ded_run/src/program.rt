@@ -9,9 +9,10 @@ ghost use Rattle.ded_run.specs.Words.{AcceptedWords, WithOptions, texts_in};
 
 use crate::made::feed_script;
 use crate::one_session::OneSession;
-use crate::words::{WordFault, Words, options_in};
+use crate::words::{Words, options_in};
 use ded_dialogue::{Dialogue, Status, conclude};
 use ded_io::{Failed, Sink, Source};
+use ded_model::fault::ParseFault;
 use ded_model::limits;
 use std::alloc::Global;
 
@@ -152,8 +153,8 @@ pub fn run<S: Source, K: Sink>(
 {
     let options = match options_in(alloc, &words.list) {
         Ok(options) => options,
-        Err(WordFault::Bad) => return Status::BadWords,
-        Err(WordFault::Memory) => return Status::NoMemory,
+        Err(ParseFault::NotRead) => return Status::BadWords,
+        Err(ParseFault::Memory) => return Status::NoMemory,
     };
     let setup = Setup {
         limit: options.limit,

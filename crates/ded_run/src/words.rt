@@ -5,13 +5,12 @@ ghost use Rattle.std.specs.String.{string_bytes};
 ghost use Rattle.clap.specs.Words.{app_of, fault_of, first_of, matches_of};
 ghost use Rattle.ded_run.specs.CommandLine.{dedale, has_dashes};
 ghost use Rattle.ded_run.specs.declared.words.Options.{Options};
-ghost use Rattle.ded_run.specs.declared.words.WordFault.TheVariants.{Memory};
 ghost use Rattle.ded_run.specs.Words.{AcceptedWords, IsNumber, LimitValue, SizeValue};
 
 use clap::error::ErrorKind;
 use clap::{Arg, ArgAction, Command};
+use ded_model::fault::ParseFault;
 use ded_model::limits;
-use ded_model::memory::NoMemory;
 use std::alloc::Global;
 
 /// The words of the command line, without the program's name.
@@ -29,28 +28,9 @@ pub struct Options {
     pub size: Option<u32>,
 }
 
-const DEFAULT_LIMIT: u32 = 100_000;
-
 const GREATEST_SIZE: u32 = 100;
 
 const MOST_DIGITS: usize = 7;
-
-/// Why words give no options.
-#[derive(Clone, Copy, Debug, PartialEq, Eq)]
-pub enum WordFault {
-    /// They are no accepted list.
-    Bad,
-    /// There was no memory to read them.
-    Memory,
-}
-
-impl From<NoMemory> for WordFault {
-    ghost from_gives = { λ _ e. e ≡ Memory };
-
-    fn from(_error: NoMemory) -> WordFault {
-        WordFault::Memory
-    }
-}
 
 /// The values of the two options, where the words have them.
 #[derive(Clone, Copy)]
@@ -62,21 +42,21 @@ struct Values<'a> {
 /// The options that the words give.
 ///
 /// # Errors
-/// `Bad` only where the words are no accepted list, otherwise out of memory.
-pub fn options_in(alloc: Global, words: &[String]) -> Result<Options, WordFault>
+/// `NotRead` only where the words are no accepted list, otherwise out of memory.
+pub fn options_in(alloc: Global, words: &[String]) -> Result<Options, ParseFault>
     ensures accepted { IfOk result (λ options. AcceptedWords (map string_bytes words.now) options) }
-    ensures bad { result ≡ Err WordFault.Bad →
+    ensures bad { result ≡ Err ParseFault.NotRead →
         (options : Options) → AcceptedWords (map string_bytes words.now) options → ⊥ }
 {
     if has_dashes(words) {
-        return Err(WordFault::Bad);
+        return Err(ParseFault::NotRead);
     }
     let values = values_in(alloc, words)?;
     let Some(limit) = limit_of(values.limit) else {
-        return Err(WordFault::Bad);
+        return Err(ParseFault::NotRead);
     };
     let Some(size) = size_of(values.size) else {
-        return Err(WordFault::Bad);
+        return Err(ParseFault::NotRead);
     };
     Ok(Options { limit, size })
 }
@@ -109,22 +89,22 @@ fn command<'a>(alloc: Global) -> Result<Command<'a>, NoMemory>
         .arg(size)
 }
 
-/// The values of the two options, where the words have them. `Bad` only where `clap` finds a fault in the words.
-fn values_in<'a>(alloc: Global, words: &'a [String]) -> Result<Values<'a>, WordFault>
+/// The values of the two options, where the words have them. `NotRead` only where `clap` finds a fault in the words.
+fn values_in<'a>(alloc: Global, words: &'a [String]) -> Result<Values<'a>, ParseFault>
     ensures none { IfOk result (λ _. fault_of dedale (map string_bytes words.entry.now) ≡ []) }
     ensures limit { IfOk result (λ values. option_map (λ t. t.now) values.limit
         ≡ first_of (codes "limit") (matches_of dedale (map string_bytes words.entry.now))) }
     ensures size { IfOk result (λ values. option_map (λ t. t.now) values.size
         ≡ first_of (codes "make") (matches_of dedale (map string_bytes words.entry.now))) }
-    ensures bad { result ≡ Err WordFault.Bad → fault_of dedale (map string_bytes words.entry.now) ≢ [] }
+    ensures bad { result ≡ Err ParseFault.NotRead → fault_of dedale (map string_bytes words.entry.now) ≢ [] }
 {
     match command(alloc)?.try_get_matches_from(words) {
         Ok(matches) => Ok(Values {
             limit: matches.get_str("limit"),
             size: matches.get_str("make"),
         }),
-        Err(error) if error.kind() == ErrorKind::OutOfMemory => Err(WordFault::Memory),
-        Err(_) => Err(WordFault::Bad),
+        Err(error) if error.kind() == ErrorKind::OutOfMemory => Err(ParseFault::Memory),
+        Err(_) => Err(ParseFault::NotRead),
     }
 }
 
@@ -136,7 +116,7 @@ pub fn limit_of(value: Option<&str>) -> Option<u32>
 {
     match value {
         Some(text) => number_of(text, limits::TUPLES),
-        None => Some(DEFAULT_LIMIT),
+        None => Some(limits::DEFAULT_TUPLES),
     }
 }
 

@@ -14,9 +14,6 @@ use std::alloc::Global;
 /// How a run of shared sessions ended.
 pub type SharedStatus = Status;
 
-/// The most tuples that a relation holds.
-const TUPLES: u32 = 100_000;
-
 /// All that the program does, which takes no words: reads an input to its end, and writes a reply to each tagged
 /// statement. Names are hashed by the keys.
 pub fn run_shared<S: Source, K: Sink>(
@@ -57,7 +54,7 @@ pub fn run_shared<S: Source, K: Sink>(
     if words != 0 {
         return Status::BadWords;
     }
-    let Ok(shared) = Shared::hashed_with(alloc, TUPLES, keys) else {
+    let Ok(shared) = Shared::hashed_with(alloc, limits::DEFAULT_TUPLES, keys) else {
         return Status::NoMemory;
     };
     laws::serial();

@@ -11,8 +11,9 @@ use crate::reply::SharedReply;
 use crate::tag::{SESSIONS, Tag, Verb, tag_of, verb_of};
 use crate::transaction::Transaction;
 use ded_catalog::Catalogue;
-use ded_lex::{LexFault, Piece, Token, tokens};
+use ded_lex::{Piece, Token, tokens};
 use ded_model::command::Refusal;
+use ded_model::fault::ParseFault;
 use ded_model::memory::NoMemory;
 use ded_model::name::Name;
 use ded_session::Reply;
@@ -119,8 +120,8 @@ impl Shared {
     {
         match tokens(self.alloc, bytes) {
             Ok(tokens) => self.step_tokens(bytes, tokens.list()),
-            Err(LexFault::NoToken) => refused(Refusal::Syntax),
-            Err(LexFault::Memory) => refused(Refusal::Memory),
+            Err(ParseFault::NotRead) => refused(Refusal::Syntax),
+            Err(ParseFault::Memory) => refused(Refusal::Memory),
         }
     }
 

@@ -6,7 +6,7 @@
 
 use crate::reading::{corner, end_multipliers, multipliers, point, ray};
 use crate::search::{SearchEnd, helping, solve};
-use crate::table::{TableauLine, Tableau};
+use crate::table::{Tableau, TableauLine};
 use crate::variable::Variable;
 use ded_model::memory::NoMemory;
 use ded_model::row::Row;
@@ -113,7 +113,9 @@ fn reached(
                 Ok(SlotReach::Near(corner(alloc, table)?, numbers))
             }
         }
-        Stop::Column(column, towards) => Ok(SlotReach::Endless(ray(alloc, table, column, towards)?)),
+        Stop::Column(column, towards) => Ok(SlotReach::Endless(ray(
+            alloc, table, column, towards,
+        )?)),
         Stop::Stuck => Ok(SlotReach::Unknown),
     }
 }
@@ -212,7 +214,11 @@ fn stopping(lines: &[TableauLine], column: usize, towards: Ordering) -> Option<u
 }
 
 /// Whether the line stops the variable of the column before the line found so far, if there is one.
-fn is_stopped_before(line: &TableauLine, found: Option<(usize, &TableauLine)>, column: usize) -> bool {
+fn is_stopped_before(
+    line: &TableauLine,
+    found: Option<(usize, &TableauLine)>,
+    column: usize,
+) -> bool {
     match found {
         Some((_, other)) => line.stops_before(other, column),
         None => true,

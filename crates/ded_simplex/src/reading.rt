@@ -1,6 +1,6 @@
 //! What the table shows where the search ends: a point, or numbers of rows.
 
-use crate::table::{TableauLine, Tableau};
+use crate::table::{Tableau, TableauLine};
 use crate::variable::Variable;
 use ded_model::memory::NoMemory;
 use ded_num::gcd;

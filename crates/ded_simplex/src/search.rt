@@ -8,7 +8,7 @@
 use crate::few::find_by_few;
 use crate::hint::Hint;
 use crate::reading::{multipliers, point};
-use crate::table::{TableauLine, Tableau};
+use crate::table::{Tableau, TableauLine};
 use crate::variable::Variable;
 use ded_model::memory::NoMemory;
 use ded_model::row::Row;

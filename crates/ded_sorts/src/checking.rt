@@ -7,9 +7,10 @@ ghost use Rattle.ded_sorts.specs.Checks.{is_checked, IsLeastCause, HasNoneBelow,
 ghost use Rattle.ded_sorts.specs.Facts.{AreFacts};
 
 use crate::causes::{
-    deletes_none, drops_used, has_many, has_unbound, has_wrong_arity, has_wrong_sort, is_too_high,
-    names_other_kind, names_twice, names_unknown, takes_name,
+    deletes_none, drops_used, has_many, is_too_high, names_other_kind, names_twice, names_unknown,
+    takes_name,
 };
+use crate::columns::{has_unbound, has_wrong_arity, has_wrong_sort};
 use crate::facts::Facts;
 use crate::names::Names;
 use ded_model::command::{Command, Refusal};

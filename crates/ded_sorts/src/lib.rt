@@ -14,6 +14,7 @@
 mod atoms;
 mod causes;
 mod checking;
+mod columns;
 mod facts;
 pub mod laws;
 mod names;

@@ -56,7 +56,12 @@ impl<N: Names> AtomTest for OtherArity<'_, N> {
         Ok(false)
     }
 
-    fn on_member(&self, _: &SortScope<'_>, name: &Name, operands: &Operands) -> Result<bool, NoMemory> {
+    fn on_member(
+        &self,
+        _: &SortScope<'_>,
+        name: &Name,
+        operands: &Operands,
+    ) -> Result<bool, NoMemory> {
         match known_base(self.names, name)? {
             None => Ok(false),
             Some(entry) => Ok(operands.list.len() != entry.columns().len()),

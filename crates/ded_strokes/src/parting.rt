@@ -81,8 +81,10 @@ fn parting(side: PlaneLimit, borders: &[PlaneLimit], from: Corner, to: Corner) -
     requires proper { IsProper side.plane }
     requires from { level side.plane from ≡ pos 0 }
     requires to { level side.plane to ≡ pos 0 }
-    requires crossed { (b : PlaneLimit) → In b borders.now → parts_levels (level b.plane from) (level b.plane to) ≡ true }
-    ensures { MatchOption result (borders.now ≡ []) (λ c. (b : PlaneLimit) × In b borders.now × IsCut side b from to c) }
+    requires crossed { (b : PlaneLimit) → In b borders.now
+        → parts_levels (level b.plane from) (level b.plane to) ≡ true }
+    ensures { MatchOption result (borders.now ≡ []) (λ c. (b : PlaneLimit) × In b borders.now
+        × IsCut side b from to c) }
 {
     if borders.is_empty() {
         return None;

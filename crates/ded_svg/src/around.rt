@@ -131,7 +131,11 @@ fn left_tick_data(alloc: Global, place: Coordinate) -> Result<Name, NoMemory>
 ///
 /// # Errors
 /// Out of memory.
-pub(crate) fn put_patterns(alloc: Global, text: &mut Text, legend: &[LegendEntry]) -> Result<(), NoMemory>
+pub(crate) fn put_patterns(
+    alloc: Global,
+    text: &mut Text,
+    legend: &[LegendEntry],
+) -> Result<(), NoMemory>
     ensures { OnOk result (text.new ≡ text.old ++ markup_text (patterns_markup legend.now)) }
 {
     for entry in legend {
@@ -181,7 +185,12 @@ fn put_filled(alloc: Global, text: &mut Text, paint: &[u8], outline: &[u8]) -> R
 }
 
 /// Puts the entries of a legend below a picture of this height.
-fn put_legend(alloc: Global, text: &mut Text, height: u32, legend: &[LegendEntry]) -> Result<(), NoMemory>
+fn put_legend(
+    alloc: Global,
+    text: &mut Text,
+    height: u32,
+    legend: &[LegendEntry],
+) -> Result<(), NoMemory>
     ensures { OnOk result (text.new ≡ text.old ++ markup_text (legend_markup height 0 legend.now)) }
 {
     for (number, entry) in legend.iter().enumerate() {
@@ -207,7 +216,12 @@ fn put_entry(alloc: Global, text: &mut Text, top: u128, entry: &LegendEntry) -> 
 }
 
 /// Puts a square with the pattern of an entry.
-fn put_swatch(alloc: Global, text: &mut Text, top: u128, entry: &LegendEntry) -> Result<(), NoMemory>
+fn put_swatch(
+    alloc: Global,
+    text: &mut Text,
+    top: u128,
+    entry: &LegendEntry,
+) -> Result<(), NoMemory>
     ensures { OnOk result (text.new ≡ text.old ++ markup_text (swatch_markup top entry.now)) }
 {
     let paint = pattern_reference(alloc, entry.colour)?;
@@ -223,7 +237,12 @@ fn put_swatch(alloc: Global, text: &mut Text, top: u128, entry: &LegendEntry) ->
 }
 
 /// Puts the words of an entry.
-fn put_entry_words(alloc: Global, text: &mut Text, top: u128, entry: &LegendEntry) -> Result<(), NoMemory>
+fn put_entry_words(
+    alloc: Global,
+    text: &mut Text,
+    top: u128,
+    entry: &LegendEntry,
+) -> Result<(), NoMemory>
     requires { top < 1000000000000000000000000 }
     ensures { OnOk result (text.new ≡ text.old ++ markup_text (entry_words_markup top entry.now)) }
 {

@@ -22,5 +22,7 @@ mod picture;
 mod svg;
 
 pub use coordinate::Coordinate;
-pub use picture::{Corners, LegendEntry, Line, ColouredShape, Picture, Point, Shape, ColouredLine, Tick};
+pub use picture::{
+    ColouredLine, ColouredShape, Corners, LegendEntry, Line, Picture, Point, Shape, Tick,
+};
 pub use svg::picture_text;

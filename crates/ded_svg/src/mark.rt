@@ -9,7 +9,7 @@ ghost use Rattle.ded_svg.specs.Pictures.{strokes_markup};
 use crate::coordinate::put_coordinate;
 use crate::element::{put_attribute, put_painted};
 use crate::palette::{ink, pattern_reference};
-use crate::picture::{Line, ColouredShape, Point, Shape, ColouredLine};
+use crate::picture::{ColouredLine, ColouredShape, Line, Point, Shape};
 use ded_dump::Text;
 use ded_model::memory::NoMemory;
 use ded_model::name::Name;
@@ -19,7 +19,11 @@ use std::alloc::Global;
 ///
 /// # Errors
 /// Out of memory.
-pub(crate) fn put_marks(alloc: Global, text: &mut Text, marks: &[ColouredShape]) -> Result<(), NoMemory>
+pub(crate) fn put_marks(
+    alloc: Global,
+    text: &mut Text,
+    marks: &[ColouredShape],
+) -> Result<(), NoMemory>
     ensures { OnOk result (text.new ≡ text.old ++ markup_text (marks_markup marks.now)) }
 {
     for mark in marks {

@@ -10,8 +10,9 @@ ghost use Rattle.ded_model.specs.Sum.{ArePartsWithin};
 ghost use Rattle.ded_model.specs.LongRows.{coefficients, is_long_over, is_long_row, is_long_argument};
 ghost use Rattle.ded_syntax.specs.Marks.{is_marked, is_unfit_argument};
 
-use crate::long::{TOO_GREAT, is_long_over};
+use crate::long::is_long_over;
 use ded_model::formula::{Operand, Term};
+use ded_model::limits;
 use ded_model::name::Name;
 use ded_num::gcd;
 
@@ -74,7 +75,7 @@ pub fn is_marked(operand: &Operand) -> bool
     ensures { result ≡ is_marked operand.now }
 {
     match operand {
-        Operand::Sum(term) => term.over.unsigned_abs() >= TOO_GREAT,
+        Operand::Sum(term) => term.over.unsigned_abs() >= u128::from(limits::TOO_GREAT),
         Operand::Single(_) | Operand::Quoted(_) => false,
     }
 }

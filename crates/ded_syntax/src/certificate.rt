@@ -1,7 +1,7 @@
 //! The entries of certificates: two numbers of tuples, and the word of texts or multipliers.
 ghost use Rattle.std.specs.Prelude.{◌≡◌, ◌≤◌, ◌<◌, length, Some, None, IfSome, IfNone, IfOk, IfErr};
 ghost use Rattle.std.specs.List.{AllByRecursion};
-ghost use Rattle.ded_grammar.specs.declared.fault.ReadFault.TheVariants.{NotRead};
+ghost use Rattle.ded_model.specs.declared.fault.ParseFault.TheVariants.{NotRead};
 ghost use Rattle.ded_num.specs.Length.{IsShort};
 ghost use Rattle.ded_syntax.specs.CertificateReading.{integer_at, integers_at, as_proof, proof_at, entry_at};
 ghost use Rattle.ded_syntax.specs.CertificateReading.{entries_at};
@@ -11,8 +11,8 @@ ghost use Rattle.ded_terminals.specs.Literals.{capped_reader};
 ghost use Rattle.ded_terminals.specs.Operands.{signed};
 
 use crate::draft::{brace, empty, open_brace};
-use ded_grammar::ReadFault;
 use ded_model::certificate::{Entry, Multipliers, Proof};
+use ded_model::fault::ParseFault;
 use ded_model::memory::NoMemory;
 use ded_terminals::item::{Item, Keyword, Rest, text, value_of};
 use ded_terminals::side::number;
@@ -72,7 +72,7 @@ fn multipliers(alloc: Global, rest: Rest<'_>) -> Result<(Proof, Rest<'_>), NoMem
 }
 
 /// The proof with which the rest begins, and what stands behind it.
-fn proof(alloc: Global, rest: Rest<'_>) -> Result<(Proof, Rest<'_>), ReadFault>
+fn proof(alloc: Global, rest: Rest<'_>) -> Result<(Proof, Rest<'_>), ParseFault>
     ensures read { IfOk result (λ x. proof_at capped_reader (left rest.entry) ≡ Some (x.0, left x.1)) }
     ensures unread { IfErr result (λ e. e ≡ NotRead → proof_at capped_reader (left rest.entry) ≡ None) }
     ensures low { IfOk result (λ x. length (left x.1) < length (left rest.entry)) }
@@ -80,21 +80,21 @@ fn proof(alloc: Global, rest: Rest<'_>) -> Result<(Proof, Rest<'_>), ReadFault>
     match rest.items {
         [Item::Word(Keyword::Text), items @ ..] => Ok((Proof::Text, Rest { items, ..rest })),
         [Item::Colon, items @ ..] => Ok(multipliers(alloc, Rest { items, ..rest })?),
-        _ => Err(ReadFault::NotRead),
+        _ => Err(ParseFault::NotRead),
     }
 }
 
 /// The entry with which the rest begins, and what stands behind it.
-fn entry(alloc: Global, rest: Rest<'_>) -> Result<(Entry, Rest<'_>), ReadFault>
+fn entry(alloc: Global, rest: Rest<'_>) -> Result<(Entry, Rest<'_>), ParseFault>
     ensures read { IfOk result (λ x. entry_at capped_reader (left rest.entry) ≡ Some (x.0, left x.1)) }
     ensures unread { IfErr result (λ e. e ≡ NotRead → entry_at capped_reader (left rest.entry) ≡ None) }
     ensures low { IfOk result (λ x. length (left x.1) < length (left rest.entry)) }
 {
     let Some((first, rest)) = number(rest) else {
-        return Err(ReadFault::NotRead);
+        return Err(ParseFault::NotRead);
     };
     let Some((second, rest)) = number(rest) else {
-        return Err(ReadFault::NotRead);
+        return Err(ParseFault::NotRead);
     };
     let (proof, rest) = proof(alloc, rest)?;
     let (first, second) = (value_of(first), value_of(second));
@@ -109,7 +109,7 @@ fn entry(alloc: Global, rest: Rest<'_>) -> Result<(Entry, Rest<'_>), ReadFault>
 }
 
 /// The entries up to the closing brace, and what stands behind that.
-fn entries(alloc: Global, items: Rest<'_>) -> Result<(Vec<Entry>, Rest<'_>), ReadFault>
+fn entries(alloc: Global, items: Rest<'_>) -> Result<(Vec<Entry>, Rest<'_>), ParseFault>
     ensures read { IfOk result (λ x. entries_at capped_reader (left items.entry) ≡ Some (x.0.items, left x.1)) }
     ensures unread { IfErr result (λ e. e ≡ NotRead → entries_at capped_reader (left items.entry) ≡ None) }
 {
@@ -120,21 +120,21 @@ fn entries(alloc: Global, items: Rest<'_>) -> Result<(Vec<Entry>, Rest<'_>), Rea
         let (next, after) = entry(alloc, rest)?;
         list.push(next)?;
         let Some((goes_on, behind)) = brace(after) else {
-            return Err(ReadFault::NotRead);
+            return Err(ParseFault::NotRead);
         };
         if !goes_on {
             return Ok((list, behind));
         }
         rest = behind;
     }
-    Err(ReadFault::NotRead)
+    Err(ParseFault::NotRead)
 }
 
 /// The entries, if any, in the braces with which the rest begins, and what stands behind the braces.
 ///
 /// # Errors
 /// `NotRead` only where the rest begins with no braces that are empty or have entries in them, otherwise out of memory.
-pub fn certificate(alloc: Global, rest: Rest<'_>) -> Result<(Vec<Entry>, Rest<'_>), ReadFault>
+pub fn certificate(alloc: Global, rest: Rest<'_>) -> Result<(Vec<Entry>, Rest<'_>), ParseFault>
     ensures read { IfOk result (λ x. certificate_at capped_reader (left rest.entry) ≡ Some (x.0.items, left x.1)) }
     ensures unread { IfErr result (λ e. e ≡ NotRead → certificate_at capped_reader (left rest.entry) ≡ None) }
 {
@@ -142,7 +142,7 @@ pub fn certificate(alloc: Global, rest: Rest<'_>) -> Result<(Vec<Entry>, Rest<'_
         return Ok((Vec::new(alloc), rest));
     }
     let Some(rest) = open_brace(rest) else {
-        return Err(ReadFault::NotRead);
+        return Err(ParseFault::NotRead);
     };
     entries(alloc, rest)
 }

@@ -1,7 +1,7 @@
 //! Commands of bytes.
 ghost use Rattle.std.specs.Prelude.{◌≡◌, ◌≢◌, ◌≤◌, ℕ, List, Some, true, length, map, IfOk, IfErr, IfSome, IfNone};
 ghost use Rattle.ded_lex.specs.Tokens.{AreLexemes, lexeme};
-ghost use Rattle.ded_grammar.specs.declared.fault.ReadFault.TheVariants.{NotRead};
+ghost use Rattle.ded_model.specs.declared.fault.ParseFault.TheVariants.{NotRead};
 ghost use Rattle.ded_model.specs.declared.command.Language.{Language as LanguageForm};
 ghost use Rattle.ded_model.specs.declared.command.Refusal.TheVariants as refusal;
 ghost use Rattle.ded_model.specs.Command.{command_form};
@@ -17,9 +17,10 @@ ghost use Rattle.ded_syntax.specs.Spelling.{IsRead, IsLeastIn};
 use crate::draft::{Draft, Head};
 use crate::long::is_unfit;
 use crate::statement::draft;
-use ded_grammar::{ReadFault, formula_of, is_formula};
-use ded_lex::{LexFault, Token, tokens};
+use ded_grammar::{formula_of, is_formula};
+use ded_lex::{Token, tokens};
 use ded_model::command::{Command, Language, Refusal};
+use ded_model::fault::ParseFault;
 use ded_model::formula::Formula;
 use ded_terminals::item::{Rest, has_long_literal, has_long_name, items_of};
 use std::alloc::Global;
@@ -35,7 +36,7 @@ fn is_spelled(draft: &Draft) -> bool
 }
 
 /// The draft that the items spell, with terminals that spell a formula where it has terminals.
-fn spelled_draft(alloc: Global, items: Rest<'_>) -> Result<Draft, ReadFault>
+fn spelled_draft(alloc: Global, items: Rest<'_>) -> Result<Draft, ParseFault>
     requires few { length (left items) ≤ 65536 }
     ensures read { IfOk result (λ d. draft_at capped_reader (left items.entry) ≡ Some (seen_draft d)) }
     ensures scanned { IfOk result (λ d. scans (seen_draft d) ≡ true) }
@@ -46,7 +47,7 @@ fn spelled_draft(alloc: Global, items: Rest<'_>) -> Result<Draft, ReadFault>
         Ok(draft)
     } else {
         drop(draft);
-        Err(ReadFault::NotRead)
+        Err(ParseFault::NotRead)
     }
 }
 
@@ -109,8 +110,8 @@ fn command_by(alloc: Global, items: Rest<'_>) -> Result<Command, Refusal>
 {
     let draft = match spelled_draft(alloc, items) {
         Ok(draft) => draft,
-        Err(ReadFault::NotRead) => return Err(Refusal::Syntax),
-        Err(ReadFault::Memory) => return Err(Refusal::Memory),
+        Err(ParseFault::NotRead) => return Err(Refusal::Syntax),
+        Err(ParseFault::Memory) => return Err(Refusal::Memory),
     };
     match long_refusal(items, &draft) {
         Some(refusal) => {
@@ -137,8 +138,8 @@ pub fn read_command(alloc: Global, bytes: &[u8], language: Language) -> Result<C
 {
     match tokens(alloc, bytes) {
         Ok(tokens) => read_tokens(alloc, bytes, tokens.list(), language),
-        Err(LexFault::NoToken) => Err(Refusal::Syntax),
-        Err(LexFault::Memory) => Err(Refusal::Memory),
+        Err(ParseFault::NotRead) => Err(Refusal::Syntax),
+        Err(ParseFault::Memory) => Err(Refusal::Memory),
     }
 }
 

@@ -1,6 +1,6 @@
 //! Commands up to the tree of their formula.
 ghost use Rattle.std.specs.Prelude.{◌≡◌, ◌≤◌, ◌<◌, length, map, Some, None, IfSome, IfNone, IfOk, IfErr};
-ghost use Rattle.ded_grammar.specs.declared.fault.ReadFault.TheVariants.{NotRead};
+ghost use Rattle.ded_model.specs.declared.fault.ParseFault.TheVariants.{NotRead};
 ghost use Rattle.ded_model.specs.Command.{command_form};
 ghost use Rattle.ded_model.specs.Form.{form};
 ghost use Rattle.ded_terminals.specs.Items.{left};
@@ -10,8 +10,9 @@ ghost use Rattle.ded_syntax.specs.CommandReading.{plain, ended, open_at, columns
 ghost use Rattle.ded_syntax.specs.CommandReading.{open_brace_at, forms_at, braces_at, colon_at, define_at, formed_at};
 ghost use Rattle.ded_syntax.specs.DraftViews.{seen_head, seen_draft};
 
-use ded_grammar::{ReadFault, Terminal};
+use ded_grammar::Terminal;
 use ded_model::command::Command;
+use ded_model::fault::ParseFault;
 use ded_model::formula::Formula;
 use ded_model::name::{Column, Heading, Name};
 use ded_terminals::atom::{column, comma, comparison};
@@ -48,7 +49,7 @@ fn open(rest: Rest<'_>) -> Option<Rest<'_>>
 }
 
 /// The columns of a heading, up to the closing parenthesis, and what stands behind that.
-fn columns(alloc: Global, items: Rest<'_>) -> Result<(Vec<Column>, Rest<'_>), ReadFault>
+fn columns(alloc: Global, items: Rest<'_>) -> Result<(Vec<Column>, Rest<'_>), ParseFault>
     ensures read { IfOk result (λ x. columns_at (left items.entry) ≡ Some (x.0.items, left x.1)) }
     ensures unread { IfErr result (λ e. e ≡ NotRead → columns_at (left items.entry) ≡ None) }
     ensures low { IfOk result (λ x. length (left x.1) < length (left items.entry)) }
@@ -60,27 +61,27 @@ fn columns(alloc: Global, items: Rest<'_>) -> Result<(Vec<Column>, Rest<'_>), Re
         let (next, after) = column(alloc, rest)?;
         list.push(next)?;
         let Some((goes_on, behind)) = comma(after) else {
-            return Err(ReadFault::NotRead);
+            return Err(ParseFault::NotRead);
         };
         if !goes_on {
             return Ok((list, behind));
         }
         rest = behind;
     }
-    Err(ReadFault::NotRead)
+    Err(ParseFault::NotRead)
 }
 
 /// The heading with which the rest begins, in parentheses, and what stands behind it.
 ///
 /// # Errors
 /// `NotRead` only where the rest begins with no heading, otherwise out of memory.
-pub fn heading(alloc: Global, rest: Rest<'_>) -> Result<(Heading, Rest<'_>), ReadFault>
+pub fn heading(alloc: Global, rest: Rest<'_>) -> Result<(Heading, Rest<'_>), ParseFault>
     ensures read { IfOk result (λ x. heading_at (left rest.entry) ≡ Some (x.0, left x.1)) }
     ensures unread { IfErr result (λ e. e ≡ NotRead → heading_at (left rest.entry) ≡ None) }
     ensures low { IfOk result (λ x. length (left x.1) < length (left rest.entry)) }
 {
     let Some(rest) = open(rest) else {
-        return Err(ReadFault::NotRead);
+        return Err(ParseFault::NotRead);
     };
     let (columns, rest) = columns(alloc, rest)?;
     Ok((Heading { columns }, rest))
@@ -125,7 +126,7 @@ pub fn brace(rest: Rest<'_>) -> Option<(bool, Rest<'_>)>
 }
 
 /// The comparisons of an insert, up to the closing brace, and what stands behind that.
-fn comparisons(alloc: Global, items: Rest<'_>) -> Result<(Vec<Formula>, Rest<'_>), ReadFault>
+fn comparisons(alloc: Global, items: Rest<'_>) -> Result<(Vec<Formula>, Rest<'_>), ParseFault>
     requires few { length (left items) ≤ 65536 }
     ensures read { IfOk result (λ x. forms_at capped_reader (left items.entry) ≡ Some (map form x.0.items, left x.1)) }
     ensures unread { IfErr result (λ e. e ≡ NotRead → forms_at capped_reader (left items.entry) ≡ None) }
@@ -137,14 +138,14 @@ fn comparisons(alloc: Global, items: Rest<'_>) -> Result<(Vec<Formula>, Rest<'_>
         let (next, after) = comparison(alloc, rest)?;
         list.push(next)?;
         let Some((goes_on, behind)) = brace(after) else {
-            return Err(ReadFault::NotRead);
+            return Err(ParseFault::NotRead);
         };
         if !goes_on {
             return Ok((list, behind));
         }
         rest = behind;
     }
-    Err(ReadFault::NotRead)
+    Err(ParseFault::NotRead)
 }
 
 /// The comparisons, if any, in the braces with which the rest begins, and what stands behind the braces.
@@ -152,7 +153,7 @@ fn comparisons(alloc: Global, items: Rest<'_>) -> Result<(Vec<Formula>, Rest<'_>
 /// # Errors
 /// `NotRead` only where the rest begins with no braces that are empty or have comparisons in them, otherwise out of
 /// memory.
-pub fn braces(alloc: Global, rest: Rest<'_>) -> Result<(Vec<Formula>, Rest<'_>), ReadFault>
+pub fn braces(alloc: Global, rest: Rest<'_>) -> Result<(Vec<Formula>, Rest<'_>), ParseFault>
     requires few { length (left rest) ≤ 65536 }
     ensures read { IfOk result (λ x. braces_at capped_reader (left rest.entry) ≡ Some (map form x.0.items, left x.1)) }
     ensures unread { IfErr result (λ e. e ≡ NotRead → braces_at capped_reader (left rest.entry) ≡ None) }
@@ -161,7 +162,7 @@ pub fn braces(alloc: Global, rest: Rest<'_>) -> Result<(Vec<Formula>, Rest<'_>),
         return Ok((Vec::new(alloc), rest));
     }
     let Some(rest) = open_brace(rest) else {
-        return Err(ReadFault::NotRead);
+        return Err(ParseFault::NotRead);
     };
     comparisons(alloc, rest)
 }
@@ -194,7 +195,7 @@ pub fn define(rest: Rest<'_>) -> Option<Rest<'_>>
 ///
 /// # Errors
 /// `NotRead` only where something stands behind the command.
-pub fn ended(command: Command, rest: Rest<'_>) -> Result<Draft, ReadFault>
+pub fn ended(command: Command, rest: Rest<'_>) -> Result<Draft, ParseFault>
     ensures read { IfOk result (λ d. ended (plain (command_form command)) (left rest.entry) ≡ Some (seen_draft d)) }
     ensures unread { IfErr result (λ e. e ≡ NotRead → ended (plain (command_form command)) (left rest.entry) ≡ None) }
 {
@@ -202,7 +203,7 @@ pub fn ended(command: Command, rest: Rest<'_>) -> Result<Draft, ReadFault>
         Ok(Draft::Plain(command))
     } else {
         drop(command);
-        Err(ReadFault::NotRead)
+        Err(ParseFault::NotRead)
     }
 }
 
@@ -210,7 +211,7 @@ pub fn ended(command: Command, rest: Rest<'_>) -> Result<Draft, ReadFault>
 ///
 /// # Errors
 /// `NotRead` only where what stands behind the head isn't terminals of a formula, otherwise out of memory.
-pub fn formed(alloc: Global, head: Head, rest: Rest<'_>) -> Result<Draft, ReadFault>
+pub fn formed(alloc: Global, head: Head, rest: Rest<'_>) -> Result<Draft, ParseFault>
     requires few { length (left rest) ≤ 65536 }
     ensures read { IfOk result (λ d. formed_at capped_reader (seen_head head) (left rest.entry) ≡ Some (seen_draft d)) }
     ensures unread { IfErr result (λ e. e ≡ NotRead

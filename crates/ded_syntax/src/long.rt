@@ -24,9 +24,6 @@ use ded_model::limits;
 use ded_model::name::Name;
 use ded_num::gcd;
 
-/// The least number that is too great for a row.
-pub const TOO_GREAT: u128 = limits::GREATEST_NUMBER as u128 + 1;
-
 // ---- rows by names
 
 /// The coefficient of the name among the parts, which is 0 where they don't have the name.
@@ -159,7 +156,7 @@ fn some_coefficient(operand: &Operand, over: i128, left: &Operand, right: &Opera
 pub fn is_long_over(by: u128, number: i128) -> bool
     ensures { result ≡ is_long_over by number }
 {
-    by != 0 && number.unsigned_abs() / by >= TOO_GREAT
+    by != 0 && number.unsigned_abs() / by >= u128::from(limits::TOO_GREAT)
 }
 
 /// Whether a name of the parts has a coefficient, in the difference of the two sides, that is above 2^63 - 1 in

@@ -11,8 +11,9 @@ ghost use Rattle.ded_table.specs.Wording.{AreRefused, WithLimit};
 use crate::session::TableSession;
 use ded_dialogue::Status;
 use ded_io::{Sink, Source};
+use ded_model::fault::ParseFault;
 use ded_model::limits;
-use ded_run::{Setup, WordFault, Words, options_in};
+use ded_run::{Setup, Words, options_in};
 use std::alloc::Global;
 
 /// Reads a script to its end, and writes a reply to each statement, tuples as tables.
@@ -94,8 +95,8 @@ pub fn run<S: Source, K: Sink>(
 {
     let options = match options_in(alloc, &words.list) {
         Ok(options) => options,
-        Err(WordFault::Bad) => return Status::BadWords,
-        Err(WordFault::Memory) => return Status::NoMemory,
+        Err(ParseFault::NotRead) => return Status::BadWords,
+        Err(ParseFault::Memory) => return Status::NoMemory,
     };
     let setup = Setup {
         limit: options.limit,

@@ -1,6 +1,6 @@
 //! Comparisons, members and columns.
 ghost use Rattle.std.specs.Prelude.{◌≡◌, ◌≤◌, ◌<◌, ◌++◌, codes, length, Some, None, IfSome, IfNone, IfOk, IfErr};
-ghost use Rattle.ded_grammar.specs.declared.fault.ReadFault.TheVariants.{NotRead};
+ghost use Rattle.ded_model.specs.declared.fault.ParseFault.TheVariants.{NotRead};
 ghost use Rattle.ded_model.specs.Form.{form};
 ghost use Rattle.ded_terminals.specs.Items.{left};
 ghost use Rattle.ded_terminals.specs.Literals.{capped_reader};
@@ -12,7 +12,7 @@ ghost use Rattle.ded_terminals.specs.Views.{seen_name};
 use crate::item::{Item, Keyword, Rest, text};
 use crate::operand::{argument_of, name_of, operands_of};
 use crate::side::{name, read_side};
-use ded_grammar::ReadFault;
+use ded_model::fault::ParseFault;
 use ded_model::formula::{CompareOp, Formula, Operand, Operands};
 use ded_model::memory::NoMemory;
 use ded_model::name::{Column, Name};
@@ -35,7 +35,7 @@ fn relation(rest: Rest<'_>) -> Option<(CompareOp, Rest<'_>)>
 ///
 /// # Errors
 /// `NotRead` only where the rest begins with no comparison, otherwise out of memory.
-pub fn comparison(alloc: Global, rest: Rest<'_>) -> Result<(Formula, Rest<'_>), ReadFault>
+pub fn comparison(alloc: Global, rest: Rest<'_>) -> Result<(Formula, Rest<'_>), ParseFault>
     requires few { length (left rest) ≤ 65536 }
     ensures read { IfOk result (λ x. compare_at capped_reader (left rest.entry) ≡ Some (form x.0, left x.1)) }
     ensures unread { IfErr result (λ e. e ≡ NotRead → compare_at capped_reader (left rest.entry) ≡ None) }
@@ -43,7 +43,7 @@ pub fn comparison(alloc: Global, rest: Rest<'_>) -> Result<(Formula, Rest<'_>), 
 {
     let (left, rest) = read_side(alloc, rest)?;
     let Some((op, rest)) = relation(rest) else {
-        return Err(ReadFault::NotRead);
+        return Err(ParseFault::NotRead);
     };
     let (right, rest) = read_side(alloc, rest)?;
     let (left, right) = operands_of(alloc, &left, &right)?;
@@ -65,7 +65,7 @@ pub fn comma(rest: Rest<'_>) -> Option<(bool, Rest<'_>)>
 }
 
 /// The operand of a member with which the rest begins, and what stands behind it.
-fn argument(alloc: Global, rest: Rest<'_>) -> Result<(Operand, Rest<'_>), ReadFault>
+fn argument(alloc: Global, rest: Rest<'_>) -> Result<(Operand, Rest<'_>), ParseFault>
     requires few { length (left rest) ≤ 65536 }
     ensures read { IfOk result (λ x. argument_at capped_reader (left rest.entry) ≡ Some (x.0, left x.1)) }
     ensures unread { IfErr result (λ e. e ≡ NotRead → argument_at capped_reader (left rest.entry) ≡ None) }
@@ -76,7 +76,7 @@ fn argument(alloc: Global, rest: Rest<'_>) -> Result<(Operand, Rest<'_>), ReadFa
 }
 
 /// The operands of a member, up to the closing parenthesis, and what stands behind that.
-fn operands(alloc: Global, items: Rest<'_>) -> Result<(Vec<Operand>, Rest<'_>), ReadFault>
+fn operands(alloc: Global, items: Rest<'_>) -> Result<(Vec<Operand>, Rest<'_>), ParseFault>
     requires few { length (left items) ≤ 65536 }
     ensures read { IfOk result (λ x. operands_at capped_reader (left items.entry) ≡ Some (x.0.items, left x.1)) }
     ensures unread { IfErr result (λ e. e ≡ NotRead → operands_at capped_reader (left items.entry) ≡ None) }
@@ -89,14 +89,14 @@ fn operands(alloc: Global, items: Rest<'_>) -> Result<(Vec<Operand>, Rest<'_>), 
         let (next, after) = argument(alloc, rest)?;
         list.push(next)?;
         let Some((goes_on, behind)) = comma(after) else {
-            return Err(ReadFault::NotRead);
+            return Err(ParseFault::NotRead);
         };
         if !goes_on {
             return Ok((list, behind));
         }
         rest = behind;
     }
-    Err(ReadFault::NotRead)
+    Err(ParseFault::NotRead)
 }
 
 /// What a member is of: the relation or view of the name in it, or its closure or its interior.
@@ -192,7 +192,7 @@ fn member_name(alloc: Global, naming: Naming, name: &[u8]) -> Result<Name, NoMem
 ///
 /// # Errors
 /// `NotRead` only where the rest begins with neither, otherwise out of memory.
-pub(crate) fn atom(alloc: Global, rest: Rest<'_>) -> Result<(Formula, Rest<'_>), ReadFault>
+pub(crate) fn atom(alloc: Global, rest: Rest<'_>) -> Result<(Formula, Rest<'_>), ParseFault>
     requires few { length (left rest) ≤ 65536 }
     ensures read { IfOk result (λ x. atom_at capped_reader (left rest.entry) ≡ Some (form x.0, left x.1)) }
     ensures unread { IfErr result (λ e. e ≡ NotRead → atom_at capped_reader (left rest.entry) ≡ None) }
@@ -222,13 +222,13 @@ fn sort(rest: Rest<'_>) -> (Sort, Rest<'_>)
 ///
 /// # Errors
 /// `NotRead` only where the rest begins with no column, otherwise out of memory.
-pub fn column(alloc: Global, rest: Rest<'_>) -> Result<(Column, Rest<'_>), ReadFault>
+pub fn column(alloc: Global, rest: Rest<'_>) -> Result<(Column, Rest<'_>), ParseFault>
     ensures read { IfOk result (λ x. column_at (left rest.entry) ≡ Some (x.0, left x.1)) }
     ensures unread { IfErr result (λ e. e ≡ NotRead → column_at (left rest.entry) ≡ None) }
     ensures low { IfOk result (λ x. length (left x.1) < length (left rest.entry)) }
 {
     let Some((name, behind)) = name(rest) else {
-        return Err(ReadFault::NotRead);
+        return Err(ParseFault::NotRead);
     };
     let (sort, behind) = sort(behind);
     let name = name_of(alloc, name)?;

@@ -3,7 +3,8 @@ ghost use Rattle.std.specs.Prelude.{◌≡◌, ◌<◌, ◌^◌, length};
 ghost use Rattle.ded_terminals.specs.Literals.{capped};
 ghost use Rattle.ded_terminals.specs.Symbols.{before_point, behind_point, trimmed, decimal_number, decimal_power};
 
-use crate::item::{TOO_GREAT, value_behind, value_of};
+use crate::item::{value_behind, value_of};
+use ded_model::limits;
 
 /// The digits before the point of a decimal.
 fn before_point(text: &[u8]) -> &[u8]
@@ -48,7 +49,7 @@ fn power_of_ten(digits: &[u8]) -> u64
 {
     let mut power = 1u64;
     for _ in digits {
-        power = power.saturating_mul(10).min(TOO_GREAT);
+        power = power.saturating_mul(10).min(limits::TOO_GREAT);
     }
     power
 }

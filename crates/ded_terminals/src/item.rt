@@ -94,9 +94,6 @@ pub fn text(bytes: &[u8], token: Token) -> &[u8]
     }
 }
 
-/// The least number that is too great for a command.
-pub(crate) const TOO_GREAT: u64 = limits::GREATEST_NUMBER + 1;
-
 /// The number for which digits stand, or 2^63, the least that is too great for a command, where it is above that.
 pub fn value_of(digits: &[u8]) -> u64
     ensures { result ≡ capped_of digits.now }
@@ -114,7 +111,7 @@ pub(crate) fn value_behind(value: u64, digits: &[u8]) -> u64
         value = value
             .saturating_mul(10)
             .saturating_add(u64::from(byte.saturating_sub(b'0')))
-            .min(TOO_GREAT);
+            .min(limits::TOO_GREAT);
     }
     value
 }
@@ -262,10 +259,10 @@ fn is_long_literal(bytes: &[u8], item: Item) -> bool
     ensures { result ≡ is_long_literal (seen bytes.now item) }
 {
     match item {
-        Item::Number(token) => value_of(text(bytes, token)) >= TOO_GREAT,
+        Item::Number(token) => value_of(text(bytes, token)) >= limits::TOO_GREAT,
         Item::Decimal(token) => {
             let (number, power) = decimal_of(text(bytes, token));
-            number >= TOO_GREAT || power >= TOO_GREAT
+            number >= limits::TOO_GREAT || power >= limits::TOO_GREAT
         }
         _ => false,
     }

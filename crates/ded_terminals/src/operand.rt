@@ -10,7 +10,7 @@ ghost use Rattle.ded_terminals.specs.Views.{seen_literal, seen_part, seen_parts,
 ghost use Rattle.ded_terminals.specs.Views.{ArePositive, IsFit, IsBounded};
 
 use crate::scalar::{Literal, divided};
-use crate::side::{SignedFactor, ParsedSide};
+use crate::side::{ParsedSide, SignedFactor};
 use crate::sum::{Totals, add, as_sum};
 use ded_model::formula::Operand;
 use ded_model::limits;
@@ -18,9 +18,6 @@ use ded_model::memory::NoMemory;
 use ded_model::name::Name;
 use ded_num::gcd;
 use std::alloc::Global;
-
-/// The least denominator that is too great for a command.
-const TOO_GREAT: u64 = limits::GREATEST_NUMBER + 1;
 
 /// The greatest numerator over a common denominator.
 const GREATEST_NUMERATOR: u128 = 1 << 96;
@@ -61,7 +58,7 @@ fn lcm(a: u64, b: u64) -> u64
 {
     let by = gcd(i128::from(a), i128::from(b)).unsigned_abs();
     let multiple = u128::from(divided(a, by)) * u128::from(b);
-    multiple.min(u128::from(TOO_GREAT)) as u64
+    multiple.min(u128::from(limits::TOO_GREAT)) as u64
 }
 
 /// The least common multiple of the number and the denominators of the parts, or 2^63 where it is above that.
@@ -82,7 +79,7 @@ fn lcm_with(over: u64, parts: &[SignedFactor<'_>]) -> u64
 fn numerator(over: u64, literal: Literal) -> u128
     ensures { result ≡ marked_numerator over (seen_literal literal) }
 {
-    if over >= TOO_GREAT {
+    if over >= limits::TOO_GREAT {
         return 0;
     }
     u128::from(literal.numerator) * u128::from(divided(over, u128::from(literal.denominator)))
@@ -124,7 +121,7 @@ fn parts_of<'a, 'b>(side: &'a ParsedSide<'b>) -> &'a [SignedFactor<'b>]
 fn are_long_over(over: u64, first: &[SignedFactor<'_>], second: &[SignedFactor<'_>]) -> bool
     ensures { result ≡ are_long_over over (literals_of (seen_parts first.now) ++ literals_of (seen_parts second.now)) }
 {
-    over >= TOO_GREAT || some_long_over(over, first) || some_long_over(over, second)
+    over >= limits::TOO_GREAT || some_long_over(over, first) || some_long_over(over, second)
 }
 
 /// What sums are over that have the literals of both sides: their common denominator, or 2^63 where that is above 2^63
@@ -139,7 +136,7 @@ fn denominator_of(left: &ParsedSide<'_>, right: &ParsedSide<'_>) -> u64
     let (first, second) = (parts_of(left), parts_of(right));
     let over = lcm_with(lcm_with(1, first), second);
     if are_long_over(over, first, second) {
-        TOO_GREAT
+        limits::TOO_GREAT
     } else {
         over
     }
@@ -148,7 +145,12 @@ fn denominator_of(left: &ParsedSide<'_>, right: &ParsedSide<'_>) -> u64
 // ---- operands
 
 /// Adds the part to the totals over the number, or takes it away from them.
-fn add_part(alloc: Global, totals: &mut Totals, over: u64, part: &SignedFactor<'_>) -> Result<(), NoMemory>
+fn add_part(
+    alloc: Global,
+    totals: &mut Totals,
+    over: u64,
+    part: &SignedFactor<'_>,
+) -> Result<(), NoMemory>
     requires bounded { IsBounded (2 ^ 111) (seen_totals totals.now) }
     requires small { marked_numerator over (seen_literal part.now.factor.literal) ≤ 2 ^ 96 }
     ensures { IfOk result (λ _. seen_totals totals.new

@@ -1,6 +1,6 @@
 //! The sides of comparisons and the operands of members, as they are read before it is known what their sums are over.
 ghost use Rattle.std.specs.Prelude.{◌≡◌, ◌≤◌, ◌<◌, ◌+◌, length, Some, None, IfSome, IfNone, IfOk, IfErr};
-ghost use Rattle.ded_grammar.specs.declared.fault.ReadFault.TheVariants.{NotRead};
+ghost use Rattle.ded_model.specs.declared.fault.ParseFault.TheVariants.{NotRead};
 ghost use Rattle.ded_lex.specs.Tokens.{quoted_value};
 ghost use Rattle.ded_terminals.specs.Items.{left};
 ghost use Rattle.ded_terminals.specs.Literals.{capped};
@@ -12,7 +12,7 @@ ghost use Rattle.ded_terminals.specs.Views.{IsFit};
 
 use crate::item::{Item, Rest, text};
 use crate::scalar::{Literal, scalar};
-use ded_grammar::ReadFault;
+use ded_model::fault::ParseFault;
 use std::alloc::Global;
 
 /// A literal and the name that it multiplies, if any.
@@ -153,7 +153,11 @@ fn product(rest: Rest<'_>) -> Option<(Factor<'_>, Rest<'_>)>
 }
 
 /// Sets the product with which the rest begins at the end of the parts, and gives what stands behind it.
-fn next<'a>(parts: &mut Vec<SignedFactor<'a>>, minus: bool, rest: Rest<'a>) -> Result<Rest<'a>, ReadFault>
+fn next<'a>(
+    parts: &mut Vec<SignedFactor<'a>>,
+    minus: bool,
+    rest: Rest<'a>,
+) -> Result<Rest<'a>, ParseFault>
     ensures read { IfOk result (λ x. AddsProduct minus (left rest.entry) (seen_parts parts.old.items)
         (seen_parts parts.new.items) (left x)) }
     ensures unread { IfErr result (λ e. e ≡ NotRead → product_at capped (left rest.entry) ≡ None) }
@@ -162,14 +166,14 @@ fn next<'a>(parts: &mut Vec<SignedFactor<'a>>, minus: bool, rest: Rest<'a>) -> R
     ensures positive { IfOk result (λ _. ArePositive parts.old.items → ArePositive parts.new.items) }
 {
     let Some((factor, rest)) = product(rest) else {
-        return Err(ReadFault::NotRead);
+        return Err(ParseFault::NotRead);
     };
     parts.push(SignedFactor { minus, factor })?;
     Ok(rest)
 }
 
 /// Sets all further products at the end of the parts, and gives what stands behind them.
-fn more<'a>(parts: &mut Vec<SignedFactor<'a>>, items: Rest<'a>) -> Result<Rest<'a>, ReadFault>
+fn more<'a>(parts: &mut Vec<SignedFactor<'a>>, items: Rest<'a>) -> Result<Rest<'a>, ParseFault>
     ensures read { IfOk result (λ x. all_parts capped (seen_parts parts.old.items) (left items.entry)
         ≡ Some (seen_parts parts.new.items, left x)) }
     ensures unread { IfErr result (λ e. e ≡ NotRead
@@ -187,7 +191,11 @@ fn more<'a>(parts: &mut Vec<SignedFactor<'a>>, items: Rest<'a>) -> Result<Rest<'
 }
 
 /// The sum with which the rest begins, whose first product is taken away or not, and what stands behind it.
-fn summed(alloc: Global, minus: bool, rest: Rest<'_>) -> Result<(ParsedSide<'_>, Rest<'_>), ReadFault>
+fn summed(
+    alloc: Global,
+    minus: bool,
+    rest: Rest<'_>,
+) -> Result<(ParsedSide<'_>, Rest<'_>), ParseFault>
     ensures read { IfOk result (λ x. summed_at capped minus (left rest.entry) ≡ Some (seen_side x.0, left x.1)) }
     ensures unread { IfErr result (λ e. e ≡ NotRead → summed_at capped minus (left rest.entry) ≡ None) }
     ensures low { IfOk result (λ x. length (left x.1) < length (left rest.entry)) }
@@ -206,10 +214,12 @@ fn behind_name<'a>(
     items: Rest<'a>,
     name: &'a [u8],
     rest: Rest<'a>,
-) -> Result<(ParsedSide<'a>, Rest<'a>), ReadFault>
+) -> Result<(ParsedSide<'a>, Rest<'a>), ParseFault>
     requires low { length (left rest) < length (left items) }
-    ensures read { IfOk result (λ x. behind_name capped (left items.entry) (name.now,
-        left rest.entry) (sign_at (left rest.entry)) ≡ Some (seen_side x.0, left x.1)) }
+    ensures read { IfOk result (λ x. behind_name capped (left items.entry) (
+      name.now,
+      left rest.entry,
+    ) (sign_at (left rest.entry)) ≡ Some (seen_side x.0, left x.1)) }
     ensures unread { IfErr result (λ e. e ≡ NotRead
         → behind_name capped (left items.entry) (name.now, left rest.entry) (sign_at (left rest.entry)) ≡ None) }
     ensures low { IfOk result (λ x. length (left x.1) < length (left items.entry)) }
@@ -222,7 +232,7 @@ fn behind_name<'a>(
 }
 
 /// The side with which the rest begins, which is no quoted text, and what stands behind it.
-fn unquoted(alloc: Global, rest: Rest<'_>) -> Result<(ParsedSide<'_>, Rest<'_>), ReadFault>
+fn unquoted(alloc: Global, rest: Rest<'_>) -> Result<(ParsedSide<'_>, Rest<'_>), ParseFault>
     ensures read { IfOk result (λ x. side_by_minus capped (left rest.entry) (minus_at (left rest.entry))
         ≡ Some (seen_side x.0, left x.1)) }
     ensures unread { IfErr result (λ e. e ≡ NotRead
@@ -244,7 +254,10 @@ fn unquoted(alloc: Global, rest: Rest<'_>) -> Result<(ParsedSide<'_>, Rest<'_>),
 ///
 /// # Errors
 /// `NotRead` only where the rest begins with no side, otherwise out of memory.
-pub(crate) fn read_side(alloc: Global, rest: Rest<'_>) -> Result<(ParsedSide<'_>, Rest<'_>), ReadFault>
+pub(crate) fn read_side(
+    alloc: Global,
+    rest: Rest<'_>,
+) -> Result<(ParsedSide<'_>, Rest<'_>), ParseFault>
     ensures read { IfOk result (λ x. side_at capped (left rest.entry) ≡ Some (seen_side x.0, left x.1)) }
     ensures unread { IfErr result (λ e. e ≡ NotRead → side_at capped (left rest.entry) ≡ None) }
     ensures low { IfOk result (λ x. length (left x.1) < length (left rest.entry)) }

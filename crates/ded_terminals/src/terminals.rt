@@ -1,6 +1,6 @@
 //! The terminals of a formula.
 ghost use Rattle.std.specs.Prelude.{◌≡◌, ◌≤◌, ◌<◌, length, Some, None, IfSome, IfNone, IfOk, IfErr};
-ghost use Rattle.ded_grammar.specs.declared.fault.ReadFault.TheVariants.{NotRead};
+ghost use Rattle.ded_model.specs.declared.fault.ParseFault.TheVariants.{NotRead};
 ghost use Rattle.ded_grammar.specs.Forms.{terminal_form, terminal_forms};
 ghost use Rattle.ded_terminals.specs.Items.{left};
 ghost use Rattle.ded_terminals.specs.Literals.{capped_reader};
@@ -10,7 +10,8 @@ ghost use Rattle.ded_terminals.specs.AtomReading.{terminal_at, terminals_at};
 
 use crate::atom::{atom, column};
 use crate::item::{Item, Keyword, Rest};
-use ded_grammar::{Quantifier, ReadFault, Terminal};
+use ded_grammar::{Quantifier, Terminal};
+use ded_model::fault::ParseFault;
 use ded_model::formula::Formula;
 use std::alloc::Global;
 
@@ -70,7 +71,7 @@ fn quantifier_of(word: Keyword) -> Option<Quantifier>
 }
 
 /// The terminal that begins with the reserved word, behind which the rest stands, and what stands behind the terminal.
-fn word(alloc: Global, word: Keyword, rest: Rest<'_>) -> Result<(Terminal, Rest<'_>), ReadFault>
+fn word(alloc: Global, word: Keyword, rest: Rest<'_>) -> Result<(Terminal, Rest<'_>), ParseFault>
     ensures read { IfOk result (λ x. word_at word (left rest.entry) ≡ Some (terminal_form x.0, left x.1)) }
     ensures unread { IfErr result (λ e. e ≡ NotRead → word_at word (left rest.entry) ≡ None) }
     ensures low { IfOk result (λ x. length (left x.1) ≤ length (left rest.entry)) }
@@ -79,7 +80,7 @@ fn word(alloc: Global, word: Keyword, rest: Rest<'_>) -> Result<(Terminal, Rest<
         return Ok((terminal, rest));
     }
     let Some(quantifier) = quantifier_of(word) else {
-        return Err(ReadFault::NotRead);
+        return Err(ParseFault::NotRead);
     };
     let (column, behind) = column(alloc, rest)?;
     Ok((Terminal::Bind(quantifier, column), behind))
@@ -96,7 +97,7 @@ fn begins_member(word: Keyword) -> bool
 }
 
 /// The comparison or the member with which the rest begins, as a terminal, and what stands behind it.
-fn leaf(alloc: Global, rest: Rest<'_>) -> Result<(Terminal, Rest<'_>), ReadFault>
+fn leaf(alloc: Global, rest: Rest<'_>) -> Result<(Terminal, Rest<'_>), ParseFault>
     requires few { length (left rest) ≤ 65536 }
     ensures read { IfOk result (λ x. as_leaf (atom_at capped_reader (left rest.entry))
         ≡ Some (terminal_form x.0, left x.1)) }
@@ -108,7 +109,7 @@ fn leaf(alloc: Global, rest: Rest<'_>) -> Result<(Terminal, Rest<'_>), ReadFault
 }
 
 /// The terminal with which the rest begins, where that is no reserved word, and what stands behind it.
-fn other(alloc: Global, rest: Rest<'_>) -> Result<(Terminal, Rest<'_>), ReadFault>
+fn other(alloc: Global, rest: Rest<'_>) -> Result<(Terminal, Rest<'_>), ParseFault>
     requires few { length (left rest) ≤ 65536 }
     ensures read { IfOk result (λ x. terminal_by_parenthesis capped_reader (left rest.entry)
         (parenthesis_at (left rest.entry)) ≡ Some (terminal_form x.0, left x.1)) }
@@ -123,7 +124,7 @@ fn other(alloc: Global, rest: Rest<'_>) -> Result<(Terminal, Rest<'_>), ReadFaul
 }
 
 /// The terminal with which the rest begins, and what stands behind it.
-fn terminal(alloc: Global, rest: Rest<'_>) -> Result<(Terminal, Rest<'_>), ReadFault>
+fn terminal(alloc: Global, rest: Rest<'_>) -> Result<(Terminal, Rest<'_>), ParseFault>
     requires few { length (left rest) ≤ 65536 }
     ensures read { IfOk result (λ x. terminal_at capped_reader (left rest.entry) ≡ Some (terminal_form x.0, left x.1)) }
     ensures unread { IfErr result (λ e. e ≡ NotRead → terminal_at capped_reader (left rest.entry) ≡ None) }
@@ -145,7 +146,7 @@ fn terminal(alloc: Global, rest: Rest<'_>) -> Result<(Terminal, Rest<'_>), ReadF
 ///
 /// # Errors
 /// `NotRead` only where the items aren't terminals, otherwise out of memory.
-pub fn terminals(alloc: Global, items: Rest<'_>) -> Result<Vec<Terminal>, ReadFault>
+pub fn terminals(alloc: Global, items: Rest<'_>) -> Result<Vec<Terminal>, ParseFault>
     requires few { length (left items) ≤ 65536 }
     ensures read { IfOk result (λ list. terminals_at capped_reader (left items.entry)
         ≡ Some (terminal_forms list.items)) }
@@ -163,7 +164,7 @@ pub fn terminals(alloc: Global, items: Rest<'_>) -> Result<Vec<Terminal>, ReadFa
         rest = behind;
     }
     if !rest.items.is_empty() {
-        return Err(ReadFault::NotRead);
+        return Err(ParseFault::NotRead);
     }
     Ok(list)
 }

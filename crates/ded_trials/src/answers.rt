@@ -1,8 +1,9 @@
 //! Answers that are read back from their texts.
 use crate::texts::{heading, page};
 use ded_model::answer::Answer;
+use ded_model::fault::ParseFault;
 use ded_print::print_answer;
-use ded_readback::{AnswerFault, read_answer};
+use ded_readback::read_answer;
 use std::alloc::Global;
 use std::test::Fail;
 
@@ -41,8 +42,8 @@ fn is_answer(alloc: Global, bytes: &[u8]) -> Result<bool, Fail> {
     let heading = heading(alloc)?;
     match read_answer(alloc, &heading, bytes) {
         Ok(answer) => is_printed(alloc, &answer, bytes),
-        Err(AnswerFault::NoAnswer) => Ok(false),
-        Err(AnswerFault::Memory) => Err("no memory".into()),
+        Err(ParseFault::NotRead) => Ok(false),
+        Err(ParseFault::Memory) => Err("no memory".into()),
     }
 }
 

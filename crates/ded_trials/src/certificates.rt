@@ -31,12 +31,18 @@ const PAIRS: [Pair; 13] = [
     ("{ x = 1 }\n{ x = 2 }\n", PairAnswer::Numbers(2)),
     ("{ 2*x = 1 }\n{ 3*x = 1 }\n", PairAnswer::Numbers(5)),
     ("{ n = 'a' }\n{ n = 'b' }\n", PairAnswer::Texts),
-    ("{ n = 'a', x < 0 }\n{ n = 'b', x > 0 }\n", PairAnswer::Texts),
+    (
+        "{ n = 'a', x < 0 }\n{ n = 'b', x > 0 }\n",
+        PairAnswer::Texts,
+    ),
     (
         "{ n = 'a', x < 0 }\n{ n != 'b', x > 0 }\n",
         PairAnswer::Numbers(2),
     ),
-    ("{ n = 'a', x < 1 }\n{ n != 'b', x > 0 }\n", PairAnswer::Common),
+    (
+        "{ n = 'a', x < 1 }\n{ n != 'b', x > 0 }\n",
+        PairAnswer::Common,
+    ),
     (
         "{ x - y <= 1, x + y <= 1 }\n{ x > 1 }\n",
         PairAnswer::Numbers(4),
@@ -66,7 +72,12 @@ fn certified(alloc: Global, first: &Tuple, second: &Tuple) -> Result<PairAnswer,
 }
 
 /// What is answered where a certificate was found.
-fn checked(alloc: Global, first: &Tuple, second: &Tuple, proof: &Proof) -> Result<PairAnswer, Fail> {
+fn checked(
+    alloc: Global,
+    first: &Tuple,
+    second: &Tuple,
+    proof: &Proof,
+) -> Result<PairAnswer, Fail> {
     match (check(alloc, first, second, proof), proof) {
         (Ok(true), Proof::Text) => Ok(PairAnswer::Texts),
         (Ok(true), Proof::Multipliers(numbers)) => Ok(PairAnswer::Numbers(sum(&numbers.list))),

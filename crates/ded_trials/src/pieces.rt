@@ -1,5 +1,5 @@
 //! Inputs cut into pieces, byte by byte.
-use ded_lex::{Fed, Unended, Splitter};
+use ded_lex::{Fed, Splitter, Unended};
 use ded_model::memory::NoMemory;
 use std::alloc::Global;
 use std::test::Fail;

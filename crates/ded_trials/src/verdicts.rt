@@ -22,7 +22,12 @@ enum BoundKind {
 
 /// A list of one conjunction or none, whether it holds somewhere, what bounds `x` has in the conjunction, and what is
 /// left without `x`: nothing where numbers get too long.
-type VerdictCase = (&'static str, Verdict, Option<BoundKind>, Option<&'static str>);
+type VerdictCase = (
+    &'static str,
+    Verdict,
+    Option<BoundKind>,
+    Option<&'static str>,
+);
 
 const CASES: [VerdictCase; 8] = [
     ("", Verdict::Empty, None, Some("")),

@@ -1,7 +1,7 @@
 use Rattle.std.proofs.Common.{◌≡◌, sym, ap, ◌∙◌, rules, true≢false}
 use Rattle.std.specs.Prelude.{Err}
-use Rattle.ded_run.specs.declared.words.WordFault.TheVariants.{Bad}
-use Rattle.ded_run.specs.declared.words.WordFault.{WordFault}
+use Rattle.ded_model.specs.declared.fault.ParseFault.TheVariants.{NotRead}
+use Rattle.ded_model.specs.declared.fault.ParseFault.{ParseFault}
 use Rattle.ded_run.proofs.Accepting.{accepted_parsed, parsed_accepted, no_limit, no_size}
 use Rattle.ded_run.proofs.words.options_in.Goals as goal
 
@@ -11,8 +11,8 @@ returns-then-has_dashes-clause-bad c = λ is options a.
 
 pub returns-in_err-values-clause-bad : goal.returns-in_err-values-clause-bad
 returns-in_err-values-clause-bad c = λ is options a.
-    let same : c.in_err-values.field-0.0 ≡ Bad = search rules in
-    c.in_err-values.ensures.bad (ap (λ (e : WordFault). Err e) same) (accepted_parsed _ options a).1
+    let same : c.in_err-values.field-0.0 ≡ NotRead = search rules in
+    c.in_err-values.ensures.bad (ap (λ (e : ParseFault). Err e) same) (accepted_parsed _ options a).1
 
 pub returns-in_default-clause-bad : goal.returns-in_default-clause-bad
 returns-in_default-clause-bad c = λ is. no_limit _ _ c.in_ok-values.ensures.limit c.in_default.ensures

@@ -11,8 +11,8 @@ use Rattle.ded_terminals.proofs.Seen.{no_lexemes, few_tokens, slice_says}
 use Rattle.ded_syntax.proofs.Refused.{no_token}
 use Rattle.ded_syntax.proofs.command.read_command.Goals as goal
 
-pub returns-in-Err-NoToken-clause-refused : goal.returns-in-Err-NoToken-clause-refused
-returns-in-Err-NoToken-clause-refused c = λ other. no_token c.args.language c.args.bytes.now (no_lexemes _ (c.in-Err-NoToken.ensures.no_token c.in-Err-NoToken.field-0-is))
+pub returns-in-Err-NotRead-clause-refused : goal.returns-in-Err-NotRead-clause-refused
+returns-in-Err-NotRead-clause-refused c = λ other. no_token c.args.language c.args.bytes.now (no_lexemes _ (c.in-Err-NotRead.ensures.no_token c.in-Err-NotRead.field-0-is))
 
 pub read_tokens-requires : goal.read_tokens-requires
 read_tokens-requires c = few_tokens c.args.bytes.now _ c.list.result.now c.requires c.in-Ok.ensures.tokens c.list.ensures

@@ -1,15 +1,15 @@
 use Rattle.std.proofs.Common.{◌≡◌, refl, sym, ap, subst, rules, inl, inr}
 use Rattle.std.specs.Prelude.{Err, IsSome, ℕ}
 use Rattle.std.specs.declared.option.Option.{Option}
-use Rattle.ded_run.specs.declared.words.WordFault.TheVariants.{Bad}
-use Rattle.ded_run.specs.declared.words.WordFault.{WordFault}
+use Rattle.ded_model.specs.declared.fault.ParseFault.TheVariants.{NotRead}
+use Rattle.ded_model.specs.declared.fault.ParseFault.{ParseFault}
 use Rattle.ded_run.proofs.Accepting.{limit_low, limit_high, same_words}
 use Rattle.ded_table.proofs.program.run.Goals as goal
 
-pub returns-in-Err-Bad-clause-bad_words : goal.returns-in-Err-Bad-clause-bad_words
-returns-in-Err-Bad-clause-bad_words g c = λ is. inl (λ options a.
-    let same : c.in-Err-Bad.field-0 ≡ Bad = search rules in
-    c.in-Err-Bad.ensures.bad (ap (λ (e : WordFault). Err e) same) options (same_words _ _ _ _ (sym c.deref.ensures.value) a))
+pub returns-in-Err-NotRead-clause-bad_words : goal.returns-in-Err-NotRead-clause-bad_words
+returns-in-Err-NotRead-clause-bad_words g c = λ is. inl (λ options a.
+    let same : c.in-Err-NotRead.field-0 ≡ NotRead = search rules in
+    c.in-Err-NotRead.ensures.bad (ap (λ (e : ParseFault). Err e) same) options (same_words _ _ _ _ (sym c.deref.ensures.value) a))
 
 pub serve-requires-clause-low : goal.serve-requires-clause-low
 serve-requires-clause-low g c = limit_low _ _ c.in-Ok.ensures.accepted

@@ -13,10 +13,10 @@ use Rattle.ded_shared.proofs.shared.Shared.step_whole.Goals as goal
 pub step_tokens-requires-clause-tokens : goal.step_tokens-requires-clause-tokens
 step_tokens-requires-clause-tokens c = subst (λ (l : List Token). AreTokens c.args.bytes.now l) (sym c.list.ensures) c.in-Ok.ensures.tokens
 
-pub returns-in-Err-NoToken : goal.returns-in-Err-NoToken
-returns-in-Err-NoToken c =
+pub returns-in-Err-NotRead : goal.returns-in-Err-NotRead
+returns-in-Err-NotRead c =
     with_reply c.args.bytes.now (state_of c.args.self.now) (state_of c.args.self.now) (plain (refused Syntax)) (shared_form c.refused.result) c.refused.ensures
-    (untagged c.args.bytes.now c.requires (untagged_tokens c.args.bytes.now (c.in-Err-NoToken.ensures.no_token c.in-Err-NoToken.field-0-is)) (state_of c.args.self.now))
+    (untagged c.args.bytes.now c.requires (untagged_tokens c.args.bytes.now (c.in-Err-NotRead.ensures.no_token c.in-Err-NotRead.field-0-is)) (state_of c.args.self.now))
 
 pub returns-in-Err-Memory : goal.returns-in-Err-Memory
 returns-in-Err-Memory c =

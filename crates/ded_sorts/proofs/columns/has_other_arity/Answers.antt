@@ -4,7 +4,7 @@ use Rattle.ded_model.specs.Known.{is_arity_atom, scope_of}
 use Rattle.ded_sorts.specs.Causes.{formula_in}
 use Rattle.ded_sorts.specs.Facts.{heading_with}
 use Rattle.ded_sorts.proofs.Unscoped.{passes_with-unscoped}
-use Rattle.ded_sorts.proofs.causes.has_other_arity.Goals as goal
+use Rattle.ded_sorts.proofs.columns.has_other_arity.Goals as goal
 
 pub returns : goal.returns
 returns g c =
