@@ -6,11 +6,13 @@ ghost use Rattle.ded_model.specs.Lines.{row_lines};
 ghost use Rattle.ded_elimination.specs.LinearAtoms.{IsLinearAtom, is_rational};
 ghost use Rattle.ded_model.proofs.Rows.{row_holds-same};
 ghost use Rattle.ded_linear.specs.Laws.{cells_tell, owned_slots, slots_of_lines};
+ghost use Rattle.ded_theory.specs.KindLaws.{none_fixed, nothing_fixed};
 
 use crate::pruning::pruned;
 use crate::{bounding, verdict};
 use ded_elimination::CheckedCombination;
 use ded_model::memory::{NoMemory, Refused};
+use ded_model::name::Name;
 use ded_model::row::Row;
 use ded_model::slot::{Slot, Sort};
 use ded_model::tuple::Negated;
@@ -30,6 +32,8 @@ impl Theory for Linear {
     ghost cell = { row_cell };
 
     ghost lines = { row_lines };
+
+    ghost fixed = { nothing_fixed };
 
     ghost normal = { IsLinearAtom };
 
@@ -60,6 +64,10 @@ impl Theory for Linear {
         ded_elimination::implies(one, other)
     }
 
+    fn fixes(_atom: &Row) -> Option<(Slot, &Name)> {
+        None
+    }
+
     fn eliminate(alloc: Global, atoms: &[Row], slot: Slot) -> Result<Eliminated<Row>, Refused> {
         match ded_elimination::eliminate::<CheckedCombination>(alloc, atoms, slot)? {
             Eliminated::Never => Ok(Eliminated::Never),
@@ -80,6 +88,8 @@ impl Theory for Linear {
     ghost cells_tell = { cells_tell };
 
     ghost owned_slots = { owned_slots };
+
+    ghost fixed_holds = { none_fixed row_holds };
 
     ghost line_slots = { slots_of_lines };
 }

@@ -8,12 +8,14 @@ ghost use Rattle.ded_model.proofs.Rows.{row_holds-same};
 ghost use Rattle.ded_linear.specs.Laws.{cells_tell, slots_of_lines};
 ghost use Rattle.ded_order.specs.OrderRows.{IsOrderAtom};
 ghost use Rattle.ded_order.specs.Laws.{order_slots};
+ghost use Rattle.ded_theory.specs.KindLaws.{none_fixed, nothing_fixed};
 
 use crate::atom::OrderAtom;
 use crate::lists::{eliminated, negated, rows_of};
 use crate::mixing::Ordered;
 use ded_linear::{bounds, refute};
 use ded_model::memory::{NoMemory, Refused};
+use ded_model::name::Name;
 use ded_model::slot::{Slot, Sort};
 use ded_model::tuple::Negated;
 use ded_theory::{Eliminated, OfNumbers, Span, Theory, Verdict};
@@ -32,6 +34,8 @@ impl Theory for Order {
     ghost cell = { row_cell };
 
     ghost lines = { row_lines };
+
+    ghost fixed = { nothing_fixed };
 
     ghost normal = { IsOrderAtom };
 
@@ -62,6 +66,10 @@ impl Theory for Order {
         ded_elimination::implies(one.row(), other.row())
     }
 
+    fn fixes(_atom: &OrderAtom) -> Option<(Slot, &Name)> {
+        None
+    }
+
     fn eliminate(
         alloc: Global,
         atoms: &[OrderAtom],
@@ -87,6 +95,8 @@ impl Theory for Order {
     ghost cells_tell = { cells_tell };
 
     ghost owned_slots = { order_slots };
+
+    ghost fixed_holds = { none_fixed row_holds };
 
     ghost line_slots = { slots_of_lines };
 }

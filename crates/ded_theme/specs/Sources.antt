@@ -1,5 +1,5 @@
 -- Text atoms as comparisons of two sources of a text.
-use Rattle.std.specs.Prelude.{◌≡◌, ℕ, Bool, true, false, not, List}
+use Rattle.std.specs.Prelude.{◌≡◌, ℕ, Bool, true, false, not, List, Option, Some, None}
 use Rattle.std.specs.Str.{bytes_eq}
 use Rattle.ded_model.specs.declared.slot.Slot.{Slot}
 use Rattle.ded_model.specs.declared.slot.Sort.{Sort}
@@ -54,6 +54,13 @@ left (EqText s t) = at s
 left (NeText s t) = at s
 left (EqSlot s t) = at s
 left (NeSlot s t) = at s
+
+-- the slot to which it gives one text, and that text
+abbrev pub fixed_by : ThemeAtom → Option (Slot × List ℕ)
+fixed_by (EqText s t) = Some (s, t)
+fixed_by (NeText s t) = None
+fixed_by (EqSlot s t) = None
+fixed_by (NeSlot s t) = None
 
 -- what it is compared with
 abbrev pub right : ThemeAtom → Source

@@ -4,14 +4,15 @@ ghost use Rattle.ded_model.specs.Row.{theme_holds, theme_mentions};
 ghost use Rattle.ded_model.specs.Cell.{theme_cell};
 ghost use Rattle.ded_model.specs.Normal.{IsNormalTheme};
 ghost use Rattle.ded_model.proofs.Rows.{theme_holds-same};
-ghost use Rattle.ded_theme.specs.Sources.{owns_sort};
-ghost use Rattle.ded_theme.specs.Laws.{cells-tell, owned-slots};
+ghost use Rattle.ded_theme.specs.Sources.{owns_sort, fixed_by};
+ghost use Rattle.ded_theme.specs.Laws.{cells-tell, owned-slots, fixed-holds};
 
 use crate::classes::hold_somewhere;
 use crate::renaming::{renamed_theme, turned};
 use crate::{elimination, implying};
 use ded_model::bound::Bound;
 use ded_model::memory::{NoMemory, Refused};
+use ded_model::name::Name;
 use ded_model::slot::{Slot, Sort};
 use ded_model::tuple::{Negated, ThemeAtom};
 use ded_theory::{Eliminated, OfTexts, Span, Theory, Verdict};
@@ -31,6 +32,8 @@ impl Theory for Theme {
     ghost cell = { theme_cell };
 
     ghost lines = { λ _. [] };
+
+    ghost fixed = { fixed_by };
 
     ghost normal = { IsNormalTheme };
 
@@ -59,6 +62,13 @@ impl Theory for Theme {
 
     fn implies(one: &ThemeAtom, other: &ThemeAtom) -> bool {
         implying::implies(one, other)
+    }
+
+    fn fixes(atom: &ThemeAtom) -> Option<(Slot, &Name)> {
+        match atom {
+            ThemeAtom::EqText(slot, text) => Some((*slot, text)),
+            ThemeAtom::NeText(_, _) | ThemeAtom::EqSlot(_, _) | ThemeAtom::NeSlot(_, _) => None,
+        }
     }
 
     fn eliminate(
@@ -90,6 +100,8 @@ impl Theory for Theme {
     ghost cells_tell = { cells-tell };
 
     ghost owned_slots = { owned-slots };
+
+    ghost fixed_holds = { fixed-holds };
 
     ghost line_slots = { λ a l s none. absurd none };
 }

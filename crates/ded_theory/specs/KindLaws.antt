@@ -1,10 +1,11 @@
 -- The laws of a theory for atoms of two kinds, from those for each kind.
-use Rattle.std.specs.Prelude.{◌≡◌, ◌<◌, ℤ, Bool, true, ◌||◌, List}
+use Rattle.std.specs.Prelude.{◌≡◌, ◌<◌, ℕ, ℤ, Bool, true, ◌||◌, List, Option, Some, None}
+use Rattle.std.proofs.lemmas.Option.{none-some}
 use Rattle.ded_model.specs.declared.slot.Slot.{Slot}
 use Rattle.ded_model.specs.declared.slot.Sort.{Sort}
 use Rattle.ded_model.specs.declared.tuple.BothAtom.{BothAtom}
 use Rattle.ded_model.specs.declared.tuple.BothAtom.TheVariants.{First, Second}
-use Rattle.ded_model.specs.Point.{slot, Point, IsSameAt}
+use Rattle.ded_model.specs.Point.{slot, Point, IsSameAt, text_at}
 use Rattle.ded_model.specs.Row.{row_mentions}
 use Rattle.ded_model.specs.Lines.{Line, In}
 use Rattle.ded_model.proofs.Rows.{or_left, or_right}
@@ -39,3 +40,19 @@ module _ {A B : Type 0} (mA : A → Slot → Bool) (mB : B → Slot → Bool) (l
       → (a : BothAtom A B) (l : Line) (s : Slot) → In l (by_kind lA lB a) → row_mentions l s ≡ true → by_kind mA mB a s ≡ true
   kinds_line_slots f g (First a) = f a
   kinds_line_slots f g (Second b) = g b
+
+module _ {A B : Type 0} (hA : A → Point → Bool) (hB : B → Point → Bool) (fA : A → Option (Slot × List ℕ)) (fB : B → Option (Slot × List ℕ)) where
+  -- where an atom holds, the slot that it fixes has its text, where that is so of atoms of each kind
+  pub kinds_fixed : ((a : A) (s : Slot) (t : List ℕ) (p : Point) → fA a ≡ Some (s, t) → hA a p ≡ true → text_at p (slot s) ≡ t)
+      → ((b : B) (s : Slot) (t : List ℕ) (p : Point) → fB b ≡ Some (s, t) → hB b p ≡ true → text_at p (slot s) ≡ t)
+      → (a : BothAtom A B) (s : Slot) (t : List ℕ) (p : Point) → by_kind fA fB a ≡ Some (s, t) → by_kind hA hB a p ≡ true → text_at p (slot s) ≡ t
+  kinds_fixed f g (First a) = f a
+  kinds_fixed f g (Second b) = g b
+
+-- what an atom fixes that gives no slot one text
+abbrev pub nothing_fixed : {A : Type 0} → A → Option (Slot × List ℕ)
+nothing_fixed a = None
+
+-- where atoms fix no slot, each that is fixed has its text
+pub none_fixed : {A : Type 0} (holds : A → Point → Bool) (a : A) (s : Slot) (t : List ℕ) (p : Point) → nothing_fixed a ≡ Some (s, t) → holds a p ≡ true → text_at p (slot s) ≡ t
+none_fixed holds a s t p none h = absurd (none-some (s, t) none)

@@ -7,12 +7,13 @@ ghost use Rattle.ded_model.specs.Lines.{clash_at};
 ghost use Rattle.ded_theory.specs.Conjunctions.{conj_lines};
 ghost use Rattle.ded_theory.specs.Eliminations.{IsElimination};
 ghost use Rattle.ded_theory.specs.Verdicts.{joined_verdict, joined_span};
-ghost use Rattle.ded_theory.specs.KindLaws.{kinds_respect, kinds_tell, kinds_owned, kinds_line_slots};
+ghost use Rattle.ded_theory.specs.KindLaws.{kinds_respect, kinds_tell, kinds_owned, kinds_fixed, kinds_line_slots};
 ghost use Rattle.ded_theory.specs.Both.{by_kind, IsByKind, firsts, seconds, first_pieces, second_pieces};
 
 use crate::answers::{Eliminated, Span, Verdict};
 use crate::theory::{OfNumbers, OfTexts, Theory};
 use ded_model::memory::{NoMemory, Refused};
+use ded_model::name::Name;
 use ded_model::slot::{Slot, Sort};
 use ded_model::tuple::{BothAtom, Negated};
 use std::alloc::Global;
@@ -35,6 +36,8 @@ impl<A: OfNumbers, B: OfTexts> Theory for Both<A, B> {
     ghost cell = { by_kind A.cell B.cell };
 
     ghost lines = { by_kind A.lines B.lines };
+
+    ghost fixed = { by_kind A.fixed B.fixed };
 
     ghost normal = { IsByKind A.normal B.normal };
 
@@ -80,6 +83,13 @@ impl<A: OfNumbers, B: OfTexts> Theory for Both<A, B> {
         }
     }
 
+    fn fixes(atom: &BothAtom<A::Atom, B::Atom>) -> Option<(Slot, &Name)> {
+        match atom {
+            BothAtom::First(first) => A::fixes(first),
+            BothAtom::Second(second) => B::fixes(second),
+        }
+    }
+
     fn eliminate(
         alloc: Global,
         atoms: &[BothAtom<A::Atom, B::Atom>],
@@ -119,6 +129,8 @@ impl<A: OfNumbers, B: OfTexts> Theory for Both<A, B> {
 
     ghost owned_slots = { kinds_owned A.mentions B.mentions A.normal B.normal A.owned B.owned
         A.owned_slots B.owned_slots };
+
+    ghost fixed_holds = { kinds_fixed A.holds B.holds A.fixed B.fixed A.fixed_holds B.fixed_holds };
 
     ghost line_slots = { kinds_line_slots A.mentions B.mentions A.lines B.lines A.line_slots B.line_slots };
 }

@@ -1,11 +1,12 @@
 //! What a theory is.
-ghost use Rattle.std.specs.Prelude.{◌≡◌, ◌<◌, ◌↔◌, ℤ, List, Bool, true, false, not, IsTrue, IfOk, IsErrOf};
+ghost use Rattle.std.specs.Prelude.{◌≡◌, ◌<◌, ◌↔◌, ℕ, ℤ, List, Bool, true, false, not, IsTrue, IfOk, IsErrOf};
+ghost use Rattle.std.specs.Prelude.{Option, Some, option_map};
 ghost use Rattle.std.specs.List.{AllByRecursion};
 ghost use Rattle.ded_model.specs.declared.slot.Slot.{Slot};
 ghost use Rattle.ded_model.specs.declared.slot.Sort.{Sort};
 ghost use Rattle.ded_model.specs.declared.slot.Sort.TheVariants.{Rat, Text};
 ghost use Rattle.ded_model.specs.declared.memory.Refused.TheVariants.{Wide};
-ghost use Rattle.ded_model.specs.Point.{slot, same_slot, Point, IsPoint, IsSameAt};
+ghost use Rattle.ded_model.specs.Point.{slot, same_slot, Point, IsPoint, IsSameAt, text_at};
 ghost use Rattle.ded_model.specs.Row.{row_mentions};
 ghost use Rattle.ded_model.specs.Cell.{conj_holds};
 ghost use Rattle.ded_model.specs.Lines.{Line, In, IsSubset, elim_at, clash_at};
@@ -18,6 +19,7 @@ ghost use Rattle.ded_theory.specs.Verdicts.{IsVerdict, IsSpan, IsAround};
 
 use crate::answers::{Eliminated, Span, Verdict};
 use ded_model::memory::{NoMemory, Refused};
+use ded_model::name::Name;
 use ded_model::slot::{Slot, Sort};
 use ded_model::tuple::Negated;
 use std::alloc::Global;
@@ -40,6 +42,9 @@ pub trait Theory {
 
     /// The lines of an atom; those of a conjunction are those of its atoms.
     ghost lines: { Self.Atom → List Line };
+
+    /// The text slot to which an atom gives one text, and that text.
+    ghost fixed: { Self.Atom → Option (Slot × List ℕ) };
 
     /// Whether an atom is in normal form.
     ghost normal: { Self.Atom → Type 0 };
@@ -100,6 +105,10 @@ pub trait Theory {
     fn implies(one: &Self::Atom, other: &Self::Atom) -> bool
         ensures { result ≡ true → (p : Point) → 0 < p.den → holds one.now p ≡ true → holds other.now p ≡ true };
 
+    /// The text slot to which the atom gives one text, and that text, where it does. It does not allocate.
+    fn fixes(atom: &Self::Atom) -> Option<(Slot, &Name)>
+        ensures { option_map (λ f. (f.0, f.1.now)) result ≡ fixed atom.now };
+
     /// A conjunction that holds at a point exactly where some extension of the point at the slot satisfies all the
     /// atoms; `Never` holds nowhere. It doesn't mention the slot and mentions no new one, and its lines are among those
     /// that the elimination makes of the atoms' lines. So its numbers have at most 2b + 1 digits where the atoms' have
@@ -155,6 +164,10 @@ pub trait Theory {
 
     /// An atom in normal form mentions only slots of sorts that the theory owns.
     ghost owned_slots: { (a : Self.Atom) (s : Slot) → normal a → mentions a s ≡ true → owned s.sort ≡ true };
+
+    /// Where an atom holds, the slot that it fixes has its text.
+    ghost fixed_holds: { (a : Self.Atom) (s : Slot) (t : List ℕ) (p : Point) → fixed a ≡ Some (s, t)
+        → holds a p ≡ true → text_at p (slot s) ≡ t };
 
     /// The lines of an atom mention only slots that it mentions.
     ghost line_slots: { (a : Self.Atom) (l : Line) (s : Slot) → In l (lines a) → row_mentions l s ≡ true
