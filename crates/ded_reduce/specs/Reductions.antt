@@ -1,5 +1,5 @@
 -- What reducing a conjunction gives.
-use Rattle.std.specs.Prelude.{◌≡◌, ℕ, suc, ◌<◌, Bool, true, false, not, ◌&&◌, IsTrue, List, ◌++◌, length, take, drop, get_or}
+use Rattle.std.specs.Prelude.{◌≡◌, ◌⊎◌, ℕ, suc, ◌<◌, Bool, true, false, not, ◌&&◌, IsTrue, List, ◌++◌, length, take, drop, get_or}
 use Rattle.std.specs.List.{AllByRecursion}
 use Rattle.ded_model.specs.declared.slot.Slot.{Slot}
 use Rattle.ded_model.specs.Point.{Point, IsPoint}
@@ -34,12 +34,12 @@ abbrev pub IsImplied : {A : Type 0} → (A → Point → Bool) → List A → �
 IsImplied {A = A} h atoms k =
     (a : A) → a ≡ get_or atoms k a → HoldsNowhere (λ p. conj_holds h (take k atoms ++ drop (suc k) atoms) p && not (h a p))
 
--- atoms were removed from the old list that the others imply; where none was, and nothing may be left open of the atoms, each of them
--- is needed
-pub record IsSifted {A : Type 0} (decides : Type 0) (h : A → Point → Bool) (m : A → Slot → Bool) (l : A → List Line) (normal : A → Type 0) (old new : List A) (removed : Bool) : Type 0 where
+-- atoms were removed from the old list that the others imply; where there is nothing to try again, and nothing may be left open of
+-- the atoms, each of them is needed, and then the list is the old one, or nothing was open before
+pub record IsSifted {A : Type 0} (decides : Type 0) (h : A → Point → Bool) (m : A → Slot → Bool) (l : A → List Line) (normal : A → Type 0) (before : Bool) (old new : List A) (again : Bool) : Type 0 where
   pub kept : IsSublist new old
   pub holds : (p : Point) → IsPoint p → conj_holds h new p ≡ conj_holds h old p
   pub all_normal : AllByRecursion normal new
-  pub shorter : removed ≡ true → length new < length old
-  pub same : removed ≡ false → new ≡ old
-  pub needed : removed ≡ false → (MayBeOpen decides m l new → ⊥) → (k : ℕ) → k < length new → IsNeeded h new k
+  pub shorter : again ≡ true → length new < length old
+  pub settled : again ≡ false → (new ≡ old) ⊎ (before ≡ false)
+  pub needed : again ≡ false → (MayBeOpen decides m l new → ⊥) → (k : ℕ) → k < length new → IsNeeded h new k

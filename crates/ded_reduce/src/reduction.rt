@@ -47,10 +47,12 @@ pub fn reduce<T: Theory>(alloc: Global, conj: &[T::Atom]) -> Result<Reduced<T::A
 {
     let mut left = copy_conj::<T>(alloc, conj)?;
     loop {
-        if let Verdict::Empty = T::refute(alloc, &left)? {
-            return Ok(Reduced::Gone);
-        }
-        if !sift::<T>(alloc, &mut left)? {
+        let is_open = match T::refute(alloc, &left)? {
+            Verdict::Empty => return Ok(Reduced::Gone),
+            Verdict::Inhabited => false,
+            Verdict::Unknown => true,
+        };
+        if !sift::<T>(alloc, &mut left, is_open)? {
             return Ok(Reduced::Kept(left));
         }
     }

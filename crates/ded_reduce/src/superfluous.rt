@@ -1,7 +1,8 @@
 //! Atoms that others imply.
-ghost use Rattle.std.specs.Prelude.{◌≡◌, ◌<◌, true, false, not, ◌&&◌, [], ◌∷◌, ◌++◌, length, IfOk};
+ghost use Rattle.std.specs.Prelude.{◌≡◌, ◌<◌, not, ◌&&◌, [], ◌∷◌, ◌++◌, length, IfOk};
 ghost use Rattle.std.specs.List.{AllByRecursion};
 ghost use Rattle.ded_model.specs.Cell.{conj_holds, HoldsSomewhere, HoldsNowhere};
+ghost use Rattle.ded_theory.specs.declared.answers.Verdict.TheVariants.{Empty, Inhabited, Unknown};
 ghost use Rattle.ded_reduce.specs.Reductions.{MayBeOpen, IsNeeded, IsImplied, IsSifted};
 
 use ded_genrel::{both_conjs, copy_conj};
@@ -10,84 +11,98 @@ use ded_model::tuple::Negated;
 use ded_theory::{Theory, Verdict};
 use std::alloc::Global;
 
-/// Removes atoms that the others imply, one after another. Returns whether there were any. After a removal the atoms
-/// before it aren't tried again.
+/// Removes atoms that the others imply, one after another. Returns whether to try again: after a removal the atoms
+/// before it aren't tried again, which only makes a difference where something was left open, here or before.
 ///
 /// # Errors
 /// Out of memory.
-pub(crate) fn sift<T: Theory>(alloc: Global, conj: &mut Vec<T::Atom>) -> Result<bool, NoMemory>
+pub(crate) fn sift<T: Theory>(
+    alloc: Global,
+    conj: &mut Vec<T::Atom>,
+    is_open: bool,
+) -> Result<bool, NoMemory>
     requires normal { AllByRecursion T.normal conj.old.items }
-    ensures { IfOk result (λ removed. IsSifted T.decides T.holds T.mentions T.lines T.normal conj.old.items
-        conj.new.items removed) }
+    ensures { IfOk result (λ again. IsSifted T.decides T.holds T.mentions T.lines T.normal is_open conj.old.items
+        conj.new.items again) }
 {
     let mut removed = false;
+    let mut unsure = is_open;
     let mut index = 0;
     while index < conj.len() {
-        if is_superfluous::<T>(alloc, conj, index)? {
-            conj.remove(index);
-            removed = true;
-        } else {
-            index += 1;
+        match left_out::<T>(alloc, conj, index)? {
+            Verdict::Empty => {
+                conj.remove(index);
+                removed = true;
+            }
+            Verdict::Inhabited => index += 1,
+            Verdict::Unknown => {
+                unsure = true;
+                index += 1;
+            }
         }
     }
-    Ok(removed)
+    Ok(removed && unsure)
 }
 
-/// Whether the others imply the atom at the index.
-fn is_superfluous<T: Theory>(
+/// Whether some point satisfies the others and not the atom at the index: `Empty` where they imply it.
+fn left_out<T: Theory>(
     alloc: Global,
     conj: &[T::Atom],
     index: usize,
-) -> Result<bool, NoMemory>
+) -> Result<Verdict, NoMemory>
     requires within { index < length conj.now }
     requires normal { AllByRecursion T.normal conj.now }
-    ensures implied { IfOk result (λ b. b ≡ true → IsImplied T.holds conj.now index) }
-    ensures needed { IfOk result (λ b. b ≡ false → (MayBeOpen T.decides T.mentions T.lines conj.now → ⊥)
-        → IsNeeded T.holds conj.now index) }
+    ensures implied { IfOk result (λ v. v ≡ Empty → IsImplied T.holds conj.now index) }
+    ensures needed { IfOk result (λ v. v ≡ Inhabited → IsNeeded T.holds conj.now index) }
+    ensures open { IfOk result (λ v. v ≡ Unknown → MayBeOpen T.decides T.mentions T.lines conj.now) }
 {
     let others = both_conjs::<T>(alloc, &conj[..index], &conj[index + 1..])?;
-    imply::<T>(alloc, others, &conj[index])
+    without::<T>(alloc, others, &conj[index])
 }
 
-/// Whether the others imply the atom: they hold nowhere together with a piece of its negation.
-fn imply<T: Theory>(alloc: Global, others: Vec<T::Atom>, atom: &T::Atom) -> Result<bool, NoMemory>
+/// Whether some point satisfies the others and not the atom: a piece of its negation together with them.
+fn without<T: Theory>(
+    alloc: Global,
+    others: Vec<T::Atom>,
+    atom: &T::Atom,
+) -> Result<Verdict, NoMemory>
     requires normal { AllByRecursion T.normal others.items }
     requires normal_atom { T.normal atom.now }
-    ensures implied { IfOk result (λ b. b ≡ true
+    ensures implied { IfOk result (λ v. v ≡ Empty
         → HoldsNowhere (λ p. conj_holds T.holds others.items p && not (T.holds atom.now p))) }
-    ensures needed { IfOk result (λ b. b ≡ false
-        → (MayBeOpen T.decides T.mentions T.lines (others.items ++ atom.now ∷ []) → ⊥)
+    ensures needed { IfOk result (λ v. v ≡ Inhabited
         → HoldsSomewhere (λ p. conj_holds T.holds others.items p && not (T.holds atom.now p))) }
+    ensures open { IfOk result (λ v. v ≡ Unknown
+        → MayBeOpen T.decides T.mentions T.lines (others.items ++ atom.now ∷ [])) }
 {
     match T::negate(atom)? {
-        Negated::One(only) => is_empty_with::<T>(alloc, others, only),
+        Negated::One(only) => together::<T>(alloc, others, only),
         Negated::Two(first, second) => {
             let copies = copy_conj::<T>(alloc, &others)?;
-            if !is_empty_with::<T>(alloc, copies, first)? {
-                return Ok(false);
+            match together::<T>(alloc, copies, first)? {
+                Verdict::Empty => together::<T>(alloc, others, second),
+                Verdict::Inhabited => Ok(Verdict::Inhabited),
+                Verdict::Unknown => Ok(Verdict::Unknown),
             }
-            is_empty_with::<T>(alloc, others, second)
         }
     }
 }
 
-/// Whether the others are found to hold nowhere together with the atom.
-fn is_empty_with<T: Theory>(
+/// Whether some point satisfies the others and the atom.
+fn together<T: Theory>(
     alloc: Global,
     mut others: Vec<T::Atom>,
     atom: T::Atom,
-) -> Result<bool, NoMemory>
+) -> Result<Verdict, NoMemory>
     requires normal { AllByRecursion T.normal others.items }
     requires normal_atom { T.normal atom }
-    ensures implied { IfOk result (λ b. b ≡ true
+    ensures implied { IfOk result (λ v. v ≡ Empty
         → HoldsNowhere (λ p. conj_holds T.holds others.items p && T.holds atom p)) }
-    ensures needed { IfOk result (λ b. b ≡ false
-        → (MayBeOpen T.decides T.mentions T.lines (others.items ++ atom ∷ []) → ⊥)
+    ensures needed { IfOk result (λ v. v ≡ Inhabited
         → HoldsSomewhere (λ p. conj_holds T.holds others.items p && T.holds atom p)) }
+    ensures open { IfOk result (λ v. v ≡ Unknown
+        → MayBeOpen T.decides T.mentions T.lines (others.items ++ atom ∷ [])) }
 {
     others.push(atom)?;
-    match T::refute(alloc, &others)? {
-        Verdict::Empty => Ok(true),
-        _ => Ok(false),
-    }
+    T::refute(alloc, &others)
 }
