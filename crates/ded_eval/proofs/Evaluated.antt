@@ -111,23 +111,6 @@ module _ {A : Type 0} (h : A → Point → Bool) (m : A → Slot → Bool) (l : 
 
   -- ---- differences and complements
 
-  pub minus_for : (c : Catalogue) (f g : PlanForm) (xs ys out : List (List A)) → IsListFor c f xs → IsListFor c g ys
-      → IsOperation h m l (λ p. conjs_hold h xs p && not (conjs_hold h ys p)) (λ s. conjs_mention m xs s || conjs_mention m ys s) (conjs_lines l xs ++ conjs_lines l ys) out → IsListFor c (minus f g) out
-  minus_for c f g xs ys out a b o = record {
-    holds = λ p i w. (
-      λ x. (let r = and_parts _ _ (sym (o.holds p i) ∙ x) in ((a.holds p i w).0 r.0, λ y. true≢false (sym ((b.holds p i w).1 y) ∙ not-true _ r.1))),
-      λ x. o.holds p i ∙ and_from _ _ ((a.holds p i w).1 x.0) (not_from_false _ (false_from_ne_true _ (λ e. x.1 ((b.holds p i w).0 e)))),
-    );
-    slots = λ s u. ⊎_elim (λ (e : conjs_mention m xs s ≡ true). or_left _ _ (a.slots s e)) (λ e. or_right (plan_mentions f (slot s)) _ (b.slots s e)) (or_split _ _ (o.slots s u));
-    lines = subset_trans (conjs_lines l out) (conjs_lines l xs ++ conjs_lines l ys) (plan_lines (stored_measures c) f ++ plan_lines (stored_measures c) g) o.lines
-        (subset_append (conjs_lines l xs) (conjs_lines l ys) (plan_lines (stored_measures c) f) (plan_lines (stored_measures c) g) a.lines b.lines);
-  }
-
-  -- from nothing nothing is left
-  pub minus_none : (c : Catalogue) (f g : PlanForm) (xs : List (List A)) → length xs ≡ 0 → IsListFor c f xs → IsListFor c (minus f g) xs
-  minus_none c f g (x ∷ xs) e a = absurd (omega (arith, e))
-  minus_none c f g [] e a = record { holds = λ p i w. (λ x. absurd (true≢false (sym x)), λ x. (a.holds p i w).1 x.0); slots = λ s u. absurd (true≢false (sym u)); lines = subset_none _ }
-
   pub complement_for : (c : Catalogue) (f : PlanForm) (xs out : List (List A)) → IsListFor c f xs → IsOperation h m l (λ p. not (conjs_hold h xs p)) (conjs_mention m xs) (conjs_lines l xs) out → IsListFor c (negation f) out
   complement_for c f xs out a o = record {
     holds = λ p i w. (λ x y. true≢false (sym ((a.holds p i w).1 y) ∙ not-true _ (sym (o.holds p i) ∙ x)), λ x. o.holds p i ∙ not_from_false _ (false_from_ne_true _ (λ e. x ((a.holds p i w).0 e))));

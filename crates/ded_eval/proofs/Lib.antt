@@ -4,6 +4,7 @@ pub mod Found
 pub mod InTurn
 pub mod Inside
 pub mod Joined
+pub mod Left
 pub mod OrderPlans
 pub mod Parts
 pub mod Placed

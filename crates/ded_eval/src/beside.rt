@@ -125,7 +125,7 @@ pub(crate) fn leaves_nothing<T: Theory>(list: &Option<GenRel<T>>) -> bool
     }
 }
 
-/// The window, and the conjunction of the list where it has one alone.
+/// The window, and the conjunction of the list where there is one that has one alone.
 ///
 /// # Errors
 /// Out of memory.
@@ -139,10 +139,28 @@ pub(crate) fn narrowed<T: Theory>(
         → conjs_hold T.holds (begun list.now) p ≡ true → conj_holds T.holds v.items p ≡ true) }
     ensures normal { IfOk result (λ v. AllByRecursion T.normal v.items) }
 {
-    if let Some(list) = list {
-        if let [only] = list.list() {
-            return both_conjs::<T>(alloc, window, only);
-        }
+    match list {
+        Some(list) => narrowed_by(alloc, window, list),
+        None => copy_conj::<T>(alloc, window),
+    }
+}
+
+/// The window, and the conjunction of the list where it has one alone.
+///
+/// # Errors
+/// Out of memory.
+pub(crate) fn narrowed_by<T: Theory>(
+    alloc: Global,
+    window: &[T::Atom],
+    list: &GenRel<T>,
+) -> Result<Vec<T::Atom>, NoMemory>
+    requires { AllByRecursion T.normal window.now }
+    ensures holds { IfOk result (λ v. (p : Point) → conj_holds T.holds window.now p ≡ true
+        → conjs_hold T.holds list.now p ≡ true → conj_holds T.holds v.items p ≡ true) }
+    ensures normal { IfOk result (λ v. AllByRecursion T.normal v.items) }
+{
+    if let [only] = list.list() {
+        return both_conjs::<T>(alloc, window, only);
     }
     copy_conj::<T>(alloc, window)
 }

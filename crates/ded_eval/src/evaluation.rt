@@ -13,7 +13,9 @@ ghost use Rattle.ded_algebra.specs.Evaluation.{IsScannable, IsEvaluable, IsEvalu
 ghost use Rattle.ded_eval.specs.Joining.{begun, IsJoinedWith, IsJoinStep};
 
 use crate::across::{join_inside, rows_across};
-use crate::beside::{alone, begun_with, is_rows, leaves_nothing, narrowed, rows_of_parts};
+use crate::beside::{
+    alone, begun_with, is_rows, leaves_nothing, narrowed, narrowed_by, rows_of_parts,
+};
 use crate::fronts::{front_part, place_of};
 use crate::lookups::is_lookup;
 use crate::scanning::scanned;
@@ -85,11 +87,7 @@ pub fn evaluate_within<T: OfTuples, R: Relations>(
         Plan::Union(parts) => united(alloc, parts, relations, window, met),
         Plan::Minus(from, taken) => {
             let from = evaluate_within(alloc, from, relations, window, met)?;
-            if from.list().is_empty() {
-                return Ok(from);
-            }
-            let taken = evaluate_within(alloc, taken, relations, window, met)?;
-            Ok(minus(alloc, &from, &taken)?)
+            left_of(alloc, from, taken, relations, window, met)
         }
         Plan::Not(part) => complemented(alloc, part, relations, window, met),
         Plan::Project(slot, part) => {
@@ -98,6 +96,63 @@ pub fn evaluate_within<T: OfTuples, R: Relations>(
             Ok(distinct(alloc, list)?)
         }
     }
+}
+
+/// What the plan leaves of the list. Of nothing it leaves nothing, and isn't evaluated; what is looked up is looked up
+/// for each conjunction of the list.
+#[cycle(evaluate)]
+fn left_of<T: OfTuples, R: Relations>(
+    alloc: Global,
+    list: GenRel<T>,
+    taken: &Plan,
+    relations: &R,
+    window: &[T::Atom],
+    met: &mut u64,
+) -> Result<GenRel<T>, Refused>
+    requires taken { IsEvaluable T.reads (R.catalogue relations.now) (plan_form taken.now) }
+    requires window { AllByRecursion T.normal window.now }
+    ensures is { IfOk result (λ r. IsJoinedWith T.holds T.mentions T.lines (R.catalogue relations.now)
+        (conj_holds T.holds window.now) (negation (plan_form taken.now)) list r) }
+    ensures wide { IsErrOf result Wide → plan_clashes (stored_measures (R.catalogue relations.now))
+        (plan_form taken.now) ≡ true }
+    ensures never_wide { T.decides → IsErrOf result Wide → ⊥ }
+{
+    if list.list().is_empty() {
+        return Ok(list);
+    }
+    if !is_lookup(alloc, &list, taken, relations) {
+        return left_of_whole(alloc, &list, taken, relations, window, met);
+    }
+    let mut left = GenRel::new(alloc);
+    for conj in list.list() {
+        let one = alone(alloc, conj)?;
+        left.append(left_of_whole(alloc, &one, taken, relations, window, met)?)?;
+    }
+    Ok(left)
+}
+
+/// What the plan leaves of the list. It is evaluated within the window, and within the conjunction of the list where
+/// that has one alone.
+#[cycle(evaluate)]
+fn left_of_whole<T: OfTuples, R: Relations>(
+    alloc: Global,
+    list: &GenRel<T>,
+    taken: &Plan,
+    relations: &R,
+    window: &[T::Atom],
+    met: &mut u64,
+) -> Result<GenRel<T>, Refused>
+    requires taken { IsEvaluable T.reads (R.catalogue relations.now) (plan_form taken.now) }
+    requires window { AllByRecursion T.normal window.now }
+    ensures is { IfOk result (λ r. IsJoinedWith T.holds T.mentions T.lines (R.catalogue relations.now)
+        (conj_holds T.holds window.now) (negation (plan_form taken.now)) list.now r) }
+    ensures wide { IsErrOf result Wide → plan_clashes (stored_measures (R.catalogue relations.now))
+        (plan_form taken.now) ≡ true }
+    ensures never_wide { T.decides → IsErrOf result Wide → ⊥ }
+{
+    let inner = narrowed_by(alloc, window, list)?;
+    let taken = evaluate_within(alloc, taken, relations, &inner, met)?;
+    Ok(minus(alloc, list, &taken)?)
 }
 
 /// The complement of the plan. Where the plan is a union of a complement and another plan, as `implies` makes it, that
@@ -123,11 +178,7 @@ fn complemented<T: OfTuples, R: Relations>(
         if let [first, other] = parts.as_slice() {
             if let Plan::Not(from) = first {
                 let from = evaluate_within(alloc, from, relations, window, met)?;
-                if from.list().is_empty() {
-                    return Ok(from);
-                }
-                let other = evaluate_within(alloc, other, relations, window, met)?;
-                return Ok(minus(alloc, &from, &other)?);
+                return left_of(alloc, from, other, relations, window, met);
             }
         }
     }

@@ -15,7 +15,7 @@ use crate::attaining::{are_over, is_empty, is_inhabited, list_attained};
 use crate::beside::{alone, is_rows, put_behind, rows_of_parts};
 use crate::evaluation::rows;
 use crate::scanning::{FirstTuples, first_scanned};
-use crate::tried::{Bound, is_closed, joins, others_than_rows, projects, with_slot};
+use crate::tried::{Projected, is_closed, joins, others_than_rows, projects, with_slot};
 use crate::window::without_slot;
 use ded_algebra::Relations;
 use ded_atoms::OfTuples;
@@ -50,7 +50,7 @@ pub(crate) fn found<T: OfTuples, R: Relations>(
     requires { IsEvaluable T.reads (R.catalogue relations.now) (plan_form plan.now) }
     ensures { IfOk result (IsClosedVerdict (R.catalogue relations.now) (plan_form plan.now)) }
 {
-    if !(projects(plan) || joins(plan)) || !is_closed(plan, &Bound::Nothing) {
+    if !(projects(plan) || joins(plan)) || !is_closed(plan, &Projected::Nothing) {
         return Ok(Verdict::Unknown);
     }
     if !projects(plan) {
@@ -243,9 +243,10 @@ fn few<T: OfTuples, R: Relations>(
     ensures { IfOk result (IsFoundIn T.holds (R.catalogue relations.now)
         (conj_holds T.holds window.now) (plan_form plan.now)) }
 {
-    if is_spent(looks) {
+    if *looks == 0 {
         return Ok(GenRel::new(alloc));
     }
+    *looks -= 1;
     match plan {
         Plan::Scan(name, slots) => Ok(
             first_scanned(alloc, name, slots, relations, window, TRIED_OF_A_PART)?.list,
@@ -374,15 +375,6 @@ fn with_atoms<T: Theory>(
     ensures normal { IfOk result (λ v. AllByRecursion T.normal v.items) }
 {
     both_conjs::<T>(alloc, window, conj)
-}
-
-/// Takes one look, unless none is left.
-fn is_spent(looks: &mut u32) -> bool {
-    if *looks == 0 {
-        return true;
-    }
-    *looks -= 1;
-    false
 }
 
 /// Whether a conjunction of the list has no atoms, and so holds everywhere.

@@ -1,5 +1,8 @@
 //! Which part a join begins with.
 ghost use Rattle.std.specs.Prelude.{◌≡◌, ◌<◌, length, IfOk, IfSome};
+ghost use Rattle.ded_model.specs.Logic.{AllAtomsOf};
+ghost use Rattle.ded_model.specs.PlanForm.{plan_forms};
+ghost use Rattle.ded_algebra.specs.Evaluation.{IsScannable};
 ghost use Rattle.ded_eval.specs.Joining.{place_of, IsPlace};
 
 use crate::beside::is_rows;
@@ -28,6 +31,7 @@ pub(crate) fn front_part<T: OfTuples, R: Relations>(
     relations: &R,
     window: &[T::Atom],
 ) -> Result<usize, NoMemory>
+    requires { AllAtomsOf (IsScannable T.reads (R.catalogue relations.now)) (plan_forms parts.now.items) }
     ensures { IfOk result (IsPlace (length parts.now.items)) }
 {
     let Some((first, second)) = first_two(parts) else {

@@ -1,15 +1,19 @@
-//! Which parts of a join are looked up for each conjunction of the parts before them.
+//! Which plans are looked up for each conjunction of a list: of the parts of a join before them, or of what they are
+//! taken from.
+ghost use Rattle.ded_model.specs.Catalogue.{Catalogue};
+ghost use Rattle.ded_model.specs.Logic.{AllAtoms};
+ghost use Rattle.ded_model.specs.PlanForm.{plan_form};
+ghost use Rattle.ded_algebra.specs.Evaluation.{IsScannable, IsEvaluable};
 
-use crate::beside::is_rows;
+use crate::beside::{is_rows, rows_of_parts};
 use crate::window::columns_window;
 use ded_algebra::{Relations, near_in};
 use ded_atoms::OfTuples;
-use ded_genrel::GenRel;
+use ded_genrel::{GenRel, copy_conj};
 use ded_model::memory::NoMemory;
 use ded_model::name::Name;
 use ded_model::plan::Plan;
 use ded_model::slot::Slots;
-use ded_packed::Lent;
 use ded_ranges::Window;
 use std::alloc::Global;
 
@@ -25,15 +29,17 @@ pub(crate) fn is_lookup<T: OfTuples, R: Relations>(
     list: &GenRel<T>,
     plan: &Plan,
     relations: &R,
-) -> bool {
+) -> bool
+    requires { IsEvaluable T.reads (R.catalogue relations.now) (plan_form plan.now) }
+{
     let conjs = list.list();
     if conjs.len() < 2 {
         return false;
     }
     match (scan_in(plan), conjs.get(conjs.len() / 2)) {
-        (Some((name, slots)), Some(conj)) => {
+        (Some((name, _)), Some(conj)) => {
             relations.is_indexed(name)
-                && is_selective::<T, R>(alloc, conj, name, slots, relations).unwrap_or(false)
+                && is_selective::<T, R>(alloc, plan, relations, conj).unwrap_or(false)
         }
         _ => false,
     }
@@ -76,50 +82,55 @@ pub(crate) fn near_count<T: OfTuples, R: Relations>(
     plan: &Plan,
     relations: &R,
     conj: &[T::Atom],
-) -> Result<Option<usize>, NoMemory> {
+) -> Result<Option<usize>, NoMemory>
+    requires { IsEvaluable T.reads (R.catalogue relations.now) (plan_form plan.now) }
+{
     let Some((name, slots)) = scan_in(plan) else {
         return Ok(None);
     };
-    Ok(Some(near_of::<T, R>(alloc, conj, name, slots, relations)?))
+    let mut inside = rows_around::<T>(alloc, plan)?;
+    inside.append(&mut copy_conj::<T>(alloc, conj)?)?;
+    let window = columns_window::<T>(alloc, &inside, &slots.list)?;
+    let near = near_in(alloc, relations, name, &window);
+    drop(window);
+    Ok(Some(near?.map_or(0, |tuples| tuples.len())))
 }
 
-/// How many tuples of the name may hold where the conjunction does.
+/// The atoms of the rows beside the plan's scan, below its projections.
 ///
 /// # Errors
 /// Out of memory.
-fn near_of<T: OfTuples, R: Relations>(
-    alloc: Global,
-    conj: &[T::Atom],
-    name: &Name,
-    slots: &Slots,
-    relations: &R,
-) -> Result<usize, NoMemory> {
-    let window = columns_window::<T>(alloc, conj, &slots.list)?;
-    let near = near_in(alloc, relations, name, &window);
-    drop(window);
-    Ok(count(near?))
+#[cycle(rows_around)]
+fn rows_around<T: OfTuples>(alloc: Global, plan: &Plan) -> Result<Vec<T::Atom>, NoMemory>
+    requires { (c : Catalogue) × AllAtoms (IsScannable T.reads c) (plan_form plan.now) }
+{
+    match plan {
+        Plan::Project(_, part) => rows_around::<T>(alloc, part),
+        Plan::Join(parts) => rows_of_parts::<T>(alloc, parts),
+        Plan::Scan(_, _) | Plan::Rows(_) | Plan::Union(_) | Plan::Minus(_, _) | Plan::Not(_) => {
+            Ok(Vec::new(alloc))
+        }
+    }
 }
 
-/// Whether few tuples of the name may hold where the conjunction does.
+/// Whether few tuples of the relation that is the plan's only scan may hold where the conjunction does.
 ///
 /// # Errors
 /// Out of memory.
 fn is_selective<T: OfTuples, R: Relations>(
     alloc: Global,
-    conj: &[T::Atom],
-    name: &Name,
-    slots: &Slots,
+    plan: &Plan,
     relations: &R,
-) -> Result<bool, NoMemory> {
-    let near = near_of::<T, R>(alloc, conj, name, slots, relations)?;
-    let all = count(near_in(alloc, relations, name, &Window::everything(alloc))?);
-    Ok(near <= all / LOOKED_UP_AT_ONE_OF)
-}
-
-/// How many tuples are lent.
-fn count(tuples: Option<Vec<Lent<'_>>>) -> usize {
-    match tuples {
-        Some(tuples) => tuples.len(),
-        None => 0,
-    }
+    conj: &[T::Atom],
+) -> Result<bool, NoMemory>
+    requires { IsEvaluable T.reads (R.catalogue relations.now) (plan_form plan.now) }
+{
+    let (Some(near), Some((name, _))) = (
+        near_count::<T, R>(alloc, plan, relations, conj)?,
+        scan_in(plan),
+    ) else {
+        return Ok(false);
+    };
+    let all = near_in(alloc, relations, name, &Window::everything(alloc))?;
+    Ok(near <= all.map_or(0, |tuples| tuples.len()) / LOOKED_UP_AT_ONE_OF)
 }

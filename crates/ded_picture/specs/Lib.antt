@@ -1,5 +1,5 @@
 pub mod Colours
-pub mod ShownParts
+pub mod Parts
 pub mod Windowing
 pub mod Sheets
 pub mod Layers

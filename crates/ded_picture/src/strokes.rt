@@ -80,11 +80,11 @@ fn stroke_of(sheet: &Sheet, colour: u32, stretch: Stretch) -> ColouredLine
 }
 
 /// How a stretch is drawn.
-fn line_of(stroke: ded_strokes::ColouredLine) -> Line
+fn line_of(stroke: ded_strokes::Stroke) -> Line
     ensures { result ≡ line_of stroke }
 {
     match stroke {
-        ded_strokes::ColouredLine::Seam | ded_strokes::ColouredLine::Solid => Line::Solid,
-        ded_strokes::ColouredLine::Dashed => Line::Dashed,
+        ded_strokes::Stroke::Seam | ded_strokes::Stroke::Solid => Line::Solid,
+        ded_strokes::Stroke::Dashed => Line::Dashed,
     }
 }

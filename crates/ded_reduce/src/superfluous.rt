@@ -45,11 +45,7 @@ pub(crate) fn sift<T: Theory>(
 }
 
 /// Whether some point satisfies the others and not the atom at the index: `Empty` where they imply it.
-fn left_out<T: Theory>(
-    alloc: Global,
-    conj: &[T::Atom],
-    index: usize,
-) -> Result<Verdict, NoMemory>
+fn left_out<T: Theory>(alloc: Global, conj: &[T::Atom], index: usize) -> Result<Verdict, NoMemory>
     requires within { index < length conj.now }
     requires normal { AllByRecursion T.normal conj.now }
     ensures implied { IfOk result (λ v. v ≡ Empty → IsImplied T.holds conj.now index) }

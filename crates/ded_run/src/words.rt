@@ -11,6 +11,7 @@ use clap::error::ErrorKind;
 use clap::{Arg, ArgAction, Command};
 use ded_model::fault::ParseFault;
 use ded_model::limits;
+use ded_model::memory::NoMemory;
 use std::alloc::Global;
 
 /// The words of the command line, without the program's name.

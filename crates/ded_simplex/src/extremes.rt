@@ -44,7 +44,7 @@ pub(crate) enum SlotRange {
 #[derive(Clone, Copy)]
 enum Stop {
     /// At this line, of the slot.
-    TableauLine(usize),
+    Line(usize),
     /// Nowhere: the variable of the column may leave 0 for this side without end.
     Column(usize, Ordering),
     /// At a step too many.

@@ -1,5 +1,5 @@
 -- The laws of the theory that don't follow at once: an atom goes by its cell, and mentions text slots alone.
-use Rattle.std.proofs.Common.{◌≡◌, Bool, true, false, cond, ◌||◌, inl, inr, refl, ap, subst, ◌∙◌, absurd, Some, List, ℕ}
+use Rattle.std.proofs.Common.{◌≡◌, Bool, true, false, cond, ◌||◌, inl, inr, refl, ap, subst, ◌∙◌, Some, List, ℕ}
 use Rattle.std.specs.Prelude.{ℤ, pos, negsuc, ◌==◌}
 use Rattle.std.proofs.lemmas.Bool.{or_cases}
 use Rattle.std.proofs.lemmas.Option.{none-some, same_Some}

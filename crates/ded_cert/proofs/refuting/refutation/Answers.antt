@@ -65,8 +65,8 @@ returns-in_default-find_refuting-clause-wide c = λ e.
     c.deref.ensures.value c.in_ok-traces.ensures c.in_ok-left.ensures.projected c.in_ok-left.ensures.normal c.in_ok-left.ensures.weak)
     (subst (AllByRecursion (λ r. is_refuting c.in-Some.first r ≡ false)) c.deref-2.ensures.value c.in_default-find_refuting.ensures) c.requires.nowhere)
 
-pub returns-then-at-clause-wide : goal.returns-then-at-clause-wide
-returns-then-at-clause-wide c = λ e.
+pub returns-then-at-from-clause-wide : goal.returns-then-at-from-clause-wide
+returns-then-at-from-clause-wide c = λ e.
     found_wide c.in-Some.first (lent c.args.rows.now) c.in_ok-slots.slots.items c.in_ok-left.left.items
     (known c.in-Some.first (lent c.args.rows.now) c.in_ok-slots.slots.items c.deref.result.now c.in_ok-traces.field-0.items c.in_ok-left.left.items c.in-Some.ensures.0 c.requires.normal c.in_ok-slots.ensures.all c.in_ok-slots.ensures.only c.in_ok-slots.ensures.distinct
     c.deref.ensures.value c.in_ok-traces.ensures c.in_ok-left.ensures.projected c.in_ok-left.ensures.normal c.in_ok-left.ensures.weak) c.in-Some-find_refuting.row.now (subst (In c.in-Some-find_refuting.row.now) c.deref-2.ensures.value c.in-Some-find_refuting.ensures.0)

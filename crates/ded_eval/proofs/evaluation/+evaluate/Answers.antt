@@ -1,5 +1,6 @@
 use Rattle.std.proofs.Common.{rules, arith, ◌≡◌, true, ◌++◌, ◌∷◌, [], ◌∙◌, sym, ap, subst, take, map, length, get_or, ◌<◌, ◌≤◌}
 use Rattle.std.proofs.lemmas.List.{take_all}
+use Rattle.std.proofs.lemmas.Result.{IfOk-weaker}
 use Rattle.ded_model.specs.declared.plan.Plan.TheFolds.{fold-roll-Plan, fold_out-Plan}
 use Rattle.ded_model.specs.declared.plan.Plan.TheViews.{the_lemmas}
 use Rattle.ded_model.specs.Catalogue.{stored}
@@ -20,9 +21,10 @@ use Rattle.std.specs.List.{AllByRecursion}
 use Rattle.ded_genrel.specs.Lists.{conjs_of}
 use Rattle.ded_genrel.proofs.Items.{normal-at, conjs_to, conjs_done, all-append}
 use Rattle.ded_eval.specs.Joining.{begun, IsJoinedWith}
-use Rattle.ded_eval.proofs.Evaluated.{IsListFor, everywhere_for, distinct_for, no_conjunction, united_none, united_more, minus_for, minus_none, complement_for, implied_for}
+use Rattle.ded_eval.proofs.Evaluated.{IsListFor, everywhere_for, distinct_for, no_conjunction, united_none, united_more, complement_for, implied_for}
 use Rattle.ded_eval.proofs.InTurn.{in_turn, in_turn-length, place_inside, at_turn, first_hold, all_hold}
 use Rattle.ded_eval.proofs.Joined.{IsJoined, joined_begun, joined_rows, joined_more, joined_ends, joined_all, met_with, first_with, probed_none, probed_more}
+use Rattle.ded_eval.proofs.Left.{left_with, minus_of}
 use Rattle.ded_eval.proofs.Parts.{part_atoms, part_clashes, part_mentions, part_lines, part_rows, parts_to, rest_atoms, two_items}
 use Rattle.ded_eval.proofs.Projected.{AreInOrder, projection_for, projection_clash}
 use Rattle.ded_eval.proofs.Scanned.{lists_lines}
@@ -30,22 +32,13 @@ use Rattle.ded_model.proofs.plan.Plan.TheLaws.{the_size}
 use denote.Param.Weighed.{most, at_most}
 use Rattle.ded_eval.proofs.evaluation.+evaluate.Goals as goal
 
-pub evaluate_within-returns-then-is_empty-clause-is : goal.evaluate_within-returns-then-is_empty-clause-is
-evaluate_within-returns-then-is_empty-clause-is g t c =
-    let xs = c.in_ok-from-in-Minus.from in
-    let cat = g.R.Relations.catalogue c.args.relations.now in
-    let e : plan_form c.args.plan.now ≡ minus (plan_form c.deref.result.now) (plan_form c.in-Minus.taken.value) = search (rules, the_lemmas, fold-roll-Plan, fold_out-Plan) in
-    subst (λ f. IsListFor g.T.Theory.holds g.T.Theory.mentions g.T.Theory.lines (conj_holds g.T.Theory.holds c.args.window.now) cat f xs) (sym e)
-    (minus_none g.T.Theory.holds g.T.Theory.mentions g.T.Theory.lines (conj_holds g.T.Theory.holds c.args.window.now) cat (plan_form c.deref.result.now) (plan_form c.in-Minus.taken.value) xs
-    (no_conjunction c.list.result.now xs c.is_empty.result c.list.ensures.list c.is_empty.ensures c.if-is_empty.true) c.in_ok-from-in-Minus.ensures.is)
-
-pub evaluate_within-returns-in_ok-minus-in-Minus-clause-is : goal.evaluate_within-returns-in_ok-minus-in-Minus-clause-is
-evaluate_within-returns-in_ok-minus-in-Minus-clause-is g t c =
+pub evaluate_within-returns-in_ok-from-in-Minus-clause-is : goal.evaluate_within-returns-in_ok-from-in-Minus-clause-is
+evaluate_within-returns-in_ok-from-in-Minus-clause-is g t c =
     let cat = g.R.Relations.catalogue c.args.relations.now in
     let e : plan_form c.args.plan.now ≡ minus (plan_form c.deref.result.now) (plan_form c.deref-in-Minus.result.now) = search (rules, the_lemmas, fold-roll-Plan, fold_out-Plan) in
-    subst (λ f. IsListFor g.T.Theory.holds g.T.Theory.mentions g.T.Theory.lines (conj_holds g.T.Theory.holds c.args.window.now) cat f c.in_ok-minus-in-Minus.field-0) (sym e)
-    (minus_for g.T.Theory.holds g.T.Theory.mentions g.T.Theory.lines (conj_holds g.T.Theory.holds c.args.window.now) cat (plan_form c.deref.result.now) (plan_form c.deref-in-Minus.result.now) c.in_ok-from-in-Minus.from c.in_ok-taken-in-Minus.taken c.in_ok-minus-in-Minus.field-0
-    c.in_ok-from-in-Minus.ensures.is c.in_ok-taken-in-Minus.ensures.is c.in_ok-minus-in-Minus.ensures.is)
+    IfOk-weaker c.left_of.result _ _
+    (λ r k. subst (λ f. IsListFor g.T.Theory.holds g.T.Theory.mentions g.T.Theory.lines (conj_holds g.T.Theory.holds c.args.window.now) cat f r) (sym e) (minus_of g.T.Theory.holds g.T.Theory.mentions g.T.Theory.lines cat (conj_holds g.T.Theory.holds c.args.window.now) (plan_form c.deref.result.now) (plan_form c.deref-in-Minus.result.now) c.in_ok-from-in-Minus.from r c.in_ok-from-in-Minus.ensures.is k))
+    c.left_of.ensures.is
 
 pub evaluate_within-returns-in_ok-rows-in-Rows-clause-is : goal.evaluate_within-returns-in_ok-rows-in-Rows-clause-is
 evaluate_within-returns-in_ok-rows-in-Rows-clause-is g t c =
@@ -244,18 +237,43 @@ pub complemented-returns-clause-is : goal.complemented-returns-clause-is
 complemented-returns-clause-is g t c =
     complement_for g.T.Theory.holds g.T.Theory.mentions g.T.Theory.lines (conj_holds g.T.Theory.holds c.args.window.now) (g.R.Relations.catalogue c.args.relations.now) (plan_form c.args.plan.now) c.in_ok-list.list c.in_ok-complement.field-0 c.in_ok-list.ensures.is c.in_ok-complement.ensures.is
 
+pub left_of-alone-requires : goal.left_of-alone-requires
+left_of-alone-requires g t c =
+    subst (AllByRecursion g.T.Theory.normal) (sym c.deref.ensures.value) (normal-at g.T.Theory.normal c.list-conj-items.result.now c.loop-conj.conj-index c.conj-item.result c.loop-conj-test.true c.conj-item.is c.list-conj-items.ensures.normal)
+
+pub left_of-loop-conj-init : goal.left_of-loop-conj-init
+left_of-loop-conj-init g t c = subst (IsJoinedWith g.T.Theory.holds g.T.Theory.mentions g.T.Theory.lines (g.R.Relations.catalogue c.args.relations.now) (conj_holds g.T.Theory.holds c.args.window.now) (negation (plan_form c.args.taken.now)) []) (sym c.new-left.ensures) (probed_none g.T.Theory.holds g.T.Theory.mentions g.T.Theory.lines (g.R.Relations.catalogue c.args.relations.now) (conj_holds g.T.Theory.holds c.args.window.now) (negation (plan_form c.args.taken.now)))
+
+pub left_of-loop-conj-preserved : goal.left_of-loop-conj-preserved
+left_of-loop-conj-preserved g t c =
+    let items = c.list-conj-items.result.now in
+    let i = c.loop-conj.conj-index in
+    subst (λ xs. IsJoinedWith g.T.Theory.holds g.T.Theory.mentions g.T.Theory.lines (g.R.Relations.catalogue c.args.relations.now) (conj_holds g.T.Theory.holds c.args.window.now) (negation (plan_form c.args.taken.now)) xs c.append.new.self) (sym (conjs_to items i c.conj-item.result c.loop-conj-test.true c.conj-item.is))
+    (subst (IsJoinedWith g.T.Theory.holds g.T.Theory.mentions g.T.Theory.lines (g.R.Relations.catalogue c.args.relations.now) (conj_holds g.T.Theory.holds c.args.window.now) (negation (plan_form c.args.taken.now)) (conjs_of (take i items) ++ c.conj-item.result.items ∷ [])) (sym c.in_ok-append.ensures)
+    (probed_more g.T.Theory.holds g.T.Theory.mentions g.T.Theory.lines (g.R.Relations.catalogue c.args.relations.now) (conj_holds g.T.Theory.holds c.args.window.now) (negation (plan_form c.args.taken.now)) (conjs_of (take i items)) (c.conj-item.result.items ∷ []) c.loop-conj.left c.in_ok-left_of_whole.field-0 c.loop-conj.invariant
+    (subst (λ xs. IsJoinedWith g.T.Theory.holds g.T.Theory.mentions g.T.Theory.lines (g.R.Relations.catalogue c.args.relations.now) (conj_holds g.T.Theory.holds c.args.window.now) (negation (plan_form c.args.taken.now)) xs c.in_ok-left_of_whole.field-0) (c.in_ok-one.ensures ∙ ap (λ atoms. atoms ∷ []) c.deref.ensures.value) c.in_ok-left_of_whole.ensures.is)))
+
+pub left_of-returns-clause-is : goal.left_of-returns-clause-is
+left_of-returns-clause-is g t c =
+    subst (λ xs. IsJoinedWith g.T.Theory.holds g.T.Theory.mentions g.T.Theory.lines (g.R.Relations.catalogue c.args.relations.now) (conj_holds g.T.Theory.holds c.args.window.now) (negation (plan_form c.args.taken.now)) xs c.loop-conj.left) (conjs_done c.list-conj-items.result.now c.loop-conj.conj-index c.loop-conj-test.false ∙ c.list-conj-items.ensures.list) c.loop-conj.invariant
+
+pub left_of_whole-returns-clause-is : goal.left_of_whole-returns-clause-is
+left_of_whole-returns-clause-is g t c =
+    left_with g.T.Theory.holds g.T.Theory.mentions g.T.Theory.lines (g.R.Relations.catalogue c.args.relations.now) (conj_holds g.T.Theory.holds c.args.window.now) (plan_form c.args.taken.now) c.args.list.now c.in_ok-taken.taken c.in_ok-minus.field-0 (conj_holds g.T.Theory.holds c.deref.result.now)
+    (λ p w y. ap (λ xs. conj_holds g.T.Theory.holds xs p) c.deref.ensures.value ∙ c.in_ok-inner.ensures.holds p w y) c.in_ok-taken.ensures.is c.in_ok-minus.ensures.is
+
 pub complemented-returns-in-Not-clause-is : goal.complemented-returns-in-Not-clause-is
 complemented-returns-in-Not-clause-is g t c =
     let cat = g.R.Relations.catalogue c.args.relations.now in
     let f = plan_form c.deref.result.now in
     let b = c.other-item.result in
-    let out = c.in_ok-minus.field-0 in
     let first : plan_form c.first-item.result ≡ negation f = search (rules, the_lemmas, fold-roll-Plan, fold_out-Plan) in
     let union : plan_form c.args.plan.now ≡ some_of (plan_forms c.in-Union.parts.items) = search (rules, the_lemmas, fold-roll-Plan, fold_out-Plan) in
     let both : c.as_slice.result.now ≡ c.first-item.result ∷ b ∷ [] =
     two_items c.as_slice.result.now c.first-item.result b (omega (arith, c.in-len2.len_at_least)) (omega (arith, c.in-len2.len_below)) c.first-item.is c.other-item.is in
     let e : plan_form c.args.plan.now ≡ some_of (logics (negation f ∷ plan_form b ∷ [])) =
     union ∙ ap (λ ps. some_of (plan_forms ps)) (sym c.as_slice.ensures.value ∙ both) ∙ ap (λ k. some_of (logics (k ∷ plan_form b ∷ []))) first in
-    subst (λ k. IsListFor g.T.Theory.holds g.T.Theory.mentions g.T.Theory.lines (conj_holds g.T.Theory.holds c.args.window.now) cat (negation k) out) (sym e)
-    (implied_for g.T.Theory.holds g.T.Theory.mentions g.T.Theory.lines (conj_holds g.T.Theory.holds c.args.window.now) cat f (plan_form b) out
-    (minus_for g.T.Theory.holds g.T.Theory.mentions g.T.Theory.lines (conj_holds g.T.Theory.holds c.args.window.now) cat f (plan_form b) c.in_ok-from.from c.in_ok-other.other out c.in_ok-from.ensures.is c.in_ok-other.ensures.is c.in_ok-minus.ensures.is))
+    IfOk-weaker c.left_of.result _ _
+    (λ r k. subst (λ n. IsListFor g.T.Theory.holds g.T.Theory.mentions g.T.Theory.lines (conj_holds g.T.Theory.holds c.args.window.now) cat (negation n) r) (sym e)
+    (implied_for g.T.Theory.holds g.T.Theory.mentions g.T.Theory.lines (conj_holds g.T.Theory.holds c.args.window.now) cat f (plan_form b) r (minus_of g.T.Theory.holds g.T.Theory.mentions g.T.Theory.lines cat (conj_holds g.T.Theory.holds c.args.window.now) f (plan_form b) c.in_ok-from.from r c.in_ok-from.ensures.is k)))
+    c.left_of.ensures.is

@@ -1,5 +1,5 @@
 use Rattle.std.proofs.Common.{take, drop, map}
-use Rattle.ded_model.specs.Logic.{some_of, logics, AllAtomsOf}
+use Rattle.ded_model.specs.Logic.{negation, some_of, logics, AllAtomsOf}
 use Rattle.ded_model.specs.PlanForm.{plan_form, plan_forms}
 use Rattle.ded_genrel.specs.Rounds.{AreRational}
 use Rattle.ded_algebra.specs.Evaluation.{IsScannable}
@@ -24,3 +24,7 @@ invariant-united-loop-part g l =
 abbrev pub invariant-probed-loop-conj : goal.invariant-probed-loop-conj
 invariant-probed-loop-conj g l =
     IsJoinedWith g.T.Theory.holds g.T.Theory.mentions g.T.Theory.lines (g.R.Relations.catalogue l.relations) (conj_holds g.T.Theory.holds l.step.within.now) (plan_form l.part) (conjs_of (take l.conj-index l.conj-items)) l.joined
+
+abbrev pub invariant-left_of-loop-conj : goal.invariant-left_of-loop-conj
+invariant-left_of-loop-conj g l =
+    IsJoinedWith g.T.Theory.holds g.T.Theory.mentions g.T.Theory.lines (g.R.Relations.catalogue l.relations) (conj_holds g.T.Theory.holds l.window) (negation (plan_form l.taken)) (conjs_of (take l.conj-index l.conj-items)) l.left
