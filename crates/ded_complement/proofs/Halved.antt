@@ -48,7 +48,7 @@ module _ {A : Type 0} where
   conjs_at-append bs [] js = refl
   conjs_at-append bs (i ∷ is) js = ap (λ cs. conj_at bs i ++ cs) (conjs_at-append bs is js) ∙ sym (append_assoc (conj_at bs i) (conjs_at bs is) (conjs_at bs js))
 
-  conj_at-is : (bs : List (Boxed A)) (i : ℕ) (b : Boxed A) → i < length bs → b ≡ get_or bs i b → conj_at bs i ≡ b.conj.items ∷ []
+  pub conj_at-is : (bs : List (Boxed A)) (i : ℕ) (b : Boxed A) → i < length bs → b ≡ get_or bs i b → conj_at bs i ≡ b.conj.items ∷ []
   conj_at-is [] i b lt e = absurd (omega (arith, lt))
   conj_at-is (x ∷ bs) zero b lt e = ap (λ (z : Boxed A). z.conj.items ∷ []) (sym e)
   conj_at-is (x ∷ bs) (suc i) b lt e = conj_at-is bs i b (omega (arith, lt)) e

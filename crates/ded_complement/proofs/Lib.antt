@@ -5,3 +5,5 @@ pub mod Halved
 pub mod Implied
 pub mod NarrowLists
 pub mod PieceLaws
+pub mod SameText
+pub mod TextCuts

@@ -24,7 +24,7 @@ const SLOTS: u32 = 8;
 
 /// A conjunction, and a box around it on some slots.
 #[derive(Drop)]
-pub(crate) struct Boxed<A> {
+pub struct Boxed<A> {
     pub(crate) conj: Vec<A>,
     pub(crate) bounds: BoundBox,
 }
@@ -105,7 +105,7 @@ pub(crate) fn with_box<T: Theory>(
 ///
 /// # Errors
 /// Out of memory.
-pub(crate) fn boxed_list<T: Theory>(
+pub fn boxed_list<T: Theory>(
     alloc: Global,
     list: &GenRel<T>,
     slots: &[Slot],

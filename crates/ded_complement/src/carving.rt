@@ -103,7 +103,10 @@ fn inhabited<T: Theory>(
 
 /// The halves of the part of which the larger one has the fewest near it, over all slots; none where each cut leaves
 /// more than three quarters near one half.
-fn halves<T: Theory>(
+///
+/// # Errors
+/// Out of memory.
+pub(crate) fn halves<T: Theory>(
     part: &BoxedPiece<T::Atom>,
     taken: &[Boxed<T::Atom>],
     slots: &[Slot],

@@ -1,5 +1,5 @@
 //! Complement and difference.
-ghost use Rattle.std.specs.Prelude.{not, ◌&&◌, ◌||◌, List, ◌++◌, length, IfOk};
+ghost use Rattle.std.specs.Prelude.{not, ◌&&◌, ◌||◌, List, ◌++◌, length, IfOk, IfSome};
 ghost use Rattle.std.specs.List.{AllByRecursion};
 ghost use Rattle.ded_model.specs.Cell.{conj_holds, HoldsSomewhere, HasCells};
 ghost use Rattle.ded_theory.specs.Conjunctions.{IsWide};
@@ -7,10 +7,12 @@ ghost use Rattle.ded_genrel.specs.Lists.{conjs_hold, conjs_mention, conjs_lines}
 ghost use Rattle.ded_genrel.specs.Operations.{IsOperation};
 ghost use Rattle.ded_genrel.specs.Rounds.{AreRational};
 ghost use Rattle.ded_complement.specs.Boxed.{conjs_in, AreBoxed};
+ghost use Rattle.ded_complement.specs.Keys.{AreKeys};
 ghost use Rattle.ded_complement.specs.Pieces.{all_atoms, AreDisjoint, IsListForEach, AreAmong, IsMadeOf, ArePieces};
 
 use crate::boxed::{Boxed, bounded_slots, boxed_list};
-use crate::carving::{DEEPEST, carve};
+use crate::by_texts::carve_apart;
+use crate::keys::{Keys, keyed, slot_of};
 use crate::parts::whole;
 use ded_genrel::{GenRel, copy_conj};
 use ded_model::memory::NoMemory;
@@ -36,7 +38,8 @@ pub fn complement<T: Theory>(alloc: Global, rel: &GenRel<T>) -> Result<GenRel<T>
 {
     let slots = bounded_slots(alloc, rel)?;
     let boxed = boxed_list::<T>(alloc, rel, &slots)?;
-    outside::<T>(alloc, Vec::new(alloc), &boxed, &slots)
+    let keys = keyed::<T>(alloc, &boxed)?;
+    outside::<T>(alloc, Vec::new(alloc), &boxed, &slots, &keys)
 }
 
 /// A list that holds at a point exactly where the first one does and the second doesn't. None of its conjunctions tells
@@ -61,31 +64,60 @@ pub fn minus<T: Theory>(
 {
     let slots = bounded_slots(alloc, taken)?;
     let boxed = boxed_list::<T>(alloc, taken, &slots)?;
+    let keys = keyed::<T>(alloc, &boxed)?;
+    minus_boxed::<T>(alloc, from, &boxed, &slots, &keys)
+}
+
+/// The same of a list in boxes, by keys of this.
+fn minus_boxed<T: Theory>(
+    alloc: Global,
+    from: &GenRel<T>,
+    taken: &[Boxed<T::Atom>],
+    slots: &[Slot],
+    keys: &Option<Keys<'_, T::Atom>>,
+) -> Result<GenRel<T>, NoMemory>
+    requires rational { AreRational slots.now }
+    requires boxed { AreBoxed T.holds T.normal slots.now taken.now }
+    requires keys { IfSome keys.now (λ k. AreKeys T.holds taken.now (conjs_in taken.now) k) }
+    ensures is { IfOk result (λ out. IsOperation T.holds T.mentions T.lines (λ p. conjs_hold T.holds from.now p
+        && not (conjs_hold T.holds (conjs_in taken.now) p)) (λ s. conjs_mention T.mentions from.now s
+        || conjs_mention T.mentions (conjs_in taken.now) s)
+        (conjs_lines T.lines from.now ++ conjs_lines T.lines (conjs_in taken.now)) out) }
+    ensures cells { IfOk result (λ out.
+        (IsWide T.mentions T.lines (all_atoms from.now ++ all_atoms (conjs_in taken.now)) → ⊥)
+        → IsListForEach (λ pieces.
+        HasCells T.cell (all_atoms from.now ++ all_atoms (conjs_in taken.now)) (length pieces)
+        × AllByRecursion (λ c. HoldsSomewhere (conj_holds T.holds c)) pieces) from.now out) }
+    ensures made { IfOk result (λ out. AllByRecursion
+        (IsMadeOf T.mentions T.lines T.cell (all_atoms from.now ++ all_atoms (conjs_in taken.now))) out) }
+{
     let mut out = GenRel::new(alloc);
     for conj in from.list() {
-        let pieces = outside::<T>(alloc, copy_conj::<T>(alloc, conj)?, &boxed, &slots)?;
+        let pieces = outside::<T>(alloc, copy_conj::<T>(alloc, conj)?, taken, slots, keys)?;
         out.append(pieces)?;
     }
     Ok(out)
 }
 
-/// The pieces of what satisfies the piece and is outside of the list.
+/// The pieces of what satisfies the piece and is outside of the list, by keys of this.
 fn outside<T: Theory>(
     alloc: Global,
     piece: Vec<T::Atom>,
     taken: &[Boxed<T::Atom>],
     slots: &[Slot],
+    keys: &Option<Keys<'_, T::Atom>>,
 ) -> Result<GenRel<T>, NoMemory>
     requires normal { AllByRecursion T.normal piece.items }
     requires rational { AreRational slots.now }
     requires boxed { AreBoxed T.holds T.normal slots.now taken.now }
+    requires keys { IfSome keys.now (λ k. AreKeys T.holds taken.now (conjs_in taken.now) k) }
     ensures { IfOk result (λ out. (atoms : List T.Atom) → IsMadeOf T.mentions T.lines T.cell atoms piece.items
         → AreAmong atoms (all_atoms (conjs_in taken.now))
         → ArePieces T.holds T.mentions T.lines T.cell atoms (λ p. conj_holds T.holds piece.items p
         && not (conjs_hold T.holds (conjs_in taken.now) p)) out) }
 {
     let mut out = GenRel::new(alloc);
-    let part = whole::<T>(alloc, piece, taken, slots)?;
-    carve::<T>(&mut out, part, taken, slots, DEEPEST)?;
+    let part = whole::<T>(piece, taken, slots, keys)?;
+    carve_apart::<T>(&mut out, part, taken, slots, slot_of(keys))?;
     Ok(out)
 }

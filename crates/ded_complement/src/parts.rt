@@ -1,13 +1,15 @@
 //! Parts of pieces, each with the places of the conjunctions that are near it.
-ghost use Rattle.std.specs.Prelude.{◌≡◌, List, ◌∷◌, [], ◌++◌, IfOk};
+ghost use Rattle.std.specs.Prelude.{◌≡◌, List, ◌∷◌, [], ◌++◌, IfOk, IfSome};
 ghost use Rattle.std.specs.List.{AllByRecursion};
 ghost use Rattle.ded_model.specs.declared.slot.Slot.{Slot};
 ghost use Rattle.ded_genrel.specs.Rounds.{AreRational};
 ghost use Rattle.ded_complement.specs.Boxed.{conjs_in, IsBoxed, AreBoxed};
+ghost use Rattle.ded_complement.specs.Keys.{AreKeys};
 ghost use Rattle.ded_complement.specs.Parts.{conjs_at, ArePlaces, IsSameOutside, IsPart};
 ghost use Rattle.ded_complement.specs.Pieces.{IsAlike};
 
 use crate::boxed::{Boxed, with_box};
+use crate::keys::{Keys, fixing};
 use crate::shortening::shortened;
 use ded_box::meets;
 use ded_genrel::copy_conj;
@@ -37,24 +39,45 @@ impl<A> Halves<A> {
     }
 }
 
-/// The piece, with what is near it.
+/// The piece, with what is near it. Where it fixes the slot of the keys, that is nothing with another text.
 ///
 /// # Errors
 /// Out of memory.
 pub(crate) fn whole<T: Theory>(
-    alloc: Global,
     piece: Vec<T::Atom>,
     taken: &[Boxed<T::Atom>],
     slots: &[Slot],
+    keys: &Option<Keys<'_, T::Atom>>,
 ) -> Result<BoxedPiece<T::Atom>, NoMemory>
     requires normal { AllByRecursion T.normal piece.items }
     requires rational { AreRational slots.now }
     requires boxed { AreBoxed T.holds T.normal slots.now taken.now }
+    requires keys { IfSome keys.now (λ k. AreKeys T.holds taken.now (conjs_in taken.now) k) }
     ensures same { IfOk result (λ r. r.piece.conj.items ≡ piece.items) }
     ensures part { IfOk result (λ r. IsPart T.holds T.normal slots.now taken.now r) }
 {
-    let places = all_places(alloc, taken)?;
+    let places = places_of::<T>(&piece, taken, keys)?;
     part_of::<T>(piece, taken, &places, slots)
+}
+
+/// The places of the list, in order, without those of conjunctions with another text than the piece.
+fn places_of<T: Theory>(
+    piece: &Vec<T::Atom>,
+    taken: &[Boxed<T::Atom>],
+    keys: &Option<Keys<'_, T::Atom>>,
+) -> Result<Vec<usize>, NoMemory>
+    requires keys { IfSome keys.now (λ k. AreKeys T.holds taken.now (conjs_in taken.now) k) }
+    ensures places { IfOk result (λ v. ArePlaces taken.now v.items) }
+    ensures near { IfOk result (λ v. IsSameOutside T.holds piece.now.items (conjs_in taken.now)
+        (conjs_at taken.now v.items)) }
+{
+    let alloc = *piece.allocator();
+    if let Some(keys) = keys {
+        if let Some((_, text)) = fixing::<T>(piece, keys.slot) {
+            return keys.places(alloc, text);
+        }
+    }
+    all_places(alloc, taken)
 }
 
 /// What of the part satisfies the atom too, with what of it is near.
@@ -80,7 +103,10 @@ pub(crate) fn half<T: Theory>(
 }
 
 /// The piece, with what of those at the places is near it.
-fn part_of<T: Theory>(
+///
+/// # Errors
+/// Out of memory.
+pub(crate) fn part_of<T: Theory>(
     piece: Vec<T::Atom>,
     taken: &[Boxed<T::Atom>],
     places: &[usize],
@@ -103,7 +129,10 @@ fn part_of<T: Theory>(
 }
 
 /// The places of the list, in order.
-fn all_places<A>(alloc: Global, taken: &[Boxed<A>]) -> Result<Vec<usize>, NoMemory>
+///
+/// # Errors
+/// Out of memory.
+pub(crate) fn all_places<A>(alloc: Global, taken: &[Boxed<A>]) -> Result<Vec<usize>, NoMemory>
     ensures places { IfOk result (λ v. ArePlaces taken.now v.items) }
     ensures all { IfOk result (λ v. conjs_at taken.now v.items ≡ conjs_in taken.now) }
 {

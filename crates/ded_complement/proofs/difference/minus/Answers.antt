@@ -1,48 +1,32 @@
-use Rattle.std.proofs.Common.{◌+◌, ◌++◌, ◌∙◌, sym, ap, subst, take}
+use Rattle.std.proofs.Common.{IfSome, not, ◌&&◌, ◌||◌, ◌++◌, ◌∙◌, length, ap, sym, subst}
+use Rattle.std.proofs.lemmas.Result.{IfOk-weaker}
 use Rattle.std.specs.List.{AllByRecursion}
-use Rattle.ded_genrel.specs.Lists.{conjs_of}
-use Rattle.ded_genrel.proofs.Items.{conjs_to, conjs_done, normal-at}
+use Rattle.ded_model.specs.Cell.{conj_holds, HoldsSomewhere, HasCells}
+use Rattle.ded_theory.specs.Conjunctions.{IsWide}
+use Rattle.ded_genrel.specs.Lists.{conjs_hold, conjs_mention, conjs_lines}
+use Rattle.ded_genrel.specs.Operations.{IsOperation}
 use Rattle.ded_complement.specs.Boxed.{conjs_in}
-use Rattle.ded_complement.specs.Pieces.{all_atoms}
-use Rattle.ded_complement.proofs.Boxes.{boxed_in}
-use Rattle.ded_complement.proofs.Cutting.{AreOutside, Subtracting, subtracting_more, from_made, taken_among, minus_is}
+use Rattle.ded_complement.specs.Keys.{AreKeys}
+use Rattle.ded_complement.specs.Pieces.{all_atoms, IsListForEach, IsMadeOf}
 use Rattle.ded_complement.proofs.difference.minus.Goals as goal
 
-pub outside-requires-clause-normal : goal.outside-requires-clause-normal
-outside-requires-clause-normal g c =
-    subst (AllByRecursion g.T.Theory.normal) (sym (c.in_ok-copy_conj.ensures ∙ c.deref-in-loop-conj.ensures.value))
-    (normal-at g.T.Theory.normal c.list-conj-items.result.now c.loop-conj.conj-index c.conj-item.result c.loop-conj-test.true c.conj-item.is c.list-conj-items.ensures.normal)
-
-pub outside-requires-clause-boxed : goal.outside-requires-clause-boxed
-outside-requires-clause-boxed g c =
-    boxed_in g.T.Theory.holds g.T.Theory.normal c.in_ok-slots.slots.items c.deref.result.now c.deref-in-loop-conj-3.result.now c.in_ok-boxed.boxed.items c.deref-in-loop-conj-2.result.now c.deref.ensures.value c.deref-in-loop-conj-3.ensures.value c.deref-in-loop-conj-2.ensures.value c.in_ok-boxed.ensures.boxed
-
-pub loop-conj-preserved : goal.loop-conj-preserved
-loop-conj-preserved g c =
-    let h = g.T.Theory.holds in
-    let m = g.T.Theory.mentions in
-    let l = g.T.Theory.lines in
-    let cell = g.T.Theory.cell in
-    let atoms = all_atoms c.args.from.now ++ all_atoms c.args.taken.now in
-    let same = c.in_ok-copy_conj.ensures ∙ c.deref-in-loop-conj.ensures.value in
-    let out = c.in_ok-pieces.pieces in
-    let piece = c.in_ok-copy_conj.field-0.items in
-    let outside = subst (λ ts. AreOutside h m l cell piece ts out) (ap conjs_in c.deref-in-loop-conj-2.ensures.value ∙ c.in_ok-boxed.ensures.same) c.in_ok-pieces.ensures in
-    subtracting_more h m l cell g.met.T.Theory.cells_tell atoms c.args.taken.now (conjs_of (take c.loop-conj.conj-index c.list-conj-items.result.now)) (conjs_of (take (c.loop-conj.conj-index + 1) c.list-conj-items.result.now)) c.loop-conj.out c.append.new.self out
-    c.conj-item.result.items piece (conjs_to c.list-conj-items.result.now c.loop-conj.conj-index c.conj-item.result c.loop-conj-test.true c.conj-item.is) c.in_ok-append.ensures same c.loop-conj.invariant
-    (outside atoms
-    (from_made h m l cell c.args.from.now c.args.taken.now c.list-conj-items.result.now c.loop-conj.conj-index c.conj-item.result piece c.loop-conj-test.true c.conj-item.is c.list-conj-items.ensures.list same)
-    (taken_among h m l cell c.args.from.now c.args.taken.now))
+pub minus_boxed-requires-clause-keys : goal.minus_boxed-requires-clause-keys
+minus_boxed-requires-clause-keys g c =
+    subst (λ bs. IfSome c.in_ok-keys.keys (λ k. AreKeys g.T.Theory.holds bs (conjs_in bs) k)) (c.deref-2.ensures.value ∙ sym c.deref-3.ensures.value) c.in_ok-keys.ensures
 
 pub returns-clause-is : goal.returns-clause-is
 returns-clause-is g c =
-    minus_is g.T.Theory.holds g.T.Theory.mentions g.T.Theory.lines g.T.Theory.cell c.args.from.now c.args.taken.now c.loop-conj.out
-    (subst (λ xs. Subtracting g.T.Theory.holds g.T.Theory.mentions g.T.Theory.lines g.T.Theory.cell (all_atoms c.args.from.now ++ all_atoms c.args.taken.now) c.args.taken.now xs c.loop-conj.out) (conjs_done c.list-conj-items.result.now c.loop-conj.conj-index c.loop-conj-test.false ∙ c.list-conj-items.ensures.list) c.loop-conj.invariant)
+    let same = ap conjs_in c.deref-3.ensures.value ∙ c.in_ok-boxed.ensures.same in
+    IfOk-weaker c.minus_boxed.result _ _ (λ out k. subst (λ ts. IsOperation g.T.Theory.holds g.T.Theory.mentions g.T.Theory.lines (λ p. conjs_hold g.T.Theory.holds c.args.from.now p && not (conjs_hold g.T.Theory.holds ts p))
+    (λ s. conjs_mention g.T.Theory.mentions c.args.from.now s || conjs_mention g.T.Theory.mentions ts s) (conjs_lines g.T.Theory.lines c.args.from.now ++ conjs_lines g.T.Theory.lines ts) out) same k) c.minus_boxed.ensures.is
 
 pub returns-clause-cells : goal.returns-clause-cells
 returns-clause-cells g c =
-    (subst (λ xs. Subtracting g.T.Theory.holds g.T.Theory.mentions g.T.Theory.lines g.T.Theory.cell (all_atoms c.args.from.now ++ all_atoms c.args.taken.now) c.args.taken.now xs c.loop-conj.out) (conjs_done c.list-conj-items.result.now c.loop-conj.conj-index c.loop-conj-test.false ∙ c.list-conj-items.ensures.list) c.loop-conj.invariant).cells
+    let same = ap conjs_in c.deref-3.ensures.value ∙ c.in_ok-boxed.ensures.same in
+    IfOk-weaker c.minus_boxed.result _ _ (λ out k. subst (λ ts. (IsWide g.T.Theory.mentions g.T.Theory.lines (all_atoms c.args.from.now ++ all_atoms ts) → ⊥) → IsListForEach (λ pieces. HasCells g.T.Theory.cell (all_atoms c.args.from.now ++ all_atoms ts) (length pieces)
+    × AllByRecursion (λ d. HoldsSomewhere (conj_holds g.T.Theory.holds d)) pieces) c.args.from.now out) same k) c.minus_boxed.ensures.cells
 
 pub returns-clause-made : goal.returns-clause-made
 returns-clause-made g c =
-    (subst (λ xs. Subtracting g.T.Theory.holds g.T.Theory.mentions g.T.Theory.lines g.T.Theory.cell (all_atoms c.args.from.now ++ all_atoms c.args.taken.now) c.args.taken.now xs c.loop-conj.out) (conjs_done c.list-conj-items.result.now c.loop-conj.conj-index c.loop-conj-test.false ∙ c.list-conj-items.ensures.list) c.loop-conj.invariant).made
+    let same = ap conjs_in c.deref-3.ensures.value ∙ c.in_ok-boxed.ensures.same in
+    IfOk-weaker c.minus_boxed.result _ _ (λ out k. subst (λ ts. AllByRecursion (IsMadeOf g.T.Theory.mentions g.T.Theory.lines g.T.Theory.cell (all_atoms c.args.from.now ++ all_atoms ts)) out) same k) c.minus_boxed.ensures.made
