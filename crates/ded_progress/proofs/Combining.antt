@@ -29,6 +29,7 @@ use Rattle.ded_row.proofs.MixedLines.{mix-clash}
 use Rattle.ded_row.proofs.Targets.{coef_at-absent}
 use Rattle.ded_resolve.proofs.Ascending.{Ascend, rational-kept, ascend-mixed, ascend-nonzero}
 use Rattle.ded_elimination.specs.LinearAtoms.{IsLinearAtom}
+use Rattle.ded_order.proofs.Sums.{above-cut}
 
 -- ---- short numbers
 
@@ -84,21 +85,13 @@ module _ (s : Slot) (k : ℤ) (xs : List (Slot × ℤ)) (m : ℤ) (ys : List (Sl
 
 -- ---- lists
 
-above_cut : (n : ℕ) (s : Slot) (cs : List (Slot × ℤ)) → AllAbove n cs → AllAbove n (cut s cs)
-above_cut n s [] h = tt
-above_cut n s (c ∷ cs) h = by (same_slot c.0 s) (above_cut n s cs h.1)
-  where
-    by : (b : Bool) → AllAbove n (cut s cs) → AllAbove n (cond b (cut s cs) (c ∷ cut s cs))
-    by true i = i
-    by false i = (h.0, i)
-
 ascend_cut : (s : Slot) (cs : List (Slot × ℤ)) → Ascend cs → Ascend (cut s cs)
 ascend_cut s [] h = tt
 ascend_cut s (c ∷ cs) h = by (same_slot c.0 s) (ascend_cut s cs h.2)
   where
     by : (b : Bool) → Ascend (cut s cs) → Ascend (cond b (cut s cs) (c ∷ cut s cs))
     by true i = i
-    by false i = (h.0, above_cut c.0.number s cs h.1, i)
+    by false i = (h.0, above-cut c.0.number s cs h.1, i)
 
 -- coefficients in order that are short and not 0
 coefs_by : (cs : List (Slot × ℤ)) → Ascend cs → AllNonzero cs → ((t : Slot) → IsShort (coef_at cs t)) → AreCoefs cs
