@@ -53,11 +53,15 @@ fn left_out<T: Theory>(alloc: Global, conj: &[T::Atom], index: usize) -> Result<
     ensures open { IfOk result (λ v. v ≡ Unknown → MayBeOpen T.decides T.mentions T.lines conj.now) }
 {
     let others = both_conjs::<T>(alloc, &conj[..index], &conj[index + 1..])?;
-    without::<T>(alloc, others, &conj[index])
+    some_point_outside::<T>(alloc, others, &conj[index])
 }
 
-/// Whether some point satisfies the others and not the atom: a piece of its negation together with them.
-fn without<T: Theory>(
+/// Whether some point satisfies the others and not the atom: a piece of its negation together with them. `Empty` where
+/// they imply it. `Unknown` only where the theory doesn't decide, and they and the atom are wide.
+///
+/// # Errors
+/// Out of memory.
+pub fn some_point_outside<T: Theory>(
     alloc: Global,
     others: Vec<T::Atom>,
     atom: &T::Atom,

@@ -1,7 +1,7 @@
 use Rattle.std.proofs.Common.{◌∙◌}
 use Rattle.std.proofs.lemmas.Result.{IfOk-weaker}
 use Rattle.ded_reduce.proofs.Sifting.{one_nowhere, one_somewhere, one_open, two_nowhere, first_somewhere, first_open, second_somewhere, second_open}
-use Rattle.ded_reduce.proofs.superfluous.without.Goals as goal
+use Rattle.ded_reduce.proofs.superfluous.some_point_outside.Goals as goal
 
 pub returns-in-One-clause-implied : goal.returns-in-One-clause-implied
 returns-in-One-clause-implied g c =
