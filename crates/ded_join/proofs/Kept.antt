@@ -59,6 +59,13 @@ no_whole ss xs ys out some few = λ h. absurd (neither (length ss) (length ys) s
     neither n k some few (inl e) = omega (arith, some, e)
     neither n k some few (inr l) = omega (arith, few, l)
 
+-- the first of ascending places comes before the others, which ascend too
+pub ascending_tail : (j : ℕ) (js : List ℕ) → AllPairs (λ a b. a < b) (j ∷ js) → AllPairs (λ a b. a < b) js
+ascending_tail j js p = λ a b d lt within. p (suc a) (suc b) d (omega (arith, lt)) (omega (arith, within))
+
+pub ascending_head : (j : ℕ) (js : List ℕ) → AllPairs (λ a b. a < b) (j ∷ js) → AllByRecursion (λ b. j < b) js
+ascending_head j js p = recursion_from_All (λ b. j < b) js (λ k d within. p zero (suc k) d (omega arith) (omega (arith, within)))
+
 module _ {A : Type 0} (h : A → Point → Bool) (m : A → Slot → Bool) (l : A → List Line) where
   -- what is kept of two lists
   pub kept-append : (xs ys out more : List (List A)) → AreKept h m l xs out → AreKept h m l ys more → AreKept h m l (xs ++ ys) (out ++ more)
@@ -117,23 +124,17 @@ module _ {A : Type 0} (h : A → Point → Bool) (m : A → Slot → Bool) (l : 
       near : AllByRecursion Near places
       list : out ≡ picked c cs places
 
-    left_tail : (j : ℕ) (js : List ℕ) → AllPairs (λ a b. a < b) (j ∷ js) → AllPairs (λ a b. a < b) js
-    left_tail j js p = λ a b d lt within. p (suc a) (suc b) d (omega (arith, lt)) (omega (arith, within))
-
-    left_head : (j : ℕ) (js : List ℕ) → AllPairs (λ a b. a < b) (j ∷ js) → AllByRecursion (λ b. j < b) js
-    left_head j js p = recursion_from_All (λ b. j < b) js (λ k d within. p zero (suc k) d (omega arith) (omega (arith, within)))
-
     left : (js : List ℕ) (out : List (List A)) → AllPairs (λ i j. i < j) js → AllByRecursion (λ j. j < length cs) js → AllByRecursion Near js → AreKept h m l (picked c cs js) out → Left js out
     left [] out p i n e = record { places = []; above = λ a b. tt; ascending = p; inside = tt; near = tt; list = e }
     left (j ∷ js) out p i n (inl (w, k)) =
-        let r = left js out (left_tail j js p) i.1 n.1 k in
+        let r = left js out (ascending_tail j js p) i.1 n.1 k in
         record { places = r.places; above = λ a b. r.above a b.1; ascending = r.ascending; inside = r.inside; near = r.near; list = r.list }
     left (j ∷ js) out p i n (inr (rest, e, w, k)) =
-        let r = left js rest (left_tail j js p) i.1 n.1 k in
+        let r = left js rest (ascending_tail j js p) i.1 n.1 k in
         record {
           places = j ∷ r.places;
           above = λ a b. (b.0, r.above a b.1);
-          ascending = AllPairs-cons (λ a b. a < b) j r.places (All-from_recursion (λ b. j < b) r.places (r.above j (left_head j js p))) r.ascending;
+          ascending = AllPairs-cons (λ a b. a < b) j r.places (All-from_recursion (λ b. j < b) r.places (r.above j (ascending_head j js p))) r.ascending;
           inside = (i.0, r.inside);
           near = (n.0, r.near);
           list = e ∙ ap (λ zs. (c ++ get_or cs j []) ∷ zs) r.list;

@@ -7,3 +7,5 @@ pub mod Nearness
 pub mod WithoutOutside
 pub mod Shorter
 pub mod Taken
+pub mod OtherTexts
+pub mod Owed

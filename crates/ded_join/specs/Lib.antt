@@ -4,3 +4,4 @@ pub mod Merged
 pub mod Near
 pub mod Picks
 pub mod Taken
+pub mod Texts

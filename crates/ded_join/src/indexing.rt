@@ -11,7 +11,7 @@ use ded_theory::Theory;
 use std::alloc::Global;
 
 /// More conjunctions than an index has numbers for.
-const TOO_MANY: usize = 1 << 32;
+pub(crate) const TOO_MANY: usize = 1 << 32;
 
 /// A list, and the index over the boxes around its conjunctions at the slots, by which those that are near are found.
 #[derive(Drop)]

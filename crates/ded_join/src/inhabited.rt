@@ -1,5 +1,5 @@
 //! Joins without pairs that no point satisfies.
-ghost use Rattle.std.specs.Prelude.{◌<◌, ◌^◌, length, IfOk};
+ghost use Rattle.std.specs.Prelude.{◌<◌, ◌^◌, length, IfOk, IfSome};
 ghost use Rattle.std.specs.List.{AllByRecursion};
 ghost use Rattle.ded_model.specs.Cell.{conj_holds, HoldsSomewhere};
 ghost use Rattle.ded_theory.specs.Conjunctions.{IsWide};
@@ -10,10 +10,13 @@ ghost use Rattle.ded_join.specs.Near.{AreNearPairs};
 ghost use Rattle.ded_join.specs.Kept.{AreKept, IsCount, IsKeptMeet};
 ghost use Rattle.ded_join.specs.Picks.{IsIndexOver};
 ghost use Rattle.ded_join.specs.Taken.{AreTakenAfter};
+ghost use Rattle.ded_join.specs.Texts.{AreTexts};
 ghost use Rattle.ded_join.specs.declared.near.Taken.TheVariants as taken_pairs;
 
 use crate::indexing::{IndexedList, index_over};
-use crate::near::{Taken, near_by, push_both};
+use crate::near::{Taken, near_by, push_both, push_near};
+use crate::texts::{Texts, texts_over};
+use ded_complement::fixing;
 use ded_genrel::GenRel;
 use ded_index::BoxIndex;
 use ded_model::memory::NoMemory;
@@ -23,8 +26,9 @@ use std::alloc::Global;
 
 /// The join without pairs that no point satisfies: each that is kept is wide or holds somewhere. Where no slots are
 /// given, or the second list has 2^32 conjunctions or more, it is `GenRel::meet` without these. It keeps no more in
-/// memory than what is left and, while it looks at one conjunction of the first list, the places of those that are
-/// near. `met` grows by the count of pairs that are met, those that are left out among them, up to the greatest `u64`.
+/// memory than what is left, the places of the second list's conjunctions by their boxes or texts and, while it looks
+/// at one conjunction of the first list, the places of those that are near. `met` grows by the count of pairs that are
+/// met, those that are left out among them, up to the greatest `u64`.
 ///
 /// # Errors
 /// Out of memory.
@@ -81,7 +85,8 @@ fn inhabited_over<T: Theory>(
     }
 }
 
-/// The meet of the lists without pairs that no point satisfies.
+/// The meet of the lists without pairs that no point satisfies. Where texts tell most of the second list's conjunctions
+/// apart, pairs of different texts aren't looked at.
 fn meet_inhabited<T: Theory>(
     alloc: Global,
     a: &GenRel<T>,
@@ -91,18 +96,42 @@ fn meet_inhabited<T: Theory>(
     ensures { IfOk result (λ r. AreKept T.holds T.mentions T.lines (pairs a.now b.now) r
         × IsCount (pairs a.now b.now) met.old met.new) }
 {
+    let texts = texts_over(alloc, a, b)?;
     let mut out = GenRel::new(alloc);
     let mut count = *met;
     for conj in a.list() {
         count = count.saturating_add(b.list().len() as u64);
-        push_met(alloc, &mut out, conj, b)?;
+        push_met(alloc, &mut out, conj, b, &texts)?;
     }
     *met = count;
     Ok(out)
 }
 
-/// Sets the conjunction together with each one of the list at the end, but for pairs that no point satisfies.
+/// Sets the conjunction together with each one of the list at the end, but for pairs that no point satisfies. The texts
+/// are those of the list.
 fn push_met<T: Theory>(
+    alloc: Global,
+    out: &mut GenRel<T>,
+    conj: &[T::Atom],
+    list: &GenRel<T>,
+    texts: &Option<Texts<'_>>,
+) -> Result<(), NoMemory>
+    requires normal { AllByRecursion T.normal conj.now }
+    requires texts { IfSome texts.now (λ k. AreTexts T.holds list.now k) }
+    ensures { IfOk result (λ _. AreTakenAfter taken_pairs.Inhabited T.holds T.mentions T.lines
+        (pairs_with conj.now list.now) out.old out.new) }
+{
+    if let Some(texts) = texts {
+        if let Some((_, text)) = fixing::<T>(conj, texts.slot) {
+            let places = texts.places(alloc, text)?;
+            return push_near(alloc, out, conj, list, &places, Taken::Inhabited);
+        }
+    }
+    push_all(alloc, out, conj, list)
+}
+
+/// The same, each pair looked at.
+fn push_all<T: Theory>(
     alloc: Global,
     out: &mut GenRel<T>,
     conj: &[T::Atom],

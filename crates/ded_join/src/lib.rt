@@ -4,9 +4,10 @@
 //! each of the other: on given rational slots it puts a box of exact bounds round each conjunction, indexes those of
 //! the second list, and pairs each conjunction of the first list with those only whose boxes share values with its own;
 //! [`index_over`] makes the index once for many first lists, of which [`join_over`] takes one at a time.
-//! [`join_inhabited`] keeps of these pairs only what some point may satisfy. [`join_shorter`], where the second list is
-//! small, merges atoms of which one implies another and keeps no pair that lies within another one, and where the pairs
-//! are still many it takes the join by the complement of the second list.
+//! [`join_inhabited`] keeps of these pairs only what some point may satisfy; where no slots are given and texts tell
+//! most of the second list's conjunctions apart, it looks at pairs of one text alone, and at those without one.
+//! [`join_shorter`], where the second list is small, merges atoms of which one implies another and keeps no pair that
+//! lies within another one, and where the pairs are still many it takes the join by the complement of the second list.
 //!
 //! It stands on `ded_genrel` for lists of conjunctions over any theory and the boxes around them, on `ded_index` for
 //! the look-ups, and on `ded_complement` for complements and differences.
@@ -19,6 +20,7 @@ mod joining;
 mod merging;
 mod near;
 mod outside;
+mod texts;
 
 pub use indexing::index_over;
 pub use inhabited::join_inhabited;

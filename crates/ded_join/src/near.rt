@@ -50,7 +50,7 @@ pub(crate) fn near_by<T: Theory>(
 }
 
 /// Sets what is taken of the pairs of the conjunction with those that stand at the places in the list at the end.
-fn push_near<T: Theory>(
+pub(crate) fn push_near<T: Theory>(
     alloc: Global,
     out: &mut GenRel<T>,
     conj: &[T::Atom],
