@@ -1,8 +1,8 @@
 -- The box of a relation is there where the relation is narrow for it, or all its rows are order rows.
-use Rattle.std.proofs.Common.{◌≡◌, ◌⊎◌, inl, inr, ⊎_elim, ℕ, zero, suc, ◌+◌, ◌*◌, ◌^◌, ◌<◌, ◌≤◌, nat_le, Bool, true, false, ◌||◌, Option, Some, None, List, [], ◌∷◌, ◌++◌, bytes_eq, arith, refl, sym, ap, ◌∙◌, true≢false}
+use Rattle.std.proofs.Common.{◌≡◌, ◌⊎◌, inl, inr, ⊎_elim, ℕ, zero, suc, ◌+◌, ◌*◌, ◌^◌, ◌<◌, ◌≤◌, Bool, true, false, ◌||◌, Option, Some, None, List, [], ◌∷◌, ◌++◌, bytes_eq, arith, refl, sym, ap, ◌∙◌, true≢false}
 use Rattle.std.specs.Prelude.{ℤ, if◌then◌else◌}
 use Rattle.std.specs.List.{AllByRecursion}
-use Rattle.std.proofs.lemmas.Bool.Decides.{leb_tells, nat_tests}
+use Rattle.std.proofs.lemmas.Bool.Decides.{leb_tells}
 use Rattle.ded_model.specs.declared.bound.Bound.{Bound}
 use Rattle.ded_model.specs.declared.bound.BoxReply.{BoxReply}
 use Rattle.ded_model.specs.declared.bound.BoxReply.TheVariants.{Nowhere, NoRational, Spans}
@@ -56,6 +56,7 @@ use Rattle.ded_width.proofs.Names.{tuple_good}
 use Rattle.ded_width.proofs.Reaches.{narrow_with_less}
 use Rattle.ded_width.proofs.Rows.{row_shapes}
 use Rattle.ded_width.proofs.Shapes.{AreShapes, shapes_both, shapes_within}
+use Rattle.ded_width.proofs.ShortGoals.{at_most}
 use Rattle.ded_width.proofs.Ties.{AreGoodRows}
 use Rattle.ded_session.specs.Replies.{boxes}
 use Rattle.ded_session.specs.Steps.{MayBeWide}
@@ -82,14 +83,11 @@ restless_passed = record {
   later = λ t rows out r m only lines bad a. bad (a.0, λ l i. elim_shapes a.0 t (conj_lines row_lines rows) a.1 l (lines l i));
 }
 
-short_test : (n : ℕ) → n ≤ 63 → nat_le n 63 ≡ true
-short_test n h = grind (arith, nat_tests)
-
 calm : (t : List Atom) → AreGoodRows t → AreOrderAtoms t → tuple_length t ≤ 63 → AreCalm (firsts t)
 calm [] g o l = ([], λ x i. absurd i)
 calm (First r ∷ t) g o l =
     let rest = calm t g.1 (and_right (is_order_row r) (are_orders t) o) (omega (arith, l)) in
-    ((row_reach r).points ++ rest.0, shapes_both (row_reach r).points rest.0 (row_lines r) (conj_lines row_lines (firsts t)) (row_shapes r g.0 (and_left (is_order_row r) (are_orders t) o) (short_test (row_length r) (omega (arith, l)))) rest.1)
+    ((row_reach r).points ++ rest.0, shapes_both (row_reach r).points rest.0 (row_lines r) (conj_lines row_lines (firsts t)) (row_shapes r g.0 (and_left (is_order_row r) (are_orders t) o) (at_most (row_length r) (omega (arith, l)))) rest.1)
 calm (Second a ∷ t) g o l = calm t g o l
 
 -- ---- one tuple

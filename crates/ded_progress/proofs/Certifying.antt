@@ -21,7 +21,7 @@ use Rattle.ded_weighing.proofs.Slotted.{gathered_all, gathered_only, gathered_di
 use Rattle.ded_cert.specs.Certified.{HasSmallSum, IsWidePair}
 use Rattle.ded_cert.specs.Checks.{Checks}
 use Rattle.ded_cert.specs.Tracing.{tag, traces, AreBelow, AreWideRows, multipliers, is_refuting}
-use Rattle.ded_cert.proofs.Farkas.{Search, search_finds, search_wide, found_refutes, found_small, found_wide}
+use Rattle.ded_cert.proofs.Farkas.{Search, coefs_of, search_finds, search_wide, found_refutes, found_small, found_wide}
 use Rattle.ded_cert.proofs.Lengths.{wide_pair}
 use Rattle.ded_cert.proofs.LinearTraces.{traces_linear, traces_weak}
 use Rattle.ded_cert.proofs.Meeting.{common_point}
@@ -29,7 +29,7 @@ use Rattle.ded_cert.proofs.Widths.{all_rational}
 use Rattle.ded_weighing.specs.Weighing.{refutes}
 use Rattle.ded_cert.specs.Certified.{magnitudes}
 use Rattle.ded_progress.proofs.Eliminating.{IsWeak, weak_reduced, IsLeft, all_eliminated}
-use Rattle.ded_progress.proofs.Paired.{linear_rows, normal_texts, rows_with_coefs}
+use Rattle.ded_progress.proofs.Paired.{linear_rows, normal_texts}
 use Rattle.ded_progress.proofs.Somewhere.{rows_decided, themes_decided}
 
 -- ---- a number above those of all slots
@@ -118,7 +118,7 @@ told c t u n m narrow = elim (themes_decided c (seconds (t ++ u)) (normal_texts 
     | inl rows ↦ inl (common_point t u n m rows texts)
     | inr none ↦ elim (refuted (firsts (t ++ u)) (linear_rows t u n m) none) [
       | inl k ↦ inr (Multipliers k.0, k.1, k.2)
-      | inr w ↦ absurd (narrow (wide_pair t u (rows_with_coefs (firsts (t ++ u)) (linear_rows t u n m)) w))
+      | inr w ↦ absurd (narrow (wide_pair t u (coefs_of (firsts (t ++ u)) (linear_rows t u n m)) w))
     ]
   ]
   | inr none ↦ inr (Text, none, tt)

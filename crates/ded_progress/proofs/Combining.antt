@@ -1,5 +1,5 @@
 -- The combination of two rows that don't clash has short coefficients in order.
-use Rattle.std.proofs.Common.{◌≡◌, ◌≢◌, ℕ, Bool, true, false, not, ◌&&◌, ◌||◌, cond, List, [], ◌∷◌, inl, inr, refl, sym, ap₂, ◌∙◌, subst, true≢false}
+use Rattle.std.proofs.Common.{◌≡◌, ◌≢◌, Bool, true, false, not, ◌&&◌, ◌||◌, cond, List, [], ◌∷◌, inl, inr, refl, sym, ap₂, ◌∙◌, subst, true≢false}
 use Rattle.std.specs.Prelude.{ℤ, pos, ◌+ℤ◌, ◌*ℤ◌, nat_lt, unsigned_abs, ◌^◌}
 use lib.IntN.{neg_ℤ}
 use Rattle.std.proofs.Math.IntN.{*ℤ-zero}

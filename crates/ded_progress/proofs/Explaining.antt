@@ -1,9 +1,8 @@
 -- The plan of the goal of an accepted formula, compiled and rewritten, is a plan of the formula.
-use Rattle.std.proofs.Common.{◌≡◌, ℕ, suc, ◌+◌, ◌<◌, ◌≤◌, max, Bool, true, false, cond, List, [], ◌∷◌, ◌++◌, map, arith, refl, sym, ap, subst, true≢false}
+use Rattle.std.proofs.Common.{◌≡◌, ℕ, suc, ◌<◌, ◌≤◌, max, Bool, true, false, cond, List, [], ◌∷◌, ◌++◌, map, arith, refl, sym, true≢false}
 use Rattle.std.specs.Prelude.{ℤ, pos, ◌+ℤ◌, nat_lt}
 use lib.IntN.{neg_ℤ}
 use Rattle.std.specs.List.{AllByRecursion}
-use Rattle.std.proofs.lemmas.List.{append_assoc}
 use Rattle.ded_num.specs.Length.{length_of}
 use Rattle.ded_num.proofs.Lengths.{within_from_length}
 use Rattle.ded_model.specs.declared.command.Refusal.TheVariants.{Many, Twice, Unknown, Arity, Unbound, WrongSort}
@@ -33,7 +32,7 @@ use Rattle.ded_model.specs.Normal.{IsNormalAtom, IsNormalRow, IsNormalTheme, IsN
 use Rattle.ded_model.specs.NormalGoal.{IsOrderedTheme, IsNormalGoalAtom, IsNormalGoal}
 use Rattle.ded_model.specs.Plain.{IsPlain}
 use Rattle.ded_model.specs.PlanForm.{PlanForm, scan}
-use Rattle.ded_model.specs.Point.{slot, same_slot, stands_in, AreDistinctSlots}
+use Rattle.ded_model.specs.Point.{slot, same_slot, stands_in}
 use Rattle.ded_model.specs.Row.{Atom}
 use Rattle.ded_model.specs.Scanned.{kept, fresh, argument_row, of_slot, same_atom, scanned_after, scanned, first_free, scanned_slots, fresh_slots, tied_atoms}
 use Rattle.ded_model.specs.ShortRows.{HasShortRows}
@@ -42,6 +41,7 @@ use Rattle.ded_model.specs.Sum.{SlotSum, denominator}
 use Rattle.ded_model.specs.Width.{greatest_length, row_length, tuple_length}
 use Rattle.ded_model.proofs.LineCoefs.{AllNonzero}
 use Rattle.ded_width.specs.Reach.{AreAscending, IsAscendingGoalAtom}
+use Rattle.ded_width.proofs.ArgumentSlots.{arguments_distinct}
 use Rattle.ded_width.proofs.AscendingGoals.{accepted_ascending}
 use Rattle.ded_width.proofs.ShortLines.{formula_length}
 use Rattle.ded_width.proofs.Ties.{AreGoodRows, ties_good}
@@ -50,8 +50,6 @@ use Rattle.ded_reread.specs.Words.{HasTexts}
 use Rattle.ded_reread.proofs.WordsTrees.{Written}
 use Rattle.ded_algebra.specs.Compile.{row_plan, joined, projected, atom_plan, plan_of, plans_of}
 use Rattle.ded_algebra.specs.Compiled.{AreByteTexts, HasByteTexts}
-use Rattle.ded_algebra.specs.Gathering.{IsApart}
-use Rattle.ded_algebra.proofs.Apart.{apart_none, apart_old, apart_new}
 use Rattle.ded_algebra.proofs.Compiled.{plan_compiled}
 use Rattle.ded_plan.specs.Rewrite.{rewritten}
 use Rattle.ded_plan.specs.Rewritten.{EachProjectsSlots, IsTidyAtom, IsTidyPlan}
@@ -177,38 +175,6 @@ ties_normal (First r ∷ atoms) g t l =
     ((row_kept r g.0.ascending g.0.nonzero both.0, record { normal = g.0.normal }, t.0), ties_normal atoms g.1 t.1 both.1)
 ties_normal (Second a ∷ atoms) g t l = (t.0, ties_normal atoms g t.1 l)
 
--- ---- slots of scans
-
-next_apart : (n : ℕ) (ss : List Slot) (u : Slot) → IsApart n ss → u.number ≡ n → IsApart (suc n) (ss ++ u ∷ [])
-next_apart n ss u a e = let next : n + 1 ≡ suc n = omega arith in subst (λ (k : ℕ). IsApart k (ss ++ u ∷ [])) next (apart_new n ss u a e)
-
-apart_slots : (done : List Slot) (n : ℕ) (ts : List Place) → first_free ts ≤ n → IsApart n done → AreDistinctSlots (done ++ scanned_slots (scanned_after done n ts))
-apart_slots done n [] l a = subst AreDistinctSlots (sym (ends done)) a.distinct
-  where
-    ends : (ss : List Slot) → ss ++ [] ≡ ss
-    ends [] = refl
-    ends (s ∷ ss) = ap (λ (us : List Slot). s ∷ us) (ends ss)
-apart_slots done n (At s ∷ ts) l a =
-    by (stands_in done s) refl (λ b. apart_slots (done ++ record { number = n; sort = s.sort } ∷ []) (suc n) ts (omega (arith, l)) b) (λ b. apart_slots (done ++ s ∷ []) n ts (omega (arith, l)) b)
-  where
-    new : Slot
-    new = record { number = n; sort = s.sort }
-
-    by : (d : Bool) → stands_in done s ≡ d → (IsApart (suc n) (done ++ new ∷ []) → AreDistinctSlots ((done ++ new ∷ []) ++ scanned_slots (scanned_after (done ++ new ∷ []) (suc n) ts)))
-        → (IsApart n (done ++ s ∷ []) → AreDistinctSlots ((done ++ s ∷ []) ++ scanned_slots (scanned_after (done ++ s ∷ []) n ts)))
-        → AreDistinctSlots (done ++ scanned_slots (cond d (fresh new (same_atom n s.sort s) ∷ scanned_after (done ++ new ∷ []) (suc n) ts) (kept s ∷ scanned_after (done ++ s ∷ []) n ts)))
-    by true e other own = subst AreDistinctSlots (append_assoc done (new ∷ []) (scanned_slots (scanned_after (done ++ new ∷ []) (suc n) ts))) (other (next_apart n done new a refl))
-    by false e other own = subst AreDistinctSlots (append_assoc done (s ∷ []) (scanned_slots (scanned_after (done ++ s ∷ []) n ts))) (own (apart_old n done s a (omega (arith, l)) e))
-apart_slots done n (Value t ∷ ts) l a =
-    let new : Slot = record { number = n; sort = Rat } in
-    subst AreDistinctSlots (append_assoc done (new ∷ []) (scanned_slots (scanned_after (done ++ new ∷ []) (suc n) ts))) (apart_slots (done ++ new ∷ []) (suc n) ts (omega (arith, l)) (next_apart n done new a refl))
-apart_slots done n (Quoted x ∷ ts) l a =
-    let new : Slot = record { number = n; sort = Text } in
-    subst AreDistinctSlots (append_assoc done (new ∷ []) (scanned_slots (scanned_after (done ++ new ∷ []) (suc n) ts))) (apart_slots (done ++ new ∷ []) (suc n) ts (omega (arith, l)) (next_apart n done new a refl))
-
-pub distinct_scans : (ts : List Place) → AreDistinctSlots (scanned_slots (scanned ts))
-distinct_scans ts = apart_slots [] (first_free ts) ts (omega arith) (apart_none (first_free ts))
-
 -- ---- tidy plans
 
 -- what each atom of the goal has
@@ -241,7 +207,7 @@ atom_tidy (linear r) h = (tt, row_tidy r h.0 h.1)
 atom_tidy (theme a) h = (tt, (h, tt, tt))
 atom_tidy (goal.member n ts) h =
     projected_tidy (fresh_slots (scanned ts)) (joined (atom (scan n (scanned_slots (scanned ts)))) (map row_plan (tied_atoms (scanned ts))))
-    (joined_tidy (atom (scan n (scanned_slots (scanned ts)))) (tied_atoms (scanned ts)) (tt, distinct_scans ts) h.1)
+    (joined_tidy (atom (scan n (scanned_slots (scanned ts)))) (tied_atoms (scanned ts)) (tt, arguments_distinct ts) h.1)
 
 mutual
   plan_tidy : (g : GoalForm) → AllAtoms IsFit g → OverSlots g → IsTidyPlan (plan_of g)

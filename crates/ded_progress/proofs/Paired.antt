@@ -8,9 +8,7 @@ use Rattle.ded_model.specs.Entries.{entry_of, stored_in, tuples_in}
 use Rattle.ded_model.specs.Known.{KnownNames, AreStored, IsEntryOver, AreEntriesOver, IsWellFormed, with_known}
 use Rattle.ded_model.specs.Normal.{IsNormalTuple}
 use Rattle.ded_model.specs.declared.tuple.BothAtom.TheVariants.{First, Second}
-use Rattle.ded_model.specs.Coefs.{AreCoefs}
 use Rattle.ded_model.specs.Normal.{IsNormalTheme}
-use Rattle.ded_model.specs.Constraint.{LinearConstraint}
 use Rattle.ded_model.specs.Row.{Atom}
 use Rattle.ded_theory.specs.Both.{firsts, seconds}
 use Rattle.ded_elimination.specs.LinearAtoms.{IsLinearAtom}
@@ -73,7 +71,3 @@ linear_rows [] (First r ∷ u) n m = (record { coefs = m.0.0; row = m.0.1 }, lin
 linear_rows [] (Second a ∷ u) n m = linear_rows [] u n m.2
 linear_rows (First r ∷ t) u n m = (record { coefs = n.0.0; row = n.0.1 }, linear_rows t u n.2 m)
 linear_rows (Second a ∷ t) u n m = linear_rows t u n.2 m
-
-pub rows_with_coefs : (rs : List LinearConstraint) → AllByRecursion IsLinearAtom rs → AllByRecursion (λ r. AreCoefs r.coefs) rs
-rows_with_coefs [] n = tt
-rows_with_coefs (r ∷ rs) n = (n.0.coefs, rows_with_coefs rs n.1)

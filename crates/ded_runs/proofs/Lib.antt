@@ -17,6 +17,8 @@ pub mod Meanings
 pub mod Measuring
 pub mod Named
 pub mod Numbers
+pub mod OneReply
+pub mod OneRun
 pub mod Ordering
 pub mod Reading
 pub mod ReadBack

@@ -10,6 +10,7 @@ use Rattle.ded_model.specs.Value.{Argument, Meaning, operand_value, overs}
 use Rattle.ded_model.specs.Near.{IsClose, IsInside}
 use Rattle.ded_model.specs.Made.{Reading, itself, closure_of, interior_of, reading}
 use Rattle.ded_model.specs.Catalogue.{AtomHolds, read_as, read}
+use Rattle.ded_model.proofs.Points.{positive-extension}
 use Rattle.ded_model.proofs.Values.{overs-positive, operand_value-positive}
 use Rattle.std.proofs.Math.Nat.{mul-pos}
 use Rattle.ded_model.proofs.Alike.{iff_refl}
@@ -40,10 +41,6 @@ module _ (I J : Meaning) (same : MeanSame I J) where
 
 -- ---- formulas
 
-extended : (s : Sort) (p : Point) (k : Key) (q : Point) → 0 < p.den → IsExtension s p k q → 0 < q.den
-extended Rat p k q a x = subst (λ d. 0 < d) (sym x.den) (mul-pos a x.positive)
-extended Text p k q a x = subst (λ d. 0 < d) (sym x.den) a
-
 module _ (I J : Meaning) (same : MeanSame I J) where
   atom_same : (a : FormAtom) (p : Point) → 0 < p.den → AtomHolds I a p ↔ AtomHolds J a p
   atom_same (compare l op r) p h = iff_refl _
@@ -60,9 +57,9 @@ module _ (I J : Meaning) (same : MeanSame I J) where
     sat_same (implies f g) p h = let e = sat_same f p h in let e' = sat_same g p h in (λ i s. e'.0 (i (e.1 s)), λ i s. e'.1 (i (e.0 s)))
     sat_same (minus f g) p h = let e = sat_same f p h in let e' = sat_same g p h in (λ m. (e.0 m.0, λ s. m.1 (e'.1 s)), λ m. (e.1 m.0, λ s. m.1 (e'.0 s)))
     sat_same (exists s k f) p h =
-        (λ some. (some.0, some.1, (sat_same f some.0 (extended s p k some.0 h some.1)).0 some.2), λ some. (some.0, some.1, (sat_same f some.0 (extended s p k some.0 h some.1)).1 some.2))
+        (λ some. (some.0, some.1, (sat_same f some.0 (positive-extension s p k some.0 h some.1)).0 some.2), λ some. (some.0, some.1, (sat_same f some.0 (positive-extension s p k some.0 h some.1)).1 some.2))
     sat_same (forall s k f) p h =
-        (λ every q x. (sat_same f q (extended s p k q h x)).0 (every q x), λ every q x. (sat_same f q (extended s p k q h x)).1 (every q x))
+        (λ every q x. (sat_same f q (positive-extension s p k q h x)).0 (every q x), λ every q x. (sat_same f q (positive-extension s p k q h x)).1 (every q x))
 
     every_same : (fs : Logics FormAtom) (p : Point) → 0 < p.den → SatEvery (AtomHolds I) fs p ↔ SatEvery (AtomHolds J) fs p
     every_same none p h = iff_refl _

@@ -3,7 +3,7 @@
 //!
 //! Laws of certificates that are checked again as they were printed. Each is the contract of a function that does
 //! nothing but call the laws that it rests on.
-ghost use Rattle.std.specs.Prelude.{◌≡◌, ◌↔◌, ◌≤◌, ◌<◌, ℕ, Bool, IsTrue, List, length, ◌⊎◌, ◌∷◌, true, map};
+ghost use Rattle.std.specs.Prelude.{◌≡◌, ◌↔◌, ◌≤◌, ◌<◌, ℕ, Bool, IsTrue, List, length, ◌⊎◌, ◌∷◌, ◌++◌, true, map};
 ghost use Rattle.std.specs.List.{AllByRecursion};
 ghost use Rattle.ded_lex.specs.Pieces.{Statement, Whole, IsWhole};
 ghost use Rattle.ded_model.specs.declared.command.Language.{Language};
@@ -21,10 +21,11 @@ ghost use Rattle.ded_model.specs.Width.{tuple_length};
 ghost use Rattle.ded_dump.specs.Entries.{dump_lines};
 ghost use Rattle.ded_readback.specs.Plain.{IsPlainHeading};
 ghost use Rattle.ded_readback.specs.Spelling.{SpellsAnswer};
+ghost use Rattle.ded_session.specs.PlainNames.{HasPlainNames};
 ghost use Rattle.ded_session.specs.Replies.{ReplyForm, tuples, stored as shown, refused, truth, apart};
 ghost use Rattle.ded_session.specs.Runs.{Steps, Run};
 ghost use Rattle.ded_session.specs.Steps.{Accepts, Step};
-ghost use Rattle.ded_session.specs.Texts.{text_of};
+ghost use Rattle.ded_session.specs.Texts.{text_of, texts};
 ghost use Rattle.ded_runs.specs.Orderly.{IsOrderlyQuestion, IsOrderlyAnswer};
 ghost use Rattle.ded_runs.specs.Read.{WasCatalogueRead};
 ghost use Rattle.ded_runs.specs.Remade.{remade, script_of_lines, joined_lines};
@@ -37,7 +38,8 @@ ghost use Rattle.ded_runs.specs.Few.{HaveFewInserts};
 ghost use Rattle.ded_runs.specs.Lines.{HasLines};
 ghost use Rattle.ded_runs.specs.Rechecks.{IsRecheck};
 
-/// Each entry of a catalogue to which a run leads was read.
+/// Each entry of a catalogue to which a run leads was read, so no comparison and no argument of its views has a long
+/// row.
 pub fn read_catalogues()
     ensures step { (language : Language) (c d : Catalogue) (s : Statement) (reply : ReplyForm) → WasCatalogueRead c
         → Step language c s reply d → WasCatalogueRead d }
@@ -46,6 +48,7 @@ pub fn read_catalogues()
         → Steps language c ss replies d → WasCatalogueRead d }
     ensures run { (limit : ℕ) (script : List ℕ) (replies : List ReplyForm) (last : Catalogue) →
         Run limit script replies last → WasCatalogueRead last }
+    ensures short { (c : Catalogue) → WasCatalogueRead c → AllByRecursion HasShortRows c.entries }
 {
     ded_reread::laws::read_words();
 }
@@ -279,3 +282,42 @@ pub fn truths()
         → Step language c (Whole piece) (truth b) d → Spells language piece (ask f) depth
         → (IsTrue b ↔ IsTruth c f) × (d ≡ c) }
 {}
+
+/// What is written of a reply over a catalogue to which a run leads tells it: where the texts of two replies that a
+/// statement may get, each with any bytes behind it, are the same bytes, the replies are the same, both leave one
+/// catalogue, and the bytes behind them are the same. So it is over each well formed catalogue whose names are words of
+/// the grammar and of whose views no comparison and no argument has a long row.
+pub fn one_reply()
+    ensures run { (limit : ℕ) (script : List ℕ) (replies : List ReplyForm) (c : Catalogue) → Run limit script replies c
+        → (language : Language) (s : Statement) (reply other : ReplyForm) (d e : Catalogue) (xs ys : List ℕ)
+        → Step language c s reply d → Step language c s other e → text_of reply ++ xs ≡ text_of other ++ ys
+        → (reply ≡ other) × (d ≡ e) × (xs ≡ ys) }
+    ensures step { (language : Language) (c d e : Catalogue) (s : Statement) (reply other : ReplyForm) (xs ys : List ℕ)
+        → IsWellFormed c → HasPlainNames c → AllByRecursion HasShortRows c.entries
+        → Step language c s reply d → Step language c s other e → text_of reply ++ xs ≡ text_of other ++ ys
+        → (reply ≡ other) × (d ≡ e) × (xs ≡ ys) }
+{
+    read_catalogues();
+    ded_session::laws::formed_catalogues();
+    ded_session::laws::plain_names();
+    ded_width::laws::short_lines();
+    ded_laws::lines::tuple_lengths();
+}
+
+/// Two runs of one script that write the same bytes have the same replies and leave one catalogue. So do the same
+/// statements in each language over a catalogue to which a run leads.
+pub fn one_run()
+    ensures run { (limit : ℕ) (script : List ℕ) (replies others : List ReplyForm) (c d : Catalogue)
+        → Run limit script replies c → Run limit script others d
+        → texts replies ≡ texts others → (replies ≡ others) × (c ≡ d) }
+    ensures steps { (limit : ℕ) (script : List ℕ) (before : List ReplyForm) (c : Catalogue) → Run limit script before c
+        → (language : Language) (ss : List Statement) (replies others : List ReplyForm) (d e : Catalogue)
+        → Steps language c ss replies d → Steps language c ss others e
+        → texts replies ≡ texts others → (replies ≡ others) × (d ≡ e) }
+{
+    read_catalogues();
+    ded_session::laws::formed_catalogues();
+    ded_session::laws::plain_names();
+    ded_width::laws::short_lines();
+    ded_laws::lines::tuple_lengths();
+}

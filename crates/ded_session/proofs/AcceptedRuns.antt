@@ -19,7 +19,7 @@ use Rattle.ded_session.specs.Replies.{ReplyForm, is_refusal, some_refusal, done,
 use Rattle.ded_session.specs.Runs.{Steps, GoesOn, empty_catalogue, Run, unless_refused, accepted, accepted_replies, script_of}
 use Rattle.ded_session.specs.Steps.{IsHeaderIn, Accepts, Step}
 use Rattle.ded_session.proofs.HeaderSteps.{header_stays}
-use Rattle.ded_session.proofs.Languages.{opening_step}
+use Rattle.ded_session.proofs.Languages.{accepted_step}
 
 -- ---- steps
 
@@ -29,7 +29,7 @@ opened c d [] [] none h = h
 opened c d [] (reply ∷ replies) none h = h
 opened c d (s ∷ ss) [] none h = h
 opened c d (s ∷ ss) (reply ∷ replies) none (e, next, p, g, more) =
-    let o = opening_step c e s reply (or_parts (is_refusal reply) (some_refusal replies) none).0 p in
+    let o = accepted_step Opening c e s reply (or_parts (is_refusal reply) (some_refusal replies) none).0 p in
     (e, next, o.0, inr (o.1, g), more)
 
 -- where a statement that isn't the header falls away, the next one is read in its language

@@ -14,9 +14,12 @@ pub mod Making
 pub mod Pairs
 pub mod PlainNames
 pub mod PlainSpelling
+pub mod OneBounds
+pub mod OneCatalogue
 pub mod OneList
 pub mod StepLemmas
 pub mod Telling
+pub mod ToldPlans
 mod Upheld
 mod Histories
 pub mod WideQuestions

@@ -1,5 +1,5 @@
 -- What an accepted command makes of a catalogue, whatever its reply.
-use Rattle.std.proofs.Common.{◌≡◌, ℕ, false, [], true≢false}
+use Rattle.std.proofs.Common.{◌≡◌, ℕ, true, false, [], sym, true≢false}
 use Rattle.ded_lex.specs.Pieces.{Statement, Whole}
 use Rattle.ded_lex.specs.Pieces as pieces
 use Rattle.ded_model.specs.declared.command.Language.{Language}
@@ -60,3 +60,17 @@ module _ (language : Language) (c d : Catalogue) where
   step_makes s (apart es) n p = accepted s (apart es) p
   step_makes s (meeting i j) n p = accepted s (meeting i j) p
   step_makes s (refused r) n p = absurd (true≢false n)
+
+  -- what is refused leaves the catalogue
+  pub refused_same : (s : Statement) (reply : ReplyForm) → is_refusal reply ≡ true → Step language c s reply d → d ≡ c
+  refused_same s (refused r) h p = p.1
+  refused_same s done h p = absurd (true≢false (sym h))
+  refused_same s (number k) h p = absurd (true≢false (sym h))
+  refused_same s (truth b) h p = absurd (true≢false (sym h))
+  refused_same s (tuples g ts) h p = absurd (true≢false (sym h))
+  refused_same s (stored g ts) h p = absurd (true≢false (sym h))
+  refused_same s (boxes g b) h p = absurd (true≢false (sym h))
+  refused_same s (steps plan) h p = absurd (true≢false (sym h))
+  refused_same s (script lines) h p = absurd (true≢false (sym h))
+  refused_same s (apart es) h p = absurd (true≢false (sym h))
+  refused_same s (meeting i j) h p = absurd (true≢false (sym h))

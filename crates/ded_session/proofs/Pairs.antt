@@ -1,7 +1,7 @@
 -- What is known of the replies that one statement may get over one catalogue.
 --
--- Both are refusals or replies to one command, since bytes spell one command at most, and a command is answered in one way. Of
--- a box it is known besides that there is a point, or none; and whether a column is rational is known of the heading.
+-- Both are refusals or replies to one command, since bytes spell one command at most, and a command is answered in one way. Exact
+-- bounds are one box.
 use Rattle.std.proofs.Common.{◌≡◌, ◌+◌, ℕ, Bool, true, false, not, List, [], ◌∷◌, length, refl, sym, ◌∙◌, subst, ◌⊎◌, inl, inr, ⊎_elim, true≢false, arith}
 use Rattle.std.specs.Prelude.{if◌then◌else◌}
 use Rattle.std.proofs.lemmas.Slice.Eq.{bytes_eq-Decides}
@@ -18,13 +18,12 @@ use Rattle.ded_model.specs.declared.name.Column.{Column}
 use Rattle.ded_model.specs.declared.slot.Sort.{Sort}
 use Rattle.ded_model.specs.declared.slot.Sort.TheVariants.{Rat, Text}
 use Rattle.ded_model.specs.Catalogue.{Catalogue, tuples_of}
-use Rattle.ded_model.specs.Cell.{HoldsSomewhere}
 use Rattle.ded_model.specs.Command.{CommandForm, header, relation, insert, delete, drop, view, keep, ask, query, show, box_of, explain, dump, disjoint, verify}
 use Rattle.ded_model.specs.Entries.{tuples_in}
 use Rattle.ded_model.specs.Form.{Form, FormAtom, compare, member, atom_uses}
 use Rattle.ded_model.specs.Logic.{atom, always, never, negation, every_of, some_of, implies, minus, exists, forall, Logics, none, also, AllAtoms, AllAtomsOf, some_atom, some_atom_of, mentions, any_mentions}
 use Rattle.ded_model.specs.PlanForm.{PlanAtom, scan, rows, PlanForm, in_plan_atom, plan_mentions}
-use Rattle.ded_model.specs.Point.{Point, IsPoint, Key, slot, name, same_sort}
+use Rattle.ded_model.specs.Point.{Point, Key, slot, name, same_sort}
 use Rattle.ded_model.specs.Pushed.{pushed, all_pushed, may_project, may_join, is_not, is_one}
 use Rattle.ded_model.specs.Row.{Atom, tuples_hold}
 use Rattle.ded_model.specs.Width.{rational_columns}
@@ -32,10 +31,11 @@ use Rattle.ded_model.proofs.Members.{or_split}
 use Rattle.ded_plan.specs.Plans.{IsScanOf}
 use Rattle.ded_terminals.specs.MemberNames.{IsMemberName}
 use Rattle.ded_syntax.proofs.One.{one_command}
-use Rattle.ded_session.specs.Pairs.{FitsHeading, IsSlotKey, IsPlainScan, IsPlainPlan, ArePlainPlans, SpeaksPlainly, AreOfOneBox, AreOfOne}
+use Rattle.ded_session.specs.Pairs.{FitsHeading, IsSlotKey, IsPlainScan, IsPlainPlan, ArePlainPlans, SpeaksPlainly, AreOfOne}
 use Rattle.ded_session.specs.PlainNames.{ArePlainColumns, HasPlainNames, IsPlainUse, UsesPlainNames, NamesPlainly}
 use Rattle.ded_session.specs.Replies.{ReplyForm, done, number, truth, tuples, stored, boxes, steps, script, apart, meeting, refused}
 use Rattle.ded_session.specs.Steps.{Does, Accepts, Step}
+use Rattle.ded_session.proofs.OneBounds.{same_box}
 use Rattle.ded_session.proofs.PlainNames.{plain_columns}
 use Rattle.ded_session.proofs.PlainSpelling.{spelled_names}
 use Rattle.ded_model.proofs.Points.{and_left, and_right}
@@ -131,20 +131,6 @@ module _ (test : Point → Bool) where
   fits h Nowhere k = tt
   fits h NoRational k = tt
   fits h (Spans bs) k = (k.1, bounds_many 0 h bs k.2)
-
-  opposed : {A : Type 0} → HoldsSomewhere test → ((p : Point) → IsPoint p → test p ≡ false) → A
-  opposed some nowhere = absurd (true≢false (sym some.2 ∙ nowhere some.0 some.1))
-
-  same_box : (h : List Column) (r q : BoxReply) → IsBox test h r → IsBox test h q → AreOfOneBox r q
-  same_box h Nowhere Nowhere k l = tt
-  same_box h Nowhere NoRational k l = opposed l.0 k
-  same_box h Nowhere (Spans cs) k l = opposed l.0 k
-  same_box h NoRational Nowhere k l = opposed k.0 l
-  same_box h NoRational NoRational k l = tt
-  same_box h NoRational (Spans cs) k l = let e = k.1 in let m = l.1 in omega (arith, e, m)
-  same_box h (Spans bs) Nowhere k l = opposed k.0 l
-  same_box h (Spans bs) NoRational k l = let e = l.1 in let m = k.1 in omega (arith, e, m)
-  same_box h (Spans bs) (Spans cs) k l = tt
 
 -- ---- one reply
 

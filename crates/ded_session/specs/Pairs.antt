@@ -58,13 +58,6 @@ SpeaksPlainly _ = Unit {0}
 
 -- ---- two replies
 
--- there is no point, or no rational column, or there are bounds
-abbrev pub AreOfOneBox : BoxReply → BoxReply → Type 0
-AreOfOneBox Nowhere Nowhere = Unit {0}
-AreOfOneBox NoRational NoRational = Unit {0}
-AreOfOneBox (Spans bs) (Spans cs) = Unit {0}
-AreOfOneBox _ _ = ⊥
-
 -- a reply that only says that something was done, a number, or whether something is so
 abbrev pub is_short : ReplyForm → Bool
 is_short done = true
@@ -73,13 +66,13 @@ is_short (truth b) = true
 is_short _ = false
 
 -- replies that one statement may both get. Of lists of tuples that are no stored ones no more is said than their heading:
--- a query may have many right answers.
+-- a query may have many right answers. A box is one.
 abbrev pub AreOfOne : ReplyForm → ReplyForm → Type 0
 AreOfOne (refused r) _ = Unit {0}
 AreOfOne _ (refused r) = Unit {0}
 AreOfOne (tuples h ts) (tuples k us) = h ≡ k
 AreOfOne (stored h ts) (stored k us) = (h ≡ k) × (ts ≡ us)
-AreOfOne (boxes h b) (boxes k c) = (h ≡ k) × AreOfOneBox b c
+AreOfOne (boxes h b) (boxes k c) = (h ≡ k) × (b ≡ c)
 AreOfOne (steps f) (steps g) = Unit {0}
 AreOfOne (script ls) (script ks) = ls ≡ ks
 AreOfOne (apart es) (apart fs) = Unit {0}

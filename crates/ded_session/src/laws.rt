@@ -1,8 +1,9 @@
 //! Laws of the rules and of the texts of replies. Each is the contract of a function that does nothing but call the
 //! laws that it rests on.
-ghost use Rattle.std.specs.Prelude.{◌≡◌, ◌≤◌, ◌++◌, true, false, None, List, ℕ, length};
+ghost use Rattle.std.specs.Prelude.{◌≡◌, ◌≤◌, ◌++◌, ◌↔◌, true, false, None, List, ℕ, length};
 ghost use Rattle.ded_lex.specs.Pieces.{Statement, Whole};
 ghost use Rattle.ded_model.specs.declared.command.Language.{Language};
+ghost use Rattle.ded_model.specs.declared.command.Language.TheVariants.{One, Two};
 ghost use Rattle.ded_model.specs.declared.name.Column.{Column};
 ghost use Rattle.ded_model.specs.declared.command.Refusal.TheVariants.{Wide};
 ghost use Rattle.ded_model.specs.Catalogue.{Catalogue};
@@ -19,7 +20,7 @@ ghost use Rattle.ded_session.specs.Carrying.{Answers};
 ghost use Rattle.ded_session.specs.Histories.{Turn, AreTurns, last_state, IsLost};
 ghost use Rattle.ded_session.specs.Pairs.{AreOfOne, SpeaksPlainly};
 ghost use Rattle.ded_session.specs.PlainNames.{HasPlainNames, NamesPlainly};
-ghost use Rattle.ded_session.specs.Replies.{ReplyForm, refused, stored};
+ghost use Rattle.ded_session.specs.Replies.{ReplyForm, is_refusal, refused, stored};
 ghost use Rattle.ded_session.specs.Runs.{Run, Steps, accepted, accepted_replies, script_of};
 ghost use Rattle.ded_session.specs.Steps.{Accepts, IsHeaderIn, Step};
 ghost use Rattle.ded_session.specs.Texts.{text_of};
@@ -66,7 +67,8 @@ pub fn plain_names()
 {}
 
 /// Of two replies that a statement may get over a catalogue whose names are words of the grammar: the names in each are
-/// such words, or in a plan made of such words, and both are of one kind where none is a refusal.
+/// such words, or in a plan made of such words, and both are of one kind where none is a refusal. A statement has one
+/// box at most.
 pub fn two_replies()
     ensures plain { (language : Language) (c d : Catalogue) (s : Statement) (reply : ReplyForm) → HasPlainNames c →
         Step language c s reply d → SpeaksPlainly reply }
@@ -81,6 +83,27 @@ pub fn one_text()
     ensures { (language : Language) (c d e : Catalogue) (s : Statement) (reply other : ReplyForm) (xs ys : List ℕ) →
         HasPlainNames c → Step language c s reply d → Step language c s other e →
         text_of reply ++ xs ≡ text_of other ++ ys → (text_of reply ≡ text_of other) × (xs ≡ ys) }
+{}
+
+/// A statement that is accepted makes one catalogue of a well formed one, whatever its reply. So where the texts of two
+/// replies begin the same bytes, both leave one catalogue.
+pub fn one_catalogue()
+    ensures accepted { (language : Language) (c d e : Catalogue) (s : Statement) (reply other : ReplyForm)
+        → IsWellFormed c → Step language c s reply d → Step language c s other e
+        → is_refusal reply ≡ false → is_refusal other ≡ false → d ≡ e }
+    ensures told { (language : Language) (c d e : Catalogue) (s : Statement) (reply other : ReplyForm) (xs ys : List ℕ)
+        → IsWellFormed c → HasPlainNames c → Step language c s reply d → Step language c s other e
+        → text_of reply ++ xs ≡ text_of other ++ ys → d ≡ e }
+{}
+
+/// What a statement may be answered in the plain language where it is accepted, it may be answered in the second one,
+/// and it leaves the same catalogue. A statement that spells a command of the plain language may be answered the same
+/// in both, refusals included.
+pub fn second_language()
+    ensures accepted { (c d : Catalogue) (s : Statement) (reply : ReplyForm) → is_refusal reply ≡ false
+        → Step One c s reply d → Step Two c s reply d }
+    ensures spelled { (bytes : List ℕ) (command : CommandForm) (depth : ℕ) → Spells One bytes command depth
+        → (c d : Catalogue) (reply : ReplyForm) → Step One c (Whole bytes) reply d ↔ Step Two c (Whole bytes) reply d }
 {}
 
 /// A statement makes a well formed catalogue of one, so each catalogue to which a run leads is well formed.

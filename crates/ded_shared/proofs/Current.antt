@@ -1,5 +1,5 @@
 -- Transactions since whose begin nothing was changed: their accepted changes make their own catalogue of the shared one.
-use Rattle.std.proofs.Common.{◌≡◌, ◌≤◌, ℕ, Bool, true, false, not, ◌&&◌, ◌||◌, List, [], ◌∷◌, ◌++◌, Option, Some, None, if◌then◌else◌, get_or, slice_set, length, IfSome, refl, sym, ap, ◌∙◌, subst, true≢false, bytes_eq}
+use Rattle.std.proofs.Common.{◌≡◌, ◌≤◌, ◌-◌, ℕ, Bool, true, false, not, ◌&&◌, ◌||◌, List, [], ◌∷◌, ◌++◌, Option, Some, None, if◌then◌else◌, get_or, slice_set, length, IfSome, refl, sym, ap, ◌∙◌, subst, true≢false, bytes_eq}
 use Rattle.std.proofs.lemmas.Bool.{and_parts, not-true}
 use Rattle.ded_num.proofs.Tests.{and_false_left}
 use Rattle.ded_lex.specs.Pieces.{Whole}
@@ -10,10 +10,11 @@ use Rattle.ded_model.proofs.Bools.{bytes_eq-refl, or_false_left, or_false_right}
 use Rattle.ded_syntax.specs.Spelling.{IsRead}
 use Rattle.ded_catalog.specs.State.{Table, catalogue_of}
 use Rattle.ded_shared.specs.Touching.{changes}
-use Rattle.ded_session.specs.Replies.{ReplyForm, is_refusal}
+use Rattle.ded_session.specs.Replies.{ReplyForm, is_refusal, done}
 use Rattle.ded_session.specs.Steps.{Step}
 use Rattle.ded_shared.specs.Gathering.{changed_by}
-use Rattle.ded_shared.specs.Parts.{ArePieces, transaction_in, Parts, IsWithin, AreKept}
+use Rattle.ded_shared.specs.Forms.{SharedForm, plain}
+use Rattle.ded_shared.specs.Parts.{ArePieces, transaction_in, Parts, IsWithin, AreKept, TakesOver}
 use Rattle.ded_shared.specs.Rules.{is_change, Remembers, Replays}
 use Rattle.ded_shared.specs.State.{is_among}
 use Rattle.ded_shared.specs.declared.transaction.Transaction as declared
@@ -111,3 +112,12 @@ module _ (s : Parts) (i : ℕ) (x : declared.Transaction) (kept : AreKept s) (at
       (subst (λ (xs : Places). AreKept (record { table = x.own; transactions = xs; log = u.log })) (sym q)
       (subst (λ (l : List (List ℕ)). AreKept (record { table = x.own; transactions = slice_set s.transactions i None; log = l })) (sym r)
       (kept_set x.own s.transactions (s.log ++ x.changed.items) i None (grown_by s x.own i x kept at own_replays) tt)))
+
+-- ---- a commit takes the transaction's own table over, where nothing was changed since its begin
+
+pub takes_over : (s u : Parts) (k : ℕ) (x : declared.Transaction) → get_or s.transactions (k - 1) None ≡ Some x → (x.since ≡ length s.log → u.table ≡ x.own) → (reply : SharedForm) → TakesOver k s reply u
+takes_over s u k x at own reply is = subst (λ (o : Option declared.Transaction). IfSome o (λ y. y.since ≡ length s.log → u.table ≡ y.own)) (sym at) own
+
+-- nothing is asked of another reply
+pub takes_none : (s u : Parts) (k : ℕ) (reply other : SharedForm) → reply ≡ other → (other ≡ plain done → ⊥) → TakesOver k s reply u
+takes_none s u k reply other is never e = absurd (never (sym is ∙ e))

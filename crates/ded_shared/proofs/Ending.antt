@@ -16,9 +16,6 @@ use Rattle.ded_shared.proofs.Changing.{Places, seen, seen_at, put_state, begun_i
 pub some_none : (x : declared.Transaction) → Some x ≡ None → ⊥
 some_none x e = true≢false (ap is_some e)
 
-pub same_some : {X : Type 0} (x y : X) → Some x ≡ Some y → x ≡ y
-same_some x y e = cc
-
 -- nothing but one place is another one
 pub put_parts : (s u : Parts) (k : ℕ) (y : Option declared.Transaction) → u.table ≡ s.table → u.transactions ≡ slice_set s.transactions (k - 1) y → u.log ≡ s.log
     → state_of u ≡ with_transaction (state_of s) k (option_map (transaction_in s.log) y)

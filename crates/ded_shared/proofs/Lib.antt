@@ -1,4 +1,5 @@
 pub mod Agreements
+pub mod AlikeStates
 pub mod Applying
 pub mod CausesAlike
 pub mod Changed
@@ -9,6 +10,7 @@ pub mod Culprits
 pub mod Current
 pub mod Doing
 pub mod Ending
+pub mod Everywhere
 pub mod Following
 pub mod Hearings
 pub mod Inside
@@ -16,10 +18,11 @@ pub mod Kept
 pub mod LeastName
 pub mod Moving
 pub mod NamesAlike
+pub mod NewNames
 pub mod NoDumps
 pub mod Noting
 pub mod Numerals
-pub mod OneCatalogue
+pub mod OneRun
 pub mod OneSession
 pub mod OneTag
 pub mod OneTransaction
@@ -35,8 +38,8 @@ pub mod Replaced
 pub mod Replaying
 pub mod Replying
 pub mod Sending
+pub mod StaleNames
 pub mod Stepping
 pub mod TagsRead
 pub mod TextsApart
 pub mod Verbing
-pub mod StaleNames

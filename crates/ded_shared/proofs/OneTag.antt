@@ -16,7 +16,7 @@ use Rattle.ded_shared.specs.Tags.{Tagged, begins, commits, aborts, commands, oth
 
 -- ---- words
 
-only_same : {x y : Lexeme} → x ∷ [] ≡ y ∷ [] → x ≡ y
+pub only_same : {x y : Lexeme} → x ∷ [] ≡ y ∷ [] → x ≡ y
 only_same e = cc
 
 two_words : (v w bytes : List ℕ) → IsWord v bytes → IsWord w bytes → v ≡ w

@@ -1,7 +1,6 @@
 -- What a transaction remembers of a command.
-use Rattle.std.proofs.Common.{◌≡◌, ℕ, ◌≤◌, Bool, ◌||◌, ◌&&◌, true, false, not, List, [], ◌∷◌, ◌++◌, take, drop, length, refl, sym, ap, ◌∙◌, subst, true≢false, bytes_eq}
+use Rattle.std.proofs.Common.{◌≡◌, ℕ, ◌≤◌, Bool, ◌||◌, ◌&&◌, true, false, not, List, [], ◌∷◌, ◌++◌, take, drop, length, refl, sym, ap, ◌∙◌, subst, true≢false}
 use Rattle.std.specs.Prelude.{if◌then◌else◌}
-use Rattle.std.proofs.lemmas.List.Folds.{list_any-append}
 use Rattle.ded_lex.specs.Pieces.{Whole}
 use Rattle.ded_model.specs.declared.command.Language.TheVariants.{One}
 use Rattle.ded_model.specs.declared.command.Refusal.{Refusal}
@@ -109,9 +108,6 @@ both false true g h = refl
 both false false true h = h refl
 both false false false h = refl
 
-among_both : (new old more : List (List ℕ)) (n : List ℕ) → new ≡ old ++ more → is_among new n ≡ (is_among old n || is_among more n)
-among_both new old more n e = ap (λ l. is_among l n) e ∙ list_any-append (bytes_eq n) old more
-
 -- one piece more of a command that is a change, and none of another
 pub changing_piece : (x : CommandForm) (b : Bool) (old new more : List (List ℕ)) → b ≡ is_change x → b ≡ true → new ≡ more → new ≡ (if is_change x then more else old)
 changing_piece x b old new more e t h = subst (λ a. new ≡ (if a then more else old)) (sym t ∙ e) h
@@ -171,9 +167,8 @@ module _ (bytes : List ℕ) (x : CommandForm) (log : List (List ℕ)) (start : T
         → is_among new.touched.items n ≡ (is_among start.touched.items n || (depends_on_names reply && touches own x n) || changes own x reply n)
     touched n true e =
         subst (λ b. is_among new.touched.items n ≡ (is_among start.touched.items n || (b && touches own x n) || changes own x reply n)) (sym e)
-        (among_both new.touched.items start.touched.items r.touched_names n
-        (s.touched ∙ ap (λ b. if b then old.touched.items else take (length start.touched.items) old.touched.items) e ∙ r.touched)
-        ∙ ap (λ b. is_among start.touched.items n || b) (r.touches n)
+        (ap (λ l. is_among l n) (s.touched ∙ ap (λ b. if b then old.touched.items else take (length start.touched.items) old.touched.items) e)
+        ∙ r.touched n
         ∙ both (is_among start.touched.items n) (touches own x n) (changes own x reply n) (changed_touched own n x reply w))
     touched n false e =
         subst (λ b. is_among new.touched.items n ≡ (is_among start.touched.items n || (b && touches own x n) || changes own x reply n)) (sym e)
@@ -185,9 +180,9 @@ module _ (bytes : List ℕ) (x : CommandForm) (log : List (List ℕ)) (start : T
         ap (λ l. is_among l n) (s.changed ∙ ap (λ b. if b then take (length start.changed.items) old.changed.items else old.changed.items) e ∙ k.changed)
         ∙ or_none (is_among start.changed.items n) (changes own x reply n) (none_changed own n x reply e)
     changed n false e =
-        among_both new.changed.items start.changed.items r.changed_names n
-        (s.changed ∙ ap (λ b. if b then take (length start.changed.items) old.changed.items else old.changed.items) e ∙ r.changed)
-        ∙ ap (λ b. is_among start.changed.items n || b) (r.changes n ∙ sym (step_changes own n bytes d x read.depth read.spells reply p e))
+        ap (λ l. is_among l n) (s.changed ∙ ap (λ b. if b then take (length start.changed.items) old.changed.items else old.changed.items) e)
+        ∙ r.changed n
+        ∙ ap (λ b. is_among start.changed.items n || b) (sym (step_changes own n bytes d x read.depth read.spells reply p e))
 
     pub all_remembered : Remembers bytes reply x (transaction_in log start) (transaction_in log new)
     all_remembered = record {

@@ -1,6 +1,5 @@
 -- What a change makes of the entries of a well formed catalogue: one name has another entry or none, and each other name the same.
 use Rattle.std.proofs.Common.{◌≡◌, ℕ, Bool, true, false, not, ◌||◌, cond, List, [], ◌∷◌, ◌++◌, Option, Some, None, is_some, refl, sym, ap, ◌∙◌, subst, true≢false, bytes_eq, append-nil}
-use Rattle.std.specs.List.{list_any}
 use Rattle.std.proofs.lemmas.Option.{none-some}
 use Rattle.std.proofs.lemmas.Slice.Eq.{bytes_eq-Decides}
 use Rattle.ded_model.specs.Catalogue.{Entry, Catalogue, entry_name}
@@ -9,16 +8,12 @@ use Rattle.ded_model.specs.Known.{KnownNames, AreEntriesOver, IsWellFormed, entr
 use Rattle.ded_model.proofs.Bools.{or_false_left, or_false_right, bytes_eq-refl}
 use Rattle.ded_sorts.specs.Changes.{AddsEntry, ChangesEntry, DropsEntry}
 use Rattle.ded_sorts.proofs.KnownEntries.{absent}
-use Rattle.ded_views.proofs.Changing.{none_before}
 use Rattle.ded_views.proofs.Placing.{none_known}
+use Rattle.ded_session.proofs.OneCatalogue.{is_named, alone_before}
 use Rattle.ded_shared.specs.Agreeing.{Agree}
 use Rattle.ded_shared.specs.Touching.{uses_name}
 
 -- ---- lists of entries
-
--- some entry has the name
-abbrev pub is_named : List ℕ → List Entry → Bool
-is_named n es = list_any (λ z. bytes_eq n (entry_name z)) es
 
 -- an entry is that of its name where none before it has the name
 pub entry_at : (n : List ℕ) (before after : List Entry) (e : Entry) (m : List ℕ) → entry_name e ≡ n → is_named n before ≡ false
@@ -55,10 +50,6 @@ none_after limit K [] after e w = absent limit (with_known K e) after (entry_nam
 none_after limit K (d ∷ before) after e w = none_after limit (with_known K d) before after e w.2
 
 -- of the parts of a well formed catalogue
-pub alone_before : (c : Catalogue) (n : List ℕ) (before after : List Entry) (e : Entry) → IsWellFormed c → c.entries ≡ before ++ e ∷ after → entry_name e ≡ n → is_named n before ≡ false
-alone_before c n before after e w p named =
-    subst (λ m. is_named m before ≡ false) named (none_before c.limit none_known before after e (subst (AreEntriesOver c.limit none_known) p w))
-
 alone_after : (c : Catalogue) (n : List ℕ) (before after : List Entry) (e : Entry) → IsWellFormed c → c.entries ≡ before ++ e ∷ after → entry_name e ≡ n → entry_of after n ≡ None
 alone_after c n before after e w p named = subst (λ m. entry_of after m ≡ None) named (none_after c.limit none_known before after e (subst (AreEntriesOver c.limit none_known) p w))
 

@@ -13,9 +13,9 @@ use Rattle.ded_syntax.specs.Spelling.{Spells}
 use Rattle.ded_syntax.proofs.One.{one_command}
 use Rattle.ded_shared.specs.Agreeing.{Agree}
 use Rattle.ded_shared.specs.Touching.{touches, changes, depends_on_names, uses_name}
-use Rattle.ded_shared.proofs.OneCatalogue.{one_after}
-use Rattle.ded_session.proofs.Making.{Makes, step_makes}
-use Rattle.ded_session.specs.Replies.{ReplyForm, is_refusal, done, number, truth, tuples, stored, boxes, steps, script, apart, meeting, refused}
+use Rattle.ded_session.proofs.Making.{Makes, step_makes, refused_same}
+use Rattle.ded_session.proofs.OneCatalogue.{one_after}
+use Rattle.ded_session.specs.Replies.{ReplyForm, is_refusal, done, number}
 use Rattle.ded_session.specs.Runs.{Steps}
 use Rattle.ded_session.specs.Steps.{Step}
 use Rattle.ded_shared.specs.Events.{Told, statements_of, replies_of}
@@ -70,19 +70,6 @@ makes_same (delete n i) c d h k = absurd (true≢false h)
 makes_same (drop n) c d h k = absurd (true≢false h)
 makes_same (view n g f) c d h k = absurd (true≢false h)
 
-pub refused_same : (c d : Catalogue) (bytes : List ℕ) (reply : ReplyForm) → is_refusal reply ≡ true → Step One c (Whole bytes) reply d → d ≡ c
-refused_same c d bytes (refused r) h p = p.1
-refused_same c d bytes done h p = absurd (true≢false (sym h))
-refused_same c d bytes (number k) h p = absurd (true≢false (sym h))
-refused_same c d bytes (truth b) h p = absurd (true≢false (sym h))
-refused_same c d bytes (tuples g ts) h p = absurd (true≢false (sym h))
-refused_same c d bytes (stored g ts) h p = absurd (true≢false (sym h))
-refused_same c d bytes (boxes g b) h p = absurd (true≢false (sym h))
-refused_same c d bytes (steps plan) h p = absurd (true≢false (sym h))
-refused_same c d bytes (script lines) h p = absurd (true≢false (sym h))
-refused_same c d bytes (apart es) h p = absurd (true≢false (sym h))
-refused_same c d bytes (meeting i j) h p = absurd (true≢false (sym h))
-
 -- what is no accepted change leaves the catalogue
 pub no_change : (c d : Catalogue) (bytes : List ℕ) (x : CommandForm) (depth : ℕ) (reply : ReplyForm) → Spells One bytes x depth
     → (is_change x && not (is_refusal reply)) ≡ false → Step One c (Whole bytes) reply d → d ≡ c
@@ -94,7 +81,7 @@ no_change c d bytes x depth reply spells h p = by (is_refusal reply) refl
     changeless false b e i = refl
 
     by : (b : Bool) → is_refusal reply ≡ b → d ≡ c
-    by true e = refused_same c d bytes reply e p
+    by true e = refused_same One c d (Whole bytes) reply e p
     by false e =
         let a = step_makes One c d (Whole bytes) reply e p in
         let is = (one_command One bytes a.command x a.depth depth a.spells spells).0 in

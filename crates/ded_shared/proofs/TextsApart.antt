@@ -1,7 +1,6 @@
 -- The texts of the replies to one tagged statement: no one is a proper front of another.
-use Rattle.std.proofs.Common.{◌≡◌, ◌≢◌, ℕ, zero, suc, ◌-◌, List, [], ◌∷◌, ◌++◌, get_or, refl, sym, ap, ◌∙◌, subst}
-use Rattle.std.specs.Prelude.{◌==◌, if◌then◌else◌, Option, Some, None, IfSome, replicate, slice_set}
-use Rattle.std.specs.List.{AllByRecursion}
+use Rattle.std.proofs.Common.{◌≡◌, ◌≢◌, ℕ, ◌-◌, ◌&&◌, List, [], ◌++◌, get_or, refl, sym, ap, ap₂, ◌∙◌, subst}
+use Rattle.std.specs.Prelude.{◌==◌, if◌then◌else◌, Option, Some, None, IfSome}
 use Rattle.std.specs.declared.cmp.Ordering.{Ordering}
 use Rattle.std.specs.declared.cmp.Ordering.TheVariants.{Less, Equal, Greater}
 use Rattle.std.specs.Ordering.{nat_cmp, ordering_reverse}
@@ -18,33 +17,50 @@ use Rattle.ded_session.specs.PlainNames.{HasPlainNames}
 use Rattle.ded_session.specs.Replies.{ReplyForm, done, refused}
 use Rattle.ded_session.specs.Steps.{Step}
 use Rattle.ded_session.proofs.PlainNames.{plain_step}
-use Rattle.ded_session.proofs.Telling.{one_text}
-use Rattle.ded_shared.specs.Conflicts.{IsLeastInBoth}
+use Rattle.ded_session.proofs.Telling.{AreAlike, alike_itself, texts_alike, replies_alike}
+use Rattle.ded_shared.specs.Conflicts.{in_both, IsLeastInBoth}
 use Rattle.ded_shared.specs.Forms.{SharedForm, plain, begun, not_begun, conflict}
 use Rattle.ded_shared.specs.PlainNames.{HavePlainNames}
-use Rattle.ded_shared.specs.Rules.{Works, Replays, Begins, Commits, Aborts, SharedStep}
-use Rattle.ded_shared.specs.State.{Transaction, State, transaction_of, first_state, all_with_stale, begun_over, with_transaction}
+use Rattle.ded_shared.specs.Rules.{Works, Begins, Commits, Aborts, SharedStep}
+use Rattle.ded_shared.specs.State.{Transaction, State, transaction_of, first_state}
 use Rattle.ded_shared.specs.Tags.{Tagged, begins, commits, aborts, commands, other}
 use Rattle.ded_shared.specs.Texts.{shared_text}
+use Rattle.ded_shared.proofs.AlikeStates.{AreAmong, BothOpen, AlikeStates, each_at}
+use Rattle.ded_shared.proofs.AlikeStates.{alike_itself as alike_states}
+use Rattle.ded_shared.proofs.Everywhere.{Everywhere, Keeps, at_place, first_everywhere, step_everywhere}
 
--- no proper front, and not the same text of two replies
+-- where the texts begin the same bytes, the replies are the same, or as replies to one command are
+abbrev pub SameForm : SharedForm → SharedForm → Type 0
+SameForm (plain r) (plain q) = AreAlike r q
+SameForm r q = r ≡ q
+
 abbrev pub Tell : SharedForm → SharedForm → Type 0
-Tell r q = (xs ys : List ℕ) → shared_text r ++ xs ≡ shared_text q ++ ys → (shared_text r ≡ shared_text q) × (xs ≡ ys)
+Tell r q = (xs ys : List ℕ) → shared_text r ++ xs ≡ shared_text q ++ ys → SameForm r q × (xs ≡ ys)
+
+same_form : (r : SharedForm) → SameForm r r
+same_form (plain r) = alike_itself r
+same_form begun = refl
+same_form not_begun = refl
+same_form (conflict n) = refl
 
 same_reply : (r : SharedForm) → Tell r r
-same_reply r xs ys e = (refl, append_cancel_left (shared_text r) xs ys e)
+same_reply r xs ys e = (same_form r, append_cancel_left (shared_text r) xs ys e)
+
+pub same_texts : (r q : SharedForm) → SameForm r q → shared_text r ≡ shared_text q
+same_texts (plain r) (plain q) a = texts_alike r q a
+same_texts r q a = ap shared_text a
 
 -- ---- replies about transactions
 
 -- done; the want of memory; begun; not begun; a conflict
-data Kind : Type 0 where
+pub data Kind : Type 0 where
   finished : Kind
   wanting : Kind
   opened : Kind
   unopened : Kind
   conflicting : Kind
 
-abbrev reply_of : List ℕ → Kind → SharedForm
+abbrev pub reply_of : List ℕ → Kind → SharedForm
 reply_of n finished = plain done
 reply_of n wanting = plain (refused Memory)
 reply_of n opened = begun
@@ -94,11 +110,24 @@ tell_kinds n m k j h xs ys e =
     subst (λ r. Tell (reply_of n k) r) is (same_reply (reply_of n k)) xs ys e
 
 -- it is of some kind, and at a conflict the name is the least of these
-record IsOfKind (touched stale : List (List ℕ)) (r : SharedForm) : Type 0 where
-  name : List ℕ
-  kind : Kind
-  is : r ≡ reply_of name kind
-  least : kind ≡ conflicting → IsLeastInBoth touched stale name
+pub record IsOfKind (touched stale : List (List ℕ)) (r : SharedForm) : Type 0 where
+  pub name : List ℕ
+  pub kind : Kind
+  pub is : r ≡ reply_of name kind
+  pub least : kind ≡ conflicting → IsLeastInBoth touched stale name
+
+-- so it is the same as each reply that begins alike
+kind_same : (n : List ℕ) (k : Kind) (q : SharedForm) → SameForm (reply_of n k) q → reply_of n k ≡ q
+kind_same n finished (plain q) a = ap plain a
+kind_same n finished _ a = a
+kind_same n wanting (plain q) a = ap plain a
+kind_same n wanting _ a = a
+kind_same n opened q a = a
+kind_same n unopened q a = a
+kind_same n conflicting q a = a
+
+pub word_same : (touched stale : List (List ℕ)) (r q : SharedForm) → IsOfKind touched stale r → SameForm r q → r ≡ q
+word_same touched stale r q h a = h.is ∙ kind_same h.name h.kind q (subst (λ x. SameForm x q) h.is a)
 
 -- two names of which neither is less than the other
 same_order : (m n : List ℕ) (o p : Ordering) → slice_cmp nat_cmp m n ≡ o → slice_cmp nat_cmp n m ≡ p → o ≢ Less → p ≢ Less → m ≡ n
@@ -114,132 +143,104 @@ tell touched stale r q a b =
     let t : Tell (reply_of a.name a.kind) (reply_of b.name b.kind) = tell_kinds a.name b.name a.kind b.kind (λ c d. one_least touched stale a.name b.name (a.least c) (b.least d)) in
     subst (λ x. Tell x q) (sym a.is) (subst (λ x. Tell (reply_of a.name a.kind) x) (sym b.is) t)
 
+-- the least name is the same in the same names
+least_among : (ts us ns ms : List (List ℕ)) (n : List ℕ) → AreAmong ts us → AreAmong ns ms → IsLeastInBoth us ms n → IsLeastInBoth ts ns n
+least_among ts us ns ms n a b h = record { both = same n ∙ h.both; least = λ m both. h.least m (sym (same m) ∙ both) }
+  where
+    same : (m : List ℕ) → in_both ts ns m ≡ in_both us ms m
+    same m = ap₂ (λ x y. x && y) (a m) (b m)
+
+kind_among : (ts us ns ms : List (List ℕ)) (r : SharedForm) → AreAmong ts us → AreAmong ns ms → IsOfKind us ms r → IsOfKind ts ns r
+kind_among ts us ns ms r a b h = record { name = h.name; kind = h.kind; is = h.is; least = λ c. least_among ts us ns ms h.name a b (h.least c) }
+
 no_conflict : (touched stale : List (List ℕ)) (r : SharedForm) (k : Kind) → k ≢ conflicting → r ≡ reply_of [] k → IsOfKind touched stale r
 no_conflict touched stale r k h e = record { name = []; kind = k; is = e; least = λ c. absurd (h c) }
 
 module _ (k : ℕ) (s : State) where
-  begins_kind : (x : Option Transaction) (r : SharedForm) (u : State) → Begins k x s r u → IsOfKind [] [] r
+  pub begins_kind : (x : Option Transaction) (r : SharedForm) (u : State) → Begins k x s r u → IsOfKind [] [] r
   begins_kind x (plain (refused Memory)) u p = no_conflict [] [] _ wanting (λ e. cc) refl
   begins_kind None (plain done) u p = no_conflict [] [] _ finished (λ e. cc) refl
   begins_kind (Some x) begun u p = no_conflict [] [] _ opened (λ e. cc) refl
   begins_kind _ _ u p = absurd p
 
-  aborts_kind : (x : Option Transaction) (r : SharedForm) (u : State) → Aborts k x s r u → IsOfKind [] [] r
+  pub aborts_kind : (x : Option Transaction) (r : SharedForm) (u : State) → Aborts k x s r u → IsOfKind [] [] r
   aborts_kind x (plain (refused Memory)) u p = no_conflict [] [] _ wanting (λ e. cc) refl
   aborts_kind None not_begun u p = no_conflict [] [] _ unopened (λ e. cc) refl
   aborts_kind (Some x) (plain done) u p = no_conflict [] [] _ finished (λ e. cc) refl
   aborts_kind _ _ u p = absurd p
 
-  abbrev touched_in : Option Transaction → List (List ℕ)
+  abbrev pub touched_in : Option Transaction → List (List ℕ)
   touched_in None = []
   touched_in (Some x) = x.touched
 
-  abbrev stale_in : Option Transaction → List (List ℕ)
+  abbrev pub stale_in : Option Transaction → List (List ℕ)
   stale_in None = []
   stale_in (Some x) = x.stale
 
-  commits_kind : (x : Option Transaction) (r : SharedForm) (u : State) → Commits k x s r u → IsOfKind (touched_in x) (stale_in x) r
+  pub commits_kind : (x : Option Transaction) (r : SharedForm) (u : State) → Commits k x s r u → IsOfKind (touched_in x) (stale_in x) r
   commits_kind x (plain (refused Memory)) u p = no_conflict (touched_in x) (stale_in x) _ wanting (λ e. cc) refl
   commits_kind None not_begun u p = no_conflict [] [] _ unopened (λ e. cc) refl
   commits_kind (Some x) (plain done) u p = no_conflict x.touched x.stale _ finished (λ e. cc) refl
   commits_kind (Some x) (conflict n) u p = record { name = n; kind = conflicting; is = refl; least = λ c. p.0 }
   commits_kind _ _ u p = absurd p
 
+  both_kinds : (x y : Option Transaction) (r : SharedForm) → BothOpen x y → IsOfKind (touched_in y) (stale_in y) r → IsOfKind (touched_in x) (stale_in x) r
+  both_kinds None None r a h = h
+  both_kinds None (Some y) r a h = absurd a
+  both_kinds (Some x) None r a h = absurd a
+  both_kinds (Some x) (Some y) r a h = kind_among x.touched y.touched x.stale y.stale r a.touched a.stale h
+
 -- ---- replies to commands
 
 plain_tell : (r q : ReplyForm) (c d e : Catalogue) (z : Statement) → HasPlainNames c → Step One c z r d → Step One c z q e → Tell (plain r) (plain q)
-plain_tell r q c d e z names a b xs ys f = one_text One c d e z r q xs ys names a b f
+plain_tell r q c d e z names a b xs ys f = replies_alike One c d e z r q xs ys names a b f
 
-works_tell : (k : ℕ) (bytes : List ℕ) (s t u : State) (x : Option Transaction) (r q : ReplyForm) → HasPlainNames s.shared → IfSome x (λ y. HasPlainNames y.own)
-    → Works k bytes x s r t → Works k bytes x s q u → Tell (plain r) (plain q)
-works_tell k bytes s t u None r q shared own a b = plain_tell r q s.shared t.shared u.shared (Whole bytes) shared a.step b.step
-works_tell k bytes s t u (Some x) r q shared own a b = plain_tell r q x.own a.after.own b.after.own (Whole bytes) own a.step b.step
+over : (c d e : Catalogue) (z : Statement) (q : ReplyForm) → c ≡ d → Step One d z q e → Step One c z q e
+over c d e z q same b = subst (λ g. Step One g z q e) (sym same) b
 
-abbrev Places : Type 0
-Places = List (Option Transaction)
+works_tell : (k : ℕ) (bytes : List ℕ) (s1 s2 t u : State) (x y : Option Transaction) (r q : ReplyForm) → s1.shared ≡ s2.shared → BothOpen x y → HasPlainNames s1.shared → IfSome x (λ z. HasPlainNames z.own)
+    → Works k bytes x s1 r t → Works k bytes y s2 q u → Tell (plain r) (plain q)
+works_tell k bytes s1 s2 t u None None r q same both shared own a b = plain_tell r q s1.shared t.shared u.shared (Whole bytes) shared a.step (over s1.shared s2.shared u.shared (Whole bytes) q same b.step)
+works_tell k bytes s1 s2 t u None (Some y) r q same both shared own a b = absurd both
+works_tell k bytes s1 s2 t u (Some x) None r q same both shared own a b = absurd both
+works_tell k bytes s1 s2 t u (Some x) (Some y) r q same both shared own a b =
+    plain_tell r q x.own a.after.own b.after.own (Whole bytes) own a.step (over x.own y.own b.after.own (Whole bytes) q both.own b.step)
 
-abbrev HavePlain : Places → Type 0
-HavePlain xs = AllByRecursion (λ o. IfSome o (λ x. HasPlainNames x.own)) xs
+-- replies to one tagged statement over alike states
+module _ (s1 s2 t u : State) (alike : AlikeStates s1 s2) (names : Everywhere HasPlainNames s1) where
+  pub forms_tell : (x : Tagged) (r q : SharedForm) → SharedStep s1 x r t → SharedStep s2 x q u → Tell r q
+  forms_tell (begins k) r q a b = tell [] [] r q (begins_kind k s1 (transaction_of s1 k) r t a) (begins_kind k s2 (transaction_of s2 k) q u b)
+  forms_tell (commits k) r q a b =
+      tell _ _ r q (commits_kind k s1 (transaction_of s1 k) r t a)
+      (both_kinds k s1 (transaction_of s1 k) (transaction_of s2 k) q (each_at s1.transactions s2.transactions (k - 1) alike.each) (commits_kind k s2 (transaction_of s2 k) q u b))
+  forms_tell (aborts k) r q a b = tell [] [] r q (aborts_kind k s1 (transaction_of s1 k) r t a) (aborts_kind k s2 (transaction_of s2 k) q u b)
+  forms_tell (commands k bytes) (plain r) (plain q) a b =
+      works_tell k bytes s1 s2 t u (transaction_of s1 k) (transaction_of s2 k) r q alike.shared (each_at s1.transactions s2.transactions (k - 1) alike.each)
+      names.shared (at_place HasPlainNames s1.transactions (k - 1) names.own) a b
+  forms_tell (other z) (plain r) (plain q) a b =
+      plain_tell r q s1.shared s1.shared s2.shared z names.shared a.0 (over s1.shared s2.shared s2.shared z q alike.shared b.0)
+  forms_tell (commands k bytes) (plain r) _ a b = absurd b
+  forms_tell (other z) (plain r) _ a b = absurd b
+  forms_tell _ _ _ a b = absurd a
 
-plain_place : (xs : Places) (i : ℕ) → HavePlain xs → IfSome (get_or xs i None) (λ x. HasPlainNames x.own)
-plain_place [] i h = tt
-plain_place (x ∷ xs) zero h = h.0
-plain_place (x ∷ xs) (suc i) h = plain_place xs i h.1
+-- ---- over one state
 
-module _ (s t u : State) (names : HavePlainNames s) where
-  pub texts_tell : (x : Tagged) (r q : SharedForm) → SharedStep s x r t → SharedStep s x q u → Tell r q
-  texts_tell (begins k) r q a b = tell [] [] r q (begins_kind k s (transaction_of s k) r t a) (begins_kind k s (transaction_of s k) q u b)
-  texts_tell (commits k) r q a b = tell _ _ r q (commits_kind k s (transaction_of s k) r t a) (commits_kind k s (transaction_of s k) q u b)
-  texts_tell (aborts k) r q a b = tell [] [] r q (aborts_kind k s (transaction_of s k) r t a) (aborts_kind k s (transaction_of s k) q u b)
-  texts_tell (commands k bytes) (plain r) (plain q) a b = works_tell k bytes s t u (transaction_of s k) r q names.shared (plain_place s.transactions (k - 1) names.own) a b
-  texts_tell (other z) (plain r) (plain q) a b = plain_tell r q s.shared s.shared s.shared z names.shared a.0 b.0
-  texts_tell (commands k bytes) (plain r) _ a b = absurd b
-  texts_tell (other z) (plain r) _ a b = absurd b
-  texts_tell _ _ _ a b = absurd a
+abbrev pub everywhere : (s : State) → HavePlainNames s → Everywhere HasPlainNames s
+everywhere s h = record { shared = h.shared; own = h.own }
+
+pub texts_tell : (s t u : State) (names : HavePlainNames s) (x : Tagged) (r q : SharedForm) (xs ys : List ℕ) → SharedStep s x r t → SharedStep s x q u
+    → shared_text r ++ xs ≡ shared_text q ++ ys → (shared_text r ≡ shared_text q) × (xs ≡ ys)
+texts_tell s t u names x r q xs ys a b e =
+    let told = forms_tell s s t u (alike_states s) (everywhere s names) x r q a b xs ys e in
+    (same_texts r q told.0, told.1)
 
 -- ---- plain names
 
-plain_put : (xs : Places) (i : ℕ) (x : Option Transaction) → HavePlain xs → IfSome x (λ y. HasPlainNames y.own) → HavePlain (slice_set xs i x)
-plain_put [] i x h p = tt
-plain_put (y ∷ xs) zero x h p = (p, h.1)
-plain_put (y ∷ xs) (suc i) x h p = (h.0, plain_put xs i x h.1 p)
-
-plain_aged : (ns : List (List ℕ)) (xs : Places) → HavePlain xs → HavePlain (all_with_stale ns xs)
-plain_aged ns [] h = tt
-plain_aged ns (None ∷ xs) h = (tt, plain_aged ns xs h.1)
-plain_aged ns (Some x ∷ xs) h = (h.0, plain_aged ns xs h.1)
-
-plain_replays : (ps : List (List ℕ)) (c d : Catalogue) → HasPlainNames c → Replays ps c d → HasPlainNames d
-plain_replays [] c d h r = subst HasPlainNames (sym r) h
-plain_replays (bytes ∷ rest) c d h r = plain_replays rest r.1 d (plain_step One c r.1 (Whole bytes) r.0 h r.2) r.4
-
-none_plain : (i : ℕ) → HavePlain (replicate i None)
-none_plain zero = tt
-none_plain (suc i) = (tt, none_plain i)
+plainly : Keeps HasPlainNames
+plainly c d s reply h p = plain_step One c d s reply h p
 
 pub first_plain : (limit : ℕ) → HavePlainNames (first_state limit)
-first_plain limit = record { shared = tt; own = none_plain 64 }
+first_plain limit = let h = first_everywhere HasPlainNames limit tt in record { shared = h.shared; own = h.own }
 
-module _ (s : State) (names : HavePlainNames s) where
-  stays_plain : (t : State) → t ≡ s → HavePlainNames t
-  stays_plain t e = subst HavePlainNames (sym e) names
-
-  put_plain : (k : ℕ) (x : Option Transaction) (t : State) → IfSome x (λ y. HasPlainNames y.own) → t ≡ with_transaction s k x → HavePlainNames t
-  put_plain k x t p e = subst HavePlainNames (sym e) (record { shared = names.shared; own = plain_put s.transactions (k - 1) x names.own p })
-
-  begins_plain : (k : ℕ) (x : Option Transaction) (r : SharedForm) (t : State) → Begins k x s r t → HavePlainNames t
-  begins_plain k x (plain (refused Memory)) t p = stays_plain t p
-  begins_plain k None (plain done) t p = put_plain k (Some (begun_over s.shared)) t names.shared p
-  begins_plain k (Some x) begun t p = stays_plain t p
-  begins_plain k _ _ t p = absurd p
-
-  aborts_plain : (k : ℕ) (x : Option Transaction) (r : SharedForm) (t : State) → Aborts k x s r t → HavePlainNames t
-  aborts_plain k x (plain (refused Memory)) t p = stays_plain t p
-  aborts_plain k None not_begun t p = stays_plain t p
-  aborts_plain k (Some x) (plain done) t p = put_plain k None t tt p
-  aborts_plain k _ _ t p = absurd p
-
-  commits_plain : (k : ℕ) (x : Option Transaction) (r : SharedForm) (t : State) → Commits k x s r t → HavePlainNames t
-  commits_plain k x (plain (refused Memory)) t p = stays_plain t p
-  commits_plain k None not_begun t p = stays_plain t p
-  commits_plain k (Some x) (plain done) t p = record {
-    shared = plain_replays x.accepted s.shared t.shared names.shared p.replays;
-    own = subst HavePlain (sym p.transactions) (plain_put (all_with_stale x.changed s.transactions) (k - 1) None (plain_aged x.changed s.transactions names.own) tt);
-  }
-  commits_plain k (Some x) (conflict n) t p = put_plain k None t tt p.1
-  commits_plain k _ _ t p = absurd p
-
-  works_plain : (k : ℕ) (bytes : List ℕ) (x : Option Transaction) (r : ReplyForm) (t : State) → IfSome x (λ y. HasPlainNames y.own) → Works k bytes x s r t → HavePlainNames t
-  works_plain k bytes None r t h p = record {
-    shared = plain_step One s.shared t.shared (Whole bytes) r names.shared p.step;
-    own = subst HavePlain (sym p.transactions) (plain_aged p.names s.transactions names.own);
-  }
-  works_plain k bytes (Some x) r t h p = put_plain k (Some p.after) t (plain_step One x.own p.after.own (Whole bytes) r h p.step) p.is
-
-  pub step_plain : (x : Tagged) (r : SharedForm) (t : State) → SharedStep s x r t → HavePlainNames t
-  step_plain (begins k) r t p = begins_plain k (transaction_of s k) r t p
-  step_plain (commits k) r t p = commits_plain k (transaction_of s k) r t p
-  step_plain (aborts k) r t p = aborts_plain k (transaction_of s k) r t p
-  step_plain (commands k bytes) (plain r) t p = works_plain k bytes (transaction_of s k) r t (plain_place s.transactions (k - 1) names.own) p
-  step_plain (other z) (plain r) t p = stays_plain t p.2
-  step_plain _ _ t p = absurd p
+pub step_plain : (s : State) → HavePlainNames s → (x : Tagged) (r : SharedForm) (t : State) → SharedStep s x r t → HavePlainNames t
+step_plain s names x r t p = let h = step_everywhere HasPlainNames plainly s (everywhere s names) x r t p in record { shared = h.shared; own = h.own }

@@ -9,6 +9,7 @@ use Rattle.std.proofs.lemmas.List.{length-map}
 use Rattle.ded_terminals.proofs.Seen.{one_list}
 use Rattle.ded_shared.specs.declared.tag.Verb.{Verb}
 use Rattle.ded_shared.specs.declared.tag.Verb.TheVariants.{Begin, Commit, Abort}
+use Rattle.ded_shared.proofs.OneTag.{only_same}
 use Rattle.ded_shared.specs.Deciding.{no_word, word_same}
 use Rattle.ded_shared.specs.Tags.{IsWord}
 use Rattle.ded_shared.specs.TagTokens.{AreTokensIn, AreTokensOf}
@@ -62,9 +63,6 @@ one_long [] d e = absurd (omega (arith, e))
 one_long (x ∷ []) d e = refl
 one_long (x ∷ y ∷ zs) d e = absurd (omega (arith, e))
 
-first_same : {x y : Lexeme} → x ∷ [] ≡ y ∷ [] → x ≡ y
-first_same e = cc
-
 module _ (bytes : List ℕ) (list : List Token) (d : Token) (one : length list ≡ 1) where
   inside_one : AreTokensIn bytes list → AreTokensIn bytes (slice_index_or list 0 d ∷ [])
   inside_one inside = subst (AreTokensIn bytes) (one_long list d one) inside
@@ -83,7 +81,7 @@ module _ (bytes : List ℕ) (list : List Token) (d : Token) (one : length list �
     said word e = subst (λ (x : Lexeme). AreLexemes rest (x ∷ [])) e told
 
     only : (word : List ℕ) → IsWord word rest → lexeme bytes (slice_index_or list 0 d) ≡ Word word
-    only word w = first_same (one_list rest (lexeme bytes (slice_index_or list 0 d) ∷ []) (Word word ∷ []) told w)
+    only word w = only_same (one_list rest (lexeme bytes (slice_index_or list 0 d) ∷ []) (Word word ∷ []) told w)
 
     -- what the only token says, the bytes say
     pub alone : (o : Option Verb) → IsVerbOf o (lexeme bytes (slice_index_or list 0 d)) → (verb : Verb) → (o ≡ Some verb) ↔ IsWord (verb_word verb) rest

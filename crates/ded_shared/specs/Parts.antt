@@ -1,9 +1,11 @@
 -- What the parts of shared sessions in the program stand for.
-use Rattle.std.specs.Prelude.{◌≡◌, ◌≤◌, ℕ, Option, List, [], ◌∷◌, ◌++◌, if◌then◌else◌, length, take, drop, map, option_map, IfSome}
-use Rattle.std.specs.List.{AllByRecursion}
+use Rattle.std.specs.Prelude.{◌≡◌, ◌≤◌, ◌-◌, ℕ, true, Option, None, is_none, get_or, List, [], ◌∷◌, ◌++◌, ◌||◌, if◌then◌else◌, length, take, drop, map, option_map, IfSome}
+use Rattle.std.specs.List.{AllByRecursion, list_all}
 use Rattle.ded_model.specs.Catalogue.{Catalogue}
 use Rattle.ded_model.specs.Command.{CommandForm}
 use Rattle.ded_catalog.specs.State.{Table, catalogue_of}
+use Rattle.ded_session.specs.Replies.{done}
+use Rattle.ded_shared.specs.Forms.{SharedForm, plain}
 use Rattle.ded_shared.specs.Touching.{touches}
 use Rattle.ded_shared.specs.Gathering.{changed_by}
 use Rattle.ded_shared.specs.Rules.{is_change, Replays}
@@ -40,15 +42,11 @@ pub record KeepsFronts (old new : declared.Transaction) : Type 0 where
   pub touched : take (length old.touched.items) new.touched.items ≡ old.touched.items
   pub changed : take (length old.changed.items) new.changed.items ≡ old.changed.items
 
--- behind it stand the bytes, if they may change a catalogue, and what the command touches and changes
+-- the bytes are added, if they may change a catalogue, and the names that the command touches and changes are among the others
 pub record Recalls (bytes : List ℕ) (x : CommandForm) (old new : declared.Transaction) : Type 0 where
   pub accepted : new.accepted.items ≡ (if is_change x then old.accepted.items ++ bytes ∷ [] else old.accepted.items)
-  pub touched_names : List (List ℕ)
-  pub touched : new.touched.items ≡ old.touched.items ++ touched_names
-  pub touches : (n : List ℕ) → is_among touched_names n ≡ touches (catalogue_of old.own) x n
-  pub changed_names : List (List ℕ)
-  pub changed : new.changed.items ≡ old.changed.items ++ changed_names
-  pub changes : (n : List ℕ) → is_among changed_names n ≡ changed_by (catalogue_of old.own) x n
+  pub touched : (n : List ℕ) → is_among new.touched.items n ≡ (is_among old.touched.items n || touches (catalogue_of old.own) x n)
+  pub changed : (n : List ℕ) → is_among new.changed.items n ≡ (is_among old.changed.items n || changed_by (catalogue_of old.own) x n)
 
 -- ---- all together
 
@@ -62,6 +60,15 @@ pub record Parts : Type 0 where
 -- the shared catalogue and the open transactions that the parts stand for
 abbrev pub state_of : Parts → State
 state_of s = record { shared = catalogue_of s.table; transactions = map (option_map (transaction_in s.log)) s.transactions }
+
+-- where no transaction is open, no changed name is remembered
+abbrev pub RemembersNoneIdle : Parts → Type 0
+RemembersNoneIdle s = list_all is_none s.transactions ≡ true → s.log ≡ []
+
+-- where the session's transaction is committed, and no name was changed since its begin, what stands under each name is what
+-- stood there in the transaction
+abbrev pub TakesOver : ℕ → Parts → SharedForm → Parts → Type 0
+TakesOver k s reply t = reply ≡ plain done → IfSome (get_or s.transactions (k - 1) None) (λ x. x.since ≡ length s.log → t.table ≡ x.own)
 
 -- It began when at most so many names were changed, and its statements are pieces. Where none were changed since, its accepted
 -- changes make its own catalogue of the shared one. Where it changed no name, there are none.

@@ -2,13 +2,13 @@
 //! rests on.
 //!
 //! Laws of what statements depend on and what they change. Each is the contract of a function that does nothing.
-ghost use Rattle.std.specs.Prelude.{◌≡◌, ◌≢◌, ◌++◌, ℕ, List, ◌&&◌, Bool, true, false, not, Some};
+ghost use Rattle.std.specs.Prelude.{◌≡◌, ◌≢◌, ◌++◌, ℕ, List, ◌&&◌, Bool, true, false, not, Some, map};
 ghost use Rattle.std.specs.declared.cmp.Ordering.TheVariants.{Less};
 ghost use Rattle.std.specs.Ordering.{nat_cmp};
 ghost use Rattle.std.specs.Cmp.Lexicographic.{slice_cmp};
 ghost use Rattle.ded_lex.specs.Pieces.{Statement, Whole};
 ghost use Rattle.ded_model.specs.Catalogue.{Catalogue};
-ghost use Rattle.ded_session.specs.Replies.{done, ReplyForm, is_refusal};
+ghost use Rattle.ded_session.specs.Replies.{done, ReplyForm};
 ghost use Rattle.ded_session.specs.Runs.{empty_catalogue};
 ghost use Rattle.ded_shared.specs.Culprits.{HasCulprit};
 ghost use Rattle.ded_shared.specs.Events.{serial, inside};
@@ -18,8 +18,7 @@ ghost use Rattle.ded_shared.specs.Rules.{SharedStep, SharedSteps};
 ghost use Rattle.ded_shared.specs.Serial.{AreSteps};
 ghost use Rattle.ded_shared.specs.State.{Transaction, State, is_among, transaction_of, first_state};
 ghost use Rattle.ded_shared.specs.Tags.{Tagged, begins, commits, AreTagged, IsTagged};
-ghost use Rattle.ded_shared.specs.Texts.{shared_text};
-ghost use Rattle.ded_model.specs.declared.command.Language.{Language};
+ghost use Rattle.ded_shared.specs.Texts.{shared_text, shared_texts};
 ghost use Rattle.ded_model.specs.declared.command.Language.TheVariants.{One};
 ghost use Rattle.ded_model.specs.Command.{CommandForm};
 ghost use Rattle.ded_model.specs.Known.{IsWellFormed};
@@ -101,6 +100,19 @@ pub fn one_text()
         → shared_text reply ++ xs ≡ shared_text other ++ ys → (shared_text reply ≡ shared_text other) × (xs ≡ ys) }
 {}
 
+/// Two runs of the same tagged statements that write the same bytes have replies of the same texts, one by one, and
+/// leave one shared catalogue.
+pub fn one_run()
+    ensures { (limit : ℕ) (statements : List Statement) (xs : List Tagged) (replies others : List SharedForm)
+        (s t : State) → AreTagged statements xs
+        → SharedSteps (first_state limit) xs replies s → SharedSteps (first_state limit) xs others t
+        → shared_texts replies ≡ shared_texts others
+        → (map shared_text replies ≡ map shared_text others) × (s.shared ≡ t.shared) }
+{
+    ded_session::laws::formed_catalogues();
+    ded_session::laws::plain_names();
+}
+
 /// A statement may get its reply over each catalogue that agrees on the names that it touches, where the reply depends
 /// on names; and then it makes alike catalogues, which agree on as many names.
 pub fn same_replies()
@@ -125,11 +137,4 @@ pub fn unchanged_names()
 pub fn changed_names()
     ensures { (c : Catalogue) (x : CommandForm) (reply : ReplyForm) (n : List ℕ) → IsWellFormed c
         → changes c x reply n ≡ true → touches c x n ≡ true }
-{}
-
-/// A statement that is accepted makes one catalogue of a well formed one, whatever its reply.
-pub fn one_catalogue()
-    ensures { (language : Language) (c d e : Catalogue) (s : Statement) (reply other : ReplyForm) → IsWellFormed c
-        → Step language c s reply d
-        → Step language c s other e → is_refusal reply ≡ false → is_refusal other ≡ false → d ≡ e }
 {}

@@ -1,5 +1,6 @@
 //! Names in the order in which they were added.
-ghost use Rattle.std.specs.Prelude.{◌≡◌, ◌++◌, take, length, OnOk, OnErr};
+ghost use Rattle.std.specs.Prelude.{◌≡◌, ◌++◌, ◌||◌, ℕ, List, take, length, OnOk, OnErr};
+ghost use Rattle.ded_shared.specs.State.{is_among};
 
 use ded_model::memory::NoMemory;
 use ded_model::name::Name;
@@ -30,6 +31,23 @@ fn try_add_all(names: &mut Vec<Name>, more: &[Name]) -> Result<(), NoMemory>
 {
     for name in more {
         names.push(name.copy()?)?;
+    }
+    Ok(())
+}
+
+/// Adds copies of the names that don't stand there yet at the end, each once.
+///
+/// # Errors
+/// Out of memory. Some may be added then.
+pub fn add_new(names: &mut Vec<Name>, more: &[Name]) -> Result<(), NoMemory>
+    ensures front { take (length names.old.items) names.new.items ≡ names.old.items }
+    ensures ok { OnOk result ((n : List ℕ) → is_among names.new.items n
+        ≡ (is_among names.old.items n || is_among more.now n)) }
+{
+    for name in more {
+        if !names.contains(name) {
+            names.push(name.copy()?)?;
+        }
     }
     Ok(())
 }

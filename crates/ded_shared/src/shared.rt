@@ -54,7 +54,7 @@ impl Shared {
     ghost use Rattle.ded_catalog.specs.State.{catalogue_of};
     ghost use Rattle.ded_lex.specs.Pieces.{IsShortPiece};
     ghost use Rattle.ded_shared.specs.Answered.{shared_form};
-    ghost use Rattle.ded_shared.specs.Parts.{state_of};
+    ghost use Rattle.ded_shared.specs.Parts.{state_of, RemembersNoneIdle};
     ghost use Rattle.ded_shared.specs.Pieces.{StepsSharedPiece, StepsTagged};
     ghost use Rattle.ded_shared.specs.State.{first_state};
     ghost use Rattle.ded_shared.specs.Tags.{HasTag};
@@ -68,7 +68,8 @@ impl Shared {
     pub fn new(alloc: Global, limit: u32) -> Result<Shared, NoMemory>
         requires low { 1 ≤ limit }
         requires high { limit ≤ 1000000 }
-        ensures { IfOk result (λ s. state_of s ≡ first_state limit) }
+        ensures first { IfOk result (λ s. state_of s ≡ first_state limit) }
+        ensures log { IfOk result (λ s. RemembersNoneIdle s) }
     {
         Shared::hashed_with(alloc, limit, (0, 0))
     }
@@ -83,6 +84,7 @@ impl Shared {
         requires high { limit ≤ 1000000 }
         ensures first { IfOk result (λ s. state_of s ≡ first_state limit) }
         ensures hashed { IfOk result (λ s. s.table.hashing ≡ keyed keys) }
+        ensures log { IfOk result (λ s. RemembersNoneIdle s) }
     {
         Ok(Shared {
             catalogue: Catalogue::hashed_with(alloc, limit, keys),
@@ -100,9 +102,20 @@ impl Shared {
     }
 
     /// Answers the next tagged statement, and changes the state as the rules say. A statement that is refused changes
-    /// nothing, but that the transaction of a commit that conflicts is given up. Of `Long` and of `Cut` it doesn't
-    /// allocate.
+    /// nothing, but that the transaction of a commit that conflicts is given up. Where no transaction is open then, no
+    /// changed name is remembered. Of `Long` and of `Cut` it doesn't allocate.
     pub fn step(&mut self, piece: Piece<'_>) -> SharedReply
+        requires { IsShortPiece piece }
+        ensures answered { StepsSharedPiece piece.entry (state_of self.old) (shared_form result) (state_of self.new) }
+        ensures log { RemembersNoneIdle self.new }
+    {
+        let reply = self.step_piece(piece);
+        self.forget();
+        reply
+    }
+
+    /// Answers the next tagged statement, and may remember names that nobody asks for.
+    fn step_piece(&mut self, piece: Piece<'_>) -> SharedReply
         requires { IsShortPiece piece }
         ensures { StepsSharedPiece piece.entry (state_of self.old) (shared_form result) (state_of self.new) }
     {

@@ -3,7 +3,7 @@ ghost use Rattle.std.specs.Prelude.{◌≡◌};
 ghost use Rattle.ded_model.specs.Command.{command_form};
 ghost use Rattle.ded_shared.specs.Rules.{is_change};
 
-use crate::names::add_all;
+use crate::names::add_new;
 use crate::touching::{changed, touched};
 use crate::working::{depends_on_names, step_over};
 use ded_catalog::Catalogue;
@@ -20,9 +20,9 @@ pub struct Transaction {
     pub own: Catalogue,
     /// The statements in it that were accepted and may change a catalogue, in order.
     pub accepted: Vec<Name>,
-    /// The names that it touched or changed.
+    /// The names that it touched or changed, each once.
     pub touched: Vec<Name>,
-    /// The names that it changed.
+    /// The names that it changed, each once.
     pub changed: Vec<Name>,
     /// How many names had been changed at its begin, of those that are remembered.
     pub since: usize,
@@ -146,8 +146,8 @@ impl Transaction {
     {
         let touched = touched(alloc, &self.own, command)?;
         let changed = changed(alloc, &self.own, command)?;
-        add_all(&mut self.touched, &touched)?;
-        add_all(&mut self.changed, &changed)?;
+        add_new(&mut self.touched, &touched)?;
+        add_new(&mut self.changed, &changed)?;
         if is_change(command) {
             self.accepted.push(Name {
                 bytes: bytes.to_vec(alloc)?,

@@ -21,7 +21,7 @@ impl Shared {
     ghost use Rattle.ded_syntax.specs.Spelling.{IsRead};
     ghost use Rattle.ded_session.specs.Answered.{reply_form};
     ghost use Rattle.ded_shared.specs.Answered.{shared_form};
-    ghost use Rattle.ded_shared.specs.Parts.{state_of, Notes};
+    ghost use Rattle.ded_shared.specs.Parts.{state_of, Notes, RemembersNoneIdle};
     ghost use Rattle.ded_shared.specs.Pieces.{StepsTagged};
     ghost use Rattle.ded_shared.specs.Rules.{Works, WorksOutside};
     ghost use Rattle.ded_shared.specs.State.{transaction_of};
@@ -67,7 +67,6 @@ impl Shared {
         requires read { IsRead One bytes.now (command_form command) }
         ensures { WorksOutside bytes.now (state_of self.old) (reply_form result) (state_of self.new) }
     {
-        self.forget();
         let count = self.log.len();
         if self.note(&command).is_err() {
             drop(command);
@@ -82,8 +81,9 @@ impl Shared {
     }
 
     /// Forgets the names that were changed, where no transaction is open.
-    fn forget(&mut self)
-        ensures { state_of self.new ≡ state_of self.old }
+    pub(super) fn forget(&mut self)
+        ensures state { state_of self.new ≡ state_of self.old }
+        ensures log { RemembersNoneIdle self.new }
     {
         if !is_idle(&self.transactions) {
             return;

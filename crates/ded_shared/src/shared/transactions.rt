@@ -16,7 +16,7 @@ impl Shared {
     ghost use Rattle.ded_catalog.specs.State.{catalogue_of};
     ghost use Rattle.ded_shared.specs.Answered.{shared_form};
     ghost use Rattle.ded_shared.specs.Conflicts.{NoneInBoth};
-    ghost use Rattle.ded_shared.specs.Parts.{state_of, IsWithin};
+    ghost use Rattle.ded_shared.specs.Parts.{state_of, IsWithin, TakesOver};
     ghost use Rattle.ded_shared.specs.Rules.{Begins, Commits, Aborts};
     ghost use Rattle.ded_shared.specs.State.{transaction_of};
 
@@ -77,8 +77,9 @@ impl Shared {
     pub(super) fn commit(&mut self, session: u32) -> SharedReply
         requires low { 1 ≤ session }
         requires high { session ≤ 64 }
-        ensures { Commits session (transaction_of (state_of self.old) session) (state_of self.old)
+        ensures answered { Commits session (transaction_of (state_of self.old) session) (state_of self.old)
             (shared_form result) (state_of self.new) }
+        ensures taken { TakesOver session self.old (shared_form result) self.new }
     {
         let Some(transaction) = &self.transactions[place_of(session)] else {
             return SharedReply::NotBegun;
@@ -98,8 +99,9 @@ impl Shared {
         requires low { 1 ≤ session }
         requires high { session ≤ 64 }
         requires free { IfSome (transaction_of (state_of self.old) session) (λ x. NoneInBoth x.touched x.stale) }
-        ensures { Commits session (transaction_of (state_of self.old) session) (state_of self.old)
+        ensures answered { Commits session (transaction_of (state_of self.old) session) (state_of self.old)
             (shared_form result) (state_of self.new) }
+        ensures taken { TakesOver session self.old (shared_form result) self.new }
     {
         let Some(transaction) = &self.transactions[place_of(session)] else {
             return SharedReply::NotBegun;
@@ -126,8 +128,9 @@ impl Shared {
         requires free { IfSome (transaction_of (state_of self.old) session) (λ x. NoneInBoth x.touched x.stale) }
         requires current { IfSome (get_or self.old.transactions (session - 1) None) (λ x. x.since
             ≡ length self.old.log) }
-        ensures { Commits session (transaction_of (state_of self.old) session) (state_of self.old)
+        ensures answered { Commits session (transaction_of (state_of self.old) session) (state_of self.old)
             (shared_form result) (state_of self.new) }
+        ensures taken { TakesOver session self.old (shared_form result) self.new }
     {
         let place = &mut self.transactions[place_of(session)];
         let Some(transaction) = place else {

@@ -1,3 +1,4 @@
+use Rattle.ded_runs.proofs.Ordering.{short_views}
 use Rattle.ded_runs.proofs.Reading.{read_step, read_steps, read_run}
 use Rattle.ded_runs.proofs.laws.read_catalogues.Goals as goal
 
@@ -9,3 +10,6 @@ returns-clause-steps c = read_steps c.read_words.ensures.inserts
 
 pub returns-clause-run : goal.returns-clause-run
 returns-clause-run c = read_run c.read_words.ensures.inserts
+
+pub returns-clause-short : goal.returns-clause-short
+returns-clause-short g = λ c. short_views c.entries

@@ -5,8 +5,8 @@ use Rattle.ded_shared.proofs.Changing.{read_at}
 use Rattle.ded_shared.proofs.Ending.{commit_conflict, least_here}
 use Rattle.ded_shared.proofs.shared.Shared.commit.Goals as goal
 
-pub returns : goal.returns
-returns c =
+pub returns-clause-answered : goal.returns-clause-answered
+returns-clause-answered c =
     let at : get_or c.self.inside.transactions.items (c.args.session - 1) None ≡ Some c.in-Some.transaction =
     read_at c.self.inside.transactions.items c.args.session c.place_of.result c.index.result.now c.index.ensures c.place_of.ensures c.requires.low c.requires.high c.self.invariant.places ∙ c.in-Some.is in
     let least : IsLeastInBoth c.in-Some.transaction.touched.items (drop c.in-Some.transaction.since c.args.self.now.log) c.in-Ok.name =

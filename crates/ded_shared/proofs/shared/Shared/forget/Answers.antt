@@ -10,7 +10,7 @@ invariant_of-self c =
     let idle : list_all is_none c.self.inside.transactions.items ≡ true = search rules in
     record { places = c.self.invariant.places; within = idle_within (catalogue_of c.self.inside.catalogue) (length c.truncate.new.self.items) c.self.inside.transactions.items idle }
 
-pub returns : goal.returns
-returns c =
+pub returns-clause-state : goal.returns-clause-state
+returns-clause-state c =
     let idle : list_all is_none c.self.inside.transactions.items ≡ true = search rules in
     ap (with_places c.self.inside.catalogue) (idle_seen c.truncate.new.self.items c.self.inside.log.items c.self.inside.transactions.items idle) ∙ ap state_of c.self.view_is

@@ -14,7 +14,7 @@ returns-in-Some-Begin c =
 pub returns-in-Some-Commit : goal.returns-in-Some-Commit
 returns-in-Some-Commit c =
     let verb : c.verb_of.result ≡ Some Commit = search rules in
-    λ bytes short tag. committed_tagged c.args.tag.session c.args.tag.rest.now (state_of c.args.self.now) (state_of c.commit.new.self) bytes short tag ((c.verb_of.ensures c.args.tag.rest.now c.requires.tokens Commit).0 verb) (shared_form c.commit.result) c.commit.ensures
+    λ bytes short tag. committed_tagged c.args.tag.session c.args.tag.rest.now (state_of c.args.self.now) (state_of c.commit.new.self) bytes short tag ((c.verb_of.ensures c.args.tag.rest.now c.requires.tokens Commit).0 verb) (shared_form c.commit.result) c.commit.ensures.answered
 
 pub returns-in-Some-Abort : goal.returns-in-Some-Abort
 returns-in-Some-Abort c =

@@ -1,12 +1,15 @@
 -- An accepted command makes one catalogue of a well formed one, whatever its reply.
-use Rattle.std.proofs.Common.{◌≡◌, ℕ, false, cond, List, [], ◌∷◌, ◌++◌, sym, ap, ◌∙◌, subst, bytes_eq}
+--
+-- Each name has one entry, so a change parts the entries in one way.
+use Rattle.std.proofs.Common.{◌≡◌, ℕ, Bool, false, cond, List, [], ◌∷◌, ◌++◌, sym, ap, ◌∙◌, subst, bytes_eq}
+use Rattle.std.specs.List.{list_any}
 use Rattle.ded_lex.specs.Pieces.{Statement, Whole}
 use Rattle.ded_lex.specs.Pieces as pieces
 use Rattle.ded_model.specs.declared.command.Language.{Language}
 use Rattle.ded_model.specs.Catalogue.{Entry, Catalogue, entry_name}
 use Rattle.ded_model.specs.Command.{CommandForm, relation, insert, delete, drop, view}
 use Rattle.ded_model.specs.Entries.{columns_in}
-use Rattle.ded_model.specs.Known.{IsWellFormed}
+use Rattle.ded_model.specs.Known.{AreEntriesOver, IsWellFormed}
 use Rattle.ded_model.specs.Slotted.{tuple_of}
 use Rattle.ded_model.proofs.Bools.{or_false_left, or_false_right, bytes_eq-refl}
 use Rattle.ded_session.specs.Replies.{ReplyForm, is_refusal}
@@ -15,8 +18,20 @@ use Rattle.ded_session.proofs.Making.{Makes, step_makes}
 use Rattle.ded_sorts.specs.Changes.{DropsEntry}
 use Rattle.ded_sorts.specs.Checks.{forms_of}
 use Rattle.ded_syntax.proofs.One.{one_command}
+use Rattle.ded_views.proofs.Changing.{none_before}
 use Rattle.ded_views.proofs.OneChange.{one_insert, one_delete}
-use Rattle.ded_shared.proofs.Replaced.{is_named, alone_before}
+use Rattle.ded_views.proofs.Placing.{none_known}
+
+-- ---- entries
+
+-- some entry has the name
+abbrev pub is_named : List ℕ → List Entry → Bool
+is_named n es = list_any (λ z. bytes_eq n (entry_name z)) es
+
+-- in a well formed catalogue none does before the one of the name
+pub alone_before : (c : Catalogue) (n : List ℕ) (before after : List Entry) (e : Entry) → IsWellFormed c → c.entries ≡ before ++ e ∷ after → entry_name e ≡ n → is_named n before ≡ false
+alone_before c n before after e w p named =
+    subst (λ m. is_named m before ≡ false) named (none_before c.limit none_known before after e (subst (AreEntriesOver c.limit none_known) p w))
 
 -- ---- commands
 
