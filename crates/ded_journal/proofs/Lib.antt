@@ -1,0 +1,3 @@
+mod Rows
+mod Kept
+mod Found

@@ -1,0 +1,4 @@
+pub mod Statements
+pub mod Journals
+pub mod Invariant
+pub mod Opening
