@@ -1,0 +1,4 @@
+pub mod Distributing
+pub mod Parts
+pub mod Questions
+pub mod Routes
