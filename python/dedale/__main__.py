@@ -16,6 +16,7 @@ INTERRUPTED = 130
 COMMANDS = {
     "annotate": ("dedale.annotate", "the lines of a script whose statements were refused"),
     "area": ("dedale.exporting.command", "the areas of regions in an answer"),
+    "desk": ("dedale.desk.command", "a person at a terminal, over a database in a file"),
     "export": ("dedale.exporting.command", "answers as WKT, GeoJSON or CSV"),
     "import": ("dedale.importing.command", "a map or a table as a script"),
 }

@@ -30,7 +30,7 @@ def test_the_version() -> None:
 def test_help_has_all_words() -> None:
     status, output, errors = tool("--help")
     assert (status, errors) == (0, "")
-    assert all(f"\n  {word} " in output for word in ("annotate", "area", "export", "import"))
+    assert all(f"\n  {word} " in output for word in ("annotate", "area", "desk", "export", "import"))
 
 
 @pytest.mark.parametrize("words", [(), ("nothing",), ("--version", "x"), ("annotate",), ("annotate", "--any", SCRIPT)])
