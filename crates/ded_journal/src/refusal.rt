@@ -4,6 +4,7 @@ ghost use Rattle.std.specs.Prelude.{◌≡◌};
 use sqlite_trees::error::StoreError;
 use std::alloc::AllocError;
 
+/// Why a file is not opened as a journal.
 #[derive(Clone, Copy, Debug, PartialEq, Eq)]
 pub enum NotOpened {
     /// The file holds something else.
