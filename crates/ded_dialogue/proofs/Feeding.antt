@@ -1,5 +1,5 @@
 -- Bytes that go on, pieces that end in them, and the end of the script.
-use Rattle.std.proofs.Common.{◌≡◌, ℕ, ◌+◌, ◌<◌, ◌≤◌, length, take, drop, get_or, List, [], ◌∷◌, ◌++◌, refl, sym, ap, ◌∙◌, inl, inr, append_assoc, subst, Bool, true, false, ◌||◌, arith, length-append}
+use Rattle.std.proofs.Common.{◌≡◌, ℕ, ◌+◌, ◌<◌, ◌≤◌, length, take, drop, get_or, List, [], ◌∷◌, ◌++◌, refl, sym, ap, ◌∙◌, inl, inr, append_assoc, subst, Bool, false, ◌||◌, arith}
 use Rattle.std.specs.Prelude.{◌-◌, ◌⊎◌, zero, suc, Option, map, Result, Ok, Err, IfOk, OnErr}
 use Rattle.std.specs.Io.KnownBytes.{Appends}
 use Rattle.std.proofs.Math.Bool.{or-false}
@@ -16,10 +16,10 @@ use Rattle.ded_dialogue.specs.Replies.{Said, texts}
 use Rattle.ded_dialogue.specs.Runs.{Answers, Steps}
 use Rattle.ded_dialogue.specs.Outcome.{ConcludedIn, WholesAnswered, Interrupted}
 use Rattle.ded_dialogue.specs.Hearing.{heard_from}
-use Rattle.ded_dialogue.specs.Streams.{SoFar, IsBehind, Stopped, Streaming, Streamed, Grows, Breaks, GrowsBehind, BreaksBehind, IsFresh, spoken}
+use Rattle.ded_dialogue.specs.Streams.{SoFar, IsBehind, Stopped, Streaming, Streamed, Grows, Breaks, GrowsBehind, BreaksBehind, IsFresh, EndsWith, spoken}
 use Rattle.ded_dialogue.specs.Waiting.{WritesBehind}
 use Rattle.ded_dialogue.proofs.Steps.{GoesOn, SomeSteps, some_steps}
-use Rattle.ded_dialogue.proofs.OneMore.{heard_later, drop_none, counts_more, refuses_more, none_before, writes_more, front_of}
+use Rattle.ded_dialogue.proofs.OneMore.{heard_later, drop_none, counts_more, refuses_more, writes_more, front_of}
 
 -- ---- what a call wrote
 
@@ -70,13 +70,17 @@ none_whole (p ∷ piece) after b = absurd (nothing b.is)
     nothing e = cc
 
 -- no whole piece stands in what is left
-no_whole_left : (pieces : List (List ℕ)) (taken tail : List ℕ) → IsCut taken pieces tail → HasNoWhole tail
+pub no_whole_left : (pieces : List (List ℕ)) (taken tail : List ℕ) → IsCut taken pieces tail → HasNoWhole tail
 no_whole_left [] taken tail cut = subst HasNoWhole (sym cut.1) cut.0
 no_whole_left (piece ∷ pieces) taken tail cut = no_whole_left pieces cut.0 tail cut.2
 
 -- the piece that a byte ends, in front of further statements
 ended_first : (pieces : List (List ℕ)) (piece : List ℕ) (statements : List Statement) → map Whole pieces ++ (Whole piece ∷ statements) ≡ map Whole (pieces ++ piece ∷ []) ++ statements
 ended_first pieces piece statements = sym (ap (λ (l : List Statement). l ++ statements) (map-append Whole pieces (piece ∷ [])) ∙ append_assoc (map Whole pieces) (Whole piece ∷ []) statements)
+
+-- what was answered from the beginning on, with no refusal before it, is concluded
+pub concludes : {M : Type 0} (R : Answers M) (start : M) (silent : ℕ) (taken : List ℕ) (h0 h1 : Option (List ℕ)) (refused : Bool) (last : M) → EndsWith R start silent false taken h0 h1 refused last → ConcludedIn (heard_from R start) silent taken h0 h1 refused last
+concludes R start silent taken h0 h1 refused last e = (record { replies = e.replies; last = last; run = e.run; written = e.written; refuses = e.refuses }, refl)
 
 module _ {M : Type 0} (R : Answers M) (start : M) (silent left : ℕ) where
   -- before the first byte
@@ -204,38 +208,30 @@ module _ {M : Type 0} (R : Answers M) (start : M) (silent left : ℕ) where
         (s.goes [] [] m refl))
 
     -- the tail is blank
-    pub ends_blank : before ≡ false → w ≡ [] → IsBlank tail → ConcludedIn (heard_from R start) silent taken h0 h1 refused m
-    ends_blank first none blank = (
-      record {
-        replies = s.replies;
-        last = m;
-        run = record {
-          statements = map Whole s.pieces;
-          cut = record { pieces = s.pieces; rest = tail; cut = s.cut; are = inl (blank, refl) };
-          steps = steps_here;
-        };
-        written = all_sent h0 h1 (texts (drop silent s.replies)) (subst (λ (l : List ℕ). Sent h0 h1 (texts (drop silent s.replies)) l) none s.written);
-        refuses = none_before before refused s.replies first s.refuses;
-      },
-      refl,
-    )
+    pub ends_blank : w ≡ [] → IsBlank tail → EndsWith R start silent before taken h0 h1 refused m
+    ends_blank none blank = record {
+      replies = s.replies;
+      run = record {
+        statements = map Whole s.pieces;
+        cut = record { pieces = s.pieces; rest = tail; cut = s.cut; are = inl (blank, refl) };
+        steps = steps_here;
+      };
+      written = all_sent h0 h1 (texts (drop silent s.replies)) (subst (λ (l : List ℕ). Sent h0 h1 (texts (drop silent s.replies)) l) none s.written);
+      refuses = s.refuses;
+    }
 
     -- the tail is a statement that no ; ends, and its reply
-    pub ends_rest : before ≡ false → (n : M) (now : Bool) (h2 : Option (List ℕ)) (reply : Said) → (IsBlank tail → ⊥) → R m (pieces.Unfinished tail) reply n → now ≡ refused || reply.refuses → Sent h1 h2 (w ++ spoken left reply) [] → ConcludedIn (heard_from R start) silent taken h0 h2 now n
-    ends_rest first n now h2 reply full step is write = (
-      record {
-        replies = s.replies ++ reply ∷ [];
-        last = n;
-        run = record {
-          statements = map Whole s.pieces ++ pieces.Unfinished tail ∷ [];
-          cut = record { pieces = s.pieces; rest = tail; cut = s.cut; are = inr (full, refl) };
-          steps = s.goes (pieces.Unfinished tail ∷ []) (reply ∷ []) n (n, step, refl);
-        };
-        written = all_sent h0 h2 (texts (drop silent (s.replies ++ reply ∷ []))) (writes_more h0 h1 h2 silent left s.replies reply w [] s.counts s.written write);
-        refuses = none_before before now (s.replies ++ reply ∷ []) first (refuses_more before s.replies reply refused now s.refuses is);
-      },
-      refl,
-    )
+    pub ends_rest : (n : M) (now : Bool) (h2 : Option (List ℕ)) (reply : Said) → (IsBlank tail → ⊥) → R m (pieces.Unfinished tail) reply n → now ≡ refused || reply.refuses → Sent h1 h2 (w ++ spoken left reply) [] → EndsWith R start silent before taken h0 h2 now n
+    ends_rest n now h2 reply full step is write = record {
+      replies = s.replies ++ reply ∷ [];
+      run = record {
+        statements = map Whole s.pieces ++ pieces.Unfinished tail ∷ [];
+        cut = record { pieces = s.pieces; rest = tail; cut = s.cut; are = inr (full, refl) };
+        steps = s.goes (pieces.Unfinished tail ∷ []) (reply ∷ []) n (n, step, refl);
+      };
+      written = all_sent h0 h2 (texts (drop silent (s.replies ++ reply ∷ []))) (writes_more h0 h1 h2 silent left s.replies reply w [] s.counts s.written write);
+      refuses = refuses_more before s.replies reply refused now s.refuses is;
+    }
 
     -- the sink failed at that reply
     pub rest_stops : (n : M) (h2 : Option (List ℕ)) (reply : Said) (unwritten : List ℕ) → (IsBlank tail → ⊥) → R m (pieces.Unfinished tail) reply n → Sent h1 h2 (w ++ spoken left reply) unwritten → Interrupted (heard_from R start) silent taken h0 h2

@@ -1,5 +1,5 @@
 -- One reply more: what is written of it, and whether some reply is a refusal.
-use Rattle.std.proofs.Common.{◌≡◌, ℕ, length, drop, List, [], ◌∷◌, ◌++◌, refl, sym, ap, ◌∙◌, append_assoc, subst, Bool, ◌||◌, false, arith, length-append}
+use Rattle.std.proofs.Common.{◌≡◌, ℕ, length, drop, List, [], ◌∷◌, ◌++◌, refl, sym, ap, ◌∙◌, append_assoc, subst, Bool, ◌||◌, arith, length-append}
 use Rattle.std.specs.Prelude.{◌-◌, zero, suc, Option}
 use Rattle.std.proofs.Math.Bool.{or_assoc, or-false}
 use Rattle.std.proofs.lemmas.List.{append-nil}
@@ -60,10 +60,6 @@ refuses_more before replies reply was now so_far is =
     ∙ sym (or_assoc before (some_refusal replies) reply.refuses)
     ∙ ap (λ (t : Bool). t || reply.refuses) so_far
     ∙ sym is
-
--- where none was a refusal before
-pub none_before : (before refused : Bool) (replies : List Said) → before ≡ false → before || some_refusal replies ≡ refused → some_refusal replies ≡ refused
-none_before before refused replies none is = subst (λ (b : Bool). b || some_refusal replies ≡ refused) none is
 
 pub writes_more : (h0 h1 h2 : Option (List ℕ)) (silent left : ℕ) (replies : List Said) (reply : Said) (w waits : List ℕ) → left ≡ silent - length replies → Sent h0 h1 (texts (drop silent replies)) w → Sent h1 h2 (w ++ spoken left reply) waits → Sent h0 h2 (texts (drop silent (replies ++ reply ∷ []))) waits
 writes_more h0 h1 h2 silent left replies reply w waits counts so_far more =

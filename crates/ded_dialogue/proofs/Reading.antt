@@ -1,6 +1,6 @@
 -- Reads that go on, and how they end.
 use Rattle.std.proofs.Common.{◌≡◌, ℕ, ◌+◌, ◌<◌, ◌≤◌, length, take, drop, List, [], ◌++◌, refl, sym, ap, ◌∙◌, append_assoc, length-append, subst, arith, Bool, false}
-use Rattle.std.specs.Prelude.{Option, None, Some, IfSome, map, ◌-◌}
+use Rattle.std.specs.Prelude.{Option, None, Some, IfSome, map}
 use Rattle.std.specs.Io.KnownBytes.{Appends, Consumes, Keeps, IsAtEnd}
 use Rattle.std.proofs.lemmas.List.{append-nil, length-map, length-take-le, take-take, take-append-drop, take_at, drop_at}
 use Rattle.std.proofs.Math.Seq.{take-append-add}

@@ -1,6 +1,7 @@
 pub mod Exits
 pub mod Forms
 pub mod Hearing
+pub mod Lending
 pub mod Outcome
 pub mod Replies
 pub mod Runs

@@ -1,6 +1,6 @@
 -- What is answered of a script that comes in parts.
 use Rattle.std.specs.Prelude.{◌≡◌, ◌+◌, ◌⊎◌, ℕ, List, [], ◌++◌, Bool, false, ◌||◌, ◌-◌, zero, suc, Option, Result, length, drop, map}
-use Rattle.std.specs.Io.KnownBytes.{Consumes}
+use Rattle.std.specs.Io.KnownBytes.{Appends, Consumes}
 use Rattle.ded_io.specs.Devices.{Sent}
 use Rattle.ded_lex.specs.declared.piece.Piece.{Piece}
 use Rattle.ded_lex.specs.Pieces.{Statement, Whole, IsCut}
@@ -9,7 +9,7 @@ use Rattle.ded_dialogue.specs.declared.dialogue.Dialogue.{Dialogue}
 use Rattle.ded_dialogue.specs.Outcome.{Interrupted}
 use Rattle.ded_dialogue.specs.Hearing.{heard_from}
 use Rattle.ded_dialogue.specs.Replies.{Said, texts, some_refusal}
-use Rattle.ded_dialogue.specs.Runs.{Answers, Steps, StandsFor}
+use Rattle.ded_dialogue.specs.Runs.{Answers, Run, Steps, StandsFor}
 use Rattle.ded_dialogue.specs.Waiting.{WritesBehind}
 
 -- what is written of a reply where so many more aren't written
@@ -83,6 +83,18 @@ pub record GrowsBehind {A M : Type 0} (R : Answers M) (state : A → M) (old new
 -- the sink failed in bytes before which some texts wait
 pub record BreaksBehind {A M : Type 0} (R : Answers M) (state : A → M) (old : Dialogue A) (contents : Option (List ℕ)) (waiting : List ℕ) (now : Option (List ℕ)) (bytes : List ℕ) : Type 0 where
   pub on : (start : M) (silent : ℕ) (before : Bool) (taken : List ℕ) (was : Option (List ℕ)) → Streaming R state start silent before old taken waiting was contents → Stopped R start silent (taken ++ bytes) was now
+
+-- The script ended with these bytes: each of its statements is answered, the texts of the replies but the first so many are written, and
+-- some of them is a refusal, or some was before, as `refused` says.
+pub record EndsWith {M : Type 0} (R : Answers M) (start : M) (silent : ℕ) (before : Bool) (taken : List ℕ) (contents now : Option (List ℕ)) (refused : Bool) (last : M) : Type 0 where
+  pub replies : List Said
+  pub run : Run R start taken replies last
+  pub written : Appends contents now (texts (drop silent replies))
+  pub refuses : before || some_refusal replies ≡ refused
+
+-- the statement that the end of the script cuts was answered, where there is one
+pub record Ends {A M : Type 0} (R : Answers M) (state : A → M) (old : Dialogue A) (contents now : Option (List ℕ)) (refused : Bool) (last : M) : Type 0 where
+  pub on : (start : M) (silent : ℕ) (before : Bool) (taken : List ℕ) (was : Option (List ℕ)) → Streamed R state start silent before old taken was contents → EndsWith R start silent before taken was now refused last
 
 -- What was taken so far is answered, and so many bytes may still come.
 pub record Reading {A M : Type 0} (R : Answers M) (state : A → M) (start : M) (input_limit room : ℕ) (d : Dialogue A) (input left contents now : Option (List ℕ)) : Type 0 where

@@ -16,7 +16,7 @@ use std::alloc::Global;
 #[derive(Drop)]
 pub struct Dialogue<A> {
     splitter: Splitter,
-    machine: A,
+    pub(crate) machine: A,
     refused: bool,
     silent: u32,
 }
@@ -60,11 +60,11 @@ impl<A> Dialogue<A> {
 }
 
 impl<A: Answering> Dialogue<A> {
-    ghost use Rattle.std.specs.Prelude.{◌≡◌, ◌∷◌, [], List, ℕ, Bool, false, Option, IfOk, OnErr};
+    ghost use Rattle.std.specs.Prelude.{◌≡◌, ◌∷◌, [], List, ℕ, Bool, Option, IfOk, OnErr};
     ghost use Rattle.ded_io.specs.Causes.{HasCause};
-    ghost use Rattle.ded_dialogue.specs.Outcome.{ConcludedIn, Interrupted};
+    ghost use Rattle.ded_dialogue.specs.Outcome.{Interrupted};
     ghost use Rattle.ded_dialogue.specs.Hearing.{heard_from};
-    ghost use Rattle.ded_dialogue.specs.Streams.{Streamed, Grows, Breaks, GrowsBehind, BreaksBehind};
+    ghost use Rattle.ded_dialogue.specs.Streams.{Streamed, Grows, Breaks, GrowsBehind, BreaksBehind, Ends};
 
     /// Takes the next byte, and answers the statement that ends there, where one does.
     fn feed_byte<K: Sink>(
@@ -127,11 +127,8 @@ impl<A: Answering> Dialogue<A> {
     /// # Errors
     /// `Failed` only where the sink's count of faults rose.
     pub fn finish<K: Sink>(&mut self, sink: &mut K) -> Result<(), Failed>
-        ensures concluded { IfOk result (λ _. (start : A.State) (silent : ℕ) (taken : List ℕ)
-            (contents : Option (List ℕ)) →
-            Streamed A.answers A.state start silent false self.old taken contents (K.contents sink.old) →
-            ConcludedIn (heard_from A.answers start) silent taken contents (K.contents sink.new) self.new.refused
-            (A.state self.new.machine)) }
+        ensures ends { IfOk result (λ _. Ends A.answers A.state self.old (K.contents sink.old) (K.contents sink.new)
+            self.new.refused (A.state self.new.machine)) }
         ensures stopped { OnErr result ((start : A.State) (silent : ℕ) (before : Bool) (taken : List ℕ)
             (contents : Option (List ℕ)) →
             Streamed A.answers A.state start silent before self.old taken contents (K.contents sink.old) →
