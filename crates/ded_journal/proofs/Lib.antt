@@ -1,3 +1,5 @@
 mod Rows
 mod Kept
 mod Found
+mod Databases
+mod Closings

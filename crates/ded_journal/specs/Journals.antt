@@ -148,7 +148,7 @@ pub record IsJournal (v : View) (list : List (List ℕ)) : Type 0 where
   pub table : v.shape 0 ≡ Table
   pub reals : v.reals 0 ≡ 0
 
--- Why a store is refused: it has something and is stamped as no journal, it is stamped by a newer version, it is stamped by this one and is no
+-- Why a store is refused: it has something, be it a user version, and is stamped as no journal, it is stamped by a newer version, it is stamped by this one and is no
 -- journal, or a call failed.
 abbrev pub RefusesFor : View → Type 0 → NotOpened → Type 0
 RefusesFor v fault Foreign = ¬ (IsUnwritten v.trees) × ((version : ℕ) → 0 < version → version < 256 → ¬ (v.trees version_tree ≡ version_rows (stamp version)))

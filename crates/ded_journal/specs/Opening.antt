@@ -21,7 +21,7 @@ use Rattle.ded_journal.specs.declared.refusal.NotOpened.{NotOpened}
 abbrev pub IsRefused : Trees → Type 0 → NotOpened → Type 0
 IsRefused db fault e = (v : View) × (v.trees ≡ db) × RefusesFor v fault e
 
--- The journal is open on what the files recover to: on its statements or, of files that hold nothing or a database with no object, on none.
+-- The journal is open on what the files recover to: on its statements or, of files that hold nothing or a database with no object and no user version, on none.
 pub record FindsJournalIn {S : Type 0} (image : Image) (state : JournalState S) : Type 0 where
   pub is_open : IsTrue state.is_open
   pub settled : state.now ≡ state.committed

@@ -40,9 +40,10 @@ pub record HoldsStatements (db : Trees) (list : List (List ℕ)) : Type 0 where
   pub listed : map (take 5) (db catalog_tree) ≡ table_listing ∷ []
   pub stamped : db version_tree ≡ version_rows (stamp 1)
 
--- a database with no object, whatever its user version
+-- A database with no object, and with the user version that a new one has. A program that set another has made it its own.
 pub record IsUnwritten (db : Trees) : Type 0 where
   pub unlisted : db catalog_tree ≡ []
+  pub unstamped : db version_tree ≡ version_rows 0
 
 -- the row with this number has this text, or there is none
 abbrev pub FindsText : List Row → ℕ → List ℕ → Bool → Type 0

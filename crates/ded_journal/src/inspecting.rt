@@ -173,13 +173,14 @@ fn attach<S: Alter>(alloc: Global, store: &mut S) -> Result<u64, NotOpened>
     }
 }
 
-/// Whether the store has no object.
+/// Whether the store has no object and no user version.
 fn has_nothing<S: Alter>(alloc: Global, store: &S) -> Result<bool, AllocError>
+    requires { IsClean (S.Store.view store.now) → IsFresh (S.Store.view store.now) }
     ensures { IfOk result (λ b. IsClean (S.Store.view store.now)
         → IsTrue b ↔ IsUnwritten (S.Store.view store.now).trees) }
 {
     let objects = store.objects(alloc)?;
-    Ok(objects.is_empty())
+    Ok(objects.is_empty() && store.version() == 0)
 }
 
 /// The statements of a journal, or of one that is made.

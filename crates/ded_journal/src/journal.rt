@@ -2,14 +2,19 @@
 ghost use Rattle.std.specs.Prelude.{◌≡◌, ◌++◌, [], ◌∷◌, ◌⊎◌, if◌then◌else◌, None, Some, ◌≤◌, length, slice_get, IsTrue};
 ghost use Rattle.std.specs.Prelude.{IfOk, IfErr, OnOk};
 ghost use Rattle.sqlite_disk.specs.Disk.{MoreFaults};
+ghost use Rattle.sqlite_wal.specs.Reads.{AreClean};
 ghost use Rattle.sqlite_trees.specs.View.{IsClean, IsQuiet};
+ghost use Rattle.sqlite_store.specs.FileStore.{recovers, is_shielded};
 ghost use Rattle.sqlite.specs.Steps.{IsFresh};
 ghost use Rattle.ded_journal.specs.Journals.{journal_of, IsHonest, Leads, IsUndoneTo, GivesUp, IsUnfit, IsDurable};
 ghost use Rattle.ded_journal.specs.Journals.{AddsNoOutcome, LeavesOneOf, AddsOnlyNone, OpensOn, RefusesFor, is_refusal};
+ghost use Rattle.ded_journal.specs.Closing.{IsMoved, FailsToClose, KeepsCommit, shown_by};
 
 use crate::NotOpened;
 use crate::inspecting::inspect;
 use crate::raw::{find_statement, put_statement};
+use sqlite::FileStore;
+use sqlite_disk::{Disk, Files};
 use sqlite_trees::error::StoreError;
 use sqlite_trees::store::{Alter, Store};
 use sqlite_value::row::Row;
@@ -182,5 +187,38 @@ impl<S: Store> Journal<S> {
     {
         self.store.rollback();
         self.count = self.kept;
+    }
+}
+
+impl<D: Disk + Drop> Journal<FileStore<D>> {
+    /// Takes back what was not committed, copies the log into the database file, and gives both files back.
+    ///
+    /// Then the database file holds the list of the last commit, and the log is wanted no more: beside it, with an
+    /// empty one in its place or with none an open finds that list. What is left of the log is a header of 41 bytes,
+    /// too few to count as a log. It is not removed, as a `Disk` has no call for that.
+    ///
+    /// # Errors
+    /// It fails for memory, a fault of the disk or a journal that is shut, and gives the store back. The log is then
+    /// still wanted: a crash in the midst of the call, which fails each later call of a disk, leaves the last commit
+    /// in the two files together.
+    pub fn close(self) -> Result<Files<D>, (StoreError, FileStore<D>)>
+        ensures moved { IfOk result (λ files. AreClean D.Disk files.log files.db → IsMoved D.Disk self files) }
+        ensures usable { IfOk result (λ files. IsTrue (D.Disk.is_usable files.log)
+            × IsTrue (D.Disk.is_usable files.db)) }
+        ensures err { IfErr result (λ e. FailsToClose self (shown_by e.1) e.0) }
+        ensures crash { IfErr result (λ e. AddsNoOutcome recovers is_shielded self (shown_by e.1)) }
+        ensures kept { IfErr result (λ e. KeepsCommit recovers self e.1) }
+    {
+        let Journal {
+            mut store,
+            row: _,
+            count: _,
+            kept: _,
+        } = self;
+        store.rollback();
+        match store.checkpoint() {
+            Ok(()) => Ok(store.close()),
+            Err(error) => Err((error, store)),
+        }
     }
 }

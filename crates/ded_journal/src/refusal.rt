@@ -7,7 +7,7 @@ use std::alloc::AllocError;
 /// Why a file is not opened as a journal.
 #[derive(Clone, Copy, Debug, PartialEq, Eq)]
 pub enum NotOpened {
-    /// The file holds something else.
+    /// The file holds something else, or nothing beside the user version of another program.
     Foreign,
     /// It is a journal of this version, which is above those that are known here.
     Newer(u32),

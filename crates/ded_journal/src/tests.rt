@@ -1,4 +1,4 @@
-//! Crashes at each call of the two files, and files of others.
+//! Crashes at each call of the two files, what a close leaves, and files of others.
 ghost use Rattle.std.specs.Prelude.{IsTrue};
 
 use crate::{Journal, NotOpened};
@@ -37,24 +37,55 @@ fn count<S: Store>(alloc: Global, journal: &mut Journal<S>) -> Result<Option<usi
             return Ok(None);
         }
     }
-    Ok(Some(4))
+    let has_more = journal.read(4, &mut text)?;
+    Ok(if has_more { None } else { Some(4) })
 }
 
-fn close<D: Disk + Drop>(journal: Journal<FileStore<D>>) -> Files<D> {
-    journal.into_store().close()
+/// The files, and whether the close was done.
+fn close<D: Disk + Drop>(journal: Journal<FileStore<D>>) -> (bool, Files<D>) {
+    match journal.close() {
+        Ok(files) => (true, files),
+        Err((_, store)) => (false, store.close()),
+    }
 }
 
-/// The script over these files: how many were acknowledged and tried, and the files.
-fn run_script<D: Disk + Drop>(alloc: Global, files: Files<D>) -> (usize, usize, Files<D>)
+/// How far a script came.
+#[derive(Clone, Copy)]
+struct Run {
+    /// How many statements were acknowledged.
+    least: usize,
+    /// How many the last commit that was begun would have left.
+    most: usize,
+    /// Whether the close was done.
+    is_closed: bool,
+}
+
+impl Run {
+    const NONE: Run = Run {
+        least: 0,
+        most: 0,
+        is_closed: false,
+    };
+}
+
+/// The script over these files, with one more statement that is not committed, and a close.
+fn run_script<D: Disk + Drop>(alloc: Global, files: Files<D>) -> (Run, Files<D>)
     requires log { IsTrue (D.Disk.is_usable files.log) }
     requires db { IsTrue (D.Disk.is_usable files.db) }
 {
     match Journal::open_files(alloc, files, Options::new(7)) {
         Ok(mut journal) => {
             let (least, most) = write_pairs(&mut journal);
-            (least, most, close(journal))
+            let _ = journal.append(b"e");
+            let (is_closed, files) = close(journal);
+            let run = Run {
+                least,
+                most,
+                is_closed,
+            };
+            (run, files)
         }
-        Err((_, left)) => (0, 0, left.into_files()),
+        Err((_, left)) => (Run::NONE, left.into_files()),
     }
 }
 
@@ -69,32 +100,27 @@ fn find<D: Disk + Drop>(alloc: Global, files: Files<D>) -> Result<Option<usize>,
     }
 }
 
-/// The script over files that pass so many calls on, a crash, and what the next open finds: how many were acknowledged,
-/// tried and found.
-fn crash_after(
-    alloc: Global,
-    log_calls: u64,
-    db_calls: u64,
-) -> Result<(usize, usize, Option<usize>), Fail> {
+/// The script over files that pass so many calls on, a crash, and how many statements the next open finds.
+fn crash_after(alloc: Global, log_calls: u64, db_calls: u64) -> Result<(Run, Option<usize>), Fail> {
     let files = Files {
         log: Fuse::new(Memory::new(alloc), log_calls),
         db: Fuse::new(Memory::new(alloc), db_calls),
     };
-    let (least, most, Files { mut log, mut db }) = run_script(alloc, files);
+    let (run, Files { mut log, mut db }) = run_script(alloc, files);
     log.crash();
     db.crash();
-    Ok((least, most, find(alloc, Files { log, db })?))
+    Ok((run, find(alloc, Files { log, db })?))
 }
 
-fn is_front(outcome: (usize, usize, Option<usize>)) -> bool {
-    match outcome {
-        (least, most, Some(found)) => least <= found && found <= most,
-        _ => false,
+fn is_front(run: Run, found: Option<usize>) -> bool {
+    match found {
+        Some(found) => run.least <= found && found <= run.most,
+        None => false,
     }
 }
 
 /// Whether each crash leaves a front of the script that has what was acknowledged, at each call of the log or of the
-/// database file, until the script ends before one.
+/// database file, until the close is done before one.
 fn is_kept(alloc: Global, in_log: bool) -> Result<bool, Fail> {
     for calls in 0..300 {
         let (log_calls, db_calls) = if in_log {
@@ -102,12 +128,12 @@ fn is_kept(alloc: Global, in_log: bool) -> Result<bool, Fail> {
         } else {
             (u64::MAX, calls)
         };
-        let outcome = crash_after(alloc, log_calls, db_calls)?;
-        if !is_front(outcome) {
+        let (run, found) = crash_after(alloc, log_calls, db_calls)?;
+        if !is_front(run, found) {
             return Ok(false);
         }
-        if outcome.0 == 4 {
-            return Ok(true);
+        if run.is_closed {
+            return Ok(run.least == 4);
         }
     }
     Ok(false)
@@ -122,6 +148,27 @@ fn a_crash_at_a_call_of_the_log_leaves_what_was_acknowledged(rt: HostRuntime) ->
 #[test]
 fn a_crash_at_a_call_of_the_file_leaves_what_was_acknowledged(rt: HostRuntime) -> Result<(), Fail> {
     assert!(rt; is_kept(rt.alloc(), false)?);
+    Ok(())
+}
+
+/// The script and a close: how long a log is left, and how many statements the database file has with an empty one.
+fn close_alone(alloc: Global) -> Result<(usize, Option<usize>), Fail> {
+    let files = Files {
+        log: Memory::new(alloc),
+        db: Memory::new(alloc),
+    };
+    let (_, Files { log, db }) = run_script(alloc, files);
+    let left = log.bytes().len();
+    if !db.may_be_used() {
+        return Ok((left, None));
+    }
+    let log = Memory::new(alloc);
+    Ok((left, find(alloc, Files { log, db })?))
+}
+
+#[test]
+fn a_close_leaves_the_list_in_the_file_alone(rt: HostRuntime) -> Result<(), Fail> {
+    assert!(rt; close_alone(rt.alloc())? == (41, Some(4)));
     Ok(())
 }
 
@@ -164,16 +211,33 @@ fn refusal(alloc: Global, sql: &str, version: u32) -> Result<Option<NotOpened>, 
     Ok(refusal_of(alloc, files))
 }
 
-const REFUSALS: [(u32, NotOpened); 3] = [
-    (0, NotOpened::Foreign),
-    (0x4445_4402, NotOpened::Newer(2)),
-    (0x4445_4401, NotOpened::Damaged),
+type Case = (&'static str, u32, Option<NotOpened>);
+
+const OTHERS: [Case; 3] = [
+    ("CREATE TABLE note (a)", 0, Some(NotOpened::Foreign)),
+    (
+        "CREATE TABLE note (a)",
+        0x4445_4402,
+        Some(NotOpened::Newer(2)),
+    ),
+    (
+        "CREATE TABLE note (a)",
+        0x4445_4401,
+        Some(NotOpened::Damaged),
+    ),
 ];
 
-/// Whether the files of another program are refused for the cause that each user version tells.
-fn are_refused(alloc: Global) -> Result<bool, Fail> {
-    for (version, cause) in REFUSALS {
-        if refusal(alloc, "CREATE TABLE note (a)", version)? != Some(cause) {
+const EMPTY: [Case; 4] = [
+    ("", 0, None),
+    ("", 7, Some(NotOpened::Foreign)),
+    ("", 0x4445_4402, Some(NotOpened::Newer(2))),
+    ("", 0x4445_4401, Some(NotOpened::Damaged)),
+];
+
+/// Whether files that hold this text and this user version are refused for the cause, or opened.
+fn are_told(alloc: Global, cases: &[Case]) -> Result<bool, Fail> {
+    for &(sql, version, cause) in cases {
+        if refusal(alloc, sql, version)? != cause {
             return Ok(false);
         }
     }
@@ -182,6 +246,12 @@ fn are_refused(alloc: Global) -> Result<bool, Fail> {
 
 #[test]
 fn files_of_others_are_refused(rt: HostRuntime) -> Result<(), Fail> {
-    assert!(rt; are_refused(rt.alloc())?);
+    assert!(rt; are_told(rt.alloc(), &OTHERS)?);
+    Ok(())
+}
+
+#[test]
+fn files_with_no_table_and_a_version_are_refused(rt: HostRuntime) -> Result<(), Fail> {
+    assert!(rt; are_told(rt.alloc(), &EMPTY)?);
     Ok(())
 }
