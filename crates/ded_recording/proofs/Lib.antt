@@ -1,0 +1,4 @@
+pub mod Answered
+pub mod Joining
+pub mod Reading
+pub mod Settled

@@ -1,0 +1,4 @@
+pub mod Listings
+pub mod Saving
+pub mod Surviving
+pub mod Moving
