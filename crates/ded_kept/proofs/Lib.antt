@@ -1,0 +1,5 @@
+pub mod Defined
+pub mod Journalled
+pub mod Replies
+pub mod Resumed
+pub mod Running

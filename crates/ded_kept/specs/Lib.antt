@@ -1,0 +1,9 @@
+pub mod Answering
+pub mod Defining
+pub mod Exits
+pub mod Following
+pub mod Machine
+pub mod Reasons
+pub mod Resuming
+pub mod Running
+pub mod Words
